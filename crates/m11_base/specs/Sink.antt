@@ -1,0 +1,20 @@
+-- Takers of bytes. (This project's own.) A known text of a sink is all that it has taken; adding to
+-- a known text is `Appends` of the standard library, which says nothing of an unknown one.
+use Rattle.std.specs.Prelude.{◌≡◌, ℕ, zero, suc, List, [], length, take, Option, Result, MatchResult}
+use Rattle.std.specs.Io.KnownBytes.{Appends}
+use Rattle.m11_base.specs.Devices.{Rises}
+
+-- one call of a sink: it added as many bytes, from the front, as it answered, and none at an error
+abbrev pub Takes : {E : Type 0} → Option (List ℕ) → Option (List ℕ) → Result ℕ E → List ℕ → Type 0
+Takes old new answer bytes =
+    MatchResult answer (λ n. Appends old new (take n bytes)) (λ _. Appends old new [])
+
+-- a count of failures: it rises where the call failed or took none of the bytes that were there
+abbrev pub CountsAt : ℕ → ℕ → ℕ → ℕ → Type 0
+CountsAt old new zero zero = new ≡ old
+CountsAt old new zero (suc n) = Rises old new
+CountsAt old new (suc n) m = new ≡ old
+
+abbrev pub Counts : {E : Type 0} → ℕ → ℕ → Result ℕ E → List ℕ → Type 0
+Counts old new answer bytes =
+    MatchResult answer (λ n. CountsAt old new n (length bytes)) (λ _. Rises old new)
