@@ -1,5 +1,5 @@
 -- Sources of bytes, read one byte a call. (This project's own.)
-use Rattle.std.specs.Prelude.{◌≡◌, ◌≢◌, ℕ, ◌<◌, ◌≤◌, List, [], ◌∷◌, ◌++◌, ◌⊎◌, ⊤, Option, Some, None, MatchOption, Result, MatchResult}
+use Rattle.std.specs.Prelude.{◌≡◌, ◌≢◌, ℕ, List, [], ◌∷◌, length, take, ◌⊎◌, ⊤, Option, Some, None, MatchOption, Result, MatchResult, if◌then◌else◌, nat_lt, option_map, option_and_then}
 use Rattle.m11_base.specs.Devices.{last_count}
 
 -- how a text ends: at its end, at a failure, or perhaps at a failure before its end
@@ -23,21 +23,21 @@ MayFailBefore bytes Ends = ⊥
 MayFailBefore bytes Fails = bytes ≡ []
 MayFailBefore bytes MayFail = ⊤
 
--- one more byte was given
+-- one more byte was given; of an unknown text nothing is said
 abbrev pub GivesByte : Option Text → Option Text → ℕ → Type 0
-GivesByte None new byte = new ≡ None
+GivesByte None new byte = ⊤
 GivesByte (Some t) new byte =
     (rest : List ℕ) × (t.bytes ≡ byte ∷ rest) × (new ≡ Some (record { bytes = rest; ending = t.ending }))
 
 -- the end was answered
 abbrev pub GivesEnd : Option Text → Option Text → Type 0
-GivesEnd None new = new ≡ None
+GivesEnd None new = ⊤
 GivesEnd (Some t) new = MayEnd t × (new ≡ Some t)
 
 -- a failure was answered: nothing was given, and either the text may fail here or the count of
 -- failures stood at its last value
 abbrev pub GivesFailure : Option Text → Option Text → ℕ → Type 0
-GivesFailure None new count = new ≡ None
+GivesFailure None new count = ⊤
 GivesFailure (Some t) new count =
     (MayFailBefore t.bytes t.ending ⊎ (count ≡ last_count)) × (new ≡ Some t)
 
@@ -46,3 +46,23 @@ abbrev pub Gives : {E : Type 0} → Option Text → Option Text → ℕ → Resu
 Gives old new count answer = MatchResult answer
     (λ byte. MatchOption byte (GivesEnd old new) (GivesByte old new))
     (λ _. GivesFailure old new count)
+
+-- the text of a reader: each read may fail
+abbrev pub text_of_reader : Option (List ℕ) → Option Text
+text_of_reader known = option_map (λ bytes. record { bytes = bytes; ending = MayFail }) known
+
+-- the text that comes through a fuse of so many calls: where it does not blow before the end, it
+-- may do so at the calls that find the end; of a text whose own failures may come anywhere nothing
+-- is said, since each of them takes a call
+abbrev pub bytes_through_fuse : ℕ → List ℕ → Ending → Ending → Text
+bytes_through_fuse calls bytes blown whole =
+    if nat_lt calls (length bytes) then record { bytes = take calls bytes; ending = blown }
+    else record { bytes = bytes; ending = whole }
+
+abbrev pub known_through_fuse : ℕ → List ℕ → Ending → Option Text
+known_through_fuse calls bytes Ends = Some (bytes_through_fuse calls bytes Fails MayFail)
+known_through_fuse calls bytes Fails = Some (bytes_through_fuse calls bytes Fails Fails)
+known_through_fuse calls bytes MayFail = None
+
+abbrev pub text_through_fuse : ℕ → Option Text → Option Text
+text_through_fuse calls known = option_and_then (λ t. known_through_fuse calls t.bytes t.ending) known

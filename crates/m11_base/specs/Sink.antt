@@ -1,6 +1,6 @@
 -- Takers of bytes. (This project's own.) A known text of a sink is all that it has taken; adding to
 -- a known text is `Appends` of the standard library, which says nothing of an unknown one.
-use Rattle.std.specs.Prelude.{◌≡◌, ℕ, zero, suc, List, [], length, take, Option, Result, MatchResult}
+use Rattle.std.specs.Prelude.{◌≡◌, ℕ, zero, suc, List, [], ◌++◌, length, take, Option, Result, MatchResult}
 use Rattle.std.specs.Io.KnownBytes.{Appends}
 use Rattle.m11_base.specs.Devices.{Rises}
 
@@ -18,3 +18,7 @@ CountsAt old new (suc n) m = new ≡ old
 abbrev pub Counts : {E : Type 0} → ℕ → ℕ → Result ℕ E → List ℕ → Type 0
 Counts old new answer bytes =
     MatchResult answer (λ n. CountsAt old new n (length bytes)) (λ _. Rises old new)
+
+-- a known text grew by a beginning of the bytes, perhaps by none or by all of them
+abbrev pub AppendsBeginning : Option (List ℕ) → Option (List ℕ) → List ℕ → Type 0
+AppendsBeginning old new bytes = (part : List ℕ) × (rest : List ℕ) × (bytes ≡ part ++ rest) × Appends old new part

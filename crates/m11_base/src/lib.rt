@@ -4,8 +4,14 @@
 
 mod fault;
 mod feed;
+mod fuse;
+mod memory;
 mod sink;
+mod stream;
 
 pub use fault::{DeviceFault, PutFault};
 pub use feed::Feed;
-pub use sink::Sink;
+pub use fuse::{FuseFeed, FuseSink};
+pub use memory::{MemoryFeed, MemorySink};
+pub use sink::{Sink, put_all};
+pub use stream::{ReaderFeed, WriterSink};

@@ -1,10 +1,11 @@
 //! Takers of bytes.
 
-ghost use Rattle.std.specs.Prelude.{◌≡◌, ◌≤◌, ℕ, List, Option, IfOk, IsErr, length};
-ghost use Rattle.m11_base.specs.Devices.{last_count};
-ghost use Rattle.m11_base.specs.Sink.{Takes, Counts};
+ghost use Rattle.std.specs.Prelude.{◌≡◌, ◌≤◌, ℕ, List, Option, IfOk, IsErr, OnOk, OnErr, length};
+ghost use Rattle.std.specs.Io.KnownBytes.{Appends};
+ghost use Rattle.m11_base.specs.Devices.{Rises, last_count};
+ghost use Rattle.m11_base.specs.Sink.{Takes, Counts, AppendsBeginning};
 
-use crate::fault::DeviceFault;
+use crate::fault::{DeviceFault, PutFault};
 
 /// A taker of bytes.
 pub trait Sink {
@@ -21,4 +22,23 @@ pub trait Sink {
         ensures takes { Takes (text self.old) (text self.new) result bytes.now }
         ensures counts { Counts (faults self.old) (faults self.new) result bytes.now }
         ensures last { faults self.old ≡ last_count → IsErr result };
+}
+
+/// Puts all of `bytes`, in as many calls as it takes. Where the sink fails, or takes none of the
+/// bytes that are left, a beginning of `bytes` was added. It takes no memory.
+pub fn put_all<S: Sink>(sink: &mut S, bytes: &[u8]) -> Result<(), PutFault>
+    ensures whole { OnOk result (Appends (S.text sink.old) (S.text sink.new) bytes.now) }
+    ensures sound { OnOk result (S.faults sink.new ≡ S.faults sink.old) }
+    ensures beginning { OnErr result (AppendsBeginning (S.text sink.old) (S.text sink.new) bytes.now) }
+    ensures fault { OnErr result (Rises (S.faults sink.old) (S.faults sink.new)) }
+{
+    let mut rest = bytes;
+    'puts: while !rest.is_empty() {
+        match sink.put(rest) {
+            Ok(0) => return Err(PutFault::Device),
+            Ok(count) => rest = rest.split_at(count).1,
+            Err(_) => return Err(PutFault::Device),
+        }
+    }
+    Ok(())
 }

@@ -1,0 +1,144 @@
+//! A feed over any reader and a sink over any writer of the standard library.
+
+ghost use Rattle.std.specs.Prelude.{◌≡◌, ◌≤◌, length, IfOk, MatchResult, MatchOption, [], ◌∷◌};
+ghost use Rattle.std.specs.Io.KnownBytes.{Consumes, IsAtEnd, Keeps, WriteAppends};
+ghost use Rattle.m11_base.specs.Feed.{text_of_reader};
+
+use crate::fault::DeviceFault;
+use crate::feed::Feed;
+use crate::sink::Sink;
+use std::io;
+use std::io::{ErrorKind, Read, Write};
+
+/// Gives the bytes of a reader. A read that a signal interrupted is tried again. After
+/// 18,446,744,073,709,551,615 bytes it fails at each call.
+#[derive(Drop)]
+pub struct ReaderFeed<R> {
+    reader: R,
+    budget: u64,
+    faults: u64,
+}
+
+impl<R: Read> ReaderFeed<R> {
+    /// A feed of what is left in `reader`.
+    pub fn new(reader: R) -> ReaderFeed<R>
+        ensures text { ⟦<ReaderFeed<R> as Feed>⟧.text result ≡ text_of_reader (R.remaining reader) }
+        ensures unfailed { ⟦<ReaderFeed<R> as Feed>⟧.faults result ≡ 0 }
+    {
+        ReaderFeed {
+            reader,
+            budget: u64::MAX,
+            faults: 0,
+        }
+    }
+}
+
+impl<R: Read> Feed for ReaderFeed<R> {
+    ghost text = { λ s. text_of_reader (R.remaining s.reader) };
+
+    ghost faults = { λ s. s.faults };
+
+    ghost left = { λ s. s.budget };
+
+    fn next(&mut self) -> Result<Option<u8>, DeviceFault> {
+        if self.faults == u64::MAX {
+            return Err(DeviceFault);
+        }
+        if self.budget == 0 {
+            self.faults += 1;
+            return Err(DeviceFault);
+        }
+        match read_byte(&mut self.reader) {
+            Ok(Some(byte)) => {
+                self.budget -= 1;
+                Ok(Some(byte))
+            }
+            Ok(None) => Ok(None),
+            Err(_) => {
+                self.faults += 1;
+                Err(DeviceFault)
+            }
+        }
+    }
+}
+
+// The next byte of a reader, or `None` at its end.
+fn read_byte<R: Read>(reader: &mut R) -> Result<Option<u8>, DeviceFault>
+    ensures { MatchResult result
+        (λ byte. MatchOption byte
+        (Consumes (R.remaining reader.old) (R.remaining reader.new) [] × IsAtEnd (R.remaining reader.new))
+        (λ b. Consumes (R.remaining reader.old) (R.remaining reader.new) (b ∷ [])))
+        (λ _. Keeps (R.remaining reader.old) (R.remaining reader.new)) }
+{
+    let mut one = [0u8; 1];
+    'tries: for _ in 0..u64::MAX {
+        match reader.read(&mut one) {
+            Ok(0) => return Ok(None),
+            Ok(_) => return Ok(Some(one[0])),
+            Err(error) => {
+                if !is_interrupted(&error) {
+                    return Err(DeviceFault);
+                }
+            }
+        }
+    }
+    Err(DeviceFault)
+}
+
+// A signal came in between, and the call may be made again.
+fn is_interrupted(error: &io::Error) -> bool {
+    matches!(error.kind(), ErrorKind::Interrupted)
+}
+
+/// Passes bytes to a writer. A write that a signal interrupted is tried again. It keeps nothing
+/// back and flushes nothing, so a failed write shows at the put that made it.
+#[derive(Drop)]
+pub struct WriterSink<W> {
+    writer: W,
+    faults: u64,
+}
+
+impl<W: Write> WriterSink<W> {
+    /// A sink that writes to `writer`.
+    pub fn new(writer: W) -> WriterSink<W>
+        ensures text { ⟦<WriterSink<W> as Sink>⟧.text result ≡ W.contents writer }
+        ensures unfailed { ⟦<WriterSink<W> as Sink>⟧.faults result ≡ 0 }
+    {
+        WriterSink { writer, faults: 0 }
+    }
+}
+
+impl<W: Write> Sink for WriterSink<W> {
+    ghost text = { λ s. W.contents s.writer };
+
+    ghost faults = { λ s. s.faults };
+
+    fn put(&mut self, bytes: &[u8]) -> Result<usize, DeviceFault> {
+        if self.faults == u64::MAX {
+            return Err(DeviceFault);
+        }
+        let answer = write_some(&mut self.writer, bytes);
+        if answer.is_err() || (matches!(answer, Ok(0)) && !bytes.is_empty()) {
+            self.faults += 1;
+        }
+        answer
+    }
+}
+
+// One write of bytes from the front of `bytes`.
+fn write_some<W: Write>(writer: &mut W, bytes: &[u8]) -> Result<usize, DeviceFault>
+    ensures within { IfOk result (λ n. n ≤ length bytes.now) }
+    ensures appends { WriteAppends (W.contents writer.old) (W.contents writer.new) result bytes.now }
+{
+    'tries: for _ in 0..u64::MAX {
+        match writer.write(bytes) {
+            Ok(count) => return Ok(count),
+            Err(error) => {
+                if !is_interrupted(&error) {
+                    return Err(DeviceFault);
+                }
+            }
+        }
+    }
+    Err(DeviceFault)
+}
