@@ -1,5 +1,5 @@
 -- Sources of bytes, read one byte a call. (This project's own.)
-use Rattle.std.specs.Prelude.{◌≡◌, ◌≢◌, ℕ, ◌<◌, ◌≤◌, List, [], ◌∷◌, ◌++◌, ◌⊎◌, ⊤, Option, Some, None, MatchOption, Result, MatchResult}
+use Rattle.std.specs.Prelude.{◌≡◌, ◌≢◌, ℕ, List, [], ◌∷◌, ◌⊎◌, ⊤, Option, Some, None, MatchOption, Result, MatchResult}
 use Rattle.m11_base.specs.Devices.{last_count}
 
 -- how a text ends: at its end, at a failure, or perhaps at a failure before its end
