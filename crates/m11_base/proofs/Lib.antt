@@ -1,2 +1,4 @@
-pub mod Known
+pub mod Characters
+pub mod Digits
 pub mod Fuses
+pub mod Known

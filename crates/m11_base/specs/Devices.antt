@@ -1,7 +1,7 @@
 -- Devices that give or take bytes: what each has in common with the others. (This project's own:
 -- no manual speaks of it.) A device may fail at a call. It counts the calls at which it failed, and
 -- a contract blames a device only where that count tells of a failure.
-use Rattle.std.specs.Prelude.{◌≡◌, ℕ, ◌+◌, ◌-◌, ◌^◌, min, ◌⊎◌}
+use Rattle.std.specs.Prelude.{◌≡◌, ℕ, ◌+◌, ◌-◌, ◌^◌, min}
 
 -- the greatest number that a count of failures reaches
 abbrev pub last_count : ℕ

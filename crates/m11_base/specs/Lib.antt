@@ -1,3 +1,5 @@
 pub mod Devices
 pub mod Feed
+pub mod Octal
+pub mod Rad50
 pub mod Sink

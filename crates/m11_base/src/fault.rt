@@ -1,5 +1,8 @@
 //! What can go wrong in this crate, each with its number and name.
 
+ghost use Rattle.std.specs.Prelude.{◌≡◌};
+ghost use Rattle.m11_base.specs.Octal.{fault_number, fault_name};
+
 use thiserror::Error;
 
 /// A device failed: a read gave no byte, or a write took none.
@@ -13,4 +16,42 @@ pub enum PutFault {
     /// 1: the sink failed, or took no byte.
     #[error("the device failed")]
     Device,
+}
+
+/// Why a text is no octal number of one word, in the order in which the faults are looked for.
+#[derive(Clone, Copy, Debug, PartialEq, Eq, Error)]
+pub enum OctalFault {
+    /// 1: the text is empty.
+    #[error("no digit")]
+    Empty,
+    /// 2: some character is no octal digit.
+    #[error("not an octal digit")]
+    BadDigit,
+    /// 3: the number is over 177777.
+    #[error("over 177777")]
+    TooLarge,
+}
+
+impl OctalFault {
+    /// The fault's number, from 1 to 3.
+    pub fn number(self) -> u8
+        ensures { result ≡ fault_number self }
+    {
+        match self {
+            OctalFault::Empty => 1,
+            OctalFault::BadDigit => 2,
+            OctalFault::TooLarge => 3,
+        }
+    }
+
+    /// The fault's name, as it is printed.
+    pub fn name(self) -> &'static str
+        ensures { result.now ≡ fault_name self }
+    {
+        match self {
+            OctalFault::Empty => "Empty",
+            OctalFault::BadDigit => "BadDigit",
+            OctalFault::TooLarge => "TooLarge",
+        }
+    }
 }

@@ -1,0 +1,90 @@
+-- Characters and codes of RADIX-50 lead back to each other, and words to their three characters.
+use Rattle.std.proofs.Common.{◌≡◌, ◌≢◌, ℕ, zero, suc, ◌+◌, ◌*◌, ◌/◌, ◌%◌, ◌<◌, Bool, true, false, cond, eqb, ltb, List, [], ◌∷◌, length, Option, Some, None, refl, sym, ap, subst, arith, inl, inr}
+use Rattle.std.specs.Prelude.{◌&&◌, ◌||◌, position, slice_index}
+use Rattle.std.proofs.lemmas.Bool.{cases_lt, eqb-true, and_parts, lt-ltb}
+use Rattle.std.proofs.lemmas.Bool.Decides.{nat_tests}
+use Rattle.std.proofs.lemmas.List.Quantifiers.{position-Some}
+use Rattle.m11_base.specs.Rad50.{alphabet, code_of, character_of, packed_at, unpacked, characters_of, HasNoPercent, word_limit}
+
+-- ---- a test that holds of each number below a bound
+
+all_below : (ℕ → Bool) → ℕ → Bool
+all_below p zero = true
+all_below p (suc n) = p n && all_below p n
+
+all_below_at : (p : ℕ → Bool) (n k : ℕ) → all_below p n ≡ true → k < n → p k ≡ true
+unfolding all_below
+all_below_at p zero k e lt = absurd (omega arith)
+all_below_at p (suc n) k e lt =
+    let parts = and_parts (p n) (all_below p n) e in
+    elim (cases_lt k n) [
+      | inl below ↦ all_below_at p n k parts.1 below
+      | inr above ↦ let here : k ≡ n = omega arith in rw here parts.0
+    ]
+
+-- ---- codes
+
+is_code : Option ℕ → ℕ → Bool
+is_code None k = false
+is_code (Some x) k = eqb x k
+
+gives_back : ℕ → Bool
+gives_back k = eqb (character_of k) 37 || is_code (code_of (character_of k)) k
+
+from_test : (c k : ℕ) (o : Option ℕ) → (eqb c 37 || is_code o k) ≡ true → c ≢ 37 → o ≡ Some k
+unfolding is_code
+from_test c k None e ne = grind (arith, nat_tests)
+from_test c k (Some x) e ne = grind (arith, nat_tests)
+
+pub code_again : (k : ℕ) → k < 40 → character_of k ≢ 37 → code_of (character_of k) ≡ Some k
+unfolding all_below gives_back is_code alphabet code_of character_of
+code_again k lt ne =
+    from_test (character_of k) k (code_of (character_of k)) (all_below_at gives_back 40 k refl lt) ne
+
+some_from_cond : (b : Bool) (o : Option ℕ) (k : ℕ) → cond b None o ≡ Some k → o ≡ Some k
+some_from_cond true o k e = absurd cc
+some_from_cond false o k e = e
+
+pub character_again : (c k : ℕ) → code_of c ≡ Some k → (k < 40) × (character_of k ≡ c)
+unfolding alphabet code_of character_of
+character_again c k e =
+    let found = position-Some (λ x. eqb x c) alphabet k 0 (some_from_cond (eqb c 37) (position (λ x. eqb x c) alphabet) k e) in
+    (found.0, eqb-true _ _ found.1)
+
+-- ---- words
+
+-- the three digits of a word in base 40
+digits_again : (x y z : ℕ) → x < 40 → y < 40 → z < 40 → ((x * 1600 + y * 40 + z) / 1600 ≡ x) × ((x * 1600 + y * 40 + z) / 40 % 40 ≡ y) × ((x * 1600 + y * 40 + z) % 40 ≡ z)
+digits_again x y z x-fits y-fits z-fits = (omega arith, omega arith, omega arith)
+
+three_items : (text : List ℕ) → length text ≡ 3 → text ≡ slice_index text 0 ∷ slice_index text 1 ∷ slice_index text 2 ∷ []
+three_items [] e = absurd (omega arith)
+three_items (a ∷ []) e = absurd (omega arith)
+three_items (a ∷ b ∷ []) e = absurd (omega arith)
+three_items (a ∷ b ∷ c ∷ []) e = refl
+three_items (a ∷ b ∷ c ∷ d ∷ rest) e = absurd (omega arith)
+
+-- a packed word has the characters that it was packed from
+pub unpacked_again : (text : List ℕ) (x y z : ℕ) → length text ≡ 3 → code_of (slice_index text 0) ≡ Some x → code_of (slice_index text 1) ≡ Some y → code_of (slice_index text 2) ≡ Some z → unpacked (x * 1600 + y * 40 + z) ≡ Some text
+unpacked_again text x y z len first second third =
+    let a = character_again (slice_index text 0) x first in
+    let b = character_again (slice_index text 1) y second in
+    let c = character_again (slice_index text 2) z third in
+    let d = digits_again x y z a.0 b.0 c.0 in
+    let below : ltb (x * 1600 + y * 40 + z) 64000 ≡ true = lt-ltb _ _ (omega arith) in
+    rw (below, d.0, d.1, d.2, a.1, b.1, c.1) (ap (λ (t : List ℕ). Some t) (sym (three_items text len)))
+
+packed_same : (word : ℕ) → word < word_limit → HasNoPercent (characters_of word) → packed_at (characters_of word) 0 ≡ Some word
+packed_same word lt plain =
+    let a = code_again (word / 1600) (omega arith) (plain 0 0 (omega arith)) in
+    let b = code_again (word / 40 % 40) (omega arith) (plain 1 0 (omega arith)) in
+    let c = code_again (word % 40) (omega arith) (plain 2 0 (omega arith)) in
+    let sum : word / 1600 * 1600 + word / 40 % 40 * 40 + word % 40 ≡ word = omega arith in
+    rw (a, b, c) (ap (λ (w : ℕ). Some w) sum)
+
+-- the codes of a word's characters have that word
+pub packed_again : (word a b c : ℕ) → word < word_limit → a ≡ character_of (word / 1600) → b ≡ character_of (word / 40 % 40) → c ≡ character_of (word % 40) → HasNoPercent (a ∷ b ∷ c ∷ []) → packed_at (a ∷ b ∷ c ∷ []) 0 ≡ Some word
+packed_again word a b c lt first second third plain =
+    let same : a ∷ b ∷ c ∷ [] ≡ characters_of word = cc in
+    let P : List ℕ → Type 0 = λ text. HasNoPercent text → packed_at text 0 ≡ Some word in
+    subst P (sym same) (packed_same word lt) plain

@@ -1,0 +1,40 @@
+-- Octal texts of words. (MACRO-11 Language Reference Manual, "Numbers", for the digits; that a text
+-- may have any number of leading zeros, and the order of the faults, is this project's own.)
+use Rattle.std.specs.Prelude.{ℕ, ◌+◌, ◌-◌, ◌*◌, ◌/◌, ◌%◌, ◌^◌, List, [], ◌∷◌, length, map, codes, Bool, ◌&&◌, nat_le, nat_lt, if◌then◌else◌, Result, Ok, Err}
+use Rattle.std.specs.List.{list_all}
+use Rattle.m11_base.specs.declared.fault.OctalFault.{OctalFault}
+use Rattle.m11_base.specs.declared.fault.OctalFault.TheVariants.{Empty, BadDigit, TooLarge}
+
+-- a character from `0` to `7`
+abbrev pub is_octal_digit : ℕ → Bool
+is_octal_digit character = nat_le 48 character && nat_le character 55
+
+-- the number that octal digits spell: each digit counts 8 to the number of digits behind it
+abbrev pub octal_value : List ℕ → ℕ
+octal_value [] = 0
+octal_value (digit ∷ digits) = (digit - 48) * 8 ^ length digits + octal_value digits
+
+-- the word that a text spells, or the first fault in the order of their numbers
+abbrev pub octal_of : List ℕ → Result ℕ OctalFault
+octal_of [] = Err Empty
+octal_of (first ∷ rest) =
+    if list_all is_octal_digit (first ∷ rest) then (if nat_lt (octal_value (first ∷ rest)) 65536 then Ok (octal_value (first ∷ rest)) else Err TooLarge) else Err BadDigit
+
+-- the digit of a word at a place
+abbrev pub octal_digit : ℕ → ℕ → ℕ
+octal_digit word place = 48 + word / 8 ^ place % 8
+
+-- a word as six octal digits
+abbrev pub octal_text : ℕ → List ℕ
+octal_text word = map (octal_digit word) (5 ∷ 4 ∷ 3 ∷ 2 ∷ 1 ∷ 0 ∷ [])
+
+-- how a fault is told
+abbrev pub fault_number : OctalFault → ℕ
+fault_number Empty = 1
+fault_number BadDigit = 2
+fault_number TooLarge = 3
+
+abbrev pub fault_name : OctalFault → List ℕ
+fault_name Empty = codes "Empty"
+fault_name BadDigit = codes "BadDigit"
+fault_name TooLarge = codes "TooLarge"

@@ -1,0 +1,62 @@
+-- RADIX-50: three characters in one word, six in a name. (MACRO-11 Language Reference Manual,
+-- appendix on the RADIX-50 character set.) That the code 29, which the manual leaves unused, is shown
+-- as `%` and that no character gives it, is this project's own.
+use Rattle.std.specs.Prelude.{◌≢◌, ℕ, ◌+◌, ◌*◌, ◌/◌, ◌%◌, ◌<◌, List, [], ◌∷◌, ◌++◌, codes, slice_index, position, All, Option, Some, None, nat_lt, ◌==◌, if◌then◌else◌}
+
+-- the characters, each at the place of its code
+unfoldable pub alphabet : List ℕ
+alphabet = codes " ABCDEFGHIJKLMNOPQRSTUVWXYZ$.%0123456789"
+
+-- the code of a character, if it has one
+unfoldable pub code_of : ℕ → Option ℕ
+code_of character = if character == 37 then None else position (λ x. x == character) alphabet
+
+-- the character that shows a code below 40
+unfoldable pub character_of : ℕ → ℕ
+character_of code = slice_index alphabet code
+
+-- words from this one on have no characters: it is 40 * 40 * 40, octal 175000
+abbrev pub word_limit : ℕ
+word_limit = 64000
+
+-- the word of three codes, if there are three
+abbrev pub word_of_codes : Option ℕ → Option ℕ → Option ℕ → Option ℕ
+word_of_codes (Some first) (Some second) (Some third) = Some (first * 1600 + second * 40 + third)
+word_of_codes (Some first) (Some second) None = None
+word_of_codes (Some first) None third = None
+word_of_codes None second third = None
+
+-- the word of the three characters from a place of a text on, if each has a code
+abbrev pub packed_at : List ℕ → ℕ → Option ℕ
+packed_at text place =
+    word_of_codes (code_of (slice_index text place)) (code_of (slice_index text (place + 1))) (code_of (slice_index text (place + 2)))
+
+-- the three characters of a word: those of its digits in base 40
+abbrev pub characters_of : ℕ → List ℕ
+characters_of word =
+    character_of (word / 1600) ∷ character_of (word / 40 % 40) ∷ character_of (word % 40) ∷ []
+
+abbrev pub unpacked : ℕ → Option (List ℕ)
+unpacked word = if nat_lt word word_limit then Some (characters_of word) else None
+
+-- no character of a text stands for the code that no character gives
+abbrev pub HasNoPercent : List ℕ → Type 0
+HasNoPercent text = All (λ character. character ≢ 37) text
+
+-- a name: two words that have characters
+abbrev pub IsName : ℕ × ℕ → Type 0
+IsName name = (name.0 < word_limit) × (name.1 < word_limit)
+
+-- the name of two words, if there are two
+abbrev pub name_of_words : Option ℕ → Option ℕ → Option (ℕ × ℕ)
+name_of_words (Some first) (Some second) = Some (first, second)
+name_of_words (Some first) None = None
+name_of_words None second = None
+
+-- the name of a text of six characters, if each has a code
+abbrev pub name_of : List ℕ → Option (ℕ × ℕ)
+name_of text = name_of_words (packed_at text 0) (packed_at text 3)
+
+-- the six characters of a name
+abbrev pub name_text : ℕ × ℕ → List ℕ
+name_text name = characters_of name.0 ++ characters_of name.1

@@ -1,0 +1,144 @@
+//! RADIX-50: three characters in one word, and names of six characters in two words.
+//! (MACRO-11 Language Reference Manual, appendix on the RADIX-50 character set.)
+
+ghost use Rattle.std.specs.Prelude.{◌≡◌, ◌<◌, ◌==◌, ℕ, Some, IfSome, SomeIff, position};
+ghost use Rattle.m11_base.specs.Rad50.{code_of, character_of, packed_at, unpacked, word_limit, characters_of, HasNoPercent, IsName, name_of, name_text};
+
+use std::marker::Model;
+
+// The characters, each at the place of its code.
+const ALPHABET: &[u8; 40] = b" ABCDEFGHIJKLMNOPQRSTUVWXYZ$.%0123456789";
+
+// Words from this one on have no characters.
+const WORD_LIMIT: u16 = 0o175000;
+
+fn place_of(characters: &[u8], sought: u8) -> Option<usize>
+    ensures { result ≡ position (λ x. x == sought) characters.now }
+{
+    characters.iter().position(|x| *x == sought)
+}
+
+#[tactic(auto, unfolding(crate::specs::Rad50::alphabet, crate::specs::Rad50::code_of))]
+fn code_of(character: u8) -> Option<u16>
+    ensures code { result ≡ code_of character }
+    ensures below { IfSome result (λ code. code < 40) }
+{
+    if character == b'%' {
+        return None;
+    }
+    let code = place_of(ALPHABET, character)?;
+    Some(code as u16)
+}
+
+#[tactic(auto, unfolding(crate::specs::Rad50::alphabet, crate::specs::Rad50::character_of))]
+fn character_of(code: u16) -> u8
+    requires { code < 40 }
+    ensures { result ≡ character_of code }
+{
+    ALPHABET[usize::from(code)]
+}
+
+// The three characters of a word that has them.
+fn three_characters(word: u16) -> [u8; 3]
+    requires { word < word_limit }
+    ensures characters { result ≡ characters_of word }
+    ensures again { HasNoPercent result → packed_at result 0 ≡ Some word }
+{
+    [
+        character_of(word / 1600),
+        character_of(word / 40 % 40),
+        character_of(word % 40),
+    ]
+}
+
+/// Words of three characters.
+pub struct Rad50;
+
+impl Rad50 {
+    /// The word of three characters: blank, `A` to `Z`, `$`, `.`, `0` to `9`. Any other character,
+    /// lower case too, has no code, and then there is no word.
+    pub fn pack(characters: &[u8; 3]) -> Option<u16>
+        ensures word { result ≡ packed_at characters.now 0 }
+        ensures again { IfSome result (λ word. unpacked word ≡ Some characters.now) }
+    {
+        let [first, second, third] = *characters;
+        let first = code_of(first)?;
+        let second = code_of(second)?;
+        let third = code_of(third)?;
+        Some(first * 1600 + second * 40 + third)
+    }
+
+    /// The three characters of a word below octal 175000; no other word has any. The code that no
+    /// character gives is shown as `%`.
+    pub fn unpack(word: u16) -> Option<[u8; 3]>
+        ensures characters { result ≡ unpacked word }
+        ensures again { IfSome result
+            (λ characters. HasNoPercent characters → packed_at characters 0 ≡ Some word) }
+    {
+        if word >= WORD_LIMIT {
+            return None;
+        }
+        Some(three_characters(word))
+    }
+}
+
+/// A name of six characters in RADIX-50: two words, each below octal 175000. Names are in the order
+/// of their two words.
+#[derive(Clone, Copy, Debug, PartialEq, Eq, PartialOrd, Ord, Hash)]
+pub struct Name {
+    first: u16,
+    second: u16,
+}
+
+impl Model for Name {
+    ghost Value = { ℕ × ℕ };
+
+    ghost view = { λ n. (n.first, n.second) };
+
+    ghost invariant = { λ n. (n.first < word_limit) × (n.second < word_limit) };
+
+    ghost inverse = { λ n. record { first = n.0; second = n.1 } };
+}
+
+impl Name {
+    /// The name of six characters, if each of them has a code.
+    pub fn pack(characters: &[u8; 6]) -> Option<Name>
+        ensures { result ≡ name_of characters.now }
+    {
+        let [a, b, c, d, e, f] = *characters;
+        let first = Rad50::pack(&[a, b, c])?;
+        let second = Rad50::pack(&[d, e, f])?;
+        Some(Name { first, second })
+    }
+
+    /// The name of two words, if both are below octal 175000.
+    pub fn from_words(first: u16, second: u16) -> Option<Name>
+        ensures { SomeIff result (IsName (first, second)) (first, second) }
+    {
+        if first < WORD_LIMIT && second < WORD_LIMIT {
+            Some(Name { first, second })
+        } else {
+            None
+        }
+    }
+
+    /// The name's two words, both below octal 175000.
+    pub fn words(&self) -> (u16, u16)
+        ensures words { result ≡ self.now }
+        ensures below { IsName self.now }
+    {
+        (self.first, self.second)
+    }
+
+    /// The name's six characters, with the blanks behind it.
+    pub fn characters(&self) -> [u8; 6]
+        ensures { result ≡ name_text self.now }
+    {
+        let [a, b, c] = three_characters(self.first);
+        let [d, e, f] = three_characters(self.second);
+        [a, b, c, d, e, f]
+    }
+}
+
+#[cfg(test)]
+mod tests;
