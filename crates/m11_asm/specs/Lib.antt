@@ -1,0 +1,5 @@
+pub mod Faults
+pub mod Lines
+pub mod Statements
+pub mod Parsing
+pub mod Reading

@@ -1,0 +1,8 @@
+//! The assembler of MACRO-11: sources become an object module, a listing and messages. Today it
+//! takes a small part of the language, holds the text, and writes no listing.
+#![tactic(auto)]
+
+mod fault;
+mod statement;
+
+pub use fault::{AsmFault, AsmOutput};
