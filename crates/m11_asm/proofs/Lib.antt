@@ -1,1 +1,4 @@
+pub mod Readings
+pub mod Steps
+pub mod Sizes
 pub mod Texts

@@ -6,6 +6,7 @@ use Rattle.std.proofs.lemmas.Bool.{cases_lt, lt-ltb, le-ltb}
 use Rattle.std.proofs.lemmas.List.Sums.{prefix_len-le-length}
 use Rattle.std.proofs.lemmas.List.Folds.{length-prefix_len}
 use Rattle.std.proofs.lemmas.List.{drop-drop, length-drop}
+use Rattle.m11_asm.specs.Lines.{is_empty, without_return}
 use Rattle.m11_asm.specs.Statements.{elements_of, onto_first, is_blank, is_name_character, folded, without_blanks_behind, statement_in, directive_of}
 
 -- a place that was found
@@ -120,3 +121,38 @@ module _ (text front head : List ℕ) (last : ℕ) (parts : front ≡ head ++ la
 
   pub head_is_enough : is_blank last ≡ true → without_blanks_behind head ≡ without_blanks_behind text
   head_is_enough e = sym (blank_behind head last e) ∙ ap without_blanks_behind (sym parts) ∙ so_far
+
+-- a carriage return behind a line
+nonempty_push : (xs : List ℕ) (x : ℕ) → is_empty (xs ++ x ∷ []) ≡ false
+nonempty_push [] x = refl
+nonempty_push (y ∷ xs) x = refl
+
+return_behind : (front : List ℕ) (last : ℕ) → (last == 13) ≡ true → without_return (front ++ last ∷ []) ≡ front
+return_behind [] last e = rw e refl
+return_behind (byte ∷ front) last e = rw (nonempty_push front last) (ap (λ (t : List ℕ). byte ∷ t) (return_behind front last e))
+
+other_end : (front : List ℕ) (last : ℕ) → (last == 13) ≡ false → without_return (front ++ last ∷ []) ≡ front ++ last ∷ []
+other_end [] last e = rw e refl
+other_end (byte ∷ front) last e = rw (nonempty_push front last) (ap (λ (t : List ℕ). byte ∷ t) (other_end front last e))
+
+take_whole : (xs : List ℕ) → take (length xs) xs ≡ xs
+take_whole [] = refl
+take_whole (x ∷ xs) = ap (λ (t : List ℕ). x ∷ t) (take_whole xs)
+
+take_front : (front : List ℕ) (last : ℕ) → take (length front) (front ++ last ∷ []) ≡ front
+take_front [] last = refl
+take_front (x ∷ front) last = ap (λ (t : List ℕ). x ∷ t) (take_front front last)
+
+pub without_last : (line front : List ℕ) (last : ℕ) → line ≡ front ++ last ∷ [] → (last == 13) ≡ true → take (length front) line ≡ without_return line
+without_last line front last e r = rw e (take_front front last ∙ sym (return_behind front last r))
+
+pub with_last : (line front : List ℕ) (last : ℕ) → line ≡ front ++ last ∷ [] → (last == 13) ≡ false → take (length line) line ≡ without_return line
+with_last line front last e r = rw e (take_whole (front ++ last ∷ []) ∙ sym (other_end front last r))
+
+pub nothing_in : (xs : List ℕ) → length xs ≡ 0 → xs ≡ []
+nothing_in [] e = refl
+nothing_in (x ∷ xs) e = absurd (omega arith)
+
+pub above_zero : (n : ℕ) → (n ≡ 0 → ⊥) → 0 < n
+above_zero zero h = absurd (h refl)
+above_zero (suc n) h = omega arith

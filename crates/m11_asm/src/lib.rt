@@ -3,6 +3,7 @@
 #![tactic(auto)]
 
 mod fault;
+mod reading;
 mod statement;
 
 pub use fault::{AsmFault, AsmOutput};
