@@ -1,4 +1,6 @@
 pub mod Readings
+pub mod Feeds
+pub mod Joined
 pub mod Steps
 pub mod Sizes
 pub mod Texts

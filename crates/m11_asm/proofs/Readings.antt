@@ -56,8 +56,8 @@ pub line_ends : (before : List RawLine) (unclosed : List ℕ) (symbol : Option �
     → reading_at before unclosed (symbol ∷ rest) ≡ read_on (turn_at before (raw unclosed has_line_feed)) before (reading_at (before ++ raw unclosed has_line_feed ∷ []) [] rest)
 line_ends before unclosed symbol has_line_feed rest h e =
     let whole : cut (map (λ b. Some b) unclosed ++ symbol ∷ rest) ≡ record { lines = raw unclosed has_line_feed ∷ (cut rest).lines; unclosed = (cut rest).unclosed } =
-        cut_behind unclosed (symbol ∷ rest) h ∙ ap (behind unclosed) e ∙ behind_line unclosed (raw [] has_line_feed) (cut rest).lines (cut rest).unclosed
-        ∙ ap (λ (bytes : List ℕ). record { lines = raw bytes has_line_feed ∷ (cut rest).lines; unclosed = (cut rest).unclosed }) (append_nil unclosed) in
+    cut_behind unclosed (symbol ∷ rest) h ∙ ap (behind unclosed) e ∙ behind_line unclosed (raw [] has_line_feed) (cut rest).lines (cut rest).unclosed
+    ∙ ap (λ (bytes : List ℕ). record { lines = raw bytes has_line_feed ∷ (cut rest).lines; unclosed = (cut rest).unclosed }) (append_nil unclosed) in
     ap (λ (c : Cut). reading_from before c.lines c.unclosed) whole
 
 -- ---- the limits
@@ -71,18 +71,18 @@ either false = inr refl
 
 refuses_lines : (before : List RawLine) (line : RawLine) → is_line line ≡ true → most_lines < lines_in before + 1 → turn_at before line ≡ Refuses TooMuchSource
 refuses_lines before line is h = elim (either (ltb most_bytes (bytes_in before + size_of line))) [
-    | inl over ↦ rw over refl
-    | inr within ↦ rw (within, is, lt-ltb most_lines (lines_in before + 1) h) refl
-  ]
+  | inl over ↦ rw over refl
+  | inr within ↦ rw (within, is, lt-ltb most_lines (lines_in before + 1) h) refl
+]
 
 unclosed_bytes : (before : List RawLine) (unclosed : List ℕ) → most_bytes < bytes_in before + length unclosed → unclosed_turn before unclosed ≡ Refuses TooMuchSource
 unclosed_bytes before unclosed h = rw (lt-ltb most_bytes (bytes_in before + length unclosed) h) refl
 
 unclosed_lines : (before : List RawLine) (unclosed : List ℕ) → is_empty (cleaned unclosed) ≡ false → most_lines < lines_in before + 1 → unclosed_turn before unclosed ≡ Refuses TooMuchSource
 unclosed_lines before unclosed some h = elim (either (ltb most_bytes (bytes_in before + length unclosed))) [
-    | inl over ↦ rw over refl
-    | inr within ↦ rw (within, some, lt-ltb most_lines (lines_in before + 1) h) refl
-  ]
+  | inl over ↦ rw over refl
+  | inr within ↦ rw (within, some, lt-ltb most_lines (lines_in before + 1) h) refl
+]
 
 -- whatever comes behind these bytes, their line is refused
 refused_by_cut : (before : List RawLine) (unclosed : List ℕ)
@@ -114,9 +114,9 @@ too_many_bytes before unclosed rest h over = refused_at before unclosed rest h
 pub cleaned-append : (xs ys : List ℕ) → cleaned (xs ++ ys) ≡ cleaned xs ++ cleaned ys
 cleaned-append [] ys = refl
 cleaned-append (x ∷ xs) ys = elim (either (x == 0)) [
-    | inl nul ↦ rw nul (cleaned-append xs ys)
-    | inr some ↦ rw some (ap (λ (t : List ℕ). as_read x ∷ t) (cleaned-append xs ys))
-  ]
+  | inl nul ↦ rw nul (cleaned-append xs ys)
+  | inr some ↦ rw some (ap (λ (t : List ℕ). as_read x ∷ t) (cleaned-append xs ys))
+]
 
 pub cleaned-nul : (xs : List ℕ) (x : ℕ) → (x == 0) ≡ true → cleaned (xs ++ x ∷ []) ≡ cleaned xs
 cleaned-nul xs x e = cleaned-append xs (x ∷ []) ∙ ap (λ (t : List ℕ). cleaned xs ++ t) (cleaned-one x e) ∙ append_nil (cleaned xs)
@@ -157,15 +157,15 @@ feed_refused before unclosed byte rest h feed refused =
 pub past_bytes : (before : List RawLine) (unclosed : List ℕ) (byte : ℕ) (rest : List (Option ℕ)) → HasNoLineFeed unclosed
     → most_bytes < bytes_in before + length unclosed + 1 → reading_at before unclosed (Some byte ∷ rest) ≡ Refused TooMuchSource
 past_bytes before unclosed byte rest h over = elim (either (byte == 10)) [
-    | inl feed ↦ feed_refused before unclosed byte rest h feed (refuses_bytes before (raw unclosed true) (omega arith))
-    | inr other ↦ byte_goes_on before unclosed byte rest
-        ∙ too_many_bytes before (unclosed ++ byte ∷ []) rest (no_line_feed_push unclosed byte h other) (omega (arith, length-append unclosed (byte ∷ [])))
-  ]
+  | inl feed ↦ feed_refused before unclosed byte rest h feed (refuses_bytes before (raw unclosed true) (omega arith))
+  | inr other ↦ byte_goes_on before unclosed byte rest
+      ∙ too_many_bytes before (unclosed ++ byte ∷ []) rest (no_line_feed_push unclosed byte h other) (omega (arith, length-append unclosed (byte ∷ [])))
+]
 
 pub past_lines : (before : List RawLine) (unclosed : List ℕ) (byte : ℕ) (rest : List (Option ℕ)) → HasNoLineFeed unclosed → (byte == 0) ≡ false
     → most_lines < lines_in before + 1 → reading_at before unclosed (Some byte ∷ rest) ≡ Refused TooMuchSource
 past_lines before unclosed byte rest h some over = elim (either (byte == 10)) [
-    | inl feed ↦ feed_refused before unclosed byte rest h feed (refuses_lines before (raw unclosed true) refl over)
-    | inr other ↦ byte_goes_on before unclosed byte rest
-        ∙ too_many_lines before unclosed byte rest (no_line_feed_push unclosed byte h other) some over
-  ]
+  | inl feed ↦ feed_refused before unclosed byte rest h feed (refuses_lines before (raw unclosed true) refl over)
+  | inr other ↦ byte_goes_on before unclosed byte rest
+      ∙ too_many_lines before unclosed byte rest (no_line_feed_push unclosed byte h other) some over
+]

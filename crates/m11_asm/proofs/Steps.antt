@@ -25,7 +25,11 @@ module _ (before : List RawLine) (unclosed : List ℕ) (old : Held) (holds : Hol
   -- a NUL
   pub takes_nul : (byte : ℕ) → (byte == 0) ≡ true → (byte == 10) ≡ false → old.bytes < most_bytes
       → GoesTo before unclosed (Some byte ∷ []) (record old { bytes = old.bytes + 1 }) progress.GoesOn
-  takes_nul byte nul other room = (before, unclosed ++ byte ∷ [], (λ rest. byte_goes_on before unclosed byte rest), record {
+  takes_nul byte nul other room = (
+    before,
+    unclosed ++ byte ∷ [],
+    (λ rest. byte_goes_on before unclosed byte rest),
+    record {
       bytes-is = omega (arith, holds.bytes-is, length-append unclosed (byte ∷ []));
       line-is = holds.line-is ∙ sym (cleaned-nul unclosed byte nul);
       in_line = no_line_feed_push unclosed byte holds.in_line other;
@@ -33,12 +37,17 @@ module _ (before : List RawLine) (unclosed : List ℕ) (old : Held) (holds : Hol
       few_lines = holds.few_lines;
       room_for_line = λ h. holds.room_for_line (rw (cleaned-nul unclosed byte nul) at h);
       program = record { lines-is = holds.program.lines-is; words-is = holds.program.words-is; size-is = holds.program.size-is };
-    })
+    },
+  )
 
   -- a byte of a line
   pub takes_byte : (byte : ℕ) → (byte == 0) ≡ false → (byte == 10) ≡ false → old.bytes < most_bytes → old.lines < most_lines
       → GoesTo before unclosed (Some byte ∷ []) (record old { bytes = old.bytes + 1; line = old.line ++ as_read byte ∷ [] }) progress.GoesOn
-  takes_byte byte some other room lines_left = (before, unclosed ++ byte ∷ [], (λ rest. byte_goes_on before unclosed byte rest), record {
+  takes_byte byte some other room lines_left = (
+    before,
+    unclosed ++ byte ∷ [],
+    (λ rest. byte_goes_on before unclosed byte rest),
+    record {
       bytes-is = omega (arith, holds.bytes-is, length-append unclosed (byte ∷ []));
       line-is = ap (λ (t : List ℕ). t ++ as_read byte ∷ []) holds.line-is ∙ sym (cleaned-push unclosed byte some);
       in_line = no_line_feed_push unclosed byte holds.in_line other;
@@ -46,7 +55,8 @@ module _ (before : List RawLine) (unclosed : List ℕ) (old : Held) (holds : Hol
       few_lines = holds.few_lines;
       room_for_line = λ h. lines_left;
       program = record { lines-is = holds.program.lines-is; words-is = holds.program.words-is; size-is = holds.program.size-is };
-    })
+    },
+  )
 
 -- a line within the limits says what it says
 line_turn_at : (before : List RawLine) (line : RawLine) → bytes_in before + size_of line ≤ most_bytes → is_line line ≡ true → lines_in before + 1 ≤ most_lines
@@ -137,7 +147,9 @@ module _ (before : List RawLine) (unclosed : List ℕ) (old : Held) (holds : Hol
       omega (arith, lines_in-push before (raw unclosed false))
 
   pub takes_no_line : GoesTo before unclosed (None ∷ []) old progress.GoesOn
-  takes_no_line = (before ++ raw unclosed false ∷ [], [],
+  takes_no_line = (
+    before ++ raw unclosed false ∷ [],
+    [],
     (λ rest. line_ends before unclosed None false rest holds.in_line refl
         ∙ ap (λ (t : Turn). read_on t before (reading_at (before ++ raw unclosed false ∷ []) [] rest)) passes),
     record {
@@ -148,7 +160,8 @@ module _ (before : List RawLine) (unclosed : List ℕ) (old : Held) (holds : Hol
       few_lines = holds.few_lines;
       room_for_line = λ h. absurd (omega arith);
       program = record { lines-is = holds.program.lines-is ∙ sym same_lines; words-is = holds.program.words-is ∙ sym same_words; size-is = holds.program.size-is ∙ sym same_size };
-    })
+    },
+  )
 
 -- a line whose bytes were read is one
 read_is_line : (bytes : List ℕ) → 0 < length bytes → is_empty bytes ≡ false

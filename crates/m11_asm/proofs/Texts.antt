@@ -13,15 +13,15 @@ use Rattle.m11_asm.specs.Statements.{elements_of, onto_first, is_blank, is_name_
 module _ (p : ℕ → Bool) (xs : List ℕ) where
   pub found : (n : ℕ) → position p xs ≡ Some n → (position_or_len p xs ≡ n) × (n < length xs)
   found n e = elim (cases_lt (position_or_len p xs) (length xs)) [
-      | inl lt ↦ let same : Some (position_or_len p xs) ≡ Some n = rw (lt-ltb _ _ lt) at e in let is : position_or_len p xs ≡ n = cc in (is, omega arith)
-      | inr le ↦ let none : None ≡ Some n = rw (le-ltb _ _ le) at e in absurd cc
-    ]
+    | inl lt ↦ let same : Some (position_or_len p xs) ≡ Some n = rw (lt-ltb _ _ lt) at e in let is : position_or_len p xs ≡ n = cc in (is, omega arith)
+    | inr le ↦ let none : None ≡ Some n = rw (le-ltb _ _ le) at e in absurd cc
+  ]
 
   pub not_found : position p xs ≡ None → position_or_len p xs ≡ length xs
   not_found e = elim (cases_lt (position_or_len p xs) (length xs)) [
-      | inl lt ↦ let some : Some (position_or_len p xs) ≡ None = rw (lt-ltb _ _ lt) at e in absurd cc
-      | inr le ↦ omega (arith, prefix_len-le-length (λ x. not (p x)) xs)
-    ]
+    | inl lt ↦ let some : Some (position_or_len p xs) ≡ None = rw (lt-ltb _ _ lt) at e in absurd cc
+    | inr le ↦ omega (arith, prefix_len-le-length (λ x. not (p x)) xs)
+  ]
 
 -- the place, or the length where there is none
 unwrapped' : (p : ℕ → Bool) (xs : List ℕ) (place : Option ℕ) → place ≡ position p xs → unwrap_or place (length xs) ≡ position_or_len p xs
@@ -52,10 +52,10 @@ elements-other byte text e = rw e refl
 elements_at : (text : List ℕ) (n : ℕ) → position_or_len (λ byte. byte == 44) text ≡ n → n < length text → elements_of text ≡ take n text ∷ elements_of (drop (suc n) text)
 elements_at [] n e h = absurd (omega arith)
 elements_at (byte ∷ text) n e h = elim (either (byte == 44)) [
-    | inl comma ↦ let start : 0 ≡ n = sym (place_at_comma byte text comma) ∙ e in rw (← start) (elements-comma byte text comma)
-    | inr other ↦ let next : suc (position_or_len (λ byte'. byte' == 44) text) ≡ n = sym (place_behind byte text other) ∙ e in
-        rw (← next) (elements-other byte text other ∙ ap (onto_first byte) (elements_at text (position_or_len (λ byte'. byte' == 44) text) refl (omega arith)))
-  ]
+  | inl comma ↦ let start : 0 ≡ n = sym (place_at_comma byte text comma) ∙ e in rw (← start) (elements-comma byte text comma)
+  | inr other ↦ let next : suc (position_or_len (λ byte'. byte' == 44) text) ≡ n = sym (place_behind byte text other) ∙ e in
+      rw (← next) (elements-other byte text other ∙ ap (onto_first byte) (elements_at text (position_or_len (λ byte'. byte' == 44) text) refl (omega arith)))
+]
 
 pub elements_with : (text : List ℕ) (n : ℕ) → Some n ≡ position (λ byte. byte == 44) text → elements_of text ≡ take n text ∷ elements_of (drop (suc n) text)
 elements_with text n e = let f = found (λ byte. byte == 44) text n (sym e) in elements_at text n f.0 f.1
@@ -63,10 +63,10 @@ elements_with text n e = let f = found (λ byte. byte == 44) text n (sym e) in e
 elements_alone : (text : List ℕ) → position_or_len (λ byte. byte == 44) text ≡ length text → elements_of text ≡ text ∷ []
 elements_alone [] e = refl
 elements_alone (byte ∷ text) e = elim (either (byte == 44)) [
-    | inl comma ↦ let start = place_at_comma byte text comma in absurd (omega arith)
-    | inr other ↦ let next = place_behind byte text other in
-        elements-other byte text other ∙ ap (onto_first byte) (elements_alone text (omega arith))
-  ]
+  | inl comma ↦ let start = place_at_comma byte text comma in absurd (omega arith)
+  | inr other ↦ let next = place_behind byte text other in
+      elements-other byte text other ∙ ap (onto_first byte) (elements_alone text (omega arith))
+]
 
 pub elements_without : (text : List ℕ) → None ≡ position (λ byte. byte == 44) text → elements_of text ≡ text ∷ []
 elements_without text e = elements_alone text (not_found (λ byte. byte == 44) text (sym e))
@@ -75,9 +75,10 @@ pub elements_split : (text front back behind : List ℕ) (n : ℕ) → Some n �
     → (elements_of text ≡ front ∷ elements_of behind) × (length behind < length text)
 elements_split text front back behind n e f b h =
     let place = found (λ byte. byte == 44) text n (sym e) in
-    let behind-is : behind ≡ drop (suc n) text = h ∙ ap (drop 1) b ∙ drop-drop 1 n text ∙ ap (λ k. drop k text) (add-one n) in
-    (elements_with text n e ∙ ap (λ (t : List ℕ). t ∷ elements_of (drop (suc n) text)) (sym f) ∙ ap (λ (t : List ℕ). front ∷ elements_of t) (sym behind-is),
-    rw behind-is (omega (arith, length-drop (suc n) text, place.1)))
+    let behind-is : behind ≡ drop (suc n) text = h ∙ ap (drop 1) b ∙ drop-drop 1 n text ∙ ap (λ k. drop k text) (add-one n) in (
+      elements_with text n e ∙ ap (λ (t : List ℕ). t ∷ elements_of (drop (suc n) text)) (sym f) ∙ ap (λ (t : List ℕ). front ∷ elements_of t) (sym behind-is),
+      rw behind-is (omega (arith, length-drop (suc n) text, place.1)),
+    )
 
 -- blanks behind a text
 and-true : (b : Bool) → (b && true) ≡ b

@@ -5,7 +5,9 @@ use Rattle.m11_asm.specs.declared.fault.AsmFault.{AsmFault}
 use Rattle.m11_asm.specs.declared.fault.AsmFault.TheVariants.{NoMemory, TooMuchSource, NotYet, Read, Write}
 use Rattle.m11_asm.specs.declared.reading.Progress.{Progress}
 use Rattle.m11_asm.specs.declared.reading.Progress.TheVariants.{GoesOn, Ended}
-use Rattle.m11_asm.specs.Lines.{RawLine, cleaned, cut}
+use Rattle.m11_base.specs.Devices.{Rises}
+use Rattle.m11_base.specs.Feed.{Text, HasBytes, BeginsWith, GiveAll, NoneFailed, OneFailed}
+use Rattle.m11_asm.specs.Lines.{RawLine, cleaned, cut, input_of}
 use Rattle.m11_asm.specs.Reading as reading
 use Rattle.m11_asm.specs.Placement.{words_in, section_size}
 use Rattle.m11_asm.specs.Statements.{statement_of, words_of}
@@ -70,6 +72,38 @@ StopsAt before unclosed input _ = ⊥
 abbrev pub Takes : Held → Held → List (Option ℕ) → Result Progress AsmFault → Type 0
 Takes old new input result = (before : List RawLine) (unclosed : List ℕ) → Holds before unclosed old
     → MatchResult result (GoesTo before unclosed input new) (StopsAt before unclosed input)
+
+-- all that comes of a source
+abbrev pub symbols : List ℕ → List (Option ℕ)
+symbols source = map (λ byte. Some byte) source ++ None ∷ []
+
+-- what the reading of a source came to, of a feed with this text and this count of failures
+abbrev pub FailsAt : Option Text → ℕ → ℕ → List RawLine → List ℕ → Held → AsmFault → Type 0
+FailsAt text faults faults' before unclosed held Read = (beginning : List ℕ) × BeginsWith text beginning × Rises faults faults'
+    × (before' : List RawLine) × (unclosed' : List ℕ)
+    × Leads before unclosed (map (λ byte. Some byte) beginning) before' unclosed' × Holds before' unclosed' held
+FailsAt text faults faults' before unclosed held fault = (faults' ≡ faults)
+    × (source : List ℕ) × HasBytes text source × StopsAt before unclosed (symbols source) fault
+
+abbrev pub ReadsSource : Option Text → ℕ → ℕ → Held → Held → Result Progress AsmFault → Type 0
+ReadsSource text faults faults' old new result = (before : List RawLine) (unclosed : List ℕ) → Holds before unclosed old
+    → MatchResult result
+    (λ progress. (faults' ≡ faults) × (source : List ℕ) × HasBytes text source × GoesTo before unclosed (symbols source) new progress)
+    (FailsAt text faults faults' before unclosed new)
+
+-- the same of several sources
+abbrev pub FailAt : {F : Type 0} → (F → Option Text) → (F → ℕ) → List F → List F → List RawLine → List ℕ → Held → AsmFault → Type 0
+FailAt text faults old new before unclosed held Read = (sources : List (List ℕ)) × (beginning : List ℕ)
+    × OneFailed text faults old new sources beginning × (before' : List RawLine) × (unclosed' : List ℕ)
+    × Leads before unclosed (input_of sources ++ map (λ byte. Some byte) beginning) before' unclosed' × Holds before' unclosed' held
+FailAt text faults old new before unclosed held fault = NoneFailed faults old new
+    × (sources : List (List ℕ)) × GiveAll text old sources × StopsAt before unclosed (input_of sources) fault
+
+abbrev pub ReadsSources : {F : Type 0} → (F → Option Text) → (F → ℕ) → List F → List F → Held → Held → Result Progress AsmFault → Type 0
+ReadsSources text faults feeds feeds' old new result = (before : List RawLine) (unclosed : List ℕ) → Holds before unclosed old
+    → MatchResult result
+    (λ progress. NoneFailed faults feeds feeds' × (sources : List (List ℕ)) × GiveAll text feeds sources × GoesTo before unclosed (input_of sources) new progress)
+    (FailAt text faults feeds feeds' before unclosed new)
 
 -- what is held behind one more line, the held one, and what the line is
 abbrev pub with_line : Held → Held

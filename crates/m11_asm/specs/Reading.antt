@@ -54,7 +54,7 @@ abbrev pub unclosed_turn : List RawLine → List ℕ → Turn
 unclosed_turn before unclosed =
     if nat_lt most_bytes (bytes_in before + length unclosed) then Refuses TooMuchSource
     else (if not (is_empty (cleaned unclosed)) && nat_lt most_lines (lines_in before + 1)
-        then Refuses TooMuchSource else GoesOn)
+    then Refuses TooMuchSource else GoesOn)
 
 -- what was read: a refusal, or the lines before the `.END` line, or all lines where there was none
 pub data Reading : Type 0 where

@@ -4,6 +4,7 @@
 
 mod fault;
 mod reading;
+mod sources;
 mod statement;
 
 pub use fault::{AsmFault, AsmOutput};

@@ -1,4 +1,4 @@
-//! Reads sources into a program, or to their first refusal.
+//! Takes sources symbol by symbol: into a program, or to their first refusal.
 
 ghost use Rattle.std.specs.Prelude.{◌≡◌, ◌∷◌, [], Some, None, ◌<◌, ◌≤◌, vec_len, take};
 ghost use Rattle.m11_asm.specs.Lines.{as_read, without_return};

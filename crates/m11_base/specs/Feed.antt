@@ -1,6 +1,6 @@
 -- Sources of bytes, read one byte a call. (This project's own.)
-use Rattle.std.specs.Prelude.{◌≡◌, ◌≢◌, ℕ, List, [], ◌∷◌, length, take, ◌⊎◌, ⊤, Option, Some, None, MatchOption, Result, MatchResult, if◌then◌else◌, nat_lt, option_map, option_and_then}
-use Rattle.m11_base.specs.Devices.{last_count}
+use Rattle.std.specs.Prelude.{◌≡◌, ◌≢◌, ℕ, List, [], ◌∷◌, ◌++◌, length, take, ◌⊎◌, ⊤, Option, Some, None, MatchOption, Result, MatchResult, if◌then◌else◌, nat_lt, option_map, option_and_then}
+use Rattle.m11_base.specs.Devices.{Rises, last_count}
 
 -- how a text ends: at its end, at a failure, or perhaps at a failure before its end
 pub data Ending : Type 0 where
@@ -66,3 +66,37 @@ known_through_fuse calls bytes MayFail = None
 
 abbrev pub text_through_fuse : ℕ → Option Text → Option Text
 text_through_fuse calls known = option_and_then (λ t. known_through_fuse calls t.bytes t.ending) known
+
+-- ---- feeds that are read one after another
+
+-- the text is these bytes, or begins with them, where it is known
+abbrev pub HasBytes : Option Text → List ℕ → Type 0
+HasBytes None bytes = ⊤
+HasBytes (Some t) bytes = t.bytes ≡ bytes
+
+abbrev pub BeginsWith : Option Text → List ℕ → Type 0
+BeginsWith None bytes = ⊤
+BeginsWith (Some t) bytes = (rest : List ℕ) × (t.bytes ≡ bytes ++ rest)
+
+-- each feed's text is the list of bytes at its place
+abbrev pub GiveAll : {F : Type 0} → (F → Option Text) → List F → List (List ℕ) → Type 0
+GiveAll text [] [] = ⊤
+GiveAll text [] (source ∷ sources) = ⊥
+GiveAll text (feed ∷ feeds) [] = ⊥
+GiveAll text (feed ∷ feeds) (source ∷ sources) = HasBytes (text feed) source × GiveAll text feeds sources
+
+-- no count of failures changed
+abbrev pub NoneFailed : {F : Type 0} → (F → ℕ) → List F → List F → Type 0
+NoneFailed faults [] [] = ⊤
+NoneFailed faults [] (new ∷ news) = ⊥
+NoneFailed faults (old ∷ olds) [] = ⊥
+NoneFailed faults (old ∷ olds) (new ∷ news) = (faults new ≡ faults old) × NoneFailed faults olds news
+
+-- one failed behind a beginning of its text, after the feeds before it had given theirs
+abbrev pub OneFailed : {F : Type 0} → (F → Option Text) → (F → ℕ) → List F → List F → List (List ℕ) → List ℕ → Type 0
+OneFailed text faults [] news sources beginning = ⊥
+OneFailed text faults (old ∷ olds) [] sources beginning = ⊥
+OneFailed text faults (old ∷ olds) (new ∷ news) [] beginning =
+    BeginsWith (text old) beginning × Rises (faults old) (faults new) × NoneFailed faults olds news
+OneFailed text faults (old ∷ olds) (new ∷ news) (source ∷ sources) beginning =
+    HasBytes (text old) source × (faults new ≡ faults old) × OneFailed text faults olds news sources beginning
