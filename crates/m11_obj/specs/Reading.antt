@@ -27,7 +27,7 @@ abbrev pub first_byte : List ℕ → Result (ℕ × List ℕ) RecordFault
 first_byte [] = Err BadLength
 first_byte (byte ∷ rest) = Ok (byte, rest)
 
-abbrev pub first_word : List ℕ → Result (ℕ × List ℕ) RecordFault
+unfoldable pub first_word : List ℕ → Result (ℕ × List ℕ) RecordFault
 first_word [] = Err BadLength
 first_word (low ∷ []) = Err BadLength
 first_word (low ∷ high ∷ rest) = Ok (low + 256 * high, rest)
