@@ -1,7 +1,7 @@
 -- Bytes that are written piece after piece, one piece for each item of a list.
 use Rattle.std.proofs.Common.{◌≡◌, ℕ, ◌+◌, ◌<◌, ◌≤◌, List, [], ◌∷◌, ◌++◌, length, take, get_or, All, sym, ap, subst, ◌∙◌, arith, length-append}
 use Rattle.std.specs.List.{flat_map}
-use Rattle.std.proofs.lemmas.List.{flat_map_more, take_more}
+use Rattle.std.proofs.lemmas.List.{flat_map_more, take_more, take_all}
 use Rattle.std.proofs.lemmas.List.Folds.{length-flat_map-take}
 use Rattle.std.proofs.lemmas.List.Elements.{All-more}
 
@@ -24,3 +24,10 @@ module _ {X : Type 0} where
   -- what holds of the items so far and of the next one
   pub fact_more : (P : X → Type 0) (xs : List X) (i : ℕ) (x : X) → i < length xs → x ≡ get_or xs i x → All P (take i xs) → P x → All P (take (i + 1) xs)
   fact_more P xs i x lt is before here = All-more P xs i x lt before (subst P is here)
+
+  -- all pieces, and what holds of all items
+  pub pieces_all : (f : X → List ℕ) (head : List ℕ) (xs : List X) (i : ℕ) (bytes : List ℕ) → length xs ≤ i → bytes ≡ head ++ flat_map f (take i xs) → bytes ≡ head ++ flat_map f xs
+  pieces_all f head xs i bytes le is = is ∙ rw (take_all i xs le)
+
+  pub fact_all : (P : X → Type 0) (xs : List X) (i : ℕ) → length xs ≤ i → All P (take i xs) → All P xs
+  fact_all P xs i le before = let Q : List X → Type 0 = λ ys. All P ys in subst Q (take_all i xs le) before

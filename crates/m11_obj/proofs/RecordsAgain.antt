@@ -1,12 +1,9 @@
 -- The bytes that are written for a record are read as that record.
-use Rattle.std.proofs.Common.{◌≡◌, ℕ, ◌<◌, ◌^◌, List, [], ◌∷◌, ◌++◌, Result, Ok, Err, refl, sym, ap, ◌∙◌, arith}
-use Rattle.m11_obj.specs.declared.records.RecordKind.TheVariants as kind
-use Rattle.m11_obj.specs.Frames.{word_bytes}
-use Rattle.m11_obj.specs.Gsd.{entries_bytes}
-use Rattle.m11_obj.specs.Relocations.{relocations_bytes}
+use Rattle.std.proofs.Common.{◌≡◌, ℕ, List, Ok, refl, ap, ◌∙◌, arith}
+use Rattle.std.specs.Prelude.{is_ok}
 use Rattle.m11_obj.specs.Records.{Content, Gsd, EndOfGsd, Text, Relocations, InternalSymbols, EndOfModule, record_data, Fits}
-use Rattle.m11_obj.specs.Reading.{◌>>=◌, first_word, type_of, content_behind, content_of}
-use Rattle.m11_obj.proofs.ReadAgain.{word_again, entries_again}
+use Rattle.m11_obj.specs.Reading.{first_word, type_of, content_behind, content_of, IsRecord}
+use Rattle.m11_obj.proofs.ReadAgain.{entries_again}
 use Rattle.m11_obj.proofs.RelocationsAgain.{relocations_again}
 
 pub record_again : (content : Content) → Fits content → content_of (record_data content) ≡ Ok content
@@ -17,3 +14,9 @@ record_again (Text address bytes) fits = ap (λ (a : ℕ). Ok (Text a bytes)) (o
 record_again (Relocations relocations) fits = rw (relocations_again relocations fits.1) refl
 record_again InternalSymbols fits = refl
 record_again EndOfModule fits = refl
+
+pub means : (content : Content) (bytes : List ℕ) → Fits content → bytes ≡ record_data content → content_of bytes ≡ Ok content
+means content bytes fits is = ap content_of is ∙ record_again content fits
+
+pub is_record : (content : Content) (bytes : List ℕ) → Fits content → bytes ≡ record_data content → IsRecord bytes
+is_record content bytes fits is = ap is_ok (means content bytes fits is)

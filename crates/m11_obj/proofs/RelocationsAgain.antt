@@ -1,18 +1,17 @@
 -- The bytes that are written for relocations are read as those relocations.
-use Rattle.std.proofs.Common.{◌≡◌, ℕ, zero, suc, ◌+◌, ◌*◌, ◌/◌, ◌%◌, ◌<◌, ◌≤◌, ◌^◌, Bool, true, false, cond, ltb, List, [], ◌∷◌, ◌++◌, length, All, Option, Some, None, Result, Ok, Err, refl, sym, ap, subst, ◌∙◌, append_assoc, append-nil, arith, length-append}
-use Rattle.std.specs.Prelude.{IfSome, slice_get, unwrap_or, nat_lt, nat_le}
-use Rattle.std.specs.List.{flat_map, AllByRecursion}
+use Rattle.std.proofs.Common.{◌≡◌, ℕ, zero, suc, ◌+◌, ◌%◌, ◌<◌, ◌≤◌, ◌^◌, Bool, true, false, List, [], ◌∷◌, ◌++◌, length, Ok, refl, ap, ◌∙◌, append_assoc, arith, length-append}
+use Rattle.std.specs.Prelude.{IfSome, nat_le}
+use Rattle.std.specs.List.{AllByRecursion}
 use Rattle.std.proofs.lemmas.Bool.{le-leb, lt-leb}
 use Rattle.std.proofs.lemmas.List.Elements.{recursion_from_All}
 use Rattle.m11_base.specs.Rad50.{IsName}
-use Rattle.m11_obj.specs.declared.fault.RecordFault.{RecordFault}
 use Rattle.m11_obj.specs.declared.relocations.Target.{Target}
 use Rattle.m11_obj.specs.declared.relocations.Target.TheVariants.{Internal, Global, InternalDisplaced, GlobalDisplaced, GlobalAdditive, GlobalAdditiveDisplaced, LocationCounterDefinition, LocationCounterModification, ProgramLimits, Section, SectionDisplaced, SectionAdditive, SectionAdditiveDisplaced}
 use Rattle.m11_obj.specs.declared.relocations.Relocation.{Relocation}
 use Rattle.m11_obj.specs.Frames.{word_bytes}
 use Rattle.m11_obj.specs.Gsd.{name_bytes}
 use Rattle.m11_obj.specs.Relocations.{command, target_name, target_constant, optional_name, optional_word, byte_form, relocation_bytes, relocations_bytes, FormExists, RelocationFits, RelocationsFit}
-use Rattle.m11_obj.specs.Reading.{◌>>=◌, first_byte, first_word, first_name, Form, Nothing, Constant, Name, NameAndConstant, forms, form_of, is_without_byte_form, first_target, first_relocation, relocations_within, relocations_of}
+use Rattle.m11_obj.specs.Reading.{Form, Nothing, Constant, Name, NameAndConstant, form_of, first_target, first_relocation, relocations_within, relocations_of}
 use Rattle.m11_obj.proofs.ReadAgain.{word_again, name_again}
 
 -- the row of a target's command

@@ -2,7 +2,7 @@
 -- Volume and File Formats Manual, "Object file format".) Which types and commands are refused is this
 -- project's own: libraries, mapped arrays and complex relocation are left out. A missing byte is
 -- BadLength at the place where the bytes end.
-use Rattle.std.specs.Prelude.{ℕ, zero, suc, ◌+◌, ◌*◌, ◌%◌, Bool, ◌&&◌, List, [], ◌∷◌, length, slice_get, unwrap_or, Result, Ok, Err, nat_lt, nat_le, if◌then◌else◌}
+use Rattle.std.specs.Prelude.{◌≡◌, is_ok, true, ℕ, zero, suc, ◌+◌, ◌*◌, ◌%◌, Bool, ◌&&◌, List, [], ◌∷◌, length, slice_get, unwrap_or, Result, Ok, Err, nat_lt, nat_le, if◌then◌else◌}
 use Rattle.m11_base.specs.Rad50.{word_limit}
 use Rattle.m11_obj.specs.declared.fault.RecordFault.{RecordFault}
 use Rattle.m11_obj.specs.declared.fault.RecordFault.TheVariants.{UnknownType, BadLength, Library, MappedArray, Complex, UnknownRelocation, BadName}
@@ -177,3 +177,7 @@ content_of bytes = do
   code ← first_word bytes
   type ← type_of code.0
   content_behind type code.1
+
+-- the bytes are those of some record
+abbrev pub IsRecord : List ℕ → Type 0
+IsRecord bytes = is_ok (content_of bytes) ≡ true

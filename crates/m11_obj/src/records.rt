@@ -1,12 +1,13 @@
 //! Records: what stands in the blocks of an object. (RT-11 Volume and File Formats Manual, "Object file
 //! format".)
 
-ghost use Rattle.std.specs.Prelude.{◌≡◌, ◌+◌, ◌≤◌, ◌<◌, ◌++◌, ℕ, List, length, IfOk, All};
-ghost use Rattle.m11_obj.specs.Frames.{word_bytes, block, content_limit};
+ghost use Rattle.std.specs.Prelude.{◌≡◌, ◌+◌, ◌≤◌, ◌<◌, ◌++◌, ℕ, List, length, Ok, IfOk, All};
+ghost use Rattle.m11_obj.specs.Frames.{word_bytes, content_limit};
 ghost use Rattle.m11_obj.specs.Gsd.{entry_limit};
+ghost use Rattle.m11_obj.specs.Reading.{IsRecord};
 ghost use Rattle.m11_obj.specs.Relocations.{relocations_bytes, FormExists};
 
-use crate::frames::{Block, block_bytes, put_word};
+use crate::frames::{Block, put_word};
 use crate::gsd::{GsdEntry, put_entry};
 use crate::relocations::{Relocation, put_relocation};
 use std::alloc::{AllocError, Global};
@@ -41,6 +42,10 @@ impl Model for Record {
     ghost Value = { List ℕ };
 
     ghost view = { λ r. r.content.items };
+
+    ghost use Rattle.m11_obj.specs.Reading.{IsRecord};
+
+    ghost invariant = { λ r. IsRecord r.content.items };
 }
 
 // A content that has its type word alone.
@@ -53,12 +58,14 @@ fn with_type(code: u16) -> Block
 }
 
 impl Record {
-    ghost use Rattle.m11_obj.specs.Records.{Gsd, EndOfGsd, Text, Relocations, EndOfModule, record_data};
+    ghost use Rattle.m11_obj.specs.Records.{Gsd, EndOfGsd, Text, Relocations, InternalSymbols, EndOfModule, record_data};
+    ghost use Rattle.m11_obj.specs.Reading.{content_of, IsRecord};
 
     /// A record of directory entries, in order. Needs at most 63 of them.
     pub fn gsd(entries: &[GsdEntry]) -> Record
         requires { length entries.now ≤ entry_limit }
-        ensures { result ≡ record_data (Gsd entries.now) }
+        ensures bytes { result ≡ record_data (Gsd entries.now) }
+        ensures means { content_of result ≡ Ok (Gsd entries.now) }
     {
         let mut content = with_type(1);
         for entry in entries {
@@ -69,7 +76,8 @@ impl Record {
 
     /// The end of the directory.
     pub fn end_of_gsd() -> Record
-        ensures { result ≡ record_data EndOfGsd }
+        ensures bytes { result ≡ record_data EndOfGsd }
+        ensures means { content_of result ≡ Ok EndOfGsd }
     {
         Record {
             content: with_type(2),
@@ -80,7 +88,8 @@ impl Record {
     /// most 508 bytes.
     pub fn text(address: u16, bytes: &[u8]) -> Record
         requires { length bytes.now + 4 ≤ content_limit }
-        ensures { result ≡ record_data (Text address bytes.now) }
+        ensures bytes { result ≡ record_data (Text address bytes.now) }
+        ensures means { content_of result ≡ Ok (Text address bytes.now) }
     {
         let mut content = with_type(3);
         put_word(&mut content, address);
@@ -93,7 +102,8 @@ impl Record {
     pub fn relocations(relocations: &[Relocation]) -> Record
         requires room { length (relocations_bytes relocations.now) + 2 ≤ content_limit }
         requires form { All (λ relocation. FormExists relocation.is_byte relocation.target) relocations.now }
-        ensures { result ≡ record_data (Relocations relocations.now) }
+        ensures bytes { result ≡ record_data (Relocations relocations.now) }
+        ensures means { content_of result ≡ Ok (Relocations relocations.now) }
     {
         let mut content = with_type(4);
         for relocation in relocations {
@@ -102,9 +112,20 @@ impl Record {
         Record { content }
     }
 
+    /// The directory of internal symbols, with none in it.
+    pub fn internal_symbols() -> Record
+        ensures bytes { result ≡ record_data InternalSymbols }
+        ensures means { content_of result ≡ Ok InternalSymbols }
+    {
+        Record {
+            content: with_type(5),
+        }
+    }
+
     /// The end of the module.
     pub fn end_of_module() -> Record
-        ensures { result ≡ record_data EndOfModule }
+        ensures bytes { result ≡ record_data EndOfModule }
+        ensures means { content_of result ≡ Ok EndOfModule }
     {
         Record {
             content: with_type(6),
@@ -115,14 +136,18 @@ impl Record {
     pub fn data(&self) -> &[u8]
         ensures bytes { result.now ≡ self.now }
         ensures fits { length self.now ≤ content_limit }
+        ensures means { IsRecord self.now }
     {
         self.content.as_slice()
     }
 }
 
-/// The block of a record, as the bytes that are written.
+/// The record's bytes, as they stand in its block: at most 512 of them, and `block_bytes` makes the
+/// block of them.
 pub fn record_bytes(alloc: Global, record: &Record) -> Result<Vec<u8>, AllocError>
-    ensures { IfOk result (λ v. v.items ≡ block «record».now) }
+    ensures bytes { IfOk result (λ v. v.items ≡ «record».now) }
+    ensures fits { IfOk result (λ v. length v.items ≤ content_limit) }
+    ensures means { IfOk result (λ v. IsRecord v.items) }
 {
-    block_bytes(alloc, record.data())
+    Vec::from_slice(alloc, record.data())
 }
