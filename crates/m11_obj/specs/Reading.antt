@@ -2,7 +2,7 @@
 -- Volume and File Formats Manual, "Object file format".) Which types and commands are refused is this
 -- project's own: libraries, mapped arrays and complex relocation are left out. A missing byte is
 -- BadLength at the place where the bytes end.
-use Rattle.std.specs.Prelude.{◌≡◌, is_ok, true, ℕ, zero, suc, ◌+◌, ◌*◌, ◌%◌, Bool, ◌&&◌, List, [], ◌∷◌, length, slice_get, unwrap_or, Result, Ok, Err, nat_lt, nat_le, if◌then◌else◌}
+use Rattle.std.specs.Prelude.{◌≡◌, is_ok, true, ℕ, zero, suc, ◌+◌, ◌*◌, ◌%◌, Bool, ◌&&◌, List, [], ◌∷◌, length, slice_get, unwrap_or, Option, Some, None, Result, Ok, Err, nat_lt, nat_le, if◌then◌else◌}
 use Rattle.m11_base.specs.Rad50.{word_limit}
 use Rattle.m11_obj.specs.declared.fault.RecordFault.{RecordFault}
 use Rattle.m11_obj.specs.declared.fault.RecordFault.TheVariants.{UnknownType, BadLength, Library, MappedArray, Complex, UnknownRelocation, BadName}
@@ -172,12 +172,52 @@ content_behind kind.Relocations bytes = do
 content_behind kind.InternalSymbols bytes = Ok InternalSymbols
 content_behind kind.EndOfModule bytes = Ok EndOfModule
 
-unfoldable pub content_of : List ℕ → Result Content RecordFault
-content_of bytes = do
+unfoldable pub first_type : List ℕ → Result (RecordKind × List ℕ) RecordFault
+first_type bytes = do
   code ← first_word bytes
   type ← type_of code.0
-  content_behind type code.1
+  Ok (type, code.1)
+
+unfoldable pub content_of : List ℕ → Result Content RecordFault
+content_of bytes = do
+  type ← first_type bytes
+  content_behind type.0 type.1
 
 -- the bytes are those of some record
 abbrev pub IsRecord : List ℕ → Type 0
 IsRecord bytes = is_ok (content_of bytes) ≡ true
+
+-- ---- the fields of a record
+
+abbrev pub kind_in : Content → RecordKind
+kind_in (Gsd entries) = kind.Gsd
+kind_in EndOfGsd = kind.EndOfGsd
+kind_in (Text address bytes) = kind.Text
+kind_in (Relocations relocations) = kind.Relocations
+kind_in InternalSymbols = kind.InternalSymbols
+kind_in EndOfModule = kind.EndOfModule
+
+-- the type of a record
+abbrev pub record_kind : List ℕ → Result RecordKind RecordFault
+record_kind bytes = content_of bytes >>= λ content. Ok (kind_in content)
+
+abbrev pub entries_in : Result Content RecordFault → List GsdEntry
+entries_in (Ok (Gsd entries)) = entries
+entries_in content = []
+
+-- the directory entries of a record, of which only a directory has any
+abbrev pub record_entries : List ℕ → List GsdEntry
+record_entries bytes = entries_in (content_of bytes)
+
+abbrev pub text_in : Result Content RecordFault → Option (ℕ × List ℕ)
+text_in (Ok (Text address bytes)) = Some (address, bytes)
+text_in content = None
+
+-- the load address and the bytes of a text record
+abbrev pub record_text : List ℕ → Option (ℕ × List ℕ)
+record_text bytes = text_in (content_of bytes)
+
+-- what a call that reads from the front of bytes answered, seen by view, is what stands there
+abbrev pub Gives : {X Y : Type 0} → (X → Y) → Result X RecordFault → Result Y RecordFault → Type 0
+Gives view (Ok x) read = read ≡ Ok (view x)
+Gives view (Err fault) read = read ≡ Err fault

@@ -75,3 +75,6 @@ impl Flags for SymbolFlags {
         SymbolFlags(bits)
     }
 }
+
+#[cfg(test)]
+mod tests;

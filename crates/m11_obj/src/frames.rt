@@ -57,3 +57,6 @@ pub fn block_bytes(alloc: Global, content: &[u8]) -> Result<Vec<u8>, AllocError>
     bytes.push(last)?;
     Ok(bytes)
 }
+
+#[cfg(test)]
+mod tests;

@@ -6,6 +6,7 @@ mod fault;
 mod flags;
 mod frames;
 mod gsd;
+mod reading;
 mod records;
 mod relocations;
 

@@ -151,3 +151,6 @@ pub fn record_bytes(alloc: Global, record: &Record) -> Result<Vec<u8>, AllocErro
 {
     Vec::from_slice(alloc, record.data())
 }
+
+#[cfg(test)]
+mod tests;

@@ -1,0 +1,71 @@
+use super::*;
+use crate::frames::block_bytes;
+use crate::gsd::GsdKind;
+use crate::relocations::Target;
+use m11_base::Name;
+use std::test::Fail;
+
+fn name(characters: &[u8; 6]) -> Result<Name, Fail> {
+    Ok(Name::pack(characters).ok_or("characters with codes")?)
+}
+
+fn entry(characters: &[u8; 6], flags: u8, kind: GsdKind, value: u16) -> Result<GsdEntry, Fail> {
+    Ok(GsdEntry {
+        name: name(characters)?,
+        flags,
+        kind,
+        value,
+    })
+}
+
+#[test]
+fn an_object_of_one_word_has_its_five_blocks(rt: HostRuntime) -> Result<(), Fail> {
+    let directory = [
+        entry(b".MAIN.", 0, GsdKind::ModuleName, 0)?,
+        entry(b". ABS.", 0o104, GsdKind::ProgramSection, 0)?,
+        entry(b"      ", 0o040, GsdKind::ProgramSection, 2)?,
+        entry(b". ABS.", 0, GsdKind::TransferAddress, 1)?,
+    ];
+    let gsd = record_bytes(rt.alloc(), &Record::gsd(&directory))?;
+    let block = block_bytes(rt.alloc(), &gsd)?;
+    assert_eq!(rt;
+        block.as_slice(),
+        [
+            0x01, 0x00, 0x26, 0x00, 0x01, 0x00, 0x09, 0xb1, 0x8c, 0x3a, 0x00, 0x00, 0x00, 0x00,
+            0x01, 0xaf, 0x94, 0x0f, 0x44, 0x05, 0x00, 0x00, 0x00, 0x00, 0x00, 0x00, 0x20, 0x05,
+            0x02, 0x00, 0x01, 0xaf, 0x94, 0x0f, 0x00, 0x03, 0x01, 0x00, 0x3e,
+        ]
+        .as_slice()
+    );
+    let selects = Relocation {
+        is_byte: false,
+        displacement: 0,
+        target: Target::LocationCounterDefinition(name(b"      ")?, 0),
+    };
+    assert_eq!(rt;
+        Record::relocations(&[selects]).data(),
+        [4, 0, 7, 0, 0, 0, 0, 0, 0, 0].as_slice()
+    );
+    assert_eq!(rt;
+        Record::text(0, &[1, 0]).data(),
+        [3, 0, 0, 0, 1, 0].as_slice()
+    );
+    assert_eq!(rt; Record::end_of_gsd().data(), [2, 0].as_slice());
+    assert_eq!(rt; Record::end_of_module().data(), [6, 0].as_slice());
+    assert_eq!(rt; Record::internal_symbols().data(), [5, 0].as_slice());
+    Ok(())
+}
+
+#[test]
+fn a_displaced_global_symbol_is_command_four(rt: HostRuntime) -> Result<(), Fail> {
+    let relocation = Relocation {
+        is_byte: false,
+        displacement: 6,
+        target: Target::GlobalDisplaced(name(b"F     ")?),
+    };
+    assert_eq!(rt;
+        Record::relocations(&[relocation]).data(),
+        [4, 0, 4, 6, 0x80, 0x25, 0, 0].as_slice()
+    );
+    Ok(())
+}
