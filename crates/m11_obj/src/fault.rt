@@ -62,3 +62,6 @@ impl RecordFault {
         }
     }
 }
+
+#[cfg(test)]
+mod tests;

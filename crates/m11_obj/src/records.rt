@@ -1,14 +1,15 @@
 //! Records: what stands in the blocks of an object. (RT-11 Volume and File Formats Manual, "Object file
 //! format".)
 
-ghost use Rattle.std.specs.Prelude.{◌≡◌, ◌+◌, ◌≤◌, ◌<◌, ◌++◌, ℕ, List, length, Ok, IfOk, All};
+ghost use Rattle.std.specs.Prelude.{◌≡◌, ◌+◌, ◌≤◌, ◌<◌, ◌++◌, ℕ, List, length, Ok, IfOk, All, Some, IsSome, slice_get, option_map};
 ghost use Rattle.m11_obj.specs.Frames.{word_bytes, content_limit};
 ghost use Rattle.m11_obj.specs.Gsd.{entry_limit};
-ghost use Rattle.m11_obj.specs.Reading.{IsRecord};
+ghost use Rattle.m11_obj.specs.Reading.{IsRecord, record_kind, record_entries, record_text};
 ghost use Rattle.m11_obj.specs.Relocations.{relocations_bytes, FormExists};
 
 use crate::frames::{Block, put_word};
 use crate::gsd::{GsdEntry, put_entry};
+use crate::reading::{first_entry, first_type, first_word};
 use crate::relocations::{Relocation, put_relocation};
 use std::alloc::{AllocError, Global};
 use std::marker::Model;
@@ -139,6 +140,90 @@ impl Record {
         ensures means { IsRecord self.now }
     {
         self.content.as_slice()
+    }
+}
+
+// The type of a record.
+fn kind_at(bytes: &[u8]) -> RecordKind
+    requires { IsRecord bytes.now }
+    ensures kind { record_kind bytes.now ≡ Ok result }
+    ensures text { result ≡ RecordKind.Text → IsSome (record_text bytes.now) }
+{
+    match first_type(bytes) {
+        Ok((kind, _)) => kind,
+        Err(_) => unreachable!(),
+    }
+}
+
+// The directory entry at an index.
+fn entry_at(bytes: &[u8], index: usize) -> GsdEntry
+    requires fits { length bytes.now ≤ content_limit }
+    requires in_bounds { index < length (record_entries bytes.now) }
+    ensures { slice_get (record_entries bytes.now) index ≡ Some result }
+{
+    let (_, rest) = bytes.split_at(2 + 8 * index);
+    match first_entry(rest) {
+        Ok((entry, _)) => entry,
+        Err(_) => unreachable!(),
+    }
+}
+
+// The load address and the bytes of a text record.
+fn text_at(bytes: &[u8]) -> (u16, &[u8])
+    requires { IsSome (record_text bytes.now) }
+    ensures { record_text bytes.now ≡ Some (result.0, result.1.now) }
+{
+    let (_, rest) = bytes.split_at(2);
+    match first_word(rest) {
+        Ok(text) => text,
+        Err(_) => unreachable!(),
+    }
+}
+
+// The fields.
+impl Record {
+    /// The type of the record.
+    pub fn kind(&self) -> RecordKind
+        ensures kind { record_kind self.now ≡ Ok result }
+        ensures text { result ≡ RecordKind.Text → IsSome (record_text self.now) }
+    {
+        kind_at(self.content.as_slice())
+    }
+
+    /// The number of directory entries; a record of another type has none.
+    pub fn entry_count(&self) -> usize
+        ensures { result ≡ length (record_entries self.now) }
+    {
+        let bytes = self.content.as_slice();
+        match kind_at(bytes) {
+            RecordKind::Gsd => (bytes.len() - 2) / 8,
+            _ => 0,
+        }
+    }
+
+    /// The directory entry at an index. Needs an index below the number of entries.
+    pub fn entry(&self, index: usize) -> GsdEntry
+        requires { index < length (record_entries self.now) }
+        ensures { slice_get (record_entries self.now) index ≡ Some result }
+    {
+        entry_at(self.content.as_slice(), index)
+    }
+
+    /// The load address of a text record, which counts from the base of the current section. Needs a
+    /// text record.
+    pub fn text_address(&self) -> u16
+        requires { IsSome (record_text self.now) }
+        ensures { option_map (λ text. text.0) (record_text self.now) ≡ Some result }
+    {
+        text_at(self.content.as_slice()).0
+    }
+
+    /// The bytes of a text record. Needs a text record.
+    pub fn text_bytes(&self) -> &[u8]
+        requires { IsSome (record_text self.now) }
+        ensures { option_map (λ text. text.1) (record_text self.now) ≡ Some result.now }
+    {
+        text_at(self.content.as_slice()).1
     }
 }
 

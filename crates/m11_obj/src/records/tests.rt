@@ -69,3 +69,23 @@ fn a_displaced_global_symbol_is_command_four(rt: HostRuntime) -> Result<(), Fail
     );
     Ok(())
 }
+
+#[test]
+fn the_fields_of_a_record_are_read(rt: HostRuntime) -> Result<(), Fail> {
+    let symbol = entry(b"F     ", 0o050, GsdKind::GlobalSymbol, 0o1006)?;
+    let end = entry(b". ABS.", 0, GsdKind::TransferAddress, 1)?;
+    let directory = Record::gsd(&[symbol, end]);
+    assert_eq!(rt; directory.kind(), RecordKind::Gsd);
+    assert_eq!(rt; directory.entry_count(), 2);
+    if directory.entry_count() == 2 {
+        assert_eq!(rt; directory.entry(1), end);
+    }
+    let text = Record::text(0o40, b"AB");
+    if text.kind() == RecordKind::Text {
+        assert_eq!(rt; text.text_address(), 0o40);
+        assert_eq!(rt; text.text_bytes(), b"AB".as_slice());
+    }
+    assert_eq!(rt; text.entry_count(), 0);
+    assert_eq!(rt; Record::end_of_module().kind(), RecordKind::EndOfModule);
+    Ok(())
+}
