@@ -1,0 +1,45 @@
+-- The entries of the global symbol directory. (RT-11 Volume and File Formats Manual, "Object file
+-- format", GSD block.) Names that are no RADIX-50 words are refused for every type, which is this
+-- project's own.
+use Rattle.std.specs.Prelude.{ℕ, ◌<◌, ◌^◌, List, ◌∷◌, ◌++◌, All}
+use Rattle.std.specs.List.{flat_map}
+use Rattle.m11_base.specs.Rad50.{IsName}
+use Rattle.m11_obj.specs.declared.gsd.GsdKind.{GsdKind}
+use Rattle.m11_obj.specs.declared.gsd.GsdKind.TheVariants.{ModuleName, ControlSection, InternalSymbol, TransferAddress, GlobalSymbol, ProgramSection, Identification}
+use Rattle.m11_obj.specs.declared.gsd.GsdEntry.{GsdEntry}
+use Rattle.m11_obj.specs.Frames.{word_bytes}
+
+-- the type byte
+abbrev pub kind_code : GsdKind → ℕ
+kind_code ModuleName = 0
+kind_code ControlSection = 1
+kind_code InternalSymbol = 2
+kind_code TransferAddress = 3
+kind_code GlobalSymbol = 4
+kind_code ProgramSection = 5
+kind_code Identification = 6
+
+-- the two words of a name
+abbrev pub name_bytes : ℕ × ℕ → List ℕ
+name_bytes name = word_bytes name.0 ++ word_bytes name.1
+
+-- eight bytes: two name words, the flags byte, the type byte, the value word
+abbrev pub entry_bytes : GsdEntry → List ℕ
+entry_bytes entry =
+    name_bytes entry.name ++ entry.flags ∷ kind_code entry.kind ∷ word_bytes entry.value
+
+abbrev pub entries_bytes : List GsdEntry → List ℕ
+entries_bytes entries = flat_map entry_bytes entries
+
+-- an entry that has such bytes
+pub record EntryFits (entry : GsdEntry) : Type 0 where
+  pub name : IsName entry.name
+  pub flags : entry.flags < 2 ^ 8
+  pub value : entry.value < 2 ^ 16
+
+abbrev pub EntriesFit : List GsdEntry → Type 0
+EntriesFit entries = All EntryFits entries
+
+-- the most entries that a block holds
+abbrev pub entry_limit : ℕ
+entry_limit = 63

@@ -1,0 +1,223 @@
+-- What the bytes of a block mean: a record, or the first fault in the order of the bytes. (RT-11
+-- Volume and File Formats Manual, "Object file format".) Which types and commands are refused is this
+-- project's own: libraries, mapped arrays and complex relocation are left out. A missing byte is
+-- BadLength at the place where the bytes end.
+use Rattle.std.specs.Prelude.{◌≡◌, is_ok, true, ℕ, zero, suc, ◌+◌, ◌*◌, ◌%◌, Bool, ◌&&◌, List, [], ◌∷◌, length, slice_get, unwrap_or, Option, Some, None, Result, Ok, Err, nat_lt, nat_le, if◌then◌else◌}
+use Rattle.m11_base.specs.Rad50.{word_limit}
+use Rattle.m11_obj.specs.declared.fault.RecordFault.{RecordFault}
+use Rattle.m11_obj.specs.declared.fault.RecordFault.TheVariants.{UnknownType, BadLength, Library, MappedArray, Complex, UnknownRelocation, BadName}
+use Rattle.m11_obj.specs.declared.gsd.GsdKind.{GsdKind}
+use Rattle.m11_obj.specs.declared.gsd.GsdKind.TheVariants.{ModuleName, ControlSection, InternalSymbol, TransferAddress, GlobalSymbol, ProgramSection, Identification}
+use Rattle.m11_obj.specs.declared.gsd.GsdEntry.{GsdEntry}
+use Rattle.m11_obj.specs.declared.relocations.Target.{Target}
+use Rattle.m11_obj.specs.declared.relocations.Target.TheVariants.{Internal, Global, InternalDisplaced, GlobalDisplaced, GlobalAdditive, GlobalAdditiveDisplaced, LocationCounterDefinition, LocationCounterModification, ProgramLimits, Section, SectionDisplaced, SectionAdditive, SectionAdditiveDisplaced}
+use Rattle.m11_obj.specs.declared.relocations.Relocation.{Relocation}
+use Rattle.m11_obj.specs.declared.records.RecordKind.{RecordKind}
+use Rattle.m11_obj.specs.declared.records.RecordKind.TheVariants as kind
+use Rattle.m11_obj.specs.Records.{Content, Gsd, EndOfGsd, Text, Relocations, InternalSymbols, EndOfModule}
+
+infixl 10 ◌>>=◌
+abbrev pub ◌>>=◌ : {A B : Type 0} → Result A RecordFault → (A → Result B RecordFault) → Result B RecordFault
+(Ok x) >>= f = f x
+(Err e) >>= f = Err e
+
+-- what stands first, and the bytes after it
+
+abbrev pub first_byte : List ℕ → Result (ℕ × List ℕ) RecordFault
+first_byte [] = Err BadLength
+first_byte (byte ∷ rest) = Ok (byte, rest)
+
+unfoldable pub first_word : List ℕ → Result (ℕ × List ℕ) RecordFault
+first_word [] = Err BadLength
+first_word (low ∷ []) = Err BadLength
+first_word (low ∷ high ∷ rest) = Ok (low + 256 * high, rest)
+
+-- a word of a name has to be one that has characters
+unfoldable pub first_name_word : List ℕ → Result (ℕ × List ℕ) RecordFault
+first_name_word bytes = do
+  word ← first_word bytes
+  if nat_lt word.0 word_limit then Ok word else Err BadName
+
+unfoldable pub first_name : List ℕ → Result ((ℕ × ℕ) × List ℕ) RecordFault
+first_name bytes = do
+  first ← first_name_word bytes
+  second ← first_name_word first.1
+  Ok ((first.0, second.0), second.1)
+
+-- ---- entries of the global symbol directory
+
+-- the types of entries, each at the place of its code
+abbrev pub kinds : List (Result GsdKind RecordFault)
+kinds =
+    Ok ModuleName ∷ Ok ControlSection ∷ Ok InternalSymbol ∷ Ok TransferAddress ∷ Ok GlobalSymbol ∷ Ok ProgramSection ∷ Ok Identification ∷ Err MappedArray ∷ []
+
+unfoldable pub kind_of : ℕ → Result GsdKind RecordFault
+kind_of code = unwrap_or (slice_get kinds code) (Err UnknownType)
+
+unfoldable pub first_entry : List ℕ → Result (GsdEntry × List ℕ) RecordFault
+first_entry bytes = do
+  name ← first_name bytes
+  flags ← first_byte name.1
+  code ← first_byte flags.1
+  kind ← kind_of code.0
+  value ← first_word code.1
+  Ok (record { name = name.0; flags = flags.0; kind = kind; value = value.0 }, value.1)
+
+-- entries up to the end of the bytes, of which there are no more than the number
+unfoldable pub entries_within : ℕ → List ℕ → Result (List GsdEntry) RecordFault
+entries_within zero bytes = Ok []
+entries_within (suc n) [] = Ok []
+entries_within (suc n) (byte ∷ bytes) = do
+  first ← first_entry (byte ∷ bytes)
+  others ← entries_within n first.1
+  Ok (first.0 ∷ others)
+
+unfoldable pub entries_of : List ℕ → Result (List GsdEntry) RecordFault
+entries_of bytes = entries_within (length bytes) bytes
+
+-- ---- entries of a relocation directory
+
+-- what a command is followed by, and the target that it then tells
+pub data Form : Type 0 where
+  Nothing : Target → Form
+  Constant : (ℕ → Target) → Form
+  Name : (ℕ × ℕ → Target) → Form
+  NameAndConstant : (ℕ × ℕ → ℕ → Target) → Form
+
+-- the commands, each at the place of its code
+abbrev pub forms : List (Result Form RecordFault)
+forms =
+    Err UnknownRelocation
+    ∷ Ok (Constant (λ constant. Internal constant))
+    ∷ Ok (Name (λ name. Global name))
+    ∷ Ok (Constant (λ constant. InternalDisplaced constant))
+    ∷ Ok (Name (λ name. GlobalDisplaced name))
+    ∷ Ok (NameAndConstant (λ name constant. GlobalAdditive name constant))
+    ∷ Ok (NameAndConstant (λ name constant. GlobalAdditiveDisplaced name constant))
+    ∷ Ok (NameAndConstant (λ name constant. LocationCounterDefinition name constant))
+    ∷ Ok (Constant (λ constant. LocationCounterModification constant))
+    ∷ Ok (Nothing ProgramLimits)
+    ∷ Ok (Name (λ name. Section name))
+    ∷ Err UnknownRelocation
+    ∷ Ok (Name (λ name. SectionDisplaced name))
+    ∷ Ok (NameAndConstant (λ name constant. SectionAdditive name constant))
+    ∷ Ok (NameAndConstant (λ name constant. SectionAdditiveDisplaced name constant))
+    ∷ Err Complex
+    ∷ []
+
+-- commands 7, 10 and 11 have no byte form
+abbrev pub is_without_byte_form : ℕ → Bool
+is_without_byte_form code = nat_le 7 code && nat_le code 9
+
+unfoldable pub form_of : Bool → ℕ → Result Form RecordFault
+form_of is_byte code =
+    if is_byte && is_without_byte_form code then Err UnknownRelocation else unwrap_or (slice_get forms code) (Err UnknownRelocation)
+
+unfoldable pub first_target : Form → List ℕ → Result (Target × List ℕ) RecordFault
+first_target (Nothing target) bytes = Ok (target, bytes)
+first_target (Constant target) bytes = do
+  constant ← first_word bytes
+  Ok (target constant.0, constant.1)
+first_target (Name target) bytes = do
+  name ← first_name bytes
+  Ok (target name.0, name.1)
+first_target (NameAndConstant target) bytes = do
+  name ← first_name bytes
+  constant ← first_word name.1
+  Ok (target name.0 constant.0, constant.1)
+
+-- the bit 200 of a command byte asks for a byte, the others are the command
+unfoldable pub first_relocation : List ℕ → Result (Relocation × List ℕ) RecordFault
+first_relocation bytes = do
+  code ← first_byte bytes
+  form ← form_of (nat_le 128 code.0) (code.0 % 128)
+  displacement ← first_byte code.1
+  target ← first_target form displacement.1
+  Ok (record { is_byte = nat_le 128 code.0; displacement = displacement.0; target = target.0 }, target.1)
+
+-- relocations up to the end of the bytes, of which there are no more than the number
+unfoldable pub relocations_within : ℕ → List ℕ → Result (List Relocation) RecordFault
+relocations_within zero bytes = Ok []
+relocations_within (suc n) [] = Ok []
+relocations_within (suc n) (byte ∷ bytes) = do
+  first ← first_relocation (byte ∷ bytes)
+  others ← relocations_within n first.1
+  Ok (first.0 ∷ others)
+
+unfoldable pub relocations_of : List ℕ → Result (List Relocation) RecordFault
+relocations_of bytes = relocations_within (length bytes) bytes
+
+-- ---- records
+
+-- the types of records, each at the place of its code
+abbrev pub types : List (Result RecordKind RecordFault)
+types =
+    Err UnknownType ∷ Ok kind.Gsd ∷ Ok kind.EndOfGsd ∷ Ok kind.Text ∷ Ok kind.Relocations ∷ Ok kind.InternalSymbols ∷ Ok kind.EndOfModule ∷ Err Library ∷ Err Library ∷ []
+
+unfoldable pub type_of : ℕ → Result RecordKind RecordFault
+type_of code = unwrap_or (slice_get types code) (Err UnknownType)
+
+-- what stands after the type word; nothing is asked of it behind types 2, 5 and 6
+unfoldable pub content_behind : RecordKind → List ℕ → Result Content RecordFault
+content_behind kind.Gsd bytes = do
+  entries ← entries_of bytes
+  Ok (Gsd entries)
+content_behind kind.EndOfGsd bytes = Ok EndOfGsd
+content_behind kind.Text bytes = do
+  address ← first_word bytes
+  Ok (Text address.0 address.1)
+content_behind kind.Relocations bytes = do
+  relocations ← relocations_of bytes
+  Ok (Relocations relocations)
+content_behind kind.InternalSymbols bytes = Ok InternalSymbols
+content_behind kind.EndOfModule bytes = Ok EndOfModule
+
+unfoldable pub first_type : List ℕ → Result (RecordKind × List ℕ) RecordFault
+first_type bytes = do
+  code ← first_word bytes
+  type ← type_of code.0
+  Ok (type, code.1)
+
+unfoldable pub content_of : List ℕ → Result Content RecordFault
+content_of bytes = do
+  type ← first_type bytes
+  content_behind type.0 type.1
+
+-- the bytes are those of some record
+abbrev pub IsRecord : List ℕ → Type 0
+IsRecord bytes = is_ok (content_of bytes) ≡ true
+
+-- ---- the fields of a record
+
+abbrev pub kind_in : Content → RecordKind
+kind_in (Gsd entries) = kind.Gsd
+kind_in EndOfGsd = kind.EndOfGsd
+kind_in (Text address bytes) = kind.Text
+kind_in (Relocations relocations) = kind.Relocations
+kind_in InternalSymbols = kind.InternalSymbols
+kind_in EndOfModule = kind.EndOfModule
+
+-- the type of a record
+abbrev pub record_kind : List ℕ → Result RecordKind RecordFault
+record_kind bytes = content_of bytes >>= λ content. Ok (kind_in content)
+
+abbrev pub entries_in : Result Content RecordFault → List GsdEntry
+entries_in (Ok (Gsd entries)) = entries
+entries_in content = []
+
+-- the directory entries of a record, of which only a directory has any
+abbrev pub record_entries : List ℕ → List GsdEntry
+record_entries bytes = entries_in (content_of bytes)
+
+abbrev pub text_in : Result Content RecordFault → Option (ℕ × List ℕ)
+text_in (Ok (Text address bytes)) = Some (address, bytes)
+text_in content = None
+
+-- the load address and the bytes of a text record
+abbrev pub record_text : List ℕ → Option (ℕ × List ℕ)
+record_text bytes = text_in (content_of bytes)
+
+-- what a call that reads from the front of bytes answered, seen by view, is what stands there
+abbrev pub Gives : {X Y : Type 0} → (X → Y) → Result X RecordFault → Result Y RecordFault → Type 0
+Gives view (Ok x) read = read ≡ Ok (view x)
+Gives view (Err fault) read = read ≡ Err fault

@@ -1,0 +1,36 @@
+-- The records of an object, one in each block. (RT-11 Volume and File Formats Manual, "Object file
+-- format".) What a record says, and its one form in bytes as it is written.
+use Rattle.std.specs.Prelude.{ℕ, ◌+◌, ◌≤◌, ◌<◌, ◌^◌, List, ◌++◌, length}
+use Rattle.m11_obj.specs.declared.gsd.GsdEntry.{GsdEntry}
+use Rattle.m11_obj.specs.declared.relocations.Relocation.{Relocation}
+use Rattle.m11_obj.specs.Frames.{word_bytes, content_limit}
+use Rattle.m11_obj.specs.Gsd.{entries_bytes, EntriesFit, entry_limit}
+use Rattle.m11_obj.specs.Relocations.{relocations_bytes, RelocationsFit}
+
+-- what a record says
+pub data Content : Type 0 where
+  Gsd : List GsdEntry → Content
+  EndOfGsd : Content
+  Text : ℕ → List ℕ → Content
+  Relocations : List Relocation → Content
+  InternalSymbols : Content
+  EndOfModule : Content
+
+-- the bytes that are written for it: a type word, and what belongs to the type
+abbrev pub record_data : Content → List ℕ
+record_data (Gsd entries) = word_bytes 1 ++ entries_bytes entries
+record_data EndOfGsd = word_bytes 2
+record_data (Text address bytes) = word_bytes 3 ++ word_bytes address ++ bytes
+record_data (Relocations relocations) = word_bytes 4 ++ relocations_bytes relocations
+record_data InternalSymbols = word_bytes 5
+record_data EndOfModule = word_bytes 6
+
+-- contents whose bytes fit a block and whose fields fit their places
+abbrev pub Fits : Content → Type 0
+Fits (Gsd entries) = (length entries ≤ entry_limit) × EntriesFit entries
+Fits EndOfGsd = Unit {0}
+Fits (Text address bytes) = (address < 2 ^ 16) × (length bytes + 4 ≤ content_limit)
+Fits (Relocations relocations) =
+    (length (relocations_bytes relocations) + 2 ≤ content_limit) × RelocationsFit relocations
+Fits InternalSymbols = Unit {0}
+Fits EndOfModule = Unit {0}

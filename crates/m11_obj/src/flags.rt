@@ -1,0 +1,80 @@
+//! The flags byte of directory entries. (RT-11 Volume and File Formats Manual, "Object file format",
+//! GSD block.)
+
+ghost use Rattle.std.specs.Prelude.{◌≡◌, ⊤, [], ◌∷◌, codes};
+
+use bitflags::{Flag, Flags, bitflag_items};
+
+/// The attributes of a program section. Clear bits are CON, RW, ABS, LCL and I.
+#[derive(Clone, Copy, PartialEq, Eq, Debug)]
+pub struct SectionFlags(u8);
+
+bitflag_items! {
+    impl SectionFlags: u8 {
+        const SAVED = 0o001;
+        const OVERLAID = 0o004;
+        const READ_ONLY = 0o020;
+        const RELOCATABLE = 0o040;
+        const GLOBAL = 0o100;
+        const DATA = 0o200;
+    }
+}
+
+impl Flags for SectionFlags {
+    type Bits = u8;
+
+    ghost exact = { ⊤ };
+
+    ghost table = { (codes "SAVED", 1) ∷ (codes "OVERLAID", 4) ∷ (codes "READ_ONLY", 16) ∷ (codes "RELOCATABLE", 32) ∷ (codes "GLOBAL", 64) ∷ (codes "DATA", 128) ∷ [] };
+
+    ghost set_of = { λ f. f.0 };
+
+    fn flags<'a>() -> &'a [Flag<SectionFlags>] {
+        SectionFlags::FLAGS
+    }
+
+    fn bits(&self) -> u8 {
+        self.0
+    }
+
+    fn from_bits_retain(bits: u8) -> SectionFlags {
+        SectionFlags(bits)
+    }
+}
+
+/// The attributes of a global symbol.
+#[derive(Clone, Copy, PartialEq, Eq, Debug)]
+pub struct SymbolFlags(u8);
+
+bitflag_items! {
+    impl SymbolFlags: u8 {
+        const WEAK = 0o001;
+        const DEFINED = 0o010;
+        const RELOCATABLE = 0o040;
+    }
+}
+
+impl Flags for SymbolFlags {
+    type Bits = u8;
+
+    ghost exact = { ⊤ };
+
+    ghost table = { (codes "WEAK", 1) ∷ (codes "DEFINED", 8) ∷ (codes "RELOCATABLE", 32) ∷ [] };
+
+    ghost set_of = { λ f. f.0 };
+
+    fn flags<'a>() -> &'a [Flag<SymbolFlags>] {
+        SymbolFlags::FLAGS
+    }
+
+    fn bits(&self) -> u8 {
+        self.0
+    }
+
+    fn from_bits_retain(bits: u8) -> SymbolFlags {
+        SymbolFlags(bits)
+    }
+}
+
+#[cfg(test)]
+mod tests;

@@ -1,0 +1,62 @@
+//! Blocks of formatted binary. (RT-11 Volume and File Formats Manual, "Object file format".)
+
+ghost use Rattle.std.specs.Prelude.{◌≡◌, ◌+◌, ◌≤◌, ◌<◌, ◌^◌, ◌++◌, ◌%◌, length, IfOk, sum};
+ghost use Rattle.arrayvec.specs.ArrayVec.{array_vec_len};
+ghost use Rattle.m11_obj.specs.Frames.{word_bytes, sum_byte, header, block, content_limit};
+
+use arrayvec::ArrayVec;
+use byteorder::{ByteOrder, LittleEndian};
+use std::alloc::{AllocError, Global};
+
+/// The content of a block: at most 512 bytes.
+pub type Block = ArrayVec<u8, 512>;
+
+// Adds a word to a block's content.
+pub(crate) fn put_word(content: &mut Block, word: u16)
+    requires { array_vec_len content.old + 2 ≤ content_limit }
+    ensures { content.new.items ≡ content.old.items ++ word_bytes word }
+{
+    let mut bytes = [0; 2];
+    LittleEndian::write_u16(&mut bytes, word);
+    content.push(bytes[0]);
+    content.push(bytes[1]);
+}
+
+// The four bytes before a content of so many bytes.
+fn header(content_length: u16) -> [u8; 4]
+    requires { content_length ≤ content_limit }
+    ensures { result ≡ header content_length }
+{
+    let mut length = [0; 2];
+    LittleEndian::write_u16(&mut length, content_length + 4);
+    [1, 0, length[0], length[1]]
+}
+
+// The byte that makes the sum of the bytes a multiple of 256.
+fn sum_byte(bytes: &[u8]) -> u8
+    ensures { result ≡ sum_byte bytes.now }
+{
+    let mut total: u8 = 0;
+    for byte in bytes {
+        total = total.wrapping_add(*byte);
+    }
+    0u8.wrapping_sub(total)
+}
+
+#[tactic(auto, unfolding(crate::specs::Frames::block))]
+/// The block of a content, as the bytes that are written. Needs a content of at most 512 bytes.
+pub fn block_bytes(alloc: Global, content: &[u8]) -> Result<Vec<u8>, AllocError>
+    requires { length content.now ≤ content_limit }
+    ensures bytes { IfOk result (λ v. v.items ≡ block content.now) }
+    ensures sum { IfOk result (λ v. sum v.items % 256 ≡ 0) }
+{
+    let mut bytes = Vec::new(alloc);
+    bytes.extend_from_slice(&header(content.len() as u16))?;
+    bytes.extend_from_slice(content)?;
+    let last = sum_byte(&bytes);
+    bytes.push(last)?;
+    Ok(bytes)
+}
+
+#[cfg(test)]
+mod tests;

@@ -1,0 +1,79 @@
+//! Entries of the global symbol directory. (RT-11 Volume and File Formats Manual, "Object file
+//! format", GSD block.)
+
+ghost use Rattle.std.specs.Prelude.{◌≡◌, ◌+◌, ◌≤◌, ◌++◌};
+ghost use Rattle.arrayvec.specs.ArrayVec.{array_vec_len};
+ghost use Rattle.m11_base.specs.Rad50.{IsName};
+ghost use Rattle.m11_obj.specs.Frames.{content_limit};
+ghost use Rattle.m11_obj.specs.Gsd.{kind_code, name_bytes, entry_bytes, EntryFits};
+
+use crate::frames::{Block, put_word};
+use m11_base::Name;
+
+/// What an entry tells.
+#[derive(Clone, Copy, Debug, PartialEq, Eq)]
+pub enum GsdKind {
+    /// 0: the module's name.
+    ModuleName,
+    /// 1: a control section, in the form before program sections.
+    ControlSection,
+    /// 2: an internal symbol.
+    InternalSymbol,
+    /// 3: the transfer address, in the section that is named.
+    TransferAddress,
+    /// 4: a global symbol.
+    GlobalSymbol,
+    /// 5: a program section.
+    ProgramSection,
+    /// 6: the identification of the module.
+    Identification,
+}
+
+impl GsdKind {
+    // The type byte.
+    pub(crate) fn code(self) -> u8
+        ensures { result ≡ kind_code self }
+    {
+        match self {
+            GsdKind::ModuleName => 0,
+            GsdKind::ControlSection => 1,
+            GsdKind::InternalSymbol => 2,
+            GsdKind::TransferAddress => 3,
+            GsdKind::GlobalSymbol => 4,
+            GsdKind::ProgramSection => 5,
+            GsdKind::Identification => 6,
+        }
+    }
+}
+
+/// One entry: a name, the flags byte as a whole, what it tells, and a value.
+#[derive(Clone, Copy, Debug, PartialEq, Eq)]
+pub struct GsdEntry {
+    pub name: Name,
+    pub flags: u8,
+    pub kind: GsdKind,
+    pub value: u16,
+}
+
+// Adds a name's two words to a block's content.
+pub(crate) fn put_name(content: &mut Block, name: Name)
+    requires { array_vec_len content.old + 4 ≤ content_limit }
+    ensures bytes { content.new.items ≡ content.old.items ++ name_bytes name }
+    ensures fits { IsName name }
+{
+    let (first, second) = name.words();
+    put_word(content, first);
+    put_word(content, second);
+}
+
+// Adds an entry's eight bytes to a block's content.
+pub(crate) fn put_entry(content: &mut Block, entry: &GsdEntry)
+    requires { array_vec_len content.old + 8 ≤ content_limit }
+    ensures bytes { content.new.items ≡ content.old.items ++ entry_bytes entry.now }
+    ensures fits { EntryFits entry.now }
+{
+    put_name(content, entry.name);
+    content.push(entry.flags);
+    content.push(entry.kind.code());
+    put_word(content, entry.value);
+}

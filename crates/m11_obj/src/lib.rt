@@ -1,0 +1,18 @@
+//! Objects as formatted binary: blocks of bytes, and the records that stand in them. (RT-11 Volume and
+//! File Formats Manual, "Object file format".)
+#![tactic(auto)]
+
+mod fault;
+mod flags;
+mod frames;
+mod gsd;
+mod reading;
+mod records;
+mod relocations;
+
+pub use fault::RecordFault;
+pub use flags::{SectionFlags, SymbolFlags};
+pub use frames::{Block, block_bytes};
+pub use gsd::{GsdEntry, GsdKind};
+pub use records::{Record, RecordKind, record_bytes};
+pub use relocations::{Relocation, Target};

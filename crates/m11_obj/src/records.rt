@@ -1,0 +1,241 @@
+//! Records: what stands in the blocks of an object. (RT-11 Volume and File Formats Manual, "Object file
+//! format".)
+
+ghost use Rattle.std.specs.Prelude.{◌≡◌, ◌+◌, ◌≤◌, ◌<◌, ◌++◌, ℕ, List, length, Ok, IfOk, All, Some, IsSome, slice_get, option_map};
+ghost use Rattle.m11_obj.specs.Frames.{word_bytes, content_limit};
+ghost use Rattle.m11_obj.specs.Gsd.{entry_limit};
+ghost use Rattle.m11_obj.specs.Reading.{IsRecord, record_kind, record_entries, record_text};
+ghost use Rattle.m11_obj.specs.Relocations.{relocations_bytes, FormExists};
+
+use crate::frames::{Block, put_word};
+use crate::gsd::{GsdEntry, put_entry};
+use crate::reading::{first_entry, first_type, first_word};
+use crate::relocations::{Relocation, put_relocation};
+use std::alloc::{AllocError, Global};
+use std::marker::Model;
+
+/// The types of records.
+#[derive(Clone, Copy, Debug, PartialEq, Eq)]
+pub enum RecordKind {
+    /// 1: entries of the global symbol directory.
+    Gsd,
+    /// 2: the end of that directory.
+    EndOfGsd,
+    /// 3: text: a load address and bytes.
+    Text,
+    /// 4: relocations of the text before.
+    Relocations,
+    /// 5: the directory of internal symbols.
+    InternalSymbols,
+    /// 6: the end of the module.
+    EndOfModule,
+}
+
+/// A record, held as the content of its block. It never allocates.
+#[derive(Drop)]
+pub struct Record {
+    content: Block,
+}
+
+impl Model for Record {
+    ghost use Rattle.std.specs.Prelude.{ℕ, List};
+
+    ghost Value = { List ℕ };
+
+    ghost view = { λ r. r.content.items };
+
+    ghost use Rattle.m11_obj.specs.Reading.{IsRecord};
+
+    ghost invariant = { λ r. IsRecord r.content.items };
+}
+
+// A content that has its type word alone.
+fn with_type(code: u16) -> Block
+    ensures { result.items ≡ word_bytes code }
+{
+    let mut content = Block::new();
+    put_word(&mut content, code);
+    content
+}
+
+impl Record {
+    ghost use Rattle.m11_obj.specs.Records.{Gsd, EndOfGsd, Text, Relocations, InternalSymbols, EndOfModule, record_data};
+    ghost use Rattle.m11_obj.specs.Reading.{content_of, IsRecord};
+
+    /// A record of directory entries, in order. Needs at most 63 of them.
+    pub fn gsd(entries: &[GsdEntry]) -> Record
+        requires { length entries.now ≤ entry_limit }
+        ensures bytes { result ≡ record_data (Gsd entries.now) }
+        ensures means { content_of result ≡ Ok (Gsd entries.now) }
+    {
+        let mut content = with_type(1);
+        for entry in entries {
+            put_entry(&mut content, entry);
+        }
+        Record { content }
+    }
+
+    /// The end of the directory.
+    pub fn end_of_gsd() -> Record
+        ensures bytes { result ≡ record_data EndOfGsd }
+        ensures means { content_of result ≡ Ok EndOfGsd }
+    {
+        Record {
+            content: with_type(2),
+        }
+    }
+
+    /// Text: the bytes at a load address, which counts from the base of the current section. Needs at
+    /// most 508 bytes.
+    pub fn text(address: u16, bytes: &[u8]) -> Record
+        requires { length bytes.now + 4 ≤ content_limit }
+        ensures bytes { result ≡ record_data (Text address bytes.now) }
+        ensures means { content_of result ≡ Ok (Text address bytes.now) }
+    {
+        let mut content = with_type(3);
+        put_word(&mut content, address);
+        content.try_extend_from_slice(bytes).unwrap();
+        Record { content }
+    }
+
+    /// Relocations of the text before, in order. Needs that their bytes and the type word's fit a
+    /// block, and that a byte is asked for only where the command has that form.
+    pub fn relocations(relocations: &[Relocation]) -> Record
+        requires room { length (relocations_bytes relocations.now) + 2 ≤ content_limit }
+        requires form { All (λ relocation. FormExists relocation.is_byte relocation.target) relocations.now }
+        ensures bytes { result ≡ record_data (Relocations relocations.now) }
+        ensures means { content_of result ≡ Ok (Relocations relocations.now) }
+    {
+        let mut content = with_type(4);
+        for relocation in relocations {
+            put_relocation(&mut content, relocation);
+        }
+        Record { content }
+    }
+
+    /// The directory of internal symbols, with none in it.
+    pub fn internal_symbols() -> Record
+        ensures bytes { result ≡ record_data InternalSymbols }
+        ensures means { content_of result ≡ Ok InternalSymbols }
+    {
+        Record {
+            content: with_type(5),
+        }
+    }
+
+    /// The end of the module.
+    pub fn end_of_module() -> Record
+        ensures bytes { result ≡ record_data EndOfModule }
+        ensures means { content_of result ≡ Ok EndOfModule }
+    {
+        Record {
+            content: with_type(6),
+        }
+    }
+
+    /// The record's bytes, as they stand in its block.
+    pub fn data(&self) -> &[u8]
+        ensures bytes { result.now ≡ self.now }
+        ensures fits { length self.now ≤ content_limit }
+        ensures means { IsRecord self.now }
+    {
+        self.content.as_slice()
+    }
+}
+
+// The type of a record.
+fn kind_at(bytes: &[u8]) -> RecordKind
+    requires { IsRecord bytes.now }
+    ensures kind { record_kind bytes.now ≡ Ok result }
+    ensures text { result ≡ RecordKind.Text → IsSome (record_text bytes.now) }
+{
+    match first_type(bytes) {
+        Ok((kind, _)) => kind,
+        Err(_) => unreachable!(),
+    }
+}
+
+// The directory entry at an index.
+fn entry_at(bytes: &[u8], index: usize) -> GsdEntry
+    requires fits { length bytes.now ≤ content_limit }
+    requires in_bounds { index < length (record_entries bytes.now) }
+    ensures { slice_get (record_entries bytes.now) index ≡ Some result }
+{
+    let (_, rest) = bytes.split_at(2 + 8 * index);
+    match first_entry(rest) {
+        Ok((entry, _)) => entry,
+        Err(_) => unreachable!(),
+    }
+}
+
+// The load address and the bytes of a text record.
+fn text_at(bytes: &[u8]) -> (u16, &[u8])
+    requires { IsSome (record_text bytes.now) }
+    ensures { record_text bytes.now ≡ Some (result.0, result.1.now) }
+{
+    let (_, rest) = bytes.split_at(2);
+    match first_word(rest) {
+        Ok(text) => text,
+        Err(_) => unreachable!(),
+    }
+}
+
+// The fields.
+impl Record {
+    /// The type of the record.
+    pub fn kind(&self) -> RecordKind
+        ensures kind { record_kind self.now ≡ Ok result }
+        ensures text { result ≡ RecordKind.Text → IsSome (record_text self.now) }
+    {
+        kind_at(self.content.as_slice())
+    }
+
+    /// The number of directory entries; a record of another type has none.
+    pub fn entry_count(&self) -> usize
+        ensures { result ≡ length (record_entries self.now) }
+    {
+        let bytes = self.content.as_slice();
+        match kind_at(bytes) {
+            RecordKind::Gsd => (bytes.len() - 2) / 8,
+            _ => 0,
+        }
+    }
+
+    /// The directory entry at an index. Needs an index below the number of entries.
+    pub fn entry(&self, index: usize) -> GsdEntry
+        requires { index < length (record_entries self.now) }
+        ensures { slice_get (record_entries self.now) index ≡ Some result }
+    {
+        entry_at(self.content.as_slice(), index)
+    }
+
+    /// The load address of a text record, which counts from the base of the current section. Needs a
+    /// text record.
+    pub fn text_address(&self) -> u16
+        requires { IsSome (record_text self.now) }
+        ensures { option_map (λ text. text.0) (record_text self.now) ≡ Some result }
+    {
+        text_at(self.content.as_slice()).0
+    }
+
+    /// The bytes of a text record. Needs a text record.
+    pub fn text_bytes(&self) -> &[u8]
+        requires { IsSome (record_text self.now) }
+        ensures { option_map (λ text. text.1) (record_text self.now) ≡ Some result.now }
+    {
+        text_at(self.content.as_slice()).1
+    }
+}
+
+/// The record's bytes, as they stand in its block: at most 512 of them, and `block_bytes` makes the
+/// block of them.
+pub fn record_bytes(alloc: Global, record: &Record) -> Result<Vec<u8>, AllocError>
+    ensures bytes { IfOk result (λ v. v.items ≡ «record».now) }
+    ensures fits { IfOk result (λ v. length v.items ≤ content_limit) }
+    ensures means { IfOk result (λ v. IsRecord v.items) }
+{
+    Vec::from_slice(alloc, record.data())
+}
+
+#[cfg(test)]
+mod tests;
