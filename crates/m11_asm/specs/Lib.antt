@@ -1,8 +1,13 @@
 pub mod Faults
 pub mod Held
 pub mod Lines
+pub mod Messages
+pub mod Object
+pub mod OpenText
+pub mod Outcome
 pub mod Parsing
 pub mod Placement
 pub mod ReaderView
 pub mod Reading
 pub mod Statements
+pub mod Writes

@@ -3,6 +3,8 @@
 #![tactic(auto)]
 
 mod fault;
+mod object;
+mod outputs;
 mod reading;
 mod sources;
 mod statement;

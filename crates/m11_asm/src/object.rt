@@ -1,0 +1,172 @@
+//! Writes the object of a program. (RT-11 Volume and File Formats Manual, "Object file format".)
+
+ghost use Rattle.std.specs.Prelude.{◌≡◌, ◌≤◌, ◌+◌, ◌++◌, ◌%◌, ◌<◌, ◌==◌, ◌&&◌, nat_le, [], ◌∷◌, map, length, IfOk, IfSome, MatchOption};
+ghost use Rattle.arrayvec.specs.ArrayVec.{array_vec_len};
+ghost use Rattle.m11_asm.specs.declared.fault.AsmOutput.TheVariants.{Object};
+ghost use Rattle.m11_asm.specs.Object.{main_name, absolute_name, blank_name, directory, head, content_block, text_contents, text_content, place_content, takes_in, texts_of, without_last, last_alone, has_none};
+ghost use Rattle.m11_asm.specs.Placement.{pieces_at};
+ghost use Rattle.m11_asm.specs.OpenText.{placed_of};
+ghost use Rattle.m11_asm.specs.Writes.{Puts};
+ghost use Rattle.m11_obj.specs.Frames.{word_bytes};
+ghost use Rattle.m11_obj.specs.Records.{EndOfModule};
+
+use crate::fault::AsmFault;
+use crate::outputs::put_record;
+use arrayvec::ArrayVec;
+use byteorder::{ByteOrder, LittleEndian};
+use m11_base::{Name, Sink};
+use bitflags::Flags;
+use m11_obj::{GsdEntry, GsdKind, Record, Relocation, SectionFlags, Target};
+use std::alloc::Global;
+
+/// The most bytes of one text record.
+const TEXT_BYTES: usize = 32;
+
+/// Bytes that stand from a place on, and that more may follow.
+#[derive(Drop)]
+pub struct OpenText {
+    place: u16,
+    bytes: ArrayVec<u8, 32>,
+}
+
+impl OpenText {
+    fn new(place: u16) -> OpenText
+        ensures place { result.place ≡ place }
+        ensures bytes { result.bytes.items ≡ [] }
+    {
+        OpenText {
+            place,
+            bytes: ArrayVec::new(),
+        }
+    }
+
+    // Whether a word at a place goes into this text.
+    fn takes(&self, place: u16) -> bool
+        ensures value { result ≡ ((place == self.now.place + length self.now.bytes.items)
+            && nat_le (length self.now.bytes.items + 2) 32) }
+    {
+        let length = self.bytes.len();
+        usize::from(place) == usize::from(self.place) + length && length + 2 <= TEXT_BYTES
+    }
+
+    fn push_word(&mut self, word: u16)
+        requires { length self.old.bytes.items + 2 ≤ 32 }
+        ensures place { self.new.place ≡ self.old.place }
+        ensures bytes { self.new.bytes.items ≡ self.old.bytes.items ++ word_bytes word }
+    {
+        let mut pair = [0; 2];
+        LittleEndian::write_u16(&mut pair, word);
+        self.bytes.push(pair[0]);
+        self.bytes.push(pair[1]);
+    }
+}
+
+// The name of a module without a title.
+fn main_name() -> Name
+    ensures { result ≡ main_name }
+{
+    match Name::pack(b".MAIN.") {
+        Some(name) => name,
+        None => unreachable!(),
+    }
+}
+
+// The name of the absolute section.
+fn absolute_name() -> Name
+    ensures { result ≡ absolute_name }
+{
+    match Name::pack(b". ABS.") {
+        Some(name) => name,
+        None => unreachable!(),
+    }
+}
+
+// The name of the section in which assembly begins.
+fn blank_name() -> Name
+    ensures { result ≡ blank_name }
+{
+    match Name::pack(b"      ") {
+        Some(name) => name,
+        None => unreachable!(),
+    }
+}
+
+// What the directory says of a module whose blank section has so many bytes.
+fn directory(size: u16) -> [GsdEntry; 4]
+    ensures { result ≡ directory size }
+{
+    let absolute = SectionFlags::GLOBAL.union(SectionFlags::OVERLAID);
+    [
+        entry(main_name(), 0, GsdKind::ModuleName, 0),
+        entry(absolute_name(), absolute.bits(), GsdKind::ProgramSection, 0),
+        entry(
+            blank_name(),
+            SectionFlags::RELOCATABLE.bits(),
+            GsdKind::ProgramSection,
+            size,
+        ),
+        entry(absolute_name(), 0, GsdKind::TransferAddress, 1),
+    ]
+}
+
+fn entry(name: Name, flags: u8, kind: GsdKind, value: u16) -> GsdEntry
+    ensures { result ≡ record { name = name; flags = flags; kind = kind; value = value } }
+{
+    GsdEntry {
+        name,
+        flags,
+        kind,
+        value,
+    }
+}
+
+/// The records before the texts: the directory and its end.
+pub fn put_head<S: Sink>(alloc: Global, object: &mut S, size: u16) -> Result<(), AsmFault>
+    ensures { Puts Object (S.text object.old) (S.text object.new) (S.faults object.old) (S.faults object.new)
+        (map content_block (head size)) result }
+{
+    put_record(alloc, object, &Record::gsd(&directory(size)))?;
+    put_record(alloc, object, &Record::end_of_gsd())
+}
+
+/// A text record, and before the first one the record that names its section and place.
+pub fn put_text<S: Sink>(
+    alloc: Global,
+    object: &mut S,
+    text: &OpenText,
+    is_first: bool,
+) -> Result<(), AsmFault>
+    ensures { Puts Object (S.text object.old) (S.text object.new) (S.faults object.old) (S.faults object.new)
+        (map content_block (text_contents is_first (placed_of text.now ∷ []))) result }
+{
+    if !is_first {
+        return put_bytes(alloc, object, text);
+    }
+    put_place(alloc, object, text)?;
+    put_bytes(alloc, object, text)
+}
+
+// The record that names the section of a text and its place.
+fn put_place<S: Sink>(alloc: Global, object: &mut S, text: &OpenText) -> Result<(), AsmFault>
+    ensures { Puts Object (S.text object.old) (S.text object.new) (S.faults object.old) (S.faults object.new)
+        (content_block (place_content (placed_of text.now)) ∷ []) result }
+{
+    let place = Relocation {
+        is_byte: false,
+        displacement: 0,
+        target: Target::LocationCounterDefinition(blank_name(), text.place),
+    };
+    put_record(alloc, object, &Record::relocations(&[place]))
+}
+
+// The text record alone.
+fn put_bytes<S: Sink>(alloc: Global, object: &mut S, text: &OpenText) -> Result<(), AsmFault>
+    ensures { Puts Object (S.text object.old) (S.text object.new) (S.faults object.old) (S.faults object.new)
+        (content_block (text_content (placed_of text.now)) ∷ []) result }
+{
+    put_record(
+        alloc,
+        object,
+        &Record::text(text.place, text.bytes.as_slice()),
+    )
+}
