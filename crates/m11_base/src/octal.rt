@@ -27,8 +27,8 @@ fn are_octal_digits(text: &[u8]) -> bool
     text.iter().all(|c| *c >= b'0' && *c <= b'7')
 }
 
-#[tactic(auto, using(crate::proofs::Digits::steps))]
 // The number of octal digits, where it is one of a word.
+#[tactic(auto, using(crate::proofs::Digits::steps))]
 fn word_of_digits(digits: &[u8]) -> Option<u16>
     requires { IsTrue (list_all is_octal_digit digits.now) }
     ensures { result ≡ (if nat_lt (octal_value digits.now) 65536 then Some (octal_value digits.now) else None) }

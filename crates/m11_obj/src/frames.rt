@@ -43,8 +43,8 @@ fn sum_byte(bytes: &[u8]) -> u8
     0u8.wrapping_sub(total)
 }
 
-#[tactic(auto, unfolding(crate::specs::Frames::block))]
 /// The block of a content, as the bytes that are written. Needs a content of at most 512 bytes.
+#[tactic(auto, unfolding(crate::specs::Frames::block))]
 pub fn block_bytes(alloc: Global, content: &[u8]) -> Result<Vec<u8>, AllocError>
     requires { length content.now ≤ content_limit }
     ensures bytes { IfOk result (λ v. v.items ≡ block content.now) }

@@ -119,6 +119,21 @@ pub struct Relocation {
     pub target: Target,
 }
 
+impl Relocation {
+    /// The number of bytes that the relocation takes in its record: from 2 to 8.
+    pub fn byte_count(&self) -> usize
+        ensures { result ≡ length (relocation_bytes self.now) }
+    {
+        let name = if self.target.name().is_some() { 4 } else { 0 };
+        let constant = if self.target.constant().is_some() {
+            2
+        } else {
+            0
+        };
+        2 + name + constant
+    }
+}
+
 fn put_optional_name(content: &mut Block, name: Option<Name>)
     requires { array_vec_len content.old + length (optional_name name) ≤ content_limit }
     ensures bytes { content.new.items ≡ content.old.items ++ optional_name name }

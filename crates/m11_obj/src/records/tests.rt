@@ -63,6 +63,7 @@ fn a_displaced_global_symbol_is_command_four(rt: HostRuntime) -> Result<(), Fail
         displacement: 6,
         target: Target::GlobalDisplaced(name(b"F     ")?),
     };
+    assert_eq!(rt; relocation.byte_count(), 6);
     assert_eq!(rt;
         Record::relocations(&[relocation]).data(),
         [4, 0, 4, 6, 0x80, 0x25, 0, 0].as_slice()
