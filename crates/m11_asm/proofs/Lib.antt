@@ -1,5 +1,6 @@
 pub mod Putting
 pub mod Readings
+pub mod Cutting
 pub mod Feeds
 pub mod Joined
 pub mod Names

@@ -5,7 +5,7 @@ ghost use Rattle.arrayvec.specs.ArrayVec.{array_vec_len};
 ghost use Rattle.m11_asm.specs.declared.fault.AsmOutput.TheVariants.{Object};
 ghost use Rattle.m11_asm.specs.Object.{main_name, absolute_name, blank_name, directory, head, content_block, text_contents, text_content, place_content, takes_in, texts_of, without_last, last_alone, has_none};
 ghost use Rattle.m11_asm.specs.Placement.{pieces_at};
-ghost use Rattle.m11_asm.specs.OpenText.{placed_of};
+ghost use Rattle.m11_asm.specs.OpenText.{placed_of, AddsWord, PutsTexts};
 ghost use Rattle.m11_asm.specs.Writes.{Puts};
 ghost use Rattle.m11_obj.specs.Frames.{word_bytes};
 ghost use Rattle.m11_obj.specs.Records.{EndOfModule};
@@ -27,6 +27,15 @@ const TEXT_BYTES: usize = 32;
 pub struct OpenText {
     place: u16,
     bytes: ArrayVec<u8, 32>,
+}
+
+/// The text that is open when no more words come.
+#[derive(Drop)]
+pub enum LastText {
+    /// There were no words.
+    None,
+    /// The text, and whether it is the first.
+    Open(OpenText, bool),
 }
 
 impl OpenText {
@@ -127,6 +136,55 @@ pub fn put_head<S: Sink>(alloc: Global, object: &mut S, size: u16) -> Result<(),
 {
     put_record(alloc, object, &Record::gsd(&directory(size)))?;
     put_record(alloc, object, &Record::end_of_gsd())
+}
+
+/// The text records of words that stand from place 0 on, but for the last one, which is handed back
+/// with whether it is the first.
+pub fn put_texts<S: Sink>(
+    alloc: Global,
+    object: &mut S,
+    words: &[u16],
+) -> Result<LastText, AsmFault>
+    ensures { PutsTexts (S.text object.old) (S.text object.new) (S.faults object.old) (S.faults object.new)
+        (texts_of (pieces_at 0 words.now)) result }
+{
+    let Some((first, rest)) = words.split_first() else {
+        return Ok(LastText::None);
+    };
+    let mut text = OpenText::new(0);
+    text.push_word(*first);
+    let mut is_first = true;
+    let mut place: u16 = 2;
+    'words: for word in rest {
+        is_first = add_word(alloc, object, &mut text, is_first, place, *word)?;
+        place = place.wrapping_add(2);
+    }
+    Ok(LastText::Open(text, is_first))
+}
+
+// Adds a word at a place to the open text, or puts that text and opens another one with the word.
+// Answers whether the open text is still the first.
+fn add_word<S: Sink>(
+    alloc: Global,
+    object: &mut S,
+    text: &mut OpenText,
+    is_first: bool,
+    place: u16,
+    word: u16,
+) -> Result<bool, AsmFault>
+    requires { length text.old.bytes.items ≤ 32 }
+    ensures fits { length text.new.bytes.items ≤ 32 }
+    ensures adds { AddsWord (S.text object.old) (S.text object.new) (S.faults object.old) (S.faults object.new)
+        (placed_of text.old) (placed_of text.new) is_first (record { place = place; word = word }) result }
+{
+    if text.takes(place) {
+        text.push_word(word);
+        return Ok(is_first);
+    }
+    put_text(alloc, object, text, is_first)?;
+    *text = OpenText::new(place);
+    text.push_word(word);
+    Ok(false)
 }
 
 /// A text record, and before the first one the record that names its section and place.

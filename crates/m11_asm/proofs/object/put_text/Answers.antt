@@ -1,18 +1,20 @@
-use Rattle.std.proofs.Common.{rules, ◌≡◌, ◌≤◌, ◌+◌, ◌++◌, ◌%◌, ◌<◌, ◌==◌, ◌&&◌, nat_le, [], ◌∷◌, map, length, IfOk, IfSome, MatchOption, ℕ, ◌-◌, ◌*◌, ◌/◌, Bool, true, false, nat_eq, nat_lt, List, slice_index_or, slice_set, bit_and, bit_or, Fits, w8, w32, w64, Bor, MutBor}
-use Rattle.arrayvec.specs.ArrayVec.{array_vec_len}
+use Rattle.std.proofs.Common.{◌∙◌, ap, [], ◌∷◌, Err}
+use Rattle.std.proofs.lemmas.Result.{err_from_is_err_and}
+use Rattle.m11_asm.specs.declared.fault.AsmFault.{AsmFault}
 use Rattle.m11_asm.specs.declared.fault.AsmOutput.TheVariants.{Object}
-use Rattle.m11_asm.specs.Object.{main_name, absolute_name, blank_name, directory, head, content_block, text_contents, text_content, place_content, takes_in, texts_of, without_last, last_alone, has_none}
-use Rattle.m11_asm.specs.Placement.{pieces_at}
+use Rattle.m11_asm.specs.Object.{content_block, text_content, place_content}
 use Rattle.m11_asm.specs.OpenText.{placed_of}
-use Rattle.m11_asm.specs.Writes.{Puts}
-use Rattle.m11_obj.specs.Frames.{word_bytes}
-use Rattle.m11_obj.specs.Records.{EndOfModule}
+use Rattle.m11_asm.proofs.Putting.{stopped_at, puts_then}
 use Rattle.m11_asm.proofs.object.put_text.Goals as goal
 
--- src/object.rt:145:5
 pub returns-in_err-put_place : goal.returns-in_err-put_place
-returns-in_err-put_place g c = ?
+returns-in_err-put_place g c =
+    let p = err_from_is_err_and c.from_residual.result c.from_residual.ensures.1 in
+    rw c.if-not-is_first.false (stopped_at Object (g.S.Sink.text c.args.object.now) (g.S.Sink.text c.put_place.new.object) (g.S.Sink.faults c.args.object.now) (g.S.Sink.faults c.put_place.new.object)
+    (content_block (place_content (placed_of c.args.text.now)) ∷ []) (content_block (text_content (placed_of c.args.text.now)) ∷ []) c.in_err-put_place.field-0.0 c.from_residual.result c.in_err-put_place.ensures (p.1 ∙ ap (λ (e : AsmFault). Err e) p.2))
 
--- src/object.rt:133:1
 pub returns : goal.returns
-returns g c = ?
+returns g c =
+    rw c.if-not-is_first.false (puts_then Object (g.S.Sink.text c.args.object.now) (g.S.Sink.text c.put_place.new.object) (g.S.Sink.faults c.args.object.now) (g.S.Sink.faults c.put_place.new.object)
+    (content_block (place_content (placed_of c.args.text.now)) ∷ []) (g.S.Sink.text c.put_bytes-2.new.object) (g.S.Sink.faults c.put_bytes-2.new.object) (content_block (text_content (placed_of c.args.text.now)) ∷ [])
+    c.in_ok-put_place.ensures.1 c.in_ok-put_place.ensures.0 c.put_bytes-2.result c.put_bytes-2.ensures)
