@@ -7,8 +7,8 @@ use Rattle.m11_base.proofs.Known.{Appends-Appends}
 use Rattle.m11_obj.specs.Frames.{word_bytes}
 use Rattle.m11_obj.specs.Records.{Content}
 use Rattle.m11_asm.specs.Placement.{Piece, pieces_at}
-use Rattle.m11_asm.specs.Object.{Placed, alone, joined, place_content, takes_in, texts_from, texts_of, text_contents, text_content, content_block, without_last, without_last_behind, last_alone, last_behind, has_none}
-use Rattle.m11_asm.specs.OpenText.{AddsWord, PutsTexts}
+use Rattle.m11_asm.specs.Object.{head, Placed, alone, joined, place_content, takes_in, texts_from, texts_of, text_contents, text_content, content_block, without_last, without_last_behind, last_alone, last_behind, has_none}
+use Rattle.m11_asm.specs.OpenText.{AddsWord, PutsTexts, PutsFront}
 use Rattle.m11_asm.specs.declared.object.LastText.{LastText}
 use Rattle.std.proofs.Math.Seq.{drop-cons}
 use Rattle.std.proofs.lemmas.List.{length-drop}
@@ -186,3 +186,17 @@ pub stops_texts : (initial next : Option (List ℕ)) (faults faults'' : ℕ) (te
     → StopsPutting Object initial next faults faults'' (map content_block (text_contents true (without_last texts))) fault → result ≡ Err fault
     → PutsTexts initial next faults faults'' texts result
 stops_texts initial next faults faults'' texts fault result h e = rw e h
+
+-- the directory, and then the texts
+pub front_stopped : (a b : Option (List ℕ)) (f g : ℕ) (size : ℕ) (texts : List Placed) (fault : AsmFault) (result : Result LastText AsmFault)
+    → StopsPutting Object a b f g (map content_block (head size)) fault → result ≡ Err fault → PutsFront a b f g size texts result
+front_stopped a b f g size texts fault result h e =
+    rw e (stops_before Object a b f g (map content_block (head size)) (map content_block (text_contents true (without_last texts))) fault h)
+
+pub front_then : (a b c : Option (List ℕ)) (f g i : ℕ) (size : ℕ) (texts : List Placed) → Appends a b (writes.joined (map content_block (head size))) → g ≡ f
+    → (result : Result LastText AsmFault) → PutsTexts b c g i texts result → PutsFront a c f i size texts result
+front_then a b c f g i size texts whole same (Ok last) h = (h.0 ∙ same, h.1,
+    rw (flat_map-append (λ (piece : List ℕ). piece) (map content_block (head size)) (map content_block (text_contents true (without_last texts))))
+    (Appends-Appends a b c (writes.joined (map content_block (head size))) (writes.joined (map content_block (text_contents true (without_last texts)))) whole h.2))
+front_then a b c f g i size texts whole same (Err fault) h =
+    stops_behind Object a b f g (map content_block (head size)) c i (map content_block (text_contents true (without_last texts))) whole same fault h

@@ -3,6 +3,7 @@ pub mod Readings
 pub mod Cutting
 pub mod Feeds
 pub mod Joined
+pub mod MessageLines
 pub mod Names
 pub mod Steps
 pub mod Sizes

@@ -7,7 +7,8 @@ use Rattle.m11_asm.specs.declared.object.OpenText.{OpenText}
 use Rattle.m11_asm.specs.declared.object.LastText.{LastText}
 use Rattle.m11_asm.specs.declared.object.LastText.TheVariants as last
 use Rattle.m11_asm.specs.Placement.{Piece}
-use Rattle.m11_asm.specs.Object.{Placed, texts_from, takes_in, content_block, text_contents, without_last, last_alone, has_none}
+use Rattle.m11_asm.specs.Object.{head, Placed, texts_from, takes_in, content_block, text_contents, without_last, last_alone, has_none}
+use Rattle.m11_obj.specs.Records.{Content}
 use Rattle.m11_asm.specs.Writes.{joined, StopsPutting}
 
 abbrev pub placed_of : OpenText → Placed
@@ -34,3 +35,15 @@ PutsTexts old new faults faults' texts (Ok text) = (faults' ≡ faults) × IsLas
     × Appends old new (joined (map content_block (text_contents true (without_last texts))))
 PutsTexts old new faults faults' texts (Err fault) =
     StopsPutting Object old new faults faults' (map content_block (text_contents true (without_last texts))) fault
+
+-- the directory was put to the object, and all texts but the last
+abbrev pub PutsFront : Option (List ℕ) → Option (List ℕ) → ℕ → ℕ → ℕ → List Placed → Result LastText AsmFault → Type 0
+PutsFront old new faults faults' size texts (Ok text) = (faults' ≡ faults) × IsLast texts text
+    × Appends old new (joined (map content_block (head size) ++ map content_block (text_contents true (without_last texts))))
+PutsFront old new faults faults' size texts (Err fault) =
+    StopsPutting Object old new faults faults' (map content_block (head size) ++ map content_block (text_contents true (without_last texts))) fault
+
+-- the records of a last text
+abbrev pub last_contents : LastText → List Content
+last_contents last.None = []
+last_contents (last.Open text is_first) = text_contents is_first (placed_of text ∷ [])

@@ -3,6 +3,7 @@
 #![tactic(auto)]
 
 mod fault;
+mod messages;
 mod object;
 mod outputs;
 mod reading;

@@ -5,7 +5,7 @@ ghost use Rattle.arrayvec.specs.ArrayVec.{array_vec_len};
 ghost use Rattle.m11_asm.specs.declared.fault.AsmOutput.TheVariants.{Object};
 ghost use Rattle.m11_asm.specs.Object.{main_name, absolute_name, blank_name, directory, head, content_block, text_contents, text_content, place_content, takes_in, texts_of, without_last, last_alone, has_none};
 ghost use Rattle.m11_asm.specs.Placement.{pieces_at};
-ghost use Rattle.m11_asm.specs.OpenText.{placed_of, AddsWord, PutsTexts};
+ghost use Rattle.m11_asm.specs.OpenText.{placed_of, AddsWord, PutsTexts, PutsFront, last_contents};
 ghost use Rattle.m11_asm.specs.Writes.{Puts};
 ghost use Rattle.m11_obj.specs.Frames.{word_bytes};
 ghost use Rattle.m11_obj.specs.Records.{EndOfModule};
@@ -185,6 +185,40 @@ fn add_word<S: Sink>(
     *text = OpenText::new(place);
     text.push_word(word);
     Ok(false)
+}
+
+/// All records before the end of the source: the directory and the texts of the words, but for the
+/// last text, which is handed back.
+pub fn put_front<S: Sink>(
+    alloc: Global,
+    object: &mut S,
+    size: u16,
+    words: &[u16],
+) -> Result<LastText, AsmFault>
+    ensures { PutsFront (S.text object.old) (S.text object.new) (S.faults object.old) (S.faults object.new)
+        size (texts_of (pieces_at 0 words.now)) result }
+{
+    put_head(alloc, object, size)?;
+    put_texts(alloc, object, words)
+}
+
+/// The last text, if there is one, and the end of the module.
+pub fn put_end<S: Sink>(alloc: Global, object: &mut S, last: &LastText) -> Result<(), AsmFault>
+    ensures { Puts Object (S.text object.old) (S.text object.new) (S.faults object.old) (S.faults object.new)
+        (map content_block (last_contents last.now) ++ content_block EndOfModule ∷ []) result }
+{
+    put_last(alloc, object, last)?;
+    put_record(alloc, object, &Record::end_of_module())
+}
+
+fn put_last<S: Sink>(alloc: Global, object: &mut S, last: &LastText) -> Result<(), AsmFault>
+    ensures { Puts Object (S.text object.old) (S.text object.new) (S.faults object.old) (S.faults object.new)
+        (map content_block (last_contents last.now)) result }
+{
+    match last {
+        LastText::None => Ok(()),
+        LastText::Open(text, is_first) => put_text(alloc, object, text, *is_first),
+    }
 }
 
 /// A text record, and before the first one the record that names its section and place.
