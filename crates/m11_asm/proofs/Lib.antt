@@ -1,3 +1,4 @@
+pub mod Orders
 pub mod Putting
 pub mod Readings
 pub mod Cutting

@@ -7,7 +7,9 @@ pub mod OpenText
 pub mod Outcome
 pub mod Parsing
 pub mod Placement
+pub mod Program
 pub mod ReaderView
 pub mod Reading
+pub mod Run
 pub mod Statements
 pub mod Writes

@@ -1,5 +1,5 @@
 -- Writes to several outputs in one order, and what became of them. (This project's own.)
-use Rattle.std.specs.Prelude.{◌≡◌, ℕ, List, [], ◌∷◌, ◌++◌, Option, Result, Ok, Err}
+use Rattle.std.specs.Prelude.{◌≡◌, ℕ, List, [], ◌∷◌, ◌++◌, Option, Some, None, Result, Ok, Err}
 use Rattle.std.specs.List.{flat_map}
 use Rattle.std.specs.Io.KnownBytes.{Appends}
 use Rattle.m11_base.specs.Devices.{Rises}
@@ -67,3 +67,8 @@ StopsPutting output old new faults faults' pieces _ = ⊥
 abbrev pub Puts : {A : Type 0} → AsmOutput → Option (List ℕ) → Option (List ℕ) → ℕ → ℕ → List (List ℕ) → Result A AsmFault → Type 0
 Puts output old new faults faults' pieces (Ok done) = (faults' ≡ faults) × Appends old new (joined pieces)
 Puts output old new faults faults' pieces (Err stopped) = StopsPutting output old new faults faults' pieces stopped
+
+-- the text of an output that may be left out
+abbrev pub text_of : {S : Type 0} → (S → Option (List ℕ)) → Option S → Option (List ℕ)
+text_of text None = None
+text_of text (Some sink) = text sink

@@ -7,7 +7,9 @@ mod messages;
 mod object;
 mod outputs;
 mod reading;
+mod run;
 mod sources;
 mod statement;
 
 pub use fault::{AsmFault, AsmOutput};
+pub use run::{AsmDone, asm_run};

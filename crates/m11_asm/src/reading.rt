@@ -55,6 +55,27 @@ impl Reader {
         }
     }
 
+    /// The words of all lines so far.
+    pub fn words(&self) -> &[u16]
+        ensures { result.now ≡ (held_of self.now).words }
+    {
+        self.words.as_slice()
+    }
+
+    /// The size of the section so far, in bytes.
+    pub fn size(&self) -> u16
+        ensures { result ≡ (held_of self.now).size }
+    {
+        self.size
+    }
+
+    /// The count of lines so far.
+    pub fn lines(&self) -> u32
+        ensures { result ≡ (held_of self.now).lines }
+    {
+        self.lines
+    }
+
     /// Takes one byte of a source.
     pub fn take_byte(&mut self, byte: u8) -> Result<Progress, AsmFault>
         ensures { Takes (held_of self.old) (held_of self.new) (Some byte ∷ []) result }
