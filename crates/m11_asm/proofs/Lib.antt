@@ -1,4 +1,5 @@
 pub mod Orders
+pub mod Outcomes
 pub mod Putting
 pub mod Readings
 pub mod Cutting
@@ -9,3 +10,4 @@ pub mod Names
 pub mod Steps
 pub mod Sizes
 pub mod Texts
+pub mod Whole

@@ -12,7 +12,7 @@ abbrev pub raw : List ℕ → Bool → RawLine
 raw bytes has_line_feed = record { bytes = bytes; has_line_feed = has_line_feed }
 
 -- bytes of one line before a cut
-abbrev behind : List ℕ → Cut → Cut
+abbrev pub behind : List ℕ → Cut → Cut
 behind [] c = c
 behind (byte ∷ bytes) c = in_front byte (behind bytes c).lines (behind bytes c).unclosed
 
