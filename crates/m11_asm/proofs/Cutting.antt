@@ -119,8 +119,8 @@ module _ (initial now : Option (List ℕ)) (faults faults' : ℕ) (words left : 
       → without_last (texts_of (pieces_at 0 words)) ≡ s.closed ++ text ∷ without_last_behind x xs
   taken_apart refused x xs e =
       let whole : texts_of (pieces_at 0 words) ≡ s.closed ++ text ∷ x ∷ xs =
-          s.whole ∙ ap (λ (b : Bool). s.closed ++ cond b (texts_from (joined text (record { place = place; word = word })) (pieces_at ((place + 2) % 65536) left)) (text ∷ texts_from (alone (record { place = place; word = word })) (pieces_at ((place + 2) % 65536) left))) refused
-          ∙ ap (λ (t : List Placed). s.closed ++ text ∷ t) e in
+      s.whole ∙ ap (λ (b : Bool). s.closed ++ cond b (texts_from (joined text (record { place = place; word = word })) (pieces_at ((place + 2) % 65536) left)) (text ∷ texts_from (alone (record { place = place; word = word })) (pieces_at ((place + 2) % 65536) left))) refused
+      ∙ ap (λ (t : List Placed). s.closed ++ text ∷ t) e in
       ap without_last whole ∙ without_last-more s.closed text x xs
 
   contents_of_one : (b : Bool) (more : List Placed) → text_contents b (text ∷ more) ≡ text_contents b (text ∷ []) ++ text_contents false more
@@ -134,16 +134,16 @@ module _ (initial now : Option (List ℕ)) (faults faults' : ℕ) (words left : 
       let some = some_text (alone (record { place = place; word = word })) (pieces_at ((place + 2) % 65536) left) in
       let later = without_last_behind some.0 some.1 in
       let parts : map content_block (text_contents true (without_last (texts_of (pieces_at 0 words))))
-          ≡ map content_block (text_contents true s.closed) ++ (map content_block (text_contents is_first (text ∷ [])) ++ map content_block (text_contents false later)) =
-          ap (λ (t : List Placed). map content_block (text_contents true t)) (taken_apart h.0 some.0 some.1 some.2)
-          ∙ ap (map content_block) (first_contents s.closed (text ∷ later))
-          ∙ map-append (text_contents true s.closed) (text_contents (has_none s.closed) (text ∷ later))
-          ∙ ap (λ (b : Bool). map content_block (text_contents true s.closed) ++ map content_block (text_contents b (text ∷ later))) (sym s.first)
-          ∙ ap (λ (t : List Content). map content_block (text_contents true s.closed) ++ map content_block t) (contents_of_one is_first later)
-          ∙ ap (λ (t : List (List ℕ)). map content_block (text_contents true s.closed) ++ t) (map-append (text_contents is_first (text ∷ [])) (text_contents false later)) in
+      ≡ map content_block (text_contents true s.closed) ++ (map content_block (text_contents is_first (text ∷ [])) ++ map content_block (text_contents false later)) =
+      ap (λ (t : List Placed). map content_block (text_contents true t)) (taken_apart h.0 some.0 some.1 some.2)
+      ∙ ap (map content_block) (first_contents s.closed (text ∷ later))
+      ∙ map-append (text_contents true s.closed) (text_contents (has_none s.closed) (text ∷ later))
+      ∙ ap (λ (b : Bool). map content_block (text_contents true s.closed) ++ map content_block (text_contents b (text ∷ later))) (sym s.first)
+      ∙ ap (λ (t : List Content). map content_block (text_contents true s.closed) ++ map content_block t) (contents_of_one is_first later)
+      ∙ ap (λ (t : List (List ℕ)). map content_block (text_contents true s.closed) ++ t) (map-append (text_contents is_first (text ∷ [])) (text_contents false later)) in
       rw parts (stops_behind Object initial now faults faults' (map content_block (text_contents true s.closed)) next faults''
-          (map content_block (text_contents is_first (text ∷ [])) ++ map content_block (text_contents false later)) s.put s.same fault
-          (stops_before Object now next faults' faults'' (map content_block (text_contents is_first (text ∷ []))) (map content_block (text_contents false later)) fault h.1))
+      (map content_block (text_contents is_first (text ∷ [])) ++ map content_block (text_contents false later)) s.put s.same fault
+      (stops_before Object now next faults' faults'' (map content_block (text_contents is_first (text ∷ []))) (map content_block (text_contents false later)) fault h.1))
 
 module _ (initial now : Option (List ℕ)) (faults faults' : ℕ) (words : List ℕ) (place : ℕ) (text : Placed) (is_first : Bool)
     (s : TextsSoFar initial now faults faults' words [] place text is_first) where
@@ -195,8 +195,11 @@ front_stopped a b f g size texts fault result h e =
 
 pub front_then : (a b c : Option (List ℕ)) (f g i : ℕ) (size : ℕ) (texts : List Placed) → Appends a b (writes.joined (map content_block (head size))) → g ≡ f
     → (result : Result LastText AsmFault) → PutsTexts b c g i texts result → PutsFront a c f i size texts result
-front_then a b c f g i size texts whole same (Ok last) h = (h.0 ∙ same, h.1,
-    rw (flat_map-append (λ (piece : List ℕ). piece) (map content_block (head size)) (map content_block (text_contents true (without_last texts))))
-    (Appends-Appends a b c (writes.joined (map content_block (head size))) (writes.joined (map content_block (text_contents true (without_last texts)))) whole h.2))
+front_then a b c f g i size texts whole same (Ok last) h = (
+  h.0 ∙ same,
+  h.1,
+  rw (flat_map-append (λ (piece : List ℕ). piece) (map content_block (head size)) (map content_block (text_contents true (without_last texts))))
+      (Appends-Appends a b c (writes.joined (map content_block (head size))) (writes.joined (map content_block (text_contents true (without_last texts)))) whole h.2),
+)
 front_then a b c f g i size texts whole same (Err fault) h =
     stops_behind Object a b f g (map content_block (head size)) c i (map content_block (text_contents true (without_last texts))) whole same fault h

@@ -87,7 +87,7 @@ module _ (output : AsmOutput) (old new : AsmOutput → Option (List ℕ)) (b c :
   begins before part h =
       let k = gains (before ++ part ∷ []) (rw (joined_push before part) h) in
       let e : done ++ map (to_output output) (before ++ part ∷ []) ≡ (done ++ map (to_output output) before) ++ to_output output part ∷ [] =
-          ap (λ (t : List writes.Write). done ++ t) (map_parts (to_output output) before (part ∷ [])) ∙ sym (append_assoc done (map (to_output output) before) (to_output output part ∷ [])) in
+      ap (λ (t : List writes.Write). done ++ t) (map_parts (to_output output) before (part ∷ [])) ∙ sym (append_assoc done (map (to_output output) before) (to_output output part ∷ [])) in
       let P : List writes.Write → Type 0 = λ ws. Gains old new ws in subst P e k
 
   splits : (ps before after : List (List ℕ)) (more : List writes.Write) → ps ≡ before ++ after

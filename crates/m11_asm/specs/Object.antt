@@ -78,10 +78,10 @@ text_content text = Text text.place text.bytes
 -- the record before a first text, which names the section and the place
 abbrev pub place_content : Placed → Content
 place_content text = Relocations (record {
-    is_byte = false;
-    displacement = 0;
-    target = LocationCounterDefinition blank_name text.place;
-  } ∷ [])
+  is_byte = false;
+  displacement = 0;
+  target = LocationCounterDefinition blank_name text.place;
+} ∷ [])
 
 abbrev pub text_contents : Bool → List Placed → List Content
 text_contents is_first [] = []

@@ -27,5 +27,5 @@ abbrev pub WritesProgram : (AsmOutput → Option (List ℕ)) → (AsmOutput → 
 WritesProgram old new held progress result = (lines : List RawLine) → IsProgram lines held
     → MatchResult result
     (λ done. (done.flagged ≡ length (flagged_lines progress (reading.lines_in lines)))
-        × writes.Gains old new (writes_of lines (flagged_lines progress (reading.lines_in lines))))
+    × writes.Gains old new (writes_of lines (flagged_lines progress (reading.lines_in lines))))
     (StopsWriting old new (writes_of lines (flagged_lines progress (reading.lines_in lines))))

@@ -13,9 +13,9 @@ ghost use Rattle.m11_obj.specs.Records.{EndOfModule};
 use crate::fault::AsmFault;
 use crate::outputs::put_record;
 use arrayvec::ArrayVec;
+use bitflags::Flags;
 use byteorder::{ByteOrder, LittleEndian};
 use m11_base::{Name, Sink};
-use bitflags::Flags;
 use m11_obj::{GsdEntry, GsdKind, Record, Relocation, SectionFlags, Target};
 use std::alloc::Global;
 

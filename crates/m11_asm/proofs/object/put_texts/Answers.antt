@@ -11,8 +11,8 @@ returns-in_err-is_first g c =
     let p = err_from_is_err_and c.from_residual.result c.from_residual.ensures.1 in
     let s = rw (drop_step c.in-Some.rest.now c.words.word-index c.words-test.true) at c.words.invariant.so_far in
     let h = stopped_here (g.S.Sink.text c.args.object.now) (g.S.Sink.text c.words.object) (g.S.Sink.faults c.args.object.now) (g.S.Sink.faults c.words.object) c.args.words.now
-        (drop (c.words.word-index + 1) c.in-Some.rest.now) c.words.place (get_or c.in-Some.rest.now c.words.word-index 0) (placed_of c.words.text) c.words.is_first s
-        (g.S.Sink.text c.add_word.new.object) (g.S.Sink.faults c.add_word.new.object) (placed_of c.add_word.new.text) c.in_err-is_first.field-0.0 c.in_err-is_first.ensures.adds in
+    (drop (c.words.word-index + 1) c.in-Some.rest.now) c.words.place (get_or c.in-Some.rest.now c.words.word-index 0) (placed_of c.words.text) c.words.is_first s
+    (g.S.Sink.text c.add_word.new.object) (g.S.Sink.faults c.add_word.new.object) (placed_of c.add_word.new.text) c.in_err-is_first.field-0.0 c.in_err-is_first.ensures.adds in
     stops_texts _ _ _ _ _ _ c.from_residual.result h (p.1 ∙ ap (λ (e : AsmFault). Err e) p.2)
 
 pub words-preserved : goal.words-preserved
