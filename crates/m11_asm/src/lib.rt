@@ -10,3 +10,6 @@ mod sources;
 mod statement;
 
 pub use fault::{AsmFault, AsmOutput};
+
+#[cfg(test)]
+mod tests;
