@@ -1,0 +1,3 @@
+pub mod Commands
+pub mod Tasks
+pub mod Usage
