@@ -1,3 +1,5 @@
 pub mod Commands
+pub mod FaultLines
+pub mod Outcomes
 pub mod Tasks
 pub mod Usage

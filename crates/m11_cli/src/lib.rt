@@ -2,9 +2,13 @@
 #![tactic(auto)]
 
 mod commands;
+mod fault_lines;
+mod outcome;
 mod tasks;
 mod usage;
 
+pub use fault_lines::fault_line;
+pub use outcome::{Outcome, status};
 pub use tasks::{AsmTask, Task, plan};
 pub use usage::UsageFault;
 

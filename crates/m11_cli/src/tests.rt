@@ -1,4 +1,6 @@
-use crate::{Task, UsageFault, plan};
+use crate::{Outcome, Task, UsageFault, fault_line, plan, status};
+use m11_asm::{AsmDone, AsmFault, AsmOutput};
+use m11_base::MemorySink;
 use std::test::Fail;
 
 #[test]
@@ -30,4 +32,35 @@ fn other_words_are_refused(rt: HostRuntime) {
             Err(UsageFault::Help(_))
         )
     );
+}
+
+#[test]
+fn each_outcome_has_its_status(rt: HostRuntime) {
+    let statuses = [
+        (Outcome::Asm(Ok(AsmDone { flagged: 0 })), 0),
+        (Outcome::Asm(Ok(AsmDone { flagged: 2 })), 1),
+        (Outcome::Asm(Err(AsmFault::Write(AsmOutput::Listing))), 3),
+        (Outcome::Asm(Err(AsmFault::NoMemory)), 5),
+        (Outcome::Asm(Err(AsmFault::TooMuchSource)), 6),
+        (Outcome::NotOpened, 3),
+    ];
+    for (outcome, expected) in &statuses {
+        assert_eq!(rt; status(outcome), *expected);
+    }
+}
+
+#[test]
+fn a_write_fault_is_told_with_its_output(rt: HostRuntime) -> Result<(), Fail> {
+    let mut sink = MemorySink::new(rt.alloc());
+    fault_line(
+        &Outcome::Asm(Err(AsmFault::Write(AsmOutput::Object))),
+        &mut sink,
+    )?;
+    fault_line(&Outcome::NotOpened, &mut sink)?;
+    fault_line(&Outcome::Usage(UsageFault::NoMemory), &mut sink)?;
+    assert_eq!(rt;
+        sink.bytes(),
+        b"?M11 ASM 2 Write OBJECT\n?M11 USAGE 90 NoMemory\n".as_slice()
+    );
+    Ok(())
 }
