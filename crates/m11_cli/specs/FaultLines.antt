@@ -47,3 +47,7 @@ line_of (Usage fault) = usage_line fault
 line_of (Asm (Ok done)) = []
 line_of (Asm (Err fault)) = asm_line fault
 line_of NotOpened = []
+
+-- the line for a file that could not be opened
+abbrev pub open_line : List ℕ → List ℕ
+open_line path = line (codes "?M11" ∷ codes "OPEN" ∷ path ∷ [])

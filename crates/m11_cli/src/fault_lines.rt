@@ -4,7 +4,7 @@ ghost use Rattle.std.specs.Prelude.{◌≡◌, OnErr, OnOk};
 ghost use Rattle.std.specs.Io.KnownBytes.{Appends};
 ghost use Rattle.m11_base.specs.Devices.{Rises};
 ghost use Rattle.m11_base.specs.Sink.{AppendsBeginning};
-ghost use Rattle.m11_cli.specs.FaultLines.{asm_line, line_of};
+ghost use Rattle.m11_cli.specs.FaultLines.{asm_line, line_of, open_line};
 
 use crate::outcome::Outcome;
 use crate::usage::UsageFault;
@@ -24,6 +24,17 @@ pub fn fault_line<S: Sink>(outcome: &Outcome, sink: &mut S) -> Result<(), PutFau
     ensures fault { OnErr result (Rises (S.faults sink.old) (S.faults sink.new)) }
 {
     put_all(sink, fault_text(outcome).as_bytes())
+}
+
+/// Puts the line for a file that could not be opened: `?M11 OPEN` and the path as it was given.
+///
+/// `Device` where the sink fails. No memory is taken.
+pub(crate) fn not_opened_line<S: Sink>(path: &str, sink: &mut S) -> Result<(), PutFault>
+    ensures whole { OnOk result (Appends (S.text sink.old) (S.text sink.new) (open_line path.now)) }
+{
+    put_all(sink, b"?M11 OPEN ")?;
+    put_all(sink, path.as_bytes())?;
+    put_all(sink, b"\n")
 }
 
 // The line, or the empty text.

@@ -2,11 +2,14 @@
 #![tactic(auto)]
 
 mod commands;
+mod driver;
 mod fault_lines;
+mod opened;
 mod outcome;
 mod tasks;
 mod usage;
 
+pub use driver::command;
 pub use fault_lines::fault_line;
 pub use outcome::{Outcome, status};
 pub use tasks::{AsmTask, Task, plan};
