@@ -1,6 +1,7 @@
 //! All of the program's work, over whatever opens files and prints.
 
-ghost use Rattle.std.specs.Prelude.{◌≡◌, map};
+ghost use Rattle.std.specs.Prelude.{◌≡◌, ◌≢◌, map};
+ghost use Rattle.std.specs.IoError.{error_kind};
 ghost use Rattle.m11_cli.specs.Outcomes.{IsPastWords, MayComeTo, status_of};
 ghost use Rattle.m11_cli.specs.declared.outcome.Outcome.{Outcome};
 
@@ -11,8 +12,9 @@ use crate::tasks::{AsmTask, Task, plan};
 use crate::usage::UsageFault;
 use m11_asm::{AsmFault, asm_run};
 use m11_base::WriterSink;
+use std::convert::AsStr;
 use std::io;
-use std::io::{Print, Read};
+use std::io::{ErrorKind, Print, Read};
 use std::rt::Files;
 
 /// Does what the words ask for, and answers the status that the process is to leave. The first word
@@ -22,27 +24,52 @@ use std::rt::Files;
 /// to `err`. The inputs are opened first, in order, each twice; then the outputs are created. The
 /// first file that does not open ends the command, and leaves outputs that were created before it
 /// empty. `input` is what a program that is run reads; an assembly reads nothing of it.
-pub fn command<'a, R, I, O, E>(rt: &R, _input: &mut I, out: &O, err: &E, words: &'a [&'a str]) -> u8
+pub fn command<'a, R, I, O, E, S>(rt: &R, _input: &mut I, out: &O, err: &E, words: &'a [S]) -> u8
 where
     R: Files + AllocGlobal,
     I: Read,
     O: Print,
     E: Print,
-    ensures { (outcome : Outcome) × MayComeTo (map (λ word. word.now) words.entry.now) outcome
+    S: AsStr,
+    ensures { (outcome : Outcome) × MayComeTo (map S.text words.entry.now) outcome
         × (result ≡ status_of outcome) }
 {
     let outcome = outcome_of(rt, out, err, words);
-    let _ = fault_line(&outcome, &mut WriterSink::new(io::writer(err)));
-    status(&outcome)
+    finish(&outcome, err)
+}
+
+/// Stands for `command` where the system did not give the words: tells on `err` why, and answers
+/// the status, that of want of memory or that of refused words.
+pub fn command_without_words<E: Print>(error: &io::Error, err: &E) -> u8
+    ensures memory { error_kind error.now ≡ ErrorKind.OutOfMemory → result ≡ 5 }
+    ensures refused { error_kind error.now ≢ ErrorKind.OutOfMemory → result ≡ 2 }
+{
+    match error.kind() {
+        ErrorKind::OutOfMemory => finish(&Outcome::Usage(UsageFault::NoMemory), err),
+        _ => {
+            let _ = err.println(error);
+            2
+        }
+    }
+}
+
+// Prints the line of the outcome's fault, and gives the status. Where the line cannot be printed,
+// the status still tells of the fault.
+fn finish<E: Print>(outcome: &Outcome, err: &E) -> u8
+    ensures { result ≡ status_of outcome.now }
+{
+    let _ = fault_line(outcome, &mut WriterSink::new(io::writer(err)));
+    status(outcome)
 }
 
 // What the words come to. A refusal is told where it is found.
-fn outcome_of<'a, R, O, E>(rt: &R, out: &O, err: &E, words: &'a [&'a str]) -> Outcome
+fn outcome_of<'a, R, O, E, S>(rt: &R, out: &O, err: &E, words: &'a [S]) -> Outcome
 where
     R: Files + AllocGlobal,
     O: Print,
     E: Print,
-    ensures { MayComeTo (map (λ word. word.now) words.entry.now) result }
+    S: AsStr,
+    ensures { MayComeTo (map S.text words.entry.now) result }
 {
     match plan(rt.alloc(), words) {
         Ok(Task::Asm(task)) => assemble(rt, err, &task),

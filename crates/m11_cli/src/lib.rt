@@ -9,7 +9,7 @@ mod outcome;
 mod tasks;
 mod usage;
 
-pub use driver::command;
+pub use driver::{command, command_without_words};
 pub use fault_lines::fault_line;
 pub use outcome::{Outcome, status};
 pub use tasks::{AsmTask, Task, plan};

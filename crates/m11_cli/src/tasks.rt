@@ -8,6 +8,7 @@ use crate::commands::application_command;
 use crate::usage::UsageFault;
 use clap::ArgMatches;
 use std::alloc::{AllocError, Global};
+use std::convert::AsStr;
 
 /// The paths of an assembly, as the words give them.
 #[derive(Debug, Drop)]
@@ -28,8 +29,8 @@ pub enum Task<'a> {
 /// Reads a command line, whose first word is the program's name.
 ///
 /// `Help` where help is asked for, `Words` where the words are refused, and `NoMemory`.
-pub fn plan<'a>(alloc: Global, words: &'a [&'a str]) -> Result<Task<'a>, UsageFault>
-    ensures { Plans (map (λ word. word.now) words.entry.now) result }
+pub fn plan<'a, S: AsStr>(alloc: Global, words: &'a [S]) -> Result<Task<'a>, UsageFault>
+    ensures { Plans (map S.text words.entry.now) result }
 {
     let command = application_command(alloc)?;
     let matches = command.try_get_matches_from(words)?;

@@ -1,7 +1,60 @@
-use crate::{Outcome, Task, UsageFault, fault_line, plan, status};
+use crate::{Outcome, Task, UsageFault, command, command_without_words, fault_line, plan, status};
 use m11_asm::{AsmDone, AsmFault, AsmOutput};
 use m11_base::MemorySink;
+use std::cell::RefCell;
+use std::fmt::{Display, Write};
+use std::io::{ErrorKind, Print};
 use std::test::Fail;
+use std::{fs, io};
+
+// Keeps what is printed to it.
+#[derive(Drop)]
+struct Kept {
+    text: RefCell<String>,
+}
+
+impl Kept {
+    fn new(rt: &HostRuntime) -> Kept {
+        Kept {
+            text: RefCell::new(String::new(rt.alloc())),
+        }
+    }
+
+    fn has(&self, expected: &str) -> bool {
+        match self.text.try_borrow() {
+            Ok(text) => text.as_str() == expected,
+            Err(_) => false,
+        }
+    }
+
+    fn is_told(&self, beginning: &str) -> bool {
+        match self.text.try_borrow() {
+            Ok(text) => text.as_str().starts_with(beginning),
+            Err(_) => false,
+        }
+    }
+}
+
+impl Print for Kept {
+    fn print<D: Display + Drop>(&self, value: D) -> io::Result<()> {
+        match self.text.try_borrow_mut() {
+            Ok(mut text) => Ok(write!(text, "{value}")?),
+            Err(_) => Err(io::Error::from(ErrorKind::Other)),
+        }
+    }
+
+    fn println<D: Display + Drop>(&self, value: D) -> io::Result<()> {
+        self.print(value)?;
+        self.print("\n")
+    }
+
+    fn write_all(&self, bytes: &[u8]) -> io::Result<()> {
+        match str::from_utf8(bytes) {
+            Ok(text) => self.print(text),
+            Err(_) => Err(io::Error::from(ErrorKind::InvalidData)),
+        }
+    }
+}
 
 #[test]
 fn asm_takes_an_object_and_sources(rt: HostRuntime) -> Result<(), Fail> {
@@ -63,4 +116,41 @@ fn a_write_fault_is_told_with_its_output(rt: HostRuntime) -> Result<(), Fail> {
         b"?M11 ASM 2 Write OBJECT\n?M11 USAGE 90 NoMemory\n".as_slice()
     );
     Ok(())
+}
+
+#[test]
+fn help_is_printed_and_refused_words_are_told(rt: HostRuntime) {
+    let out = Kept::new(&rt);
+    let err = Kept::new(&rt);
+    assert_eq!(rt;
+        command(&rt, &mut io::empty(), &out, &err, &["m11", "--help"]),
+        0
+    );
+    assert!(rt; out.is_told("A MACRO-11 assembler\n") && err.has(""));
+    let out = Kept::new(&rt);
+    assert_eq!(rt;
+        command(&rt, &mut io::empty(), &out, &err, &["m11", "link"]),
+        2
+    );
+    assert!(rt; out.has("") && err.is_told("error: unrecognized subcommand 'link'\n"));
+}
+
+#[test]
+fn the_first_file_that_does_not_open_ends_the_command(rt: HostRuntime) -> Result<(), Fail> {
+    let err = Kept::new(&rt);
+    let words = ["m11", "asm", "-o", "NONE.OBJ", "NONE.MAC"];
+    assert_eq!(rt; command(&rt, &mut io::empty(), &err, &err, &words), 3);
+    assert!(rt; err.has("?M11 OPEN NONE.MAC\n"));
+    assert!(rt; !fs::exists(&rt, "NONE.OBJ")?);
+    Ok(())
+}
+
+#[test]
+fn words_that_the_system_does_not_give_are_refused(rt: HostRuntime) {
+    let err = Kept::new(&rt);
+    let error = io::Error::from(ErrorKind::OutOfMemory);
+    assert_eq!(rt; command_without_words(&error, &err), 5);
+    assert!(rt; err.has("?M11 USAGE 90 NoMemory\n"));
+    let error = io::Error::from(ErrorKind::InvalidData);
+    assert_eq!(rt; command_without_words(&error, &err), 2);
 }

@@ -6,8 +6,8 @@ use Rattle.m11_cli.proofs.Entries.{entered_is}
 use Rattle.m11_cli.proofs.tasks.plan.Goals as goal
 
 pub returns : goal.returns
-returns c =
-    let words = map (λ word. word.now) c.args.words.now in
+returns g c =
+    let words = map g.S.AsStr.text c.args.words.now in
     let app = c.in_ok-command.ensures.app in
     let parsed = c.in_ok-matches.ensures in
     let rows = rows_of (found_of c.in-Some.entries.now) in
