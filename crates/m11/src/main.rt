@@ -2,9 +2,8 @@
 #![tactic(auto)]
 
 use m11_cli::{command, command_without_words};
-use std::env;
-use std::io;
 use std::process::ExitCode;
+use std::{env, io};
 
 fn main(rt: HostRuntime) -> ExitCode {
     let out = rt.stdout();

@@ -1,6 +1,7 @@
 use crate::{Outcome, Task, UsageFault, command, command_without_words, fault_line, plan, status};
 use m11_asm::{AsmDone, AsmFault, AsmOutput};
 use m11_base::MemorySink;
+use std::alloc::AllocError;
 use std::cell::RefCell;
 use std::fmt::{Display, Write};
 use std::io::{ErrorKind, Print};
@@ -64,27 +65,43 @@ fn asm_takes_an_object_and_sources(rt: HostRuntime) -> Result<(), Fail> {
     Ok(())
 }
 
+// Words that no command takes.
+const REFUSED: [&[&str]; 5] = [
+    &["m11"],
+    &["m11", "help"],
+    &["m11", "link", "A.OBJ"],
+    &["m11", "asm", "A.MAC"],
+    &["m11", "asm", "-o", "A.OBJ", "-o", "B.OBJ", "A.MAC"],
+];
+
+// Words that ask for help.
+const HELPED: [&[&str]; 3] = [
+    &["m11", "--help"],
+    &["m11", "asm", "-h"],
+    &["m11", "asm", "-o", "A.OBJ", "--help"],
+];
+
 #[test]
-fn other_words_are_refused(rt: HostRuntime) {
-    assert!(rt;
-        matches!(
-            plan(rt.alloc(), &["m11", "link"]),
-            Err(UsageFault::Words(_))
-        )
-    );
-    assert!(rt; matches!(plan(rt.alloc(), &["m11"]), Err(UsageFault::Words(_))));
-    assert!(rt;
-        matches!(
-            plan(rt.alloc(), &["m11", "asm", "A.MAC"]),
-            Err(UsageFault::Words(_))
-        )
-    );
-    assert!(rt;
-        matches!(
-            plan(rt.alloc(), &["m11", "asm", "--help"]),
-            Err(UsageFault::Help(_))
-        )
-    );
+fn words_that_no_command_takes_are_refused(rt: HostRuntime) {
+    for words in REFUSED {
+        let answer = plan(rt.alloc(), words);
+        assert!(rt; matches!(answer, Err(UsageFault::Words(_))), "{words:?}");
+    }
+}
+
+#[test]
+fn help_is_told_apart_from_refusals(rt: HostRuntime) {
+    for words in HELPED {
+        let answer = plan(rt.alloc(), words);
+        assert!(rt; matches!(answer, Err(UsageFault::Help(_))), "{words:?}");
+    }
+}
+
+#[test]
+fn want_of_memory_has_its_number_and_name(rt: HostRuntime) {
+    let fault = UsageFault::from(AllocError);
+    assert_eq!(rt; fault.number(), 90);
+    assert_eq!(rt; fault.name(), "NoMemory");
 }
 
 #[test]
