@@ -34,10 +34,11 @@ pub fn plan<'a, S: AsStr>(alloc: Global, words: &'a [S]) -> Result<Task<'a>, Usa
 {
     let command = application_command(alloc)?;
     let matches = command.try_get_matches_from(words)?;
-    match matches.subcommand_matches("asm") {
-        Some(entries) => Ok(Task::Asm(asm_task(alloc, entries)?)),
-        None => unreachable!(),
+    if let Some(entries) = matches.subcommand_matches("asm") {
+        return Ok(Task::Asm(asm_task(alloc, entries)?));
     }
+    // The parser refuses words that enter no command.
+    unreachable!()
 }
 
 // The task that the entries of `asm` state.
