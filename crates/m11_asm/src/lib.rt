@@ -13,3 +13,6 @@ mod statement;
 
 pub use fault::{AsmFault, AsmOutput};
 pub use run::{AsmDone, asm_run};
+
+#[cfg(test)]
+mod tests;

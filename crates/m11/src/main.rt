@@ -1,0 +1,21 @@
+//! `m11`: the command line of the tool chain. All of its work is `m11_cli::command`.
+#![tactic(auto)]
+
+use m11_cli::{command, command_without_words};
+use std::process::ExitCode;
+use std::{env, io};
+
+fn main(rt: HostRuntime) -> ExitCode {
+    let out = rt.stdout();
+    let err = rt.stderr();
+    let status = match words(&rt) {
+        Ok(words) => command(&rt, &mut rt.stdin(), &out, &err, words.as_slice()),
+        Err(error) => command_without_words(&error, &err),
+    };
+    ExitCode::from(status)
+}
+
+// The program's name and its arguments.
+fn words(rt: &HostRuntime) -> io::Result<Vec<String>> {
+    Ok(env::args(rt)?.collect(rt.alloc())?)
+}

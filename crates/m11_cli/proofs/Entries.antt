@@ -1,0 +1,37 @@
+-- What the getters of a parse read, by the entries.
+use Rattle.std.proofs.Common.{◌≡◌, ◌∙◌, ap, ap₂, List, [], Option, Some, None, option_map, unwrap_or}
+use Rattle.std.specs.Borrow.{Bor}
+use Rattle.clap.specs.Words.{Row, Text, all_of, first_of, first_value, matched_of, raw_values, rows_of, subcommand_name_of, subcommand_rows, subcommand_rows_of}
+use Rattle.clap.specs.declared.parser.matches.Found.{Found}
+use Rattle.std.specs.Prelude.{Box}
+use Rattle.std.specs.Box.{box_value}
+use Rattle.std.specs.declared.alloc.Global.{Global}
+use Rattle.clap.specs.declared.parser.matches.ArgMatches.{ArgMatches}
+use Rattle.clap.specs.declared.parser.matches.ArgMatches.TheViews.{out-ArgMatches, out-SubCommand}
+use Rattle.clap.specs.declared.parser.matches.SubCommand.{SubCommand}
+use Rattle.clap.proofs.WalkLemmas.{first_value-rows, raw_values-rows}
+
+-- the first value, or a reference to an empty text
+pub first_is : (f : Found) (id : Text) (o : Option (Bor Text)) (d : Bor Text)
+    → option_map (λ s. s.now) o ≡ first_value f id → d.now ≡ []
+    → (unwrap_or o d).now ≡ unwrap_or (first_of id (rows_of f)) []
+first_is f id None d e empty = empty ∙ ap (λ t. unwrap_or t []) (e ∙ first_value-rows f id)
+first_is f id (Some s) d e empty = ap (λ t. unwrap_or t []) (e ∙ first_value-rows f id)
+
+-- all values, as texts
+pub all_are : (f : Found) (id : Text) (o : Option (List Text))
+    → o ≡ option_map raw_values (matched_of f id)
+    → unwrap_or o [] ≡ unwrap_or (all_of id (rows_of f)) []
+all_are f id o e = ap (λ t. unwrap_or t []) (e ∙ raw_values-rows f id)
+
+-- a subcommand's name and its entries, where both are known
+pub entered_is : (m : ArgMatches) (name : Text) (rows : List Row) → subcommand_name_of m ≡ Some name
+    → option_map (λ p. p.1) (subcommand_rows_of m) ≡ Some rows
+    → subcommand_rows_of m ≡ Some (name, rows)
+entered_is m name rows = go (out-ArgMatches m).subcommand
+  where
+    go : (o : Option (Box SubCommand Global)) → option_map (λ b. (out-SubCommand (box_value b)).name.now) o ≡ Some name
+        → option_map (λ p. p.1) (subcommand_rows o) ≡ Some rows → subcommand_rows o ≡ Some (name, rows)
+    go None e f = cc
+    go (Some b) e f = ap₂ (λ (n : Text) (r : List Row). Some (n, r))
+        (ap (λ o. unwrap_or o name) e) (ap (λ o. unwrap_or o rows) f)

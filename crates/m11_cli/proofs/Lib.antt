@@ -1,0 +1,4 @@
+pub mod Decimals
+pub mod Entered
+pub mod Entries
+pub mod TaskPaths

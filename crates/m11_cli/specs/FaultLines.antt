@@ -1,0 +1,53 @@
+-- The line that is printed for a fault. (This project's own.) Its words, with a blank between each
+-- two, are `?M11`, the command, the fault's number in decimal, the fault's name and what the fault
+-- has to add; a line feed ends it. As `?M11 ASM 2 Write OBJECT`.
+use Rattle.std.specs.Prelude.{List, [], ◌∷◌, ◌++◌, ℕ, Ok, Err, codes}
+use Rattle.std.specs.List.{join_with_byte}
+use Rattle.std.specs.Fmt.{decimal}
+use Rattle.m11_asm.specs.Faults.{name_of, number_of, output_name}
+use Rattle.m11_asm.specs.declared.fault.AsmFault.{AsmFault}
+use Rattle.m11_asm.specs.declared.fault.AsmFault.TheVariants as asm
+use Rattle.m11_cli.specs.Usage.{usage_name, usage_number}
+use Rattle.m11_cli.specs.declared.outcome.Outcome.{Outcome}
+use Rattle.m11_cli.specs.declared.outcome.Outcome.TheVariants.{Usage, Asm, NotOpened}
+use Rattle.m11_cli.specs.declared.usage.UsageFault.{UsageFault}
+use Rattle.m11_cli.specs.declared.usage.UsageFault.TheVariants.{Help, Words, NoMemory}
+
+-- a line of words: a blank is 32, a line feed 10
+abbrev pub line : List (List ℕ) → List ℕ
+line words = join_with_byte 32 words ++ 10 ∷ []
+
+-- the line of a fault
+abbrev pub line_for : List ℕ → ℕ → List ℕ → List (List ℕ) → List ℕ
+line_for command number name more =
+    line (codes "?M11" ∷ command ∷ decimal number ∷ name ∷ more)
+
+-- what a fault of an assembly adds: the output that could not be written
+abbrev pub added : AsmFault → List (List ℕ)
+added (asm.Write output) = output_name output ∷ []
+added asm.Read = []
+added asm.TooMuchSource = []
+added asm.NotYet = []
+added asm.NoMemory = []
+
+-- the line of a fault of an assembly
+abbrev pub asm_line : AsmFault → List ℕ
+asm_line fault = line_for (codes "ASM") (number_of fault) (name_of fault) (added fault)
+
+-- the parser's own text stands for a line where it has one
+abbrev pub usage_line : UsageFault → List ℕ
+usage_line (Help error) = []
+usage_line (Words error) = []
+usage_line NoMemory = line_for (codes "USAGE") (usage_number NoMemory) (usage_name NoMemory) []
+
+-- the line of what a command came to; none where there is no fault, and none where the words or the
+-- paths have been answered with a text of their own
+abbrev pub line_of : Outcome → List ℕ
+line_of (Usage fault) = usage_line fault
+line_of (Asm (Ok done)) = []
+line_of (Asm (Err fault)) = asm_line fault
+line_of NotOpened = []
+
+-- the line for a file that could not be opened
+abbrev pub open_line : List ℕ → List ℕ
+open_line path = line (codes "?M11" ∷ codes "OPEN" ∷ path ∷ [])

@@ -1,0 +1,6 @@
+pub mod Commands
+pub mod FaultLines
+pub mod Opened
+pub mod Outcomes
+pub mod Tasks
+pub mod Usage

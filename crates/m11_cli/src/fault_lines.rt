@@ -1,0 +1,66 @@
+//! The line that is printed for a fault.
+
+ghost use Rattle.std.specs.Prelude.{◌≡◌, OnErr, OnOk};
+ghost use Rattle.std.specs.Io.KnownBytes.{Appends};
+ghost use Rattle.m11_base.specs.Devices.{Rises};
+ghost use Rattle.m11_base.specs.Sink.{AppendsBeginning};
+ghost use Rattle.m11_cli.specs.FaultLines.{asm_line, line_of, open_line};
+
+use crate::outcome::Outcome;
+use crate::usage::UsageFault;
+use m11_asm::{AsmFault, AsmOutput};
+use m11_base::{PutFault, Sink, put_all};
+
+/// Puts the line of the outcome's fault: `?M11`, the command, the fault's number and its name, and
+/// for a write the output's name, as `?M11 ASM 2 Write OBJECT`. Nothing where there is no fault,
+/// and nothing for help, refused words and a file that does not open, which have texts of their own.
+///
+/// `Device` where the sink fails; it has then taken a beginning of the line. No memory is taken.
+pub fn fault_line<S: Sink>(outcome: &Outcome, sink: &mut S) -> Result<(), PutFault>
+    ensures whole { OnOk result (Appends (S.text sink.old) (S.text sink.new) (line_of outcome.now)) }
+    ensures sound { OnOk result (S.faults sink.new ≡ S.faults sink.old) }
+    ensures beginning { OnErr result
+        (AppendsBeginning (S.text sink.old) (S.text sink.new) (line_of outcome.now)) }
+    ensures fault { OnErr result (Rises (S.faults sink.old) (S.faults sink.new)) }
+{
+    put_all(sink, fault_text(outcome).as_bytes())
+}
+
+/// Puts the line for a file that could not be opened: `?M11 OPEN` and the path as it was given.
+///
+/// `Device` where the sink fails. No memory is taken.
+pub(crate) fn not_opened_line<S: Sink>(path: &str, sink: &mut S) -> Result<(), PutFault>
+    ensures whole { OnOk result (Appends (S.text sink.old) (S.text sink.new) (open_line path.now)) }
+{
+    put_all(sink, b"?M11 OPEN ")?;
+    put_all(sink, path.as_bytes())?;
+    put_all(sink, b"\n")
+}
+
+// The line, or the empty text.
+#[tactic(auto, unfolding(crate::proofs::Decimals::decimals))]
+fn fault_text(outcome: &Outcome) -> &'static str
+    ensures { result.now ≡ line_of outcome.now }
+{
+    match outcome {
+        Outcome::Usage(UsageFault::NoMemory) => "?M11 USAGE 90 NoMemory\n",
+        Outcome::Asm(Err(fault)) => asm_text(*fault),
+        Outcome::Usage(_) | Outcome::Asm(Ok(_)) | Outcome::NotOpened => "",
+    }
+}
+
+// The line of a fault of an assembly.
+#[tactic(auto, unfolding(crate::proofs::Decimals::decimals))]
+fn asm_text(fault: AsmFault) -> &'static str
+    ensures { result.now ≡ asm_line fault }
+{
+    match fault {
+        AsmFault::Read => "?M11 ASM 1 Read\n",
+        AsmFault::Write(AsmOutput::Object) => "?M11 ASM 2 Write OBJECT\n",
+        AsmFault::Write(AsmOutput::Listing) => "?M11 ASM 2 Write LISTING\n",
+        AsmFault::Write(AsmOutput::Messages) => "?M11 ASM 2 Write MESSAGES\n",
+        AsmFault::TooMuchSource => "?M11 ASM 6 TooMuchSource\n",
+        AsmFault::NotYet => "?M11 ASM 7 NotYet\n",
+        AsmFault::NoMemory => "?M11 ASM 90 NoMemory\n",
+    }
+}

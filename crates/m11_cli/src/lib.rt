@@ -1,0 +1,19 @@
+//! The commands of the tool chain: what the words ask for, the runs, and what they answer.
+#![tactic(auto)]
+
+mod commands;
+mod driver;
+mod fault_lines;
+mod opened;
+mod outcome;
+mod tasks;
+mod usage;
+
+pub use driver::{command, command_without_words};
+pub use fault_lines::fault_line;
+pub use outcome::{Outcome, status};
+pub use tasks::{AsmTask, Task, plan};
+pub use usage::UsageFault;
+
+#[cfg(test)]
+mod tests;

@@ -1,0 +1,173 @@
+use crate::{Outcome, Task, UsageFault, command, command_without_words, fault_line, plan, status};
+use m11_asm::{AsmDone, AsmFault, AsmOutput};
+use m11_base::MemorySink;
+use std::alloc::AllocError;
+use std::cell::RefCell;
+use std::fmt::{Display, Write};
+use std::io::{ErrorKind, Print};
+use std::test::Fail;
+use std::{fs, io};
+
+// Keeps what is printed to it.
+#[derive(Drop)]
+struct Kept {
+    text: RefCell<String>,
+}
+
+impl Kept {
+    fn new(rt: &HostRuntime) -> Kept {
+        Kept {
+            text: RefCell::new(String::new(rt.alloc())),
+        }
+    }
+
+    fn has(&self, expected: &str) -> bool {
+        match self.text.try_borrow() {
+            Ok(text) => text.as_str() == expected,
+            Err(_) => false,
+        }
+    }
+
+    fn is_told(&self, beginning: &str) -> bool {
+        match self.text.try_borrow() {
+            Ok(text) => text.as_str().starts_with(beginning),
+            Err(_) => false,
+        }
+    }
+}
+
+impl Print for Kept {
+    fn print<D: Display + Drop>(&self, value: D) -> io::Result<()> {
+        match self.text.try_borrow_mut() {
+            Ok(mut text) => Ok(write!(text, "{value}")?),
+            Err(_) => Err(io::Error::from(ErrorKind::Other)),
+        }
+    }
+
+    fn println<D: Display + Drop>(&self, value: D) -> io::Result<()> {
+        self.print(value)?;
+        self.print("\n")
+    }
+
+    fn write_all(&self, bytes: &[u8]) -> io::Result<()> {
+        match str::from_utf8(bytes) {
+            Ok(text) => self.print(text),
+            Err(_) => Err(io::Error::from(ErrorKind::InvalidData)),
+        }
+    }
+}
+
+#[test]
+fn asm_takes_an_object_and_sources(rt: HostRuntime) -> Result<(), Fail> {
+    let Task::Asm(task) = plan(rt.alloc(), &["m11", "asm", "A.MAC", "-o", "P.OBJ", "B.MAC"])?;
+    assert_eq!(rt; task.object, "P.OBJ");
+    assert_eq!(rt; task.sources.as_slice(), ["A.MAC", "B.MAC"].as_slice());
+    Ok(())
+}
+
+// Words that no command takes.
+const REFUSED: [&[&str]; 5] = [
+    &["m11"],
+    &["m11", "help"],
+    &["m11", "link", "A.OBJ"],
+    &["m11", "asm", "A.MAC"],
+    &["m11", "asm", "-o", "A.OBJ", "-o", "B.OBJ", "A.MAC"],
+];
+
+// Words that ask for help.
+const HELPED: [&[&str]; 3] = [
+    &["m11", "--help"],
+    &["m11", "asm", "-h"],
+    &["m11", "asm", "-o", "A.OBJ", "--help"],
+];
+
+#[test]
+fn words_that_no_command_takes_are_refused(rt: HostRuntime) {
+    for words in REFUSED {
+        let answer = plan(rt.alloc(), words);
+        assert!(rt; matches!(answer, Err(UsageFault::Words(_))), "{words:?}");
+    }
+}
+
+#[test]
+fn help_is_told_apart_from_refusals(rt: HostRuntime) {
+    for words in HELPED {
+        let answer = plan(rt.alloc(), words);
+        assert!(rt; matches!(answer, Err(UsageFault::Help(_))), "{words:?}");
+    }
+}
+
+#[test]
+fn want_of_memory_has_its_number_and_name(rt: HostRuntime) {
+    let fault = UsageFault::from(AllocError);
+    assert_eq!(rt; fault.number(), 90);
+    assert_eq!(rt; fault.name(), "NoMemory");
+}
+
+#[test]
+fn each_outcome_has_its_status(rt: HostRuntime) {
+    let statuses = [
+        (Outcome::Asm(Ok(AsmDone { flagged: 0 })), 0),
+        (Outcome::Asm(Ok(AsmDone { flagged: 2 })), 1),
+        (Outcome::Asm(Err(AsmFault::Write(AsmOutput::Listing))), 3),
+        (Outcome::Asm(Err(AsmFault::NoMemory)), 5),
+        (Outcome::Asm(Err(AsmFault::TooMuchSource)), 6),
+        (Outcome::NotOpened, 3),
+    ];
+    for (outcome, expected) in &statuses {
+        assert_eq!(rt; status(outcome), *expected);
+    }
+}
+
+#[test]
+fn a_write_fault_is_told_with_its_output(rt: HostRuntime) -> Result<(), Fail> {
+    let mut sink = MemorySink::new(rt.alloc());
+    fault_line(
+        &Outcome::Asm(Err(AsmFault::Write(AsmOutput::Object))),
+        &mut sink,
+    )?;
+    fault_line(&Outcome::NotOpened, &mut sink)?;
+    fault_line(&Outcome::Usage(UsageFault::NoMemory), &mut sink)?;
+    assert_eq!(rt;
+        sink.bytes(),
+        b"?M11 ASM 2 Write OBJECT\n?M11 USAGE 90 NoMemory\n".as_slice()
+    );
+    Ok(())
+}
+
+#[test]
+fn help_is_printed_and_refused_words_are_told(rt: HostRuntime) {
+    let out = Kept::new(&rt);
+    let err = Kept::new(&rt);
+    assert_eq!(rt;
+        command(&rt, &mut io::empty(), &out, &err, &["m11", "--help"]),
+        0
+    );
+    assert!(rt; out.is_told("A MACRO-11 assembler\n") && err.has(""));
+    let out = Kept::new(&rt);
+    assert_eq!(rt;
+        command(&rt, &mut io::empty(), &out, &err, &["m11", "link"]),
+        2
+    );
+    assert!(rt; out.has("") && err.is_told("error: unrecognized subcommand 'link'\n"));
+}
+
+#[test]
+fn the_first_file_that_does_not_open_ends_the_command(rt: HostRuntime) -> Result<(), Fail> {
+    let err = Kept::new(&rt);
+    let words = ["m11", "asm", "-o", "NONE.OBJ", "NONE.MAC"];
+    assert_eq!(rt; command(&rt, &mut io::empty(), &err, &err, &words), 3);
+    assert!(rt; err.has("?M11 OPEN NONE.MAC\n"));
+    assert!(rt; !fs::exists(&rt, "NONE.OBJ")?);
+    Ok(())
+}
+
+#[test]
+fn words_that_the_system_does_not_give_are_refused(rt: HostRuntime) {
+    let err = Kept::new(&rt);
+    let error = io::Error::from(ErrorKind::OutOfMemory);
+    assert_eq!(rt; command_without_words(&error, &err), 5);
+    assert!(rt; err.has("?M11 USAGE 90 NoMemory\n"));
+    let error = io::Error::from(ErrorKind::InvalidData);
+    assert_eq!(rt; command_without_words(&error, &err), 2);
+}
