@@ -1,15 +1,16 @@
 //! The files of a task, opened.
 
-ghost use Rattle.std.specs.Prelude.{◌≡◌, IfErr, IfOk, vec_len};
+ghost use Rattle.std.specs.IoError.{error_kind};
+ghost use Rattle.std.specs.Prelude.{◌≡◌, ◌≢◌, IfErr, IfOk, vec_len};
 ghost use Rattle.m11_cli.specs.Opened.{IsTaskPath, NamesPath};
-ghost use Rattle.m11_cli.specs.declared.opened.OpenFault.TheVariants.{NoMemory};
+ghost use Rattle.m11_cli.specs.declared.opened.OpenFault.TheVariants.{NotOpened, NoMemory};
 
 use crate::tasks::AsmTask;
 use m11_base::{ReaderFeed, WriterSink};
 use std::alloc::AllocFailed;
-use std::fs;
-use std::io::BufReader;
+use std::io::{BufReader, ErrorKind};
 use std::rt::Files;
+use std::{fs, io};
 
 /// Why the files of a task are not all open.
 #[derive(Debug, Drop)]
@@ -83,8 +84,9 @@ fn open_source<'a, R: Files + AllocGlobal>(
 ) -> Result<Source<R::File>, OpenFault<'a>>
     ensures { IfErr result (NamesPath path.entry.now) }
 {
-    let Ok(file) = fs::open(rt, path) else {
-        return Err(OpenFault::NotOpened(path));
+    let file = match fs::open(rt, path) {
+        Ok(file) => file,
+        Err(error) => return Err(open_fault(&error, path)),
     };
     match BufReader::new(rt.alloc(), file) {
         Ok(reader) => Ok(ReaderFeed::new(reader)),
@@ -98,6 +100,17 @@ fn create<'a, R: Files>(rt: &R, path: &'a str) -> Result<WriterSink<R::File>, Op
 {
     match fs::create(rt, path) {
         Ok(file) => Ok(WriterSink::new(file)),
-        Err(_) => Err(OpenFault::NotOpened(path)),
+        Err(error) => Err(open_fault(&error, path)),
+    }
+}
+
+// Why the file of a path did not open: memory may be what the system has too little of.
+fn open_fault<'a>(error: &io::Error, path: &'a str) -> OpenFault<'a>
+    ensures memory { error_kind error.now ≡ ErrorKind.OutOfMemory → result ≡ NoMemory }
+    ensures told { error_kind error.now ≢ ErrorKind.OutOfMemory → result ≡ NotOpened path.entry }
+{
+    match error.kind() {
+        ErrorKind::OutOfMemory => OpenFault::NoMemory,
+        _ => OpenFault::NotOpened(path),
     }
 }
