@@ -20,8 +20,8 @@ pub struct FuseFeed<F: Feed> {
 }
 
 impl<F: Feed> FuseFeed<F> {
-    /// Passes `calls` calls to `feed`, which has not failed so far, the one that finds its end among
-    /// them.
+    /// Passes `calls` calls to `feed`, which has not failed so far, the one that finds its end
+    /// among them.
     pub fn new(feed: F, calls: u64) -> FuseFeed<F>
         requires { F.faults feed ≡ 0 }
         ensures text { ⟦<FuseFeed<F> as Feed>⟧.text result ≡ text_through_fuse calls (F.text feed) }
@@ -75,7 +75,8 @@ impl<S: Sink> Model for FuseSink<S> {
 
     ghost Value = { FusedSink S };
 
-    ghost view = { λ s. record { sink = s.sink; calls = s.calls; most = s.most; faults = s.faults } };
+    ghost view = { λ s.
+        record { sink = s.sink; calls = s.calls; most = s.most; faults = s.faults } };
 
     ghost invariant = { λ s. S.faults s.sink ≤ s.faults };
 }
@@ -114,7 +115,8 @@ impl<S: Sink> Sink for FuseSink<S> {
         ensures blows { self.old.calls ≡ 0 → IsErr result }
         // while calls are left, the answer is the sink's own to the bytes within the limit
         ensures passes { 0 < self.old.calls → self.old.faults ≢ last_count
-            → Counts (S.faults self.old.sink) (S.faults self.new.sink) result (take self.old.most bytes.now) }
+            → Counts (S.faults self.old.sink) (S.faults self.new.sink) result
+            (take self.old.most bytes.now) }
     {
         if self.faults == u64::MAX {
             return Err(DeviceFault);

@@ -31,7 +31,8 @@ fn are_octal_digits(text: &[u8]) -> bool
 #[tactic(auto, using(crate::proofs::Digits::steps))]
 fn word_of_digits(digits: &[u8]) -> Option<u16>
     requires { HasOnlyDigits digits.now }
-    ensures { result ≡ (if nat_lt (octal_value digits.now) 65536 then Some (octal_value digits.now) else None) }
+    ensures { result ≡ (if nat_lt (octal_value digits.now) 65536
+        then Some (octal_value digits.now) else None) }
 {
     let mut value: u32 = 0;
     for digit in digits {
