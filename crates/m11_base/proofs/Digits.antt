@@ -1,9 +1,10 @@
 -- What octal digits spell, one digit after the other.
-use Rattle.std.proofs.Common.{◌≡◌, ℕ, zero, suc, ◌+◌, ◌-◌, ◌*◌, ◌^◌, ◌<◌, ◌≤◌, List, [], ◌∷◌, ◌++◌, length, take, drop, get_or, sym, ap, ◌∙◌, arith}
+use Rattle.std.proofs.Common.{◌≡◌, ℕ, zero, suc, ◌+◌, ◌-◌, ◌*◌, ◌^◌, ◌<◌, ◌≤◌, List, [], ◌∷◌, ◌++◌, length, take, drop, get_or, true, false, not, ◌&&◌, ◌||◌, refl, sym, ap, ◌∙◌, arith}
 use Rattle.std.proofs.lemmas.List.{length-append, take_more, take-append-drop}
 use Rattle.std.proofs.lemmas.Nat.{pow-add}
 use Rattle.std.proofs.Math.Nat.{le-mul_of_pos_right}
-use Rattle.m11_base.specs.Octal.{octal_value}
+use Rattle.std.specs.List.{list_all, list_any}
+use Rattle.m11_base.specs.Octal.{octal_value, is_octal_digit}
 
 regroup : (digit places moved front back : ℕ) → digit * (places * moved) + (front * moved + back) ≡ (digit * places + front) * moved + back
 regroup digit places moved front back = omega arith
@@ -31,3 +32,12 @@ octal_value-take digits i =
     omega arith
 
 pub ruleset steps = (octal_value-push, octal_value-take)
+
+-- some character is no digit exactly where not all are
+pub bad_digit_among : (text : List ℕ) → list_any (λ character. not (is_octal_digit character)) text ≡ not (list_all is_octal_digit text)
+bad_digit_among [] = refl
+bad_digit_among (x ∷ xs) =
+    elim (is_octal_digit x) as (λ v. (not v || list_any (λ character. not (is_octal_digit character)) xs) ≡ not (v && list_all is_octal_digit xs)) [
+      | true ↦ bad_digit_among xs
+      | false ↦ refl
+    ]

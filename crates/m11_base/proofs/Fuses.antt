@@ -1,9 +1,9 @@
 -- What comes through a fuse is what its feed gives.
-use Rattle.std.proofs.Common.{◌≡◌, ◌≢◌, ℕ, zero, suc, ◌+◌, ◌-◌, ◌<◌, ◌≤◌, Bool, true, false, cond, ltb, List, [], ◌∷◌, length, take, Option, Some, None, Result, Ok, Err, refl, sym, ap, subst, ◌∙◌, arith, inl, inr, sub-one}
+use Rattle.std.proofs.Common.{◌≡◌, ◌≢◌, ℕ, zero, suc, ◌-◌, ◌<◌, ◌≤◌, List, [], ◌∷◌, length, take, Option, Some, None, Result, Ok, Err, refl, sym, ap, ◌∙◌, arith, inl, inr, sub-one}
 use Rattle.std.proofs.lemmas.Bool.{cases_lt, le-ltb, lt-ltb}
 use Rattle.m11_base.specs.Devices.{last_count}
 use Rattle.m11_base.specs.declared.fault.DeviceFault.{DeviceFault}
-use Rattle.m11_base.specs.Feed.{Text, Ending, Ends, Fails, MayFail, Gives, GivesByte, GivesEnd, GivesFailure, MayEnd, bytes_through_fuse, text_through_fuse}
+use Rattle.m11_base.specs.Feed.{Text, Ending, Ends, Fails, MayFail, Gives, GivesByte, GivesEnd, GivesFailure, bytes_through_fuse, text_through_fuse}
 
 abbrev text : List ℕ → Ending → Text
 text bytes ending = record { bytes = bytes; ending = ending }

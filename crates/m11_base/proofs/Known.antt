@@ -1,8 +1,8 @@
 -- Steps that leave known bytes as they were may come before any other step.
-use Rattle.std.proofs.Common.{◌≡◌, ℕ, List, [], ◌∷◌, ◌++◌, Option, Some, None, Result, Ok, Err, take, drop, ap, ◌∙◌, sym, append_assoc, zero, suc, refl}
+use Rattle.std.proofs.Common.{◌≡◌, ℕ, List, ◌++◌, Option, Some, None, take, drop, ap, ◌∙◌, sym, append_assoc, zero, suc, refl}
 use Rattle.std.proofs.lemmas.List.{take-append-drop}
 use Rattle.m11_base.specs.Sink.{CountsAt}
-use Rattle.std.specs.Io.KnownBytes.{Keeps, Appends, Consumes, IsAtEnd, WriteAppends}
+use Rattle.std.specs.Io.KnownBytes.{Keeps, Appends, Consumes}
 
 pub Keeps-Keeps : (a b c : Option (List ℕ)) → Keeps a b → Keeps b c → Keeps a c
 Keeps-Keeps None b c h k = tt

@@ -1,7 +1,7 @@
 -- Octal texts of words. (MACRO-11 Language Reference Manual, "Numbers", for the digits; that a text
 -- may have any number of leading zeros, and the order of the faults, is this project's own.)
-use Rattle.std.specs.Prelude.{ℕ, ◌+◌, ◌-◌, ◌*◌, ◌/◌, ◌%◌, ◌^◌, List, [], ◌∷◌, length, map, codes, Bool, ◌&&◌, nat_le, nat_lt, if◌then◌else◌, Result, Ok, Err}
-use Rattle.std.specs.List.{list_all}
+use Rattle.std.specs.Prelude.{ℕ, ◌+◌, ◌-◌, ◌*◌, ◌/◌, ◌%◌, ◌^◌, List, [], ◌∷◌, length, map, codes, Bool, ◌&&◌, not, IsTrue, nat_le, nat_lt, if◌then◌else◌, Result, Ok, Err}
+use Rattle.std.specs.List.{list_all, list_any}
 use Rattle.m11_base.specs.declared.fault.OctalFault.{OctalFault}
 use Rattle.m11_base.specs.declared.fault.OctalFault.TheVariants.{Empty, BadDigit, TooLarge}
 
@@ -9,16 +9,29 @@ use Rattle.m11_base.specs.declared.fault.OctalFault.TheVariants.{Empty, BadDigit
 abbrev pub is_octal_digit : ℕ → Bool
 is_octal_digit character = nat_le 48 character && nat_le character 55
 
+-- every character is an octal digit
+abbrev pub HasOnlyDigits : List ℕ → Type 0
+HasOnlyDigits text = IsTrue (list_all is_octal_digit text)
+
+-- some character is no octal digit
+abbrev pub HasBadDigit : List ℕ → Type 0
+HasBadDigit text = IsTrue (list_any (λ character. not (is_octal_digit character)) text)
+
 -- the number that octal digits spell: each digit counts 8 to the number of digits behind it
 abbrev pub octal_value : List ℕ → ℕ
 octal_value [] = 0
 octal_value (digit ∷ digits) = (digit - 48) * 8 ^ length digits + octal_value digits
 
+-- a number as a word, where one word holds it
+abbrev pub word_of_number : ℕ → Result ℕ OctalFault
+word_of_number number = if nat_lt number 65536 then Ok number else Err TooLarge
+
 -- the word that a text spells, or the first fault in the order of their numbers
 abbrev pub octal_of : List ℕ → Result ℕ OctalFault
 octal_of [] = Err Empty
 octal_of (first ∷ rest) =
-    if list_all is_octal_digit (first ∷ rest) then (if nat_lt (octal_value (first ∷ rest)) 65536 then Ok (octal_value (first ∷ rest)) else Err TooLarge) else Err BadDigit
+    if list_all is_octal_digit (first ∷ rest) then word_of_number (octal_value (first ∷ rest))
+    else Err BadDigit
 
 -- the digit of a word at a place
 abbrev pub octal_digit : ℕ → ℕ → ℕ

@@ -24,6 +24,7 @@ pub trait Feed {
             (λ _. Rises (faults self.old) (faults self.new)) }
         ensures last { faults self.old ≡ last_count → IsErr result }
         ensures shrinks { MatchResult result
-            (λ byte. MatchOption byte (left self.new ≤ left self.old) (λ _. left self.new < left self.old))
+            (λ byte. MatchOption byte (left self.new ≤ left self.old)
+            (λ _. left self.new < left self.old))
             (λ _. left self.new ≤ left self.old) };
 }

@@ -19,3 +19,6 @@ pub use octal::{octal6, read_octal};
 pub use rad50::{Name, Rad50};
 pub use sink::{Sink, put_all};
 pub use stream::{ReaderFeed, WriterSink};
+
+#[cfg(test)]
+mod tests;

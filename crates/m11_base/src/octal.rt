@@ -1,8 +1,8 @@
 //! Octal texts of words. (MACRO-11 Language Reference Manual, "Numbers".)
 
-ghost use Rattle.std.specs.Prelude.{◌≡◌, ◌<◌, ◌↔◌, ℕ, Some, None, IsTrue, if◌then◌else◌, nat_lt};
+ghost use Rattle.std.specs.Prelude.{◌≡◌, ◌≤◌, ◌↔◌, [], Some, None, Err, if◌then◌else◌, nat_lt};
 ghost use Rattle.std.specs.List.{list_all};
-ghost use Rattle.m11_base.specs.Octal.{octal_text, octal_value, octal_of, is_octal_digit};
+ghost use Rattle.m11_base.specs.Octal.{octal_text, octal_value, octal_of, is_octal_digit, HasOnlyDigits, HasBadDigit};
 
 use crate::fault::OctalFault;
 
@@ -30,8 +30,9 @@ fn are_octal_digits(text: &[u8]) -> bool
 // The number of octal digits, where it is one of a word.
 #[tactic(auto, using(crate::proofs::Digits::steps))]
 fn word_of_digits(digits: &[u8]) -> Option<u16>
-    requires { IsTrue (list_all is_octal_digit digits.now) }
-    ensures { result ≡ (if nat_lt (octal_value digits.now) 65536 then Some (octal_value digits.now) else None) }
+    requires { HasOnlyDigits digits.now }
+    ensures { result ≡ (if nat_lt (octal_value digits.now) 65536
+        then Some (octal_value digits.now) else None) }
 {
     let mut value: u32 = 0;
     for digit in digits {
@@ -45,8 +46,13 @@ fn word_of_digits(digits: &[u8]) -> Option<u16>
 
 /// The word that a text of octal digits spells; any number of leading zeros is free. Faults, in the
 /// order in which they are looked for over the whole text: Empty, BadDigit, TooLarge.
+#[tactic(auto, using(crate::proofs::Digits::bad_digit_among))]
 pub fn read_octal(text: &[u8]) -> Result<u16, OctalFault>
-    ensures { result ≡ octal_of text.now }
+    ensures word { result ≡ octal_of text.now }
+    ensures empty { (result ≡ Err OctalFault.Empty) ↔ (text.now ≡ []) }
+    ensures bad_digit { (result ≡ Err OctalFault.BadDigit) ↔ HasBadDigit text.now }
+    ensures too_large { (result ≡ Err OctalFault.TooLarge)
+        ↔ (HasOnlyDigits text.now × (65536 ≤ octal_value text.now)) }
 {
     if text.is_empty() {
         return Err(OctalFault::Empty);

@@ -29,7 +29,8 @@ pub trait Sink {
 pub fn put_all<S: Sink>(sink: &mut S, bytes: &[u8]) -> Result<(), PutFault>
     ensures whole { OnOk result (Appends (S.text sink.old) (S.text sink.new) bytes.now) }
     ensures sound { OnOk result (S.faults sink.new ≡ S.faults sink.old) }
-    ensures beginning { OnErr result (AppendsBeginning (S.text sink.old) (S.text sink.new) bytes.now) }
+    ensures beginning { OnErr result
+        (AppendsBeginning (S.text sink.old) (S.text sink.new) bytes.now) }
     ensures fault { OnErr result (Rises (S.faults sink.old) (S.faults sink.new)) }
 {
     let mut rest = bytes;

@@ -66,7 +66,8 @@ impl<R: Read> Feed for ReaderFeed<R> {
 fn read_byte<R: Read>(reader: &mut R) -> Result<Option<u8>, DeviceFault>
     ensures { MatchResult result
         (λ byte. MatchOption byte
-        (Consumes (R.remaining reader.old) (R.remaining reader.new) [] × IsAtEnd (R.remaining reader.new))
+        (Consumes (R.remaining reader.old) (R.remaining reader.new) []
+        × IsAtEnd (R.remaining reader.new))
         (λ b. Consumes (R.remaining reader.old) (R.remaining reader.new) (b ∷ [])))
         (λ _. Keeps (R.remaining reader.old) (R.remaining reader.new)) }
 {
@@ -128,7 +129,8 @@ impl<W: Write> Sink for WriterSink<W> {
 // One write of bytes from the front of `bytes`.
 fn write_some<W: Write>(writer: &mut W, bytes: &[u8]) -> Result<usize, DeviceFault>
     ensures within { IfOk result (λ n. n ≤ length bytes.now) }
-    ensures appends { WriteAppends (W.contents writer.old) (W.contents writer.new) result bytes.now }
+    ensures appends { WriteAppends (W.contents writer.old) (W.contents writer.new) result
+        bytes.now }
 {
     'tries: for _ in 0..u64::MAX {
         match writer.write(bytes) {
