@@ -153,10 +153,10 @@ fn help_is_printed_and_refused_words_are_told(rt: HostRuntime) {
 }
 
 // The status of an assembly; `None` where it prints anything but `told` to the error stream.
-fn assembled(
+fn assembled<'a>(
     rt: &HostRuntime,
-    object: &str,
-    sources: &[&str],
+    object: &'a str,
+    sources: &[&'a str],
     told: &str,
 ) -> Result<Option<u8>, Fail> {
     let out = Kept::new(rt);
