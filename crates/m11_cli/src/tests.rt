@@ -152,13 +152,79 @@ fn help_is_printed_and_refused_words_are_told(rt: HostRuntime) {
     assert!(rt; out.has("") && err.is_told("error: unrecognized subcommand 'link'\n"));
 }
 
+// The status of an assembly; `None` where it prints anything but `told` to the error stream.
+fn assembled<'a>(
+    rt: &HostRuntime,
+    object: &'a str,
+    sources: &[&'a str],
+    told: &str,
+) -> Result<Option<u8>, Fail> {
+    let out = Kept::new(rt);
+    let err = Kept::new(rt);
+    let mut words = vec![in rt.alloc(); "m11", "asm", "-o", object]?;
+    words.extend_from_slice(sources)?;
+    let status = command(rt, &mut io::empty(), &out, &err, words.as_slice());
+    Ok((out.has("") && err.has(told)).then_some(status))
+}
+
+// The object of a program whose one word is 000001: the names and the sizes, their end, the place
+// of the word, the word, and the end.
+const ONE_WORD: [u8; 79] = [
+    0x01, 0x00, 0x26, 0x00, 0x01, 0x00, 0x09, 0xB1, 0x8C, 0x3A, 0x00, 0x00, 0x00, 0x00, 0x01, 0xAF,
+    0x94, 0x0F, 0x44, 0x05, 0x00, 0x00, 0x00, 0x00, 0x00, 0x00, 0x20, 0x05, 0x02, 0x00, 0x01, 0xAF,
+    0x94, 0x0F, 0x00, 0x03, 0x01, 0x00, 0x3E, 0x01, 0x00, 0x06, 0x00, 0x02, 0x00, 0xF7, 0x01, 0x00,
+    0x0E, 0x00, 0x04, 0x00, 0x07, 0x00, 0x00, 0x00, 0x00, 0x00, 0x00, 0x00, 0xE6, 0x01, 0x00, 0x0A,
+    0x00, 0x03, 0x00, 0x00, 0x00, 0x01, 0x00, 0xF1, 0x01, 0x00, 0x06, 0x00, 0x06, 0x00, 0xF3,
+];
+
 #[test]
-fn the_first_file_that_does_not_open_ends_the_command(rt: HostRuntime) -> Result<(), Fail> {
-    let err = Kept::new(&rt);
-    let words = ["m11", "asm", "-o", "NONE.OBJ", "NONE.MAC"];
-    assert_eq!(rt; command(&rt, &mut io::empty(), &err, &err, &words), 3);
-    assert!(rt; err.has("?M11 OPEN NONE.MAC\n"));
+fn one_source_and_its_parts_make_one_object(rt: HostRuntime) -> Result<(), Fail> {
+    fs::write(&rt, "WHOLE.MAC", ".WORD 1\n.END\n")?;
+    fs::write(&rt, "PART1.MAC", ".WORD 1\n")?;
+    fs::write(&rt, "PART2.MAC", ".END\n")?;
+    let texts: [&[&str]; 2] = [&["WHOLE.MAC"], &["PART1.MAC", "PART2.MAC"]];
+    for sources in texts {
+        let status = assembled(&rt, "WHOLE.OBJ", sources, "ERRORS DETECTED: 0\n")?;
+        assert_eq!(rt; status, Some(0), "{sources:?}");
+        assert_eq!(rt; fs::read(&rt, "WHOLE.OBJ")?.as_slice(), ONE_WORD.as_slice());
+    }
+    Ok(())
+}
+
+// An object, its source, the status that its assembly leaves, and what is told.
+const ENDED_OTHERWISE: [(&str, &str, u8, &str); 4] = [
+    ("EMPTY.OBJ", "EMPTY.MAC", 1, "E 0:\nERRORS DETECTED: 1\n"),
+    ("LABEL.OBJ", "LABEL.MAC", 6, "?M11 ASM 7 NotYet\n"),
+    ("FOLDER.OBJ", "FOLDER", 3, "?M11 ASM 1 Read\n"),
+    ("NONE.OBJ", "NONE.MAC", 3, "?M11 OPEN NONE.MAC\n"),
+];
+
+#[test]
+fn each_other_end_has_its_status_and_line(rt: HostRuntime) -> Result<(), Fail> {
+    fs::write(&rt, "EMPTY.MAC", "")?;
+    fs::write(&rt, "LABEL.MAC", ".WORD 1\nSTART:\n.END\n")?;
+    fs::create_dir(&rt, "FOLDER")?;
+    for (object, source, status, told) in ENDED_OTHERWISE {
+        assert_eq!(rt;
+            assembled(&rt, object, &[source], told)?,
+            Some(status),
+            "{source}"
+        );
+    }
+    assert!(rt; fs::read(&rt, "LABEL.OBJ")?.is_empty());
+    assert!(rt; fs::read(&rt, "FOLDER.OBJ")?.is_empty());
     assert!(rt; !fs::exists(&rt, "NONE.OBJ")?);
+    Ok(())
+}
+
+#[test]
+fn a_full_device_is_told_as_the_object(rt: HostRuntime) -> Result<(), Fail> {
+    // Not each system has a device that is always full.
+    if fs::open(&rt, "/dev/full").is_ok() {
+        fs::write(&rt, "FULL.MAC", ".END\n")?;
+        let told = "?M11 ASM 2 Write OBJECT\n";
+        assert_eq!(rt; assembled(&rt, "/dev/full", &["FULL.MAC"], told)?, Some(3));
+    }
     Ok(())
 }
 
