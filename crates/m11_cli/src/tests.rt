@@ -167,6 +167,14 @@ fn assembled<'a>(
     Ok((out.has("") && err.has(told)).then_some(status))
 }
 
+// Removes what a test has written.
+fn remove(rt: &HostRuntime, files: &[&str]) -> Result<(), Fail> {
+    for file in files {
+        fs::remove_file(rt, *file)?;
+    }
+    Ok(())
+}
+
 // The object of a program whose one word is 000001: the names and the sizes, their end, the place
 // of the word, the word, and the end.
 const ONE_WORD: [u8; 79] = [
@@ -188,7 +196,7 @@ fn one_source_and_its_parts_make_one_object(rt: HostRuntime) -> Result<(), Fail>
         assert_eq!(rt; status, Some(0), "{sources:?}");
         assert_eq!(rt; fs::read(&rt, "WHOLE.OBJ")?.as_slice(), ONE_WORD.as_slice());
     }
-    Ok(())
+    remove(&rt, &["WHOLE.MAC", "PART1.MAC", "PART2.MAC", "WHOLE.OBJ"])
 }
 
 // An object, its source, the status that its assembly leaves, and what is told.
@@ -214,7 +222,17 @@ fn each_other_end_has_its_status_and_line(rt: HostRuntime) -> Result<(), Fail> {
     assert!(rt; fs::read(&rt, "LABEL.OBJ")?.is_empty());
     assert!(rt; fs::read(&rt, "FOLDER.OBJ")?.is_empty());
     assert!(rt; !fs::exists(&rt, "NONE.OBJ")?);
-    Ok(())
+    remove(
+        &rt,
+        &[
+            "EMPTY.MAC",
+            "EMPTY.OBJ",
+            "LABEL.MAC",
+            "LABEL.OBJ",
+            "FOLDER.OBJ",
+        ],
+    )?;
+    Ok(fs::remove_dir(&rt, "FOLDER")?)
 }
 
 #[test]
@@ -224,6 +242,7 @@ fn a_full_device_is_told_as_the_object(rt: HostRuntime) -> Result<(), Fail> {
         fs::write(&rt, "FULL.MAC", ".END\n")?;
         let told = "?M11 ASM 2 Write OBJECT\n";
         assert_eq!(rt; assembled(&rt, "/dev/full", &["FULL.MAC"], told)?, Some(3));
+        remove(&rt, &["FULL.MAC"])?;
     }
     Ok(())
 }
