@@ -2,12 +2,12 @@
 use Rattle.std.proofs.Common.{◌≡◌, ℕ, List, [], ◌∷◌, ◌++◌, map, Option, Some, None, Result, Ok, Err, refl, sym, ap, ◌∙◌, append_assoc}
 use Rattle.std.specs.Prelude.{MatchResult}
 use Rattle.m11_base.specs.Devices.{Rises}
-use Rattle.m11_base.specs.Feed.{Text, HasBytes, BeginsWith, GivesByte, GivesEnd, GivesFailure}
+use Rattle.m11_base.specs.Feed.{Text, HasBytes, BeginsWith, GivesByte, GivesEnd}
 use Rattle.m11_asm.specs.declared.fault.AsmFault.{AsmFault}
 use Rattle.m11_asm.specs.declared.fault.AsmFault.TheVariants.{TooMuchSource, NotYet, NoMemory, Read, Write}
 use Rattle.m11_asm.specs.declared.reading.Progress.{Progress}
 use Rattle.m11_asm.specs.declared.reading.Progress.TheVariants as progress
-use Rattle.m11_asm.specs.Lines.{RawLine, input_of}
+use Rattle.m11_asm.specs.Lines.{RawLine}
 use Rattle.m11_asm.specs.Reading.{Reading}
 use Rattle.m11_asm.specs.Held.{Held, Holds, reading_at, Leads, Decides, GoesTo, StopsAt, symbols, FailsAt}
 

@@ -1,8 +1,7 @@
 -- The words of the names that every module has.
-use Rattle.std.proofs.Common.{◌≡◌, ℕ, Option, Some, None, refl, sym, ap, ◌∙◌}
+use Rattle.std.proofs.Common.{◌≡◌, ℕ, Option, Some, None, refl, ap}
 use Rattle.std.specs.Prelude.{codes, unwrap_or}
 use Rattle.m11_base.specs.Rad50.{name_of, code_of, alphabet}
-use Rattle.m11_asm.specs.Object.{main_name, absolute_name, blank_name}
 
 pub main_words : name_of (codes ".MAIN.") ≡ Some (45321, 14988)
 unfolding code_of alphabet

@@ -1,8 +1,7 @@
 -- Writes to several outputs, one list of them after another.
-use Rattle.std.proofs.Common.{◌≡◌, ℕ, List, [], ◌∷◌, ◌++◌, map, Option, Some, None, refl, sym, ap, subst, ◌∙◌, append_assoc}
+use Rattle.std.proofs.Common.{◌≡◌, ℕ, List, [], ◌∷◌, ◌++◌, map, Option, refl, sym, ap, subst, ◌∙◌, append_assoc}
 use Rattle.std.proofs.lemmas.Grind.{flat_map-append}
 use Rattle.std.specs.Io.KnownBytes.{Appends}
-use Rattle.m11_base.specs.Devices.{Rises}
 use Rattle.m11_base.proofs.Known.{Appends-Appends}
 use Rattle.m11_asm.specs.declared.fault.AsmFault.{AsmFault}
 use Rattle.m11_asm.specs.declared.fault.AsmFault.TheVariants.{TooMuchSource, NotYet, NoMemory, Read, Write}

@@ -1,9 +1,8 @@
 -- From what was read to the outcome of the sources.
-use Rattle.std.proofs.Common.{◌≡◌, ℕ, ◌+◌, ◌<◌, ◌≤◌, List, [], ◌∷◌, ◌++◌, map, length, Bool, true, false, not, cond, Option, Some, None, Result, Ok, Err, refl, sym, ap, subst, ◌∙◌, arith, inl, inr}
+use Rattle.std.proofs.Common.{◌≡◌, ℕ, ◌+◌, ◌≤◌, List, [], ◌∷◌, ◌++◌, map, length, Bool, true, false, not, cond, Option, Some, Result, Ok, Err, refl, sym, ap, subst, ◌∙◌, arith, inl, inr}
 use Rattle.std.specs.Prelude.{MatchResult, ◌&&◌}
 use Rattle.std.proofs.lemmas.Bool.{le-ltb, cases_lt}
-use Rattle.m11_base.specs.Devices.{Rises}
-use Rattle.m11_base.specs.Feed.{Text, GiveAll, NoneFailed, OneFailed}
+use Rattle.m11_base.specs.Feed.{Text, GiveAll, NoneFailed}
 use Rattle.m11_asm.specs.declared.fault.AsmFault.{AsmFault}
 use Rattle.m11_asm.specs.declared.fault.AsmFault.TheVariants.{TooMuchSource, NotYet, NoMemory, Read, Write}
 use Rattle.m11_asm.specs.declared.fault.AsmOutput.{AsmOutput}
@@ -17,7 +16,6 @@ use Rattle.m11_asm.specs.Held.{Held, IsProgram, Holds, reading_at, Leads, Decide
 use Rattle.m11_asm.specs.Outcome as outcome
 use Rattle.m11_asm.specs.Outcome.{writes_of, outcome_of, outcome_of_reading}
 use Rattle.m11_asm.specs.Program.{flagged_lines, StopsWriting, WritesProgram}
-use Rattle.m11_asm.specs.Writes as writes
 use Rattle.m11_asm.specs.Writes.{Gains}
 use Rattle.m11_asm.specs.Run.{Runs, Counted}
 use Rattle.m11_asm.proofs.Readings.{cut_behind, behind}

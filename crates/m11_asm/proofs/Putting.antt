@@ -1,9 +1,7 @@
 -- Pieces put to one output, one list of them after another.
-use Rattle.std.proofs.Common.{◌≡◌, ℕ, List, [], ◌∷◌, ◌++◌, Option, Some, None, Result, Ok, Err, refl, sym, ap, ◌∙◌, append_assoc}
-use Rattle.std.specs.List.{flat_map}
+use Rattle.std.proofs.Common.{◌≡◌, ℕ, List, ◌∷◌, ◌++◌, Option, Result, Ok, Err, sym, ap, ◌∙◌, append_assoc}
 use Rattle.std.proofs.lemmas.Grind.{flat_map-append}
 use Rattle.std.specs.Io.KnownBytes.{Appends}
-use Rattle.m11_base.specs.Devices.{Rises}
 use Rattle.m11_base.proofs.Known.{Appends-Appends}
 use Rattle.m11_asm.specs.declared.fault.AsmFault.{AsmFault}
 use Rattle.m11_asm.specs.declared.fault.AsmFault.TheVariants.{TooMuchSource, NotYet, NoMemory, Read, Write}

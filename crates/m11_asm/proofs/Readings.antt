@@ -1,11 +1,11 @@
 -- How a reading goes on behind one more symbol of its input.
-use Rattle.std.proofs.Common.{◌≡◌, ◌≢◌, ℕ, zero, suc, ◌+◌, ◌-◌, ◌<◌, ◌≤◌, Bool, true, false, not, cond, eqb, ltb, List, [], ◌∷◌, ◌++◌, length, map, filter, Option, Some, None, refl, sym, ap, ◌∙◌, arith, inl, inr, ◌⊎◌, append_assoc, sum_by, count_by}
-use Rattle.std.specs.Prelude.{◌==◌, ◌&&◌, All}
-use Rattle.std.proofs.lemmas.Bool.{lt-ltb, le-ltb}
+use Rattle.std.proofs.Common.{◌≡◌, ℕ, ◌+◌, ◌<◌, Bool, true, false, ltb, List, [], ◌∷◌, ◌++◌, length, map, Option, Some, refl, sym, ap, ◌∙◌, arith, inl, inr, ◌⊎◌}
+use Rattle.std.specs.Prelude.{◌==◌}
+use Rattle.std.proofs.lemmas.Bool.{lt-ltb}
 use Rattle.std.proofs.lemmas.List.{length-append}
-use Rattle.m11_asm.specs.declared.fault.AsmFault.TheVariants.{TooMuchSource, NotYet}
-use Rattle.m11_asm.specs.Lines.{RawLine, Cut, cut, closed_by, in_front, cleaned, as_read, is_empty, is_line, line_text, size_of, without_return}
-use Rattle.m11_asm.specs.Reading.{Reading, Refused, Ended, Unended, Turn, GoesOn, Ends, Refuses, turn_at, unclosed_turn, line_turn, reading_from, read_on, bytes_in, lines_in, most_bytes, most_lines}
+use Rattle.m11_asm.specs.declared.fault.AsmFault.TheVariants.{TooMuchSource}
+use Rattle.m11_asm.specs.Lines.{RawLine, Cut, cut, closed_by, in_front, cleaned, as_read, is_empty, is_line, size_of}
+use Rattle.m11_asm.specs.Reading.{Refused, Unended, Turn, Refuses, turn_at, unclosed_turn, reading_from, read_on, bytes_in, lines_in, most_bytes, most_lines}
 use Rattle.m11_asm.specs.Held.{reading_at, HasNoLineFeed}
 
 abbrev pub raw : List ℕ → Bool → RawLine

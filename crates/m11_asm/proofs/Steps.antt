@@ -1,5 +1,5 @@
 -- What each exit of the reader's steps leaves.
-use Rattle.std.proofs.Common.{◌≡◌, ◌≢◌, ℕ, zero, suc, ◌+◌, ◌-◌, ◌*◌, ◌%◌, ◌<◌, ◌≤◌, Bool, true, false, cond, List, [], ◌∷◌, ◌++◌, length, max, Option, Some, None, Result, Ok, Err, refl, sym, ap, ◌∙◌, arith}
+use Rattle.std.proofs.Common.{◌≡◌, ◌≢◌, ℕ, ◌+◌, ◌*◌, ◌%◌, ◌<◌, ◌≤◌, Bool, true, false, cond, List, [], ◌∷◌, ◌++◌, length, max, Option, Some, None, Result, Ok, Err, refl, sym, ap, ◌∙◌, arith}
 use Rattle.std.specs.Prelude.{◌==◌, MatchResult}
 use Rattle.std.proofs.lemmas.Bool.{le-ltb, eq-eqb, ne_eqb}
 use Rattle.std.proofs.lemmas.List.{length-append}
@@ -9,9 +9,9 @@ use Rattle.m11_asm.specs.declared.reading.Progress.{Progress}
 use Rattle.m11_asm.specs.declared.reading.Progress.TheVariants as progress
 use Rattle.m11_asm.specs.Lines.{RawLine, cut, closed_by, cleaned, as_read, is_empty, is_line, line_text, size_of, without_return}
 use Rattle.m11_asm.specs.Statements.{statement_of, words_of}
-use Rattle.m11_asm.specs.Reading.{Reading, Refused, Ended, Unended, Turn, GoesOn, Ends, Refuses, turn_at, line_turn, read_on, bytes_in, lines_in, most_bytes, most_lines}
+use Rattle.m11_asm.specs.Reading.{Refused, Turn, GoesOn, Ends, Refuses, turn_at, line_turn, read_on, bytes_in, lines_in, most_bytes, most_lines}
 use Rattle.m11_asm.specs.Placement.{words_in, line_words, place_after, section_size}
-use Rattle.m11_asm.specs.Held.{Held, IsProgram, Holds, HasNoLineFeed, reading_at, Leads, Decides, GoesTo, StopsAt, TakesLine, with_line}
+use Rattle.m11_asm.specs.Held.{Held, Holds, reading_at, Decides, GoesTo, StopsAt, TakesLine, with_line}
 use Rattle.m11_asm.proofs.Readings.{raw, line_ends, byte_goes_on, past_bytes, past_lines, no_line_feed_push, cleaned-nul, cleaned-push}
 use Rattle.m11_asm.proofs.Sizes.{append_none, bytes_in-push, lines_in-push, words_in-push, section_size-push, place_after_words, place_within}
 

@@ -2,7 +2,7 @@
 -- (This project's own.)
 use Rattle.std.specs.Prelude.{◌≡◌, ◌==◌, false, ℕ, ◌+◌, ◌<◌, ◌≤◌, List, [], ◌∷◌, ◌++◌, length, map, Option, Some, None, Result, Ok, Err, MatchResult, ⊤, ◌*◌, ◌%◌, max}
 use Rattle.m11_asm.specs.declared.fault.AsmFault.{AsmFault}
-use Rattle.m11_asm.specs.declared.fault.AsmFault.TheVariants.{NoMemory, TooMuchSource, NotYet, Read, Write}
+use Rattle.m11_asm.specs.declared.fault.AsmFault.TheVariants.{NoMemory, TooMuchSource, NotYet, Read}
 use Rattle.m11_asm.specs.declared.reading.Progress.{Progress}
 use Rattle.m11_asm.specs.declared.reading.Progress.TheVariants.{GoesOn, Ended}
 use Rattle.m11_base.specs.Devices.{Rises}

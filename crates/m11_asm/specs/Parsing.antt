@@ -1,5 +1,4 @@
 -- What the values of this crate's code mean, in the words of the definitions. (This project's own.)
-use Rattle.std.specs.Prelude.{◌≡◌, List, ℕ, ◌∷◌, [], Option, Some, None}
 use Rattle.m11_asm.specs.declared.statement.Statement.{Statement}
 use Rattle.m11_asm.specs.declared.statement.Statement.TheVariants as code
 use Rattle.m11_asm.specs.Statements as spec

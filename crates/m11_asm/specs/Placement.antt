@@ -4,7 +4,7 @@
 use Rattle.std.specs.Prelude.{ℕ, ◌+◌, ◌*◌, ◌%◌, max, List, [], ◌∷◌, ◌++◌, length, sum_by}
 use Rattle.std.specs.List.{flat_map}
 use Rattle.m11_asm.specs.Lines.{RawLine, line_text}
-use Rattle.m11_asm.specs.Statements.{Statement, statement_of, words_of}
+use Rattle.m11_asm.specs.Statements.{statement_of, words_of}
 
 -- the words of a line, and of lines
 abbrev pub line_words : RawLine → List ℕ

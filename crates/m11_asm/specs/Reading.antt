@@ -1,10 +1,10 @@
 -- What the lines of sources come to: a program, or the first refusal in the order of the input.
 -- (The limits, and what is refused because it is not assembled yet, are this project's own; that
 -- `.END` ends a program is the MACRO-11 Language Reference Manual's ".END directive".)
-use Rattle.std.specs.Prelude.{ℕ, ◌+◌, Bool, true, false, not, ◌||◌, ◌&&◌, nat_lt, if◌then◌else◌, List, [], ◌∷◌, ◌++◌, length, sum_by, count_by, Option}
+use Rattle.std.specs.Prelude.{ℕ, ◌+◌, not, ◌&&◌, nat_lt, if◌then◌else◌, List, [], ◌∷◌, ◌++◌, length, sum_by, count_by, Option}
 use Rattle.m11_asm.specs.declared.fault.AsmFault.{AsmFault}
 use Rattle.m11_asm.specs.declared.fault.AsmFault.TheVariants.{TooMuchSource, NotYet}
-use Rattle.m11_asm.specs.Lines.{RawLine, Cut, cleaned, is_empty, is_line, line_text, size_of, cut, input_of}
+use Rattle.m11_asm.specs.Lines.{RawLine, cleaned, is_empty, is_line, line_text, size_of, cut}
 use Rattle.m11_asm.specs.Statements.{Statement, Blank, Words, End, Other, statement_of}
 
 -- the most bytes of all sources together, the most lines, the most characters of a line

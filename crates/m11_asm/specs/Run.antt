@@ -1,9 +1,9 @@
 -- What a run of the assembler does. (This project's own.)
-use Rattle.std.specs.Prelude.{◌≡◌, ℕ, List, [], ◌∷◌, ◌++◌, length, map, codes, ◌⊎◌, Option, Some, Result, Ok, Err}
+use Rattle.std.specs.Prelude.{◌≡◌, ℕ, List, [], ◌++◌, map, ◌⊎◌, Option, Some, Result, Ok, Err}
 use Rattle.m11_base.specs.Devices.{Rises}
 use Rattle.m11_base.specs.Feed.{Text, GiveAll, NoneFailed, OneFailed}
 use Rattle.m11_asm.specs.declared.fault.AsmFault.{AsmFault}
-use Rattle.m11_asm.specs.declared.fault.AsmFault.TheVariants.{Read, Write, TooMuchSource, NotYet, NoMemory}
+use Rattle.m11_asm.specs.declared.fault.AsmFault.TheVariants.{Read, Write, NoMemory}
 use Rattle.m11_asm.specs.declared.fault.AsmOutput.{AsmOutput}
 use Rattle.m11_asm.specs.declared.fault.AsmOutput.TheVariants.{Object, Listing, Messages}
 use Rattle.m11_asm.specs.declared.run.AsmDone.{AsmDone}

@@ -1,10 +1,9 @@
 -- Statements of the part of the language that is assembled today. (MACRO-11 Language Reference
 -- Manual, "Statement format", ".WORD directive", ".END directive".)
-use Rattle.std.specs.Prelude.{ℕ, ◌+◌, ◌-◌, Bool, true, false, not, ◌||◌, ◌&&◌, ◌==◌, nat_le, if◌then◌else◌, List, [], ◌∷◌, length, drop, map, codes, Option, Some, None, Result, Ok, Err}
+use Rattle.std.specs.Prelude.{ℕ, ◌-◌, Bool, true, false, not, ◌||◌, ◌&&◌, ◌==◌, nat_le, if◌then◌else◌, List, [], ◌∷◌, length, drop, map, codes, Option, Some, None, Result, Ok, Err}
 use Rattle.std.specs.List.{list_all, before_first}
 use Rattle.m11_base.specs.declared.fault.OctalFault.{OctalFault}
 use Rattle.m11_base.specs.Octal.{octal_of}
-use Rattle.m11_asm.specs.Lines.{is_empty}
 
 pub data Statement : Type 0 where
   -- nothing but blanks and a comment

@@ -1,5 +1,4 @@
 use Rattle.std.proofs.Common.{rules}
-use Rattle.std.proofs.lemmas.Grind.{common_steps}
 use Rattle.m11_asm.proofs.MessageLines.{missing_line}
 use Rattle.m11_asm.proofs.messages.missing_end.Goals as goal
 

@@ -1,9 +1,8 @@
-use Rattle.std.proofs.Common.{◌≡◌, ◌<◌, ◌+◌, ◌%◌, ◌∷◌, ℕ, List, length, get_or, drop, Err, refl, ap, ◌∙◌, add-one, arith}
-use Rattle.std.proofs.Math.Seq.{drop-cons}
+use Rattle.std.proofs.Common.{◌+◌, ◌%◌, get_or, drop, Err, refl, ap, ◌∙◌}
 use Rattle.std.proofs.lemmas.Result.{err_from_is_err_and}
 use Rattle.m11_asm.specs.declared.fault.AsmFault.{AsmFault}
 use Rattle.m11_asm.specs.OpenText.{placed_of}
-use Rattle.m11_asm.proofs.Cutting.{TextsSoFar, one_more, stopped_here, no_more, stops_texts, drop_step, drop_end}
+use Rattle.m11_asm.proofs.Cutting.{one_more, stopped_here, no_more, stops_texts, drop_step, drop_end}
 use Rattle.m11_asm.proofs.object.put_texts.Goals as goal
 
 pub returns-in_err-is_first : goal.returns-in_err-is_first

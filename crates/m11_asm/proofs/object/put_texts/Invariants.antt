@@ -1,4 +1,4 @@
-use Rattle.std.proofs.Common.{◌≤◌, ℕ, length, drop}
+use Rattle.std.proofs.Common.{◌≤◌, length, drop}
 use Rattle.m11_asm.specs.OpenText.{placed_of}
 use Rattle.m11_asm.proofs.Cutting.{TextsSoFar}
 use Rattle.m11_asm.proofs.object.put_texts.Given as goal

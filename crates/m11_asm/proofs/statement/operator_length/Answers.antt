@@ -1,4 +1,3 @@
-use Rattle.std.proofs.Common.{rules}
 use Rattle.m11_asm.proofs.Texts.{unwrapped}
 use Rattle.m11_asm.proofs.statement.operator_length.Goals as goal
 

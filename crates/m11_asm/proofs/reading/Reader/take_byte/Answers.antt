@@ -1,5 +1,4 @@
-use Rattle.std.proofs.Common.{◌≡◌, ◌<◌, ◌≤◌, ◌∙◌, ap, take, arith, ℕ, ◌++◌, ◌∷◌, []}
-use Rattle.m11_asm.specs.Lines.{without_return}
+use Rattle.std.proofs.Common.{◌∙◌, ap, arith, ℕ, ◌++◌, ◌∷◌, []}
 use Rattle.m11_asm.specs.ReaderView.{held_of}
 use Rattle.m11_asm.proofs.Steps.{past_most_bytes, nul_goes_on, lines_refuse, byte_kept, takes_line_feed}
 use Rattle.m11_asm.proofs.reading.Reader.take_byte.Goals as goal
