@@ -1,5 +1,5 @@
 use crate::{AsmDone, AsmFault, AsmOutput, asm_run};
-use m11_base::{Feed, FuseFeed, FuseSink, MemoryFeed, MemorySink, Sink};
+use m11_base::{FuseFeed, FuseSink, MemoryFeed, MemorySink, Sink, WriterSink};
 use std::alloc::Global;
 use std::process::Abort;
 use std::test::Fail;
@@ -45,11 +45,6 @@ fn run_on<S: Sink, U: Sink>(
     )
 }
 
-// Whether memory was refused, which a test with ample memory never meets.
-fn is_refused(ended: &Result<AsmDone, AsmFault>) -> bool {
-    matches!(ended, Err(AsmFault::NoMemory))
-}
-
 // The sources make this object and these messages, and so many flagged lines.
 fn makes(
     rt: &impl Abort,
@@ -58,23 +53,14 @@ fn makes(
     object: &[u8],
     messages: &[u8],
     flagged: u32,
-) {
+) -> Result<(), Fail> {
     let mut written = MemorySink::new(alloc);
     let mut told = MemorySink::new(alloc);
-    let result = run_on(alloc, sources, &mut written, &mut told);
-    if is_refused(&result) || told.bytes().len() < messages.len() {
-        assert!(rt;
-            result.is_err(),
-            "all messages come where the run ends well"
-        );
-        return;
-    }
-    assert!(rt;
-        matches!(result, Ok(AsmDone { flagged: n }) if n == flagged),
-        "flagged lines"
-    );
+    let done = run_on(alloc, sources, &mut written, &mut told)?;
+    assert!(rt; done.flagged == flagged, "flagged lines");
     assert!(rt; written.bytes() == object, "the object");
     assert!(rt; told.bytes() == messages, "the messages");
+    Ok(())
 }
 
 // The sources are refused, and nothing is written.
@@ -82,10 +68,7 @@ fn refuses(rt: &impl Abort, alloc: Global, sources: &[&[u8]], fault: AsmFault) {
     let mut written = MemorySink::new(alloc);
     let mut told = MemorySink::new(alloc);
     let result = run_on(alloc, sources, &mut written, &mut told);
-    assert!(rt;
-        is_refused(&result) || matches!(result, Err(f) if f == fault),
-        "the fault"
-    );
+    assert!(rt; matches!(result, Err(f) if f == fault), "the fault");
     assert!(rt;
         written.bytes().is_empty() && told.bytes().is_empty(),
         "nothing is written"
@@ -93,7 +76,7 @@ fn refuses(rt: &impl Abort, alloc: Global, sources: &[&[u8]], fault: AsmFault) {
 }
 
 #[test]
-fn two_word_lines_make_the_stated_object(rt: HostRuntime) {
+fn two_word_lines_make_the_stated_object(rt: HostRuntime) -> Result<(), Fail> {
     let sources: [&[u8]; 1] = [b".WORD 1\n.END\n"];
     makes(
         &rt,
@@ -102,11 +85,12 @@ fn two_word_lines_make_the_stated_object(rt: HostRuntime) {
         &ONE_WORD,
         b"ERRORS DETECTED: 0\n",
         0,
-    );
+    )?;
+    Ok(())
 }
 
 #[test]
-fn an_empty_source_is_flagged_at_an_added_line(rt: HostRuntime) {
+fn an_empty_source_is_flagged_at_an_added_line(rt: HostRuntime) -> Result<(), Fail> {
     let sources: [&[u8]; 1] = [b""];
     makes(
         &rt,
@@ -115,7 +99,7 @@ fn an_empty_source_is_flagged_at_an_added_line(rt: HostRuntime) {
         &NO_WORD,
         b"E 0:\nERRORS DETECTED: 1\n",
         1,
-    );
+    )?;
     let blank: [&[u8]; 1] = [b"\n\n"];
     makes(
         &rt,
@@ -124,7 +108,8 @@ fn an_empty_source_is_flagged_at_an_added_line(rt: HostRuntime) {
         &NO_WORD,
         b"E 2:\nERRORS DETECTED: 1\n",
         1,
-    );
+    )?;
+    Ok(())
 }
 
 #[test]
@@ -147,12 +132,12 @@ fn seventeen_words_make_two_texts(rt: HostRuntime) -> Result<(), Fail> {
     ])?;
     wanted.extend_from_slice(&ONE_WORD[72..])?;
     let sources: [&[u8]; 1] = [source.as_slice()];
-    makes(&rt, alloc, &sources, &wanted, b"ERRORS DETECTED: 0\n", 0);
+    makes(&rt, alloc, &sources, &wanted, b"ERRORS DETECTED: 0\n", 0)?;
     Ok(())
 }
 
 #[test]
-fn lines_are_cleaned_and_folded(rt: HostRuntime) {
+fn lines_are_cleaned_and_folded(rt: HostRuntime) -> Result<(), Fail> {
     let spellings: [&[u8]; 8] = [
         b".WORD 1\n.END",
         b".word\t1\r\n.eNd\r\n",
@@ -172,7 +157,7 @@ fn lines_are_cleaned_and_folded(rt: HostRuntime) {
             &ONE_WORD,
             b"ERRORS DETECTED: 0\n",
             0,
-        );
+        )?;
     }
     let several: [&[u8]; 4] = [b"", b".WORD 1", b"\0", b".END\n"];
     makes(
@@ -182,7 +167,8 @@ fn lines_are_cleaned_and_folded(rt: HostRuntime) {
         &ONE_WORD,
         b"ERRORS DETECTED: 0\n",
         0,
-    );
+    )?;
+    Ok(())
 }
 
 #[test]
@@ -200,7 +186,7 @@ fn elements_stand_between_commas(rt: HostRuntime) -> Result<(), Fail> {
         b".WORD 1\n.WORD 177777,10\n.END\n".as_slice(),
     ] {
         let sources: [&[u8]; 1] = [spelling];
-        makes(&rt, alloc, &sources, &wanted, b"ERRORS DETECTED: 0\n", 0);
+        makes(&rt, alloc, &sources, &wanted, b"ERRORS DETECTED: 0\n", 0)?;
     }
     Ok(())
 }
@@ -234,37 +220,43 @@ fn limits_are_refused_where_they_are_passed(rt: HostRuntime) -> Result<(), Fail>
     let alloc = rt.alloc();
     let mut line = vec![in alloc; b' '; 132]?;
     let whole: [&[u8]; 2] = [line.as_slice(), b".WORD 1\n.END"];
-    makes(&rt, alloc, &whole, &ONE_WORD, b"ERRORS DETECTED: 0\n", 0);
+    makes(&rt, alloc, &whole, &ONE_WORD, b"ERRORS DETECTED: 0\n", 0)?;
     line.extend_from_slice(b"\r\n")?;
     let ended: [&[u8]; 2] = [line.as_slice(), b".WORD 1\n.END"];
-    makes(&rt, alloc, &ended, &ONE_WORD, b"ERRORS DETECTED: 0\n", 0);
+    makes(&rt, alloc, &ended, &ONE_WORD, b"ERRORS DETECTED: 0\n", 0)?;
     line[132] = b' ';
     let long: [&[u8]; 2] = [line.as_slice(), b".WORD 1\n.END"];
     refuses(&rt, alloc, &long, AsmFault::NotYet);
 
     let lines = vec![in alloc; b'\n'; 65_534]?;
     let most: [&[u8]; 2] = [lines.as_slice(), b".END\n"];
-    makes(&rt, alloc, &most, &NO_WORD, b"ERRORS DETECTED: 0\n", 0);
+    makes(&rt, alloc, &most, &NO_WORD, b"ERRORS DETECTED: 0\n", 0)?;
     let more: [&[u8]; 3] = [lines.as_slice(), b"\n", b"\0.END\n"];
     refuses(&rt, alloc, &more, AsmFault::TooMuchSource);
 
     let bytes = vec![in alloc; 0u8; 4_194_299]?;
     let full: [&[u8]; 2] = [bytes.as_slice(), b".END\n"];
-    makes(&rt, alloc, &full, &NO_WORD, b"ERRORS DETECTED: 0\n", 0);
+    makes(&rt, alloc, &full, &NO_WORD, b"ERRORS DETECTED: 0\n", 0)?;
     let over: [&[u8]; 3] = [bytes.as_slice(), b"\0", b".END\n"];
     refuses(&rt, alloc, &over, AsmFault::TooMuchSource);
     Ok(())
 }
 
 #[test]
-fn an_object_that_fails_keeps_its_beginning(rt: HostRuntime) {
+fn an_object_that_fails_keeps_its_beginning(rt: HostRuntime) -> Result<(), Fail> {
     let alloc = rt.alloc();
     let sources: [&[u8]; 1] = [b".WORD 1\n.END\n"];
-    let mut object = FuseSink::new(MemorySink::new(alloc), 1, 10);
+    let mut written = Vec::new(alloc);
+    written.reserve(10)?;
     let mut messages = MemorySink::new(alloc);
-    let result = run_on(alloc, &sources, &mut object, &mut messages);
-    assert!(rt; is_refused(&result) || matches!(result, Err(AsmFault::Write(AsmOutput::Object))));
+    {
+        let mut object = FuseSink::new(WriterSink::new(&mut written), 1, 10);
+        let result = run_on(alloc, &sources, &mut object, &mut messages);
+        assert!(rt; matches!(result, Err(AsmFault::Write(AsmOutput::Object))));
+    }
+    assert!(rt; written.as_slice() == &ONE_WORD[..10]);
     assert!(rt; messages.bytes().is_empty());
+    Ok(())
 }
 
 // How a run ends where the devices fail after so many calls.
@@ -290,21 +282,13 @@ fn each_read_and_write_may_fail_in_turn(rt: HostRuntime) {
     let alloc = rt.alloc();
     for calls in 0..14 {
         let read = ends_with_fuses(alloc, calls, 9, 9);
-        assert!(rt; is_refused(&read) || read.is_ok() == (calls > 12));
-        assert!(rt; read.is_ok() || is_refused(&read) || matches!(read, Err(AsmFault::Read)));
+        assert!(rt; read.is_ok() == (calls > 12));
+        assert!(rt; read.is_ok() || matches!(read, Err(AsmFault::Read)));
         let put = ends_with_fuses(alloc, 99, calls, 9);
-        assert!(rt; is_refused(&put) || put.is_ok() == (calls > 4));
-        assert!(rt;
-            put.is_ok()
-                || is_refused(&put)
-                || matches!(put, Err(AsmFault::Write(AsmOutput::Object)))
-        );
+        assert!(rt; put.is_ok() == (calls > 4));
+        assert!(rt; put.is_ok() || matches!(put, Err(AsmFault::Write(AsmOutput::Object))));
         let told = ends_with_fuses(alloc, 99, 9, calls);
-        assert!(rt; is_refused(&told) || told.is_ok() == (calls > 0));
-        assert!(rt;
-            told.is_ok()
-                || is_refused(&told)
-                || matches!(told, Err(AsmFault::Write(AsmOutput::Messages)))
-        );
+        assert!(rt; told.is_ok() == (calls > 0));
+        assert!(rt; told.is_ok() || matches!(told, Err(AsmFault::Write(AsmOutput::Messages))));
     }
 }
