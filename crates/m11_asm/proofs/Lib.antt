@@ -5,6 +5,7 @@ pub mod Readings
 pub mod Cutting
 pub mod Feeds
 pub mod Joined
+pub mod LongestFronts
 pub mod MessageLines
 pub mod Names
 pub mod Steps

@@ -1,4 +1,5 @@
 pub mod Faults
+pub mod Fronts
 pub mod Held
 pub mod Lines
 pub mod Messages
