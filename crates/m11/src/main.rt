@@ -17,5 +17,9 @@ fn main(rt: HostRuntime) -> ExitCode {
 
 // The program's name and its arguments.
 fn words(rt: &HostRuntime) -> io::Result<Vec<String>> {
-    Ok(env::args(rt)?.collect(rt.alloc())?)
+    let arguments = env::args(rt)?;
+    // Room for all of them is made first: `extend` alone passes over a refusal that it can do without.
+    let mut words = Vec::with_capacity(rt.alloc(), arguments.len())?;
+    words.extend(arguments)?;
+    Ok(words)
 }

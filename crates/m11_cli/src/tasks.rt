@@ -68,14 +68,7 @@ fn all_texts<'a>(
         ≡ unwrap_or (all_of id.now (rows_of (found_of entries.now))) []) }
 {
     match entries.get_strs(id) {
-        Some(texts) => copy_of(alloc, texts),
+        Some(texts) => texts.to_vec(alloc),
         None => Ok(Vec::new(alloc)),
     }
-}
-
-// A vector of the same texts.
-fn copy_of<'a>(alloc: Global, texts: &[&'a str]) -> Result<Vec<&'a str>, AllocError>
-    ensures { IfOk result (λ copy. copy.items ≡ texts.now) }
-{
-    texts.iter().copied().collect(alloc)
 }

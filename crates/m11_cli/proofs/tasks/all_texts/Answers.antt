@@ -8,8 +8,8 @@ pub returns-in-Some : goal.returns-in-Some
 returns-in-Some c =
     let all = all_are (found_of c.args.entries.now) c.args.id.now
     (Some (map (λ text. text.now) c.in-Some.texts.now)) c.in-Some.ensures in
-    IfOk-weaker c.copy_of.result _ _ (λ copy same. ap (map (λ text. text.now)) same ∙ all)
-    c.copy_of.ensures
+    IfOk-weaker c.to_vec.result _ _ (λ copy same. ap (map (λ text. text.now)) (same (λ x y e. e)) ∙ all)
+    c.to_vec.ensures.items_if_clones_equal
 
 pub returns-in-None : goal.returns-in-None
 returns-in-None c =
