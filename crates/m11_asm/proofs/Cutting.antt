@@ -7,16 +7,18 @@ use Rattle.m11_base.proofs.Known.{Appends-Appends}
 use Rattle.m11_obj.specs.Frames.{word_bytes}
 use Rattle.m11_obj.specs.Records.{Content}
 use Rattle.m11_asm.specs.Placement.{Piece, pieces_at}
-use Rattle.m11_asm.specs.Object.{head, Placed, alone, joined, place_content, takes_in, texts_from, texts_of, text_contents, text_content, content_block, without_last, without_last_behind, last_alone, last_behind, has_none}
-use Rattle.m11_asm.specs.OpenText.{AddsWord, PutsTexts, PutsFront}
+use Rattle.m11_asm.specs.Object.{head, Placed, place_content, texts_of, text_contents, text_content, content_block, without_last, without_last_behind, last_alone, last_behind, has_none}
+use Rattle.m11_asm.specs.OpenText.{alone, with_piece, takes_in, texts_from, AddsWord, PutsTexts, PutsFront}
 use Rattle.m11_asm.specs.declared.object.LastText.{LastText}
 use Rattle.std.proofs.Math.Seq.{drop-cons}
-use Rattle.std.proofs.lemmas.List.{length-drop}
+use Rattle.std.proofs.lemmas.List.{length-drop, append-nil, map-append}
 use Rattle.m11_asm.specs.declared.fault.AsmFault.{AsmFault}
 use Rattle.m11_asm.specs.declared.fault.AsmOutput.TheVariants.{Object}
 use Rattle.m11_asm.specs.Writes.{StopsPutting}
 use Rattle.m11_asm.specs.Writes as writes
+use Rattle.m11_asm.proofs.LongestFronts.{texts_are_longest}
 use Rattle.m11_asm.proofs.Putting.{stops_before, stops_behind}
+use Rattle.std.proofs.Math.Bool.{and-false}
 
 -- a new text of a piece
 pub alone_is : (place : ℕ) (bytes : List ℕ) (piece : Piece) → place ≡ piece.place → bytes ≡ word_bytes piece.word → record { place = place; bytes = bytes } ≡ alone piece
@@ -26,12 +28,8 @@ pub opens_new : (text next : Placed) (piece : Piece) → takes_in text piece ≡
     → texts_from text (piece ∷ pieces) ≡ (text ∷ []) ++ texts_from next pieces
 opens_new text next piece e f pieces = rw e (ap (λ (t : Placed). text ∷ texts_from t pieces) (sym f))
 
-and-false : (b : Bool) → false ≡ (b && false)
-and-false true = refl
-and-false false = refl
-
 pub not_first : (b : Bool) (text : Placed) → false ≡ (b && has_none (text ∷ []))
-not_first b text = and-false b
+not_first b text = sym (and-false b)
 
 -- ---- contents of texts, one list of them after another
 pub has_none-append : (xs ys : List Placed) → has_none (xs ++ ys) ≡ (has_none xs && has_none ys)
@@ -45,10 +43,6 @@ contents_later (x ∷ xs) ys = ap (λ (t : List Content). text_content x ∷ t) 
 first_contents : (xs ys : List Placed) → text_contents true (xs ++ ys) ≡ text_contents true xs ++ text_contents (has_none xs) ys
 first_contents [] ys = refl
 first_contents (x ∷ xs) ys = ap (λ (t : List Content). place_content x ∷ text_content x ∷ t) (contents_later xs ys)
-
-map-append : (xs ys : List Content) → map content_block (xs ++ ys) ≡ map content_block xs ++ map content_block ys
-map-append [] ys = refl
-map-append (x ∷ xs) ys = ap (λ (t : List (List ℕ)). content_block x ∷ t) (map-append xs ys)
 
 -- ---- the last text
 without_last_behind-push : (y : Placed) (xs : List Placed) (x : Placed) → without_last_behind y (xs ++ x ∷ []) ≡ y ∷ xs
@@ -85,7 +79,7 @@ by_test false xs ys h k = k
 some_text : (text : Placed) (pieces : List Piece) → IsSome (texts_from text pieces)
 some_text text [] = (text, [], refl)
 some_text text (piece ∷ pieces) =
-    by_test (takes_in text piece) _ _ (some_text (joined text piece) pieces) (text, texts_from (alone piece) pieces, refl)
+    by_test (takes_in text piece) _ _ (some_text (with_piece text piece) pieces) (text, texts_from (alone piece) pieces, refl)
 
 -- ---- as far as a loop over the words has come
 pub record TextsSoFar (initial now : Option (List ℕ)) (faults faults' : ℕ) (words left : List ℕ) (place : ℕ) (text : Placed) (is_first : Bool) : Type 0 where
@@ -96,7 +90,7 @@ pub record TextsSoFar (initial now : Option (List ℕ)) (faults faults' : ℕ) (
   pub put : Appends initial now (writes.joined (map content_block (text_contents true closed)))
 
 joined-contents : (xs ys : List Content) → writes.joined (map content_block (xs ++ ys)) ≡ writes.joined (map content_block xs) ++ writes.joined (map content_block ys)
-joined-contents xs ys = ap writes.joined (map-append xs ys) ∙ flat_map-append (λ (piece : List ℕ). piece) (map content_block xs) (map content_block ys)
+joined-contents xs ys = ap writes.joined (map-append content_block xs ys) ∙ flat_map-append (λ (piece : List ℕ). piece) (map content_block xs) (map content_block ys)
 
 module _ (initial now : Option (List ℕ)) (faults faults' : ℕ) (words left : List ℕ) (place word : ℕ) (text : Placed) (is_first : Bool)
     (s : TextsSoFar initial now faults faults' words (word ∷ left) place text is_first) where
@@ -119,7 +113,7 @@ module _ (initial now : Option (List ℕ)) (faults faults' : ℕ) (words left : 
       → without_last (texts_of (pieces_at 0 words)) ≡ s.closed ++ text ∷ without_last_behind x xs
   taken_apart refused x xs e =
       let whole : texts_of (pieces_at 0 words) ≡ s.closed ++ text ∷ x ∷ xs =
-      s.whole ∙ ap (λ (b : Bool). s.closed ++ cond b (texts_from (joined text (record { place = place; word = word })) (pieces_at ((place + 2) % 65536) left)) (text ∷ texts_from (alone (record { place = place; word = word })) (pieces_at ((place + 2) % 65536) left))) refused
+      s.whole ∙ ap (λ (b : Bool). s.closed ++ cond b (texts_from (with_piece text (record { place = place; word = word })) (pieces_at ((place + 2) % 65536) left)) (text ∷ texts_from (alone (record { place = place; word = word })) (pieces_at ((place + 2) % 65536) left))) refused
       ∙ ap (λ (t : List Placed). s.closed ++ text ∷ t) e in
       ap without_last whole ∙ without_last-more s.closed text x xs
 
@@ -137,10 +131,10 @@ module _ (initial now : Option (List ℕ)) (faults faults' : ℕ) (words left : 
       ≡ map content_block (text_contents true s.closed) ++ (map content_block (text_contents is_first (text ∷ [])) ++ map content_block (text_contents false later)) =
       ap (λ (t : List Placed). map content_block (text_contents true t)) (taken_apart h.0 some.0 some.1 some.2)
       ∙ ap (map content_block) (first_contents s.closed (text ∷ later))
-      ∙ map-append (text_contents true s.closed) (text_contents (has_none s.closed) (text ∷ later))
+      ∙ map-append content_block (text_contents true s.closed) (text_contents (has_none s.closed) (text ∷ later))
       ∙ ap (λ (b : Bool). map content_block (text_contents true s.closed) ++ map content_block (text_contents b (text ∷ later))) (sym s.first)
       ∙ ap (λ (t : List Content). map content_block (text_contents true s.closed) ++ map content_block t) (contents_of_one is_first later)
-      ∙ ap (λ (t : List (List ℕ)). map content_block (text_contents true s.closed) ++ t) (map-append (text_contents is_first (text ∷ [])) (text_contents false later)) in
+      ∙ ap (λ (t : List (List ℕ)). map content_block (text_contents true s.closed) ++ t) (map-append content_block (text_contents is_first (text ∷ [])) (text_contents false later)) in
       rw parts (stops_behind Object initial now faults faults' (map content_block (text_contents true s.closed)) next faults''
       (map content_block (text_contents is_first (text ∷ [])) ++ map content_block (text_contents false later)) s.put s.same fault
       (stops_before Object now next faults' faults'' (map content_block (text_contents is_first (text ∷ []))) (map content_block (text_contents false later)) fault h.1))
@@ -154,19 +148,16 @@ module _ (initial now : Option (List ℕ)) (faults faults' : ℕ) (words : List 
       let front : without_last (texts_of (pieces_at 0 words)) ≡ s.closed = ap without_last s.whole ∙ without_last-push s.closed text in
       (s.same, (ap last_alone s.whole ∙ last_alone-push s.closed text, s.first ∙ ap has_none (sym front)), rw front s.put)
 
-append_none : (xs : List ℕ) → xs ++ [] ≡ xs
-append_none [] = refl
-append_none (x ∷ xs) = ap (λ (t : List ℕ). x ∷ t) (append_none xs)
-
 pub adds_nothing : (t : Option (List ℕ)) → Appends t t []
 adds_nothing None = tt
-adds_nothing (Some bytes) = sym (append_none bytes)
+adds_nothing (Some bytes) = sym (append-nil bytes)
 
 pub begins : (initial : Option (List ℕ)) (faults word : ℕ) (words rest : List ℕ) (text : Placed) → words ≡ word ∷ rest → text ≡ alone (record { place = 0; word = word })
     → TextsSoFar initial initial faults faults words rest 2 text true
 begins initial faults word words rest text e f = record {
   closed = [];
-  whole = ap (λ (t : List ℕ). texts_of (pieces_at 0 t)) e ∙ ap (λ (t : Placed). texts_from t (pieces_at 2 rest)) (sym f);
+  whole = ap (λ (t : List ℕ). texts_of (pieces_at 0 t)) e ∙ texts_are_longest (record { place = 0; word = word }) (pieces_at 2 rest)
+      ∙ ap (λ (t : Placed). texts_from t (pieces_at 2 rest)) (sym f);
   first = refl;
   same = refl;
   put = adds_nothing initial;

@@ -1,7 +1,7 @@
 -- Feeds read one after another, as far as a loop over them has come.
 use Rattle.std.proofs.Common.{◌≡◌, ℕ, zero, suc, ◌+◌, ◌<◌, ◌≤◌, List, [], ◌∷◌, ◌++◌, length, get_or, set, map, Option, Some, None, refl, sym, ap, ◌∙◌, append_assoc, arith}
 use Rattle.std.proofs.lemmas.Grind.{flat_map-append}
-use Rattle.std.proofs.lemmas.List.{length-append}
+use Rattle.std.proofs.lemmas.List.{length-append, append-nil}
 use Rattle.m11_base.specs.Devices.{Rises}
 use Rattle.m11_base.specs.Feed.{Text, HasBytes, BeginsWith, GiveAll, NoneFailed, OneFailed}
 use Rattle.m11_asm.specs.declared.fault.AsmFault.{AsmFault}
@@ -43,15 +43,11 @@ set_part : {F : Type 0} (done rest : List F) (x new : F) → set (done ++ x ∷ 
 set_part [] rest x new = refl
 set_part {F = F} (y ∷ done) rest x new = ap (λ (t : List F). y ∷ t) (set_part done rest x new)
 
-append_none : {A : Type 0} (xs : List A) → xs ++ [] ≡ xs
-append_none [] = refl
-append_none {A = A} (x ∷ xs) = ap (λ (t : List A). x ∷ t) (append_none xs)
-
 input_behind : (ss : List (List ℕ)) (s : List ℕ) (os : List (List ℕ)) → input_of (ss ++ s ∷ os) ≡ input_of ss ++ (symbols s ++ input_of os)
 input_behind ss s os = flat_map-append (λ source. symbols source) ss (s ∷ os)
 
 input_push : (ss : List (List ℕ)) (s : List ℕ) → input_of (ss ++ s ∷ []) ≡ input_of ss ++ symbols s
-input_push ss s = input_behind ss s [] ∙ ap (λ (t : List (Option ℕ)). input_of ss ++ t) (append_none (symbols s))
+input_push ss s = input_behind ss s [] ∙ ap (λ (t : List (Option ℕ)). input_of ss ++ t) (append-nil (symbols s))
 
 module _ {F : Type 0} (text : F → Option Text) (faults : F → ℕ) where
   give_behind : (done : List F) (ss : List (List ℕ)) (rest : List F) (os : List (List ℕ)) → GiveAll text done ss → GiveAll text rest os → GiveAll text (done ++ rest) (ss ++ os)
@@ -125,8 +121,8 @@ module _ {F : Type 0} (text : F → Option Text) (faults : F → ℕ) where
   all_read initial now index before unclosed held s h =
       let over : length (s.done_now ++ s.left) ≤ length s.done_now = omega (arith, ap length s.now-is, s.index_now) in
       let none = no_rest s.done_now s.left over in
-      let initial-is : initial ≡ s.done = s.initial-is ∙ ap (λ (t : List F). s.done ++ t) none ∙ append_none s.done in
-      let now-is : now ≡ s.done_now = s.now-is ∙ ap (λ (t : List F). s.done_now ++ t) none ∙ append_none s.done_now in
+      let initial-is : initial ≡ s.done = s.initial-is ∙ ap (λ (t : List F). s.done ++ t) none ∙ append-nil s.done in
+      let now-is : now ≡ s.done_now = s.now-is ∙ ap (λ (t : List F). s.done_now ++ t) none ∙ append-nil s.done_now in
       (move_none initial s.done now s.done_now initial-is now-is s.unfailed, s.sources, move_given initial s.done s.sources initial-is s.given, (s.before', s.unclosed', s.leads, s.holds))
 
   -- one more feed, at the place that the loop has come to

@@ -10,6 +10,7 @@ use Rattle.m11_asm.specs.declared.reading.Progress.TheVariants as progress
 use Rattle.m11_asm.specs.Lines.{RawLine}
 use Rattle.m11_asm.specs.Reading.{Reading}
 use Rattle.m11_asm.specs.Held.{Held, Holds, reading_at, Leads, Decides, GoesTo, StopsAt, symbols, FailsAt}
+use Rattle.std.proofs.lemmas.List.{append-nil}
 
 -- ---- one input after another
 module _ (before : List RawLine) (unclosed : List ℕ) (xs : List (Option ℕ)) where
@@ -50,10 +51,6 @@ Gave None new part = Unit {0}
 Gave (Some t) None part = ⊥
 Gave (Some t) (Some s) part = t.bytes ≡ part ++ s.bytes
 
-append_none : (xs : List ℕ) → xs ++ [] ≡ xs
-append_none [] = refl
-append_none (x ∷ xs) = ap (λ (t : List ℕ). x ∷ t) (append_none xs)
-
 pub gave_nothing : (t : Option Text) → Gave t t []
 gave_nothing None = tt
 gave_nothing (Some t) = refl
@@ -76,7 +73,7 @@ gave_byte (Some t) (Some s) (Some r) part byte g h =
 pub gave_all : (t0 t1 t2 : Option Text) (part : List ℕ) → Gave t0 t1 part → GivesEnd t1 t2 → HasBytes t0 part
 gave_all None t1 t2 part g h = tt
 gave_all (Some t) None t2 part g h = absurd g
-gave_all (Some t) (Some s) t2 part g h = g ∙ ap (λ (x : List ℕ). part ++ x) h.0.0 ∙ append_none part
+gave_all (Some t) (Some s) t2 part g h = g ∙ ap (λ (x : List ℕ). part ++ x) h.0.0 ∙ append-nil part
 
 pub gave_beginning : (t0 t1 : Option Text) (part : List ℕ) → Gave t0 t1 part → BeginsWith t0 part
 gave_beginning None t1 part g = tt

@@ -11,6 +11,7 @@ use Rattle.m11_asm.specs.Program.{StopsWriting}
 use Rattle.m11_asm.specs.Writes as writes
 use Rattle.m11_asm.specs.Writes.{to_object, to_messages, gained, gained_by, texts, Gains, joined, StopsPutting, StopsIn, StopsBetween}
 use Rattle.m11_asm.proofs.Cutting.{adds_nothing}
+use Rattle.std.proofs.lemmas.List.{append-nil}
 
 -- the bytes of one output as writes to it
 abbrev pub to_output : AsmOutput → List ℕ → writes.Write
@@ -36,11 +37,7 @@ messages_only [] = (refl, refl)
 messages_only (p ∷ ps) = messages_only ps
 
 gained_nothing : (a b : Option (List ℕ)) (bytes more : List ℕ) → more ≡ [] → Appends a b bytes → Appends a b (bytes ++ more)
-gained_nothing a b bytes more e h = rw (e, append_none bytes) h
-  where
-    append_none : (xs : List ℕ) → xs ++ [] ≡ xs
-    append_none [] = refl
-    append_none (x ∷ xs) = ap (λ (t : List ℕ). x ∷ t) (append_none xs)
+gained_nothing a b bytes more e h = rw (e, append-nil bytes) h
 
 pub nothing_gained : (o l m : Option (List ℕ)) → Gains (texts o l m) (texts o l m) []
 nothing_gained o l m Object = adds_nothing o

@@ -19,10 +19,7 @@ use Rattle.m11_asm.specs.Program.{flagged_lines, StopsWriting, WritesProgram}
 use Rattle.m11_asm.specs.Writes.{Gains}
 use Rattle.m11_asm.specs.Run.{Runs, Counted}
 use Rattle.m11_asm.proofs.Readings.{cut_behind, behind}
-
-append_none : {A : Type 0} (xs : List A) → xs ++ [] ≡ xs
-append_none [] = refl
-append_none {A = A} (x ∷ xs) = ap (λ (t : List A). x ∷ t) (append_none xs)
+use Rattle.std.proofs.lemmas.List.{append-nil}
 
 -- nothing is held at first
 nothing_held : Holds [] [] (record { line = []; bytes = 0; lines = 0; words = []; size = 0 })
@@ -70,10 +67,10 @@ stands before unclosed held holds =
 pub undecided : (input : List (Option ℕ)) (before : List RawLine) (unclosed : List ℕ) (held : Held) → Leads [] [] input before unclosed → Holds before unclosed held
     → reading.reading_of input ≡ reading.Unended before
 undecided input before unclosed held leads holds =
-    ap reading.reading_of (sym (append_none input)) ∙ leads [] ∙ stands before unclosed held holds
+    ap reading.reading_of (sym (append-nil input)) ∙ leads [] ∙ stands before unclosed held holds
 
 decided : (input : List (Option ℕ)) (r : reading.Reading) → Decides [] [] input r → reading.reading_of input ≡ r
-decided input r h = ap reading.reading_of (sym (append_none input)) ∙ h []
+decided input r h = ap reading.reading_of (sym (append-nil input)) ∙ h []
 
 -- ---- a program that was read
 pub program_of : (sources : List (List ℕ)) (held : Held) (p : Progress) → GoesTo [] [] (input_of sources) held p

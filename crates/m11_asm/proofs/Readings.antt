@@ -1,5 +1,5 @@
 -- How a reading goes on behind one more symbol of its input.
-use Rattle.std.proofs.Common.{◌≡◌, ℕ, ◌+◌, ◌<◌, Bool, true, false, ltb, List, [], ◌∷◌, ◌++◌, length, map, Option, Some, refl, sym, ap, ◌∙◌, arith, inl, inr, ◌⊎◌}
+use Rattle.std.proofs.Common.{◌≡◌, ℕ, ◌+◌, ◌<◌, Bool, true, false, ltb, List, [], ◌∷◌, ◌++◌, length, map, Option, Some, refl, sym, ap, ◌∙◌, arith, inl, inr}
 use Rattle.std.specs.Prelude.{◌==◌}
 use Rattle.std.proofs.lemmas.Bool.{lt-ltb}
 use Rattle.std.proofs.lemmas.List.{length-append}
@@ -7,6 +7,7 @@ use Rattle.m11_asm.specs.declared.fault.AsmFault.TheVariants.{TooMuchSource}
 use Rattle.m11_asm.specs.Lines.{RawLine, Cut, cut, closed_by, in_front, cleaned, as_read, is_empty, is_line, size_of}
 use Rattle.m11_asm.specs.Reading.{Refused, Unended, Turn, Refuses, turn_at, unclosed_turn, reading_from, read_on, bytes_in, lines_in, most_bytes, most_lines}
 use Rattle.m11_asm.specs.Held.{reading_at, HasNoLineFeed}
+use Rattle.m11_asm.proofs.Texts.{either}
 
 abbrev pub raw : List ℕ → Bool → RawLine
 raw bytes has_line_feed = record { bytes = bytes; has_line_feed = has_line_feed }
@@ -64,10 +65,6 @@ line_ends before unclosed symbol has_line_feed rest h e =
 
 refuses_bytes : (before : List RawLine) (line : RawLine) → most_bytes < bytes_in before + size_of line → turn_at before line ≡ Refuses TooMuchSource
 refuses_bytes before line h = rw (lt-ltb most_bytes (bytes_in before + size_of line) h) refl
-
-either : (b : Bool) → (b ≡ true) ⊎ (b ≡ false)
-either true = inl refl
-either false = inr refl
 
 refuses_lines : (before : List RawLine) (line : RawLine) → is_line line ≡ true → most_lines < lines_in before + 1 → turn_at before line ≡ Refuses TooMuchSource
 refuses_lines before line is h = elim (either (ltb most_bytes (bytes_in before + size_of line))) [

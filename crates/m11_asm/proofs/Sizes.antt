@@ -1,15 +1,11 @@
 -- Counts, words and sizes of lines, one line after another.
 use Rattle.std.proofs.Common.{◌≡◌, ℕ, ◌+◌, ◌*◌, ◌%◌, ◌≤◌, List, [], ◌∷◌, ◌++◌, length, sum_by, max, cond, refl, ap, ◌∙◌, arith, append_assoc}
 use Rattle.std.proofs.lemmas.Grind.{flat_map-append}
-use Rattle.std.proofs.lemmas.List.{length-append}
+use Rattle.std.proofs.lemmas.List.{length-append, append-nil}
 use Rattle.std.proofs.lemmas.List.Sums.{sum_by-append, sum_by-cons}
 use Rattle.m11_asm.specs.Lines.{RawLine, is_line, size_of}
 use Rattle.m11_asm.specs.Reading.{bytes_in, lines_in}
 use Rattle.m11_asm.specs.Placement.{line_words, words_in, bytes_placed, place_after, greatest_place, section_size}
-
-pub append_none : {A : Type 0} (xs : List A) → xs ++ [] ≡ xs
-append_none [] = refl
-append_none {A = A} (x ∷ xs) = ap (λ (t : List A). x ∷ t) (append_none xs)
 
 pub bytes_in-push : (lines : List RawLine) (line : RawLine) → bytes_in (lines ++ line ∷ []) ≡ bytes_in lines + size_of line
 bytes_in-push lines line = omega (arith, sum_by-append size_of lines (line ∷ []))
@@ -18,7 +14,7 @@ pub lines_in-push : (lines : List RawLine) (line : RawLine) → lines_in (lines 
 lines_in-push lines line = omega (arith, sum_by-append (λ l. cond (is_line l) 1 0) lines (line ∷ []))
 
 pub words_in-push : (lines : List RawLine) (line : RawLine) → words_in (lines ++ line ∷ []) ≡ words_in lines ++ line_words line
-words_in-push lines line = flat_map-append line_words lines (line ∷ []) ∙ ap (λ (t : List ℕ). words_in lines ++ t) (append_none (line_words line))
+words_in-push lines line = flat_map-append line_words lines (line ∷ []) ∙ ap (λ (t : List ℕ). words_in lines ++ t) (append-nil (line_words line))
 
 placed_bytes : (lines : List RawLine) → sum_by bytes_placed lines ≡ 2 * length (words_in lines)
 placed_bytes [] = refl
@@ -35,7 +31,7 @@ most_of a b c d e = omega arith
 
 greatest_place-push : (before lines : List RawLine) (line : RawLine) → greatest_place before (lines ++ line ∷ []) ≡ max (greatest_place before lines) (place_after ((before ++ lines) ++ line ∷ []))
 greatest_place-push before [] line =
-    let e : place_after ((before ++ []) ++ line ∷ []) ≡ place_after (before ++ line ∷ []) = ap (λ (t : List RawLine). place_after (t ++ line ∷ [])) (append_none before) in
+    let e : place_after ((before ++ []) ++ line ∷ []) ≡ place_after (before ++ line ∷ []) = ap (λ (t : List RawLine). place_after (t ++ line ∷ [])) (append-nil before) in
     omega arith
 greatest_place-push before (first ∷ lines) line =
     most_of (place_after (before ++ first ∷ [])) (greatest_place (before ++ first ∷ []) lines) (place_after ((before ++ first ∷ lines) ++ line ∷ [])) _
@@ -49,7 +45,7 @@ bounded a b c d h = omega arith
 
 place_bounded : (before lines : List RawLine) → place_after (before ++ lines) ≤ max (place_after before) (greatest_place before lines)
 place_bounded before [] =
-    let e : place_after (before ++ []) ≡ place_after before = ap place_after (append_none before) in
+    let e : place_after (before ++ []) ≡ place_after before = ap place_after (append-nil before) in
     omega arith
 place_bounded before (line ∷ lines) =
     rw (← append_assoc before (line ∷ []) lines)

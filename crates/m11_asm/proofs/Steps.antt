@@ -2,7 +2,7 @@
 use Rattle.std.proofs.Common.{◌≡◌, ◌≢◌, ℕ, ◌+◌, ◌*◌, ◌%◌, ◌<◌, ◌≤◌, Bool, true, false, cond, List, [], ◌∷◌, ◌++◌, length, max, Option, Some, None, Result, Ok, Err, refl, sym, ap, ◌∙◌, arith}
 use Rattle.std.specs.Prelude.{◌==◌, MatchResult}
 use Rattle.std.proofs.lemmas.Bool.{le-ltb, eq-eqb, ne_eqb}
-use Rattle.std.proofs.lemmas.List.{length-append}
+use Rattle.std.proofs.lemmas.List.{length-append, append-nil}
 use Rattle.m11_asm.specs.declared.fault.AsmFault.{AsmFault}
 use Rattle.m11_asm.specs.declared.fault.AsmFault.TheVariants.{TooMuchSource, NotYet, NoMemory, Read, Write}
 use Rattle.m11_asm.specs.declared.reading.Progress.{Progress}
@@ -13,7 +13,7 @@ use Rattle.m11_asm.specs.Reading.{Refused, Turn, GoesOn, Ends, Refuses, turn_at,
 use Rattle.m11_asm.specs.Placement.{words_in, line_words, place_after, section_size}
 use Rattle.m11_asm.specs.Held.{Held, Holds, reading_at, Decides, GoesTo, StopsAt, TakesLine, with_line}
 use Rattle.m11_asm.proofs.Readings.{raw, line_ends, byte_goes_on, past_bytes, past_lines, no_line_feed_push, cleaned-nul, cleaned-push}
-use Rattle.m11_asm.proofs.Sizes.{append_none, bytes_in-push, lines_in-push, words_in-push, section_size-push, place_after_words, place_within}
+use Rattle.m11_asm.proofs.Sizes.{bytes_in-push, lines_in-push, words_in-push, section_size-push, place_after_words, place_within}
 
 module _ (before : List RawLine) (unclosed : List ℕ) (old : Held) (holds : Holds before unclosed old) where
   pub past_most_bytes : (byte : ℕ) → old.bytes ≡ most_bytes → Decides before unclosed (Some byte ∷ []) (Refused TooMuchSource)
@@ -133,7 +133,7 @@ module _ (before : List RawLine) (unclosed : List ℕ) (old : Held) (holds : Hol
   no_words = ap (λ (t : List ℕ). words_of (statement_of t)) nothing_read
 
   same_words : words_in (before ++ raw unclosed false ∷ []) ≡ words_in before
-  same_words = words_in-push before (raw unclosed false) ∙ ap (λ (t : List ℕ). words_in before ++ t) no_words ∙ append_none (words_in before)
+  same_words = words_in-push before (raw unclosed false) ∙ ap (λ (t : List ℕ). words_in before ++ t) no_words ∙ append-nil (words_in before)
 
   same_place : place_after (before ++ raw unclosed false ∷ []) ≡ place_after before
   same_place = place_after_words (before ++ raw unclosed false ∷ [])

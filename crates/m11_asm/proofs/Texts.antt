@@ -8,6 +8,7 @@ use Rattle.std.proofs.lemmas.List.Folds.{length-prefix_len}
 use Rattle.std.proofs.lemmas.List.{drop-drop, length-drop}
 use Rattle.m11_asm.specs.Lines.{is_empty, without_return}
 use Rattle.m11_asm.specs.Statements.{elements_of, onto_first, is_blank, is_name_character, folded, without_blanks_behind, statement_in, directive_of}
+use Rattle.std.proofs.Math.Bool.{and-false}
 
 -- a place that was found
 module _ (p : ℕ → Bool) (xs : List ℕ) where
@@ -84,10 +85,6 @@ elements_split text front back behind n e f b h =
 and-true : (b : Bool) → (b && true) ≡ b
 and-true true = refl
 and-true false = refl
-
-and-false : (b : Bool) → (b && false) ≡ false
-and-false true = refl
-and-false false = refl
 
 all_with_blank : (text : List ℕ) (last : ℕ) → is_blank last ≡ true → list_all is_blank (text ++ last ∷ []) ≡ list_all is_blank text
 all_with_blank [] last e = and-true (is_blank last) ∙ e

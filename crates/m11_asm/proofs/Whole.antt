@@ -23,6 +23,7 @@ use Rattle.m11_asm.specs.Outcome.{writes_of}
 use Rattle.m11_asm.specs.Writes as writes
 use Rattle.m11_asm.specs.Writes.{to_object, to_messages, texts, Gains, joined, StopsPutting}
 use Rattle.m11_asm.proofs.Orders.{nothing_gained, object_gains, messages_gain, stops_writing}
+use Rattle.std.proofs.lemmas.List.{append-nil, map-append}
 
 -- ---- pieces of lines are those of their words
 wraps : (p n : ℕ) → ((p + 2) % 65536 + 2 * n) % 65536 ≡ (p + 2 * suc n) % 65536
@@ -50,10 +51,6 @@ pieces_of_words before (line ∷ lines) =
     (pieces_of_words (before ++ line ∷ []) lines ∙ ap (λ q. pieces_at q (words_in lines)) (place_behind before line))
     ∙ sym (pieces_at-append (place_after before) (line_words line) (words_in lines) (below (sum_by bytes_placed before)))
 
-map-append : (xs ys : List Content) → map content_block (xs ++ ys) ≡ map content_block xs ++ map content_block ys
-map-append [] ys = refl
-map-append (x ∷ xs) ys = ap (λ (t : List (List ℕ)). content_block x ∷ t) (map-append xs ys)
-
 last_is : (ts : List Placed) (text : LastText) → IsLast ts text → last_contents text ≡ text_contents (has_none (without_last ts)) (last_alone ts)
 last_is ts last.None h = rw h refl
 last_is ts (last.Open text is_first) h = rw (h.0, h.1) refl
@@ -66,12 +63,12 @@ module _ (lines : List RawLine) (held : Held) (is : IsProgram lines held) where
   front_is =
       ap (λ (t : List Piece). map content_block (head held.size) ++ map content_block (text_contents true (without_last (texts_of t)))) pieces_are
       ∙ ap (λ n. map content_block (head n) ++ map content_block (text_contents true (without_last (texts_of (pieces_of lines))))) is.size-is
-      ∙ sym (map-append (head (section_size lines)) (text_contents true (without_last (texts_of (pieces_of lines)))))
+      ∙ sym (map-append content_block (head (section_size lines)) (text_contents true (without_last (texts_of (pieces_of lines)))))
 
   pub end_is : (text : LastText) → IsLast (texts_of (pieces_at 0 held.words)) text → map content_block (last_contents text) ++ content_block EndOfModule ∷ [] ≡ map content_block (contents_at_end lines)
   end_is text h =
       ap (λ (t : List Content). map content_block t ++ content_block EndOfModule ∷ []) (last_is (texts_of (pieces_at 0 held.words)) text h)
-      ∙ sym (map-append (text_contents (has_none (without_last (texts_of (pieces_at 0 held.words)))) (last_alone (texts_of (pieces_at 0 held.words)))) (EndOfModule ∷ []))
+      ∙ sym (map-append content_block (text_contents (has_none (without_last (texts_of (pieces_at 0 held.words)))) (last_alone (texts_of (pieces_at 0 held.words)))) (EndOfModule ∷ []))
       ∙ ap (λ (t : List Piece). map content_block (text_contents (has_none (without_last (texts_of t))) (last_alone (texts_of t)) ++ EndOfModule ∷ [])) pieces_are
 
   pub flagged_are : (progress : Progress) → flagged_lines progress held.lines ≡ flagged_lines progress (reading.lines_in lines)
@@ -141,12 +138,8 @@ module _ (lines : List RawLine) (flagged : List (List ℕ)) (l o0 m0 : Option (L
   from_third : writes_of lines flagged ≡ (map to_object first ++ map to_messages flagged) ++ (map to_object third ++ map to_messages fourth)
   from_third = append_assoc (map to_object first ++ map to_messages flagged) (map to_object third) (map to_messages fourth)
 
-  append_none : (ws : List writes.Write) → ws ++ [] ≡ ws
-  append_none [] = refl
-  append_none (w ∷ ws) = ap (λ (t : List writes.Write). w ∷ t) (append_none ws)
-
   from_fourth : writes_of lines flagged ≡ ((map to_object first ++ map to_messages flagged) ++ map to_object third) ++ (map to_messages fourth ++ [])
-  from_fourth = ap (λ (t : List writes.Write). ((map to_object first ++ map to_messages flagged) ++ map to_object third) ++ t) (sym (append_none (map to_messages fourth)))
+  from_fourth = ap (λ (t : List writes.Write). ((map to_object first ++ map to_messages flagged) ++ map to_object third) ++ t) (sym (append-nil (map to_messages fourth)))
 
   pub stops_in_front : (o1 : Option (List ℕ)) (f f' : ℕ) (fault : AsmFault) → StopsPutting Object o0 o1 f f' first fault
       → StopsWriting (texts o0 l m0) (texts o1 l m0) (writes_of lines flagged) fault

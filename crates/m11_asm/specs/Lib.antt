@@ -1,5 +1,4 @@
 pub mod Faults
-pub mod Fronts
 pub mod Held
 pub mod Lines
 pub mod Messages

@@ -1,7 +1,8 @@
 -- The object that a program's lines make. (RT-11 Volume and File Formats Manual, "Object file format",
 -- for the records. Their order, the cutting of texts, and what stands in a directory when nothing was
 -- said of it, are this project's own.)
-use Rattle.std.specs.Prelude.{ℕ, ◌+◌, Bool, true, false, zero, suc, ◌==◌, ◌&&◌, nat_le, if◌then◌else◌, List, [], ◌∷◌, ◌++◌, length, take, drop, map, codes, unwrap_or}
+use Rattle.std.specs.Prelude.{ℕ, ◌+◌, ◌*◌, Bool, true, false, zero, suc, ◌==◌, ◌&&◌, nat_le, if◌then◌else◌, List, [], ◌∷◌, ◌++◌, length, take, drop, map, codes, unwrap_or}
+use Rattle.std.specs.List.{flat_map}
 use Rattle.m11_base.specs.Rad50.{name_of}
 use Rattle.m11_obj.specs.declared.gsd.GsdEntry.{GsdEntry}
 use Rattle.m11_obj.specs.declared.gsd.GsdKind.TheVariants.{ModuleName, ProgramSection, TransferAddress}
@@ -49,27 +50,41 @@ pub record Placed : Type 0 where
   pub place : ℕ
   pub bytes : List ℕ
 
-abbrev pub alone : Piece → Placed
-alone piece = record { place = piece.place; bytes = word_bytes piece.word }
+-- pieces stand from a place on, each directly behind the one before it; place 000000 doesn't follow 177777
+abbrev pub stand_from : ℕ → List Piece → Bool
+stand_from place [] = true
+stand_from place (piece ∷ pieces) = (piece.place == place) && stand_from (place + 2) pieces
 
-abbrev pub joined : Placed → Piece → Placed
-joined text piece = record { place = text.place; bytes = text.bytes ++ word_bytes piece.word }
+-- pieces that one text can hold: one at least, without a gap, of at most 32 bytes
+abbrev pub are_one_text : List Piece → Bool
+are_one_text [] = false
+are_one_text (first ∷ rest) =
+    stand_from first.place (first ∷ rest) && nat_le (2 * length (first ∷ rest)) 32
 
--- a piece goes into a text that it follows directly, while the text has at most 32 bytes; place 000000
--- doesn't follow 177777
-abbrev pub takes_in : Placed → Piece → Bool
-takes_in text piece = (piece.place == text.place + length text.bytes)
-    && nat_le (length text.bytes + length (word_bytes piece.word)) 32
+-- the text of such pieces
+abbrev pub bytes_of : List Piece → List ℕ
+bytes_of pieces = flat_map (λ piece. word_bytes piece.word) pieces
 
--- each text is the longest beginning of the pieces that are left
-abbrev pub texts_from : Placed → List Piece → List Placed
-texts_from text [] = text ∷ []
-texts_from text (piece ∷ pieces) =
-    if takes_in text piece then texts_from (joined text piece) pieces else text ∷ texts_from (alone piece) pieces
+abbrev pub text_of_front : List Piece → Placed
+text_of_front [] = record { place = 0; bytes = [] }
+text_of_front (first ∷ rest) = record { place = first.place; bytes = bytes_of (first ∷ rest) }
+
+-- the longest beginning of the pieces, of at most so many of them, that one text can hold
+abbrev pub longest_front : ℕ → List Piece → List Piece
+longest_front zero pieces = []
+longest_front (suc most) pieces =
+    if are_one_text (take (suc most) pieces) then take (suc most) pieces else longest_front most pieces
+
+-- each text is that of the longest beginning of the pieces that are left; at most so many texts
+abbrev pub texts_by : ℕ → List Piece → List Placed
+texts_by zero pieces = []
+texts_by (suc most) [] = []
+texts_by (suc most) (piece ∷ pieces) =
+    let front = longest_front (length (piece ∷ pieces)) (piece ∷ pieces) in
+    text_of_front front ∷ texts_by most (drop (length front) (piece ∷ pieces))
 
 abbrev pub texts_of : List Piece → List Placed
-texts_of [] = []
-texts_of (piece ∷ pieces) = texts_from (alone piece) pieces
+texts_of pieces = texts_by (length pieces) pieces
 
 abbrev pub text_content : Placed → Content
 text_content text = Text text.place text.bytes

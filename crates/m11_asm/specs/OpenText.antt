@@ -1,5 +1,5 @@
 -- The text that is open while words are placed. (This project's own.)
-use Rattle.std.specs.Prelude.{◌≡◌, ℕ, Bool, true, false, ◌&&◌, ◌++◌, List, [], ◌∷◌, map, Option, Result, Ok, Err}
+use Rattle.std.specs.Prelude.{◌≡◌, ℕ, ◌+◌, Bool, true, false, ◌&&◌, ◌==◌, nat_le, if◌then◌else◌, ◌++◌, List, [], ◌∷◌, length, map, Option, Result, Ok, Err}
 use Rattle.std.specs.Io.KnownBytes.{Appends}
 use Rattle.m11_asm.specs.declared.fault.AsmFault.{AsmFault}
 use Rattle.m11_asm.specs.declared.fault.AsmOutput.TheVariants.{Object}
@@ -7,9 +7,27 @@ use Rattle.m11_asm.specs.declared.object.OpenText.{OpenText}
 use Rattle.m11_asm.specs.declared.object.LastText.{LastText}
 use Rattle.m11_asm.specs.declared.object.LastText.TheVariants as last
 use Rattle.m11_asm.specs.Placement.{Piece}
-use Rattle.m11_asm.specs.Object.{head, Placed, texts_from, takes_in, content_block, text_contents, without_last, last_alone, has_none}
+use Rattle.m11_asm.specs.Object.{head, Placed, content_block, text_contents, without_last, last_alone, has_none}
+use Rattle.m11_obj.specs.Frames.{word_bytes}
 use Rattle.m11_obj.specs.Records.{Content}
 use Rattle.m11_asm.specs.Writes.{joined, StopsPutting}
+
+abbrev pub alone : Piece → Placed
+alone piece = record { place = piece.place; bytes = word_bytes piece.word }
+
+abbrev pub with_piece : Placed → Piece → Placed
+with_piece text piece = record { place = text.place; bytes = text.bytes ++ word_bytes piece.word }
+
+-- a piece goes into a text that it follows directly, while the text has at most 32 bytes
+abbrev pub takes_in : Placed → Piece → Bool
+takes_in text piece = (piece.place == text.place + length text.bytes)
+    && nat_le (length text.bytes + length (word_bytes piece.word)) 32
+
+-- the texts of an open one and the pieces behind it; these are the longest ones (proofs/LongestFronts.antt)
+abbrev pub texts_from : Placed → List Piece → List Placed
+texts_from text [] = text ∷ []
+texts_from text (piece ∷ pieces) =
+    if takes_in text piece then texts_from (with_piece text piece) pieces else text ∷ texts_from (alone piece) pieces
 
 abbrev pub placed_of : OpenText → Placed
 placed_of t = record { place = t.place; bytes = t.bytes.items }

@@ -3,7 +3,7 @@
 ghost use Rattle.std.specs.Prelude.{◌≡◌, ◌≤◌, ◌+◌, ◌++◌, ◌%◌, ◌<◌, ◌==◌, ◌&&◌, nat_le, [], ◌∷◌, map, length, IfOk, IfSome, MatchOption};
 ghost use Rattle.arrayvec.specs.ArrayVec.{array_vec_len};
 ghost use Rattle.m11_asm.specs.declared.fault.AsmOutput.TheVariants.{Object};
-ghost use Rattle.m11_asm.specs.Object.{main_name, absolute_name, blank_name, directory, head, content_block, text_contents, text_content, place_content, takes_in, texts_of, without_last, last_alone, has_none};
+ghost use Rattle.m11_asm.specs.Object.{main_name, absolute_name, blank_name, directory, head, content_block, text_contents, text_content, place_content, texts_of, without_last, last_alone, has_none};
 ghost use Rattle.m11_asm.specs.Placement.{pieces_at};
 ghost use Rattle.m11_asm.specs.OpenText.{placed_of, AddsWord, PutsTexts, PutsFront, last_contents};
 ghost use Rattle.m11_asm.specs.Writes.{Puts};

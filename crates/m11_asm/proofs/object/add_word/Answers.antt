@@ -1,7 +1,6 @@
 use Rattle.std.proofs.Common.{◌≡◌, false, List, ℕ, [], ◌∷◌, ◌++◌, ◌∙◌, sym, ap}
 use Rattle.m11_obj.specs.Frames.{word_bytes}
-use Rattle.m11_asm.specs.Object.{takes_in, alone}
-use Rattle.m11_asm.specs.OpenText.{placed_of}
+use Rattle.m11_asm.specs.OpenText.{alone, placed_of, takes_in}
 use Rattle.m11_asm.proofs.Cutting.{alone_is, opens_new, not_first}
 use Rattle.m11_asm.proofs.object.add_word.Goals as goal
 
