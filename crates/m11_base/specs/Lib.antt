@@ -1,6 +1,11 @@
 pub mod Devices
+pub mod Dispatch
+pub mod Encoding
 pub mod Feed
 pub mod Fuse
+pub mod Instructions
+pub mod Mnemonics
 pub mod Octal
+pub mod Operands
 pub mod Rad50
 pub mod Sink

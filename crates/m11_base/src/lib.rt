@@ -2,20 +2,36 @@
 //! take bytes.
 #![tactic(auto)]
 
+mod decoding;
+mod encoding;
 mod fault;
 mod feed;
 mod fuse;
+mod instruction;
+mod instruction_list;
 mod memory;
+mod mnemonics;
 mod octal;
+mod operand;
+mod operation_tables;
 mod rad50;
 mod sink;
 mod stream;
 
+pub use decoding::{decode, decode_by_list};
+pub use encoding::encode;
 pub use fault::{DeviceFault, OctalFault, PutFault};
 pub use feed::Feed;
 pub use fuse::{FuseFeed, FuseSink};
+pub use instruction::{
+    BareOp, BranchOp, ConditionCodes, ConditionOp, DoubleOp, ExtendedOp, Insn, NumberOp, Op,
+    RegisterOp, SingleOp,
+};
+pub use instruction_list::{Row, other_names, rows};
 pub use memory::{MemoryFeed, MemorySink};
+pub use mnemonics::mnemonic;
 pub use octal::{octal6, read_octal};
+pub use operand::{Mode, Operand, Register, Size};
 pub use rad50::{Name, Rad50};
 pub use sink::{Sink, put_all};
 pub use stream::{ReaderFeed, WriterSink};

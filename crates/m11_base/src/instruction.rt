@@ -1,0 +1,219 @@
+//! Instructions and their operations, by the form of their operands. (PDP-11/40 Processor Handbook,
+//! "Instruction set".)
+
+use crate::operand::{Operand, Register, Size};
+
+/// The operations on a source and a destination. All but `Add` and `Sub` work on bytes too.
+#[derive(Clone, Copy, Debug, PartialEq, Eq)]
+pub enum DoubleOp {
+    Mov = 0o010000,
+    Cmp = 0o020000,
+    Bit = 0o030000,
+    Bic = 0o040000,
+    Bis = 0o050000,
+    Add = 0o060000,
+    Sub = 0o160000,
+}
+
+/// The operations of the extended instruction set on a register and a source.
+#[derive(Clone, Copy, Debug, PartialEq, Eq)]
+pub enum ExtendedOp {
+    Mul = 0o070000,
+    Div = 0o071000,
+    Ash = 0o072000,
+    Ashc = 0o073000,
+}
+
+/// The operations on a register and a destination.
+#[derive(Clone, Copy, Debug, PartialEq, Eq)]
+pub enum RegisterOp {
+    Jsr = 0o004000,
+    Xor = 0o074000,
+}
+
+/// The operations on one operand. `Jmp`, `Swab` and `Sxt` do not work on bytes.
+#[derive(Clone, Copy, Debug, PartialEq, Eq)]
+pub enum SingleOp {
+    Jmp = 0o000100,
+    Swab = 0o000300,
+    Clr = 0o005000,
+    Com = 0o005100,
+    Inc = 0o005200,
+    Dec = 0o005300,
+    Neg = 0o005400,
+    Adc = 0o005500,
+    Sbc = 0o005600,
+    Tst = 0o005700,
+    Ror = 0o006000,
+    Rol = 0o006100,
+    Asr = 0o006200,
+    Asl = 0o006300,
+    Sxt = 0o006700,
+}
+
+/// The operations with a number in the code.
+#[derive(Clone, Copy, Debug, PartialEq, Eq)]
+pub enum NumberOp {
+    /// A number from 0 to octal 77.
+    Mark = 0o006400,
+    /// A number from 0 to octal 377.
+    Emt = 0o104000,
+    /// A number from 0 to octal 377.
+    Trap = 0o104400,
+}
+
+/// The operations of which the code is all.
+#[derive(Clone, Copy, Debug, PartialEq, Eq)]
+pub enum BareOp {
+    Halt = 0o000000,
+    Wait = 0o000001,
+    Rti = 0o000002,
+    Bpt = 0o000003,
+    Iot = 0o000004,
+    Reset = 0o000005,
+    Rtt = 0o000006,
+}
+
+/// What is done with condition codes.
+#[derive(Clone, Copy, Debug, PartialEq, Eq)]
+pub enum ConditionOp {
+    Clear = 0o000240,
+    Set = 0o000260,
+}
+
+/// The branches.
+#[derive(Clone, Copy, Debug, PartialEq, Eq)]
+pub enum BranchOp {
+    Br = 0o000400,
+    Bne = 0o001000,
+    Beq = 0o001400,
+    Bge = 0o002000,
+    Blt = 0o002400,
+    Bgt = 0o003000,
+    Ble = 0o003400,
+    Bpl = 0o100000,
+    Bmi = 0o100400,
+    Bhi = 0o101000,
+    Blos = 0o101400,
+    Bvc = 0o102000,
+    Bvs = 0o102400,
+    Bcc = 0o103000,
+    Bcs = 0o103400,
+}
+
+/// The condition codes that an operation on them names.
+#[derive(Clone, Copy, Debug, PartialEq, Eq)]
+pub struct ConditionCodes {
+    pub negative: bool,
+    pub zero: bool,
+    pub overflow: bool,
+    pub carry: bool,
+}
+
+impl ConditionCodes {
+    /// No condition code.
+    pub const NONE: ConditionCodes = ConditionCodes {
+        negative: false,
+        zero: false,
+        overflow: false,
+        carry: false,
+    };
+
+    /// C alone.
+    pub const CARRY: ConditionCodes = ConditionCodes {
+        negative: false,
+        zero: false,
+        overflow: false,
+        carry: true,
+    };
+
+    /// V alone.
+    pub const OVERFLOW: ConditionCodes = ConditionCodes {
+        negative: false,
+        zero: false,
+        overflow: true,
+        carry: false,
+    };
+
+    /// Z alone.
+    pub const ZERO: ConditionCodes = ConditionCodes {
+        negative: false,
+        zero: true,
+        overflow: false,
+        carry: false,
+    };
+
+    /// N alone.
+    pub const NEGATIVE: ConditionCodes = ConditionCodes {
+        negative: true,
+        zero: false,
+        overflow: false,
+        carry: false,
+    };
+
+    /// N, Z, V and C.
+    pub const ALL: ConditionCodes = ConditionCodes {
+        negative: true,
+        zero: true,
+        overflow: true,
+        carry: true,
+    };
+}
+
+/// An instruction, without the words behind its code.
+#[derive(Clone, Copy, Debug, PartialEq, Eq)]
+pub enum Insn {
+    /// The source, and the destination.
+    Double(DoubleOp, Size, Operand, Operand),
+    /// The register that takes part, and the source.
+    Extended(ExtendedOp, Register, Operand),
+    /// The register, and the destination.
+    Register(RegisterOp, Register, Operand),
+    /// SOB: the register, and how many words back its target lies from the next instruction, 0 to 63.
+    Sob(Register, u8),
+    /// The destination.
+    Single(SingleOp, Size, Operand),
+    /// RTS: the register.
+    Rts(Register),
+    /// The number.
+    Number(NumberOp, u8),
+    /// Nothing beside the operation.
+    Bare(BareOp),
+    /// The codes that are cleared or set.
+    Condition(ConditionOp, ConditionCodes),
+    /// How many words the target lies from the next instruction.
+    Branch(BranchOp, i8),
+    /// A code that no operation has.
+    Reserved(u16),
+}
+
+/// An operation with the form of its operands, as a name in a source stands for it.
+#[derive(Clone, Copy, Debug, PartialEq, Eq)]
+pub enum Op {
+    /// A source and a destination.
+    Double(DoubleOp, Size),
+    /// A source and a register.
+    Extended(ExtendedOp),
+    /// A register and a destination.
+    Register(RegisterOp),
+    /// SOB: a register and a target.
+    Sob,
+    /// A destination.
+    Single(SingleOp, Size),
+    /// RTS: a register.
+    Rts,
+    /// A number.
+    Number(NumberOp),
+    /// No operand.
+    Bare(BareOp),
+    /// Condition codes; no name in a source stands for it.
+    Condition(ConditionOp),
+    /// A target.
+    Branch(BranchOp),
+    /// CALL: a destination. It is JSR with the program counter.
+    Call,
+    /// RETURN: no operand. It is RTS with the program counter.
+    Return,
+    /// No operand: condition codes of its own.
+    Codes(ConditionOp, ConditionCodes),
+}
