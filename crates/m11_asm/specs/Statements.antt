@@ -1,8 +1,9 @@
 -- Statements of the part of the language that is assembled today. (MACRO-11 Language Reference
 -- Manual, "Statement format", ".WORD directive", ".END directive".)
-use Rattle.std.specs.Prelude.{ℕ, ◌-◌, Bool, true, false, not, ◌||◌, ◌&&◌, ◌==◌, nat_le, if◌then◌else◌, List, [], ◌∷◌, length, drop, map, codes, Option, Some, None, Result, Ok, Err}
+use Rattle.std.specs.Prelude.{ℕ, Bool, true, false, not, ◌||◌, ◌&&◌, ◌==◌, if◌then◌else◌, List, [], ◌∷◌, length, drop, map, codes, Option, Some, None, Result, Ok, Err}
 use Rattle.std.specs.List.{list_all, before_first}
 use Rattle.m11_base.specs.declared.fault.OctalFault.{OctalFault}
+use Rattle.m11_base.specs.Mnemonics.{folded, is_name_character}
 use Rattle.m11_base.specs.Octal.{octal_of}
 
 pub data Statement : Type 0 where
@@ -18,15 +19,6 @@ pub data Statement : Type 0 where
 -- a blank or a tab
 abbrev pub is_blank : ℕ → Bool
 is_blank byte = byte == 32 || byte == 9
-
--- a letter of either case, a digit, `$` or `.`
-abbrev pub is_name_character : ℕ → Bool
-is_name_character byte = (nat_le 65 byte && nat_le byte 90) || ((nat_le 97 byte && nat_le byte 122)
-    || ((nat_le 48 byte && nat_le byte 57) || (byte == 36 || byte == 46)))
-
--- lower case counts as upper case
-abbrev pub folded : ℕ → ℕ
-folded byte = if nat_le 97 byte && nat_le byte 122 then byte - 32 else byte
 
 -- what stands before the comment
 abbrev pub before_comment : List ℕ → List ℕ

@@ -3,7 +3,8 @@
 
 ghost use Rattle.std.specs.Prelude.{◌≡◌, ◌∷◌, ◌==◌, ◌≤◌, IfOk, MatchOption, [], ◌<◌, length, map, not, position, drop};
 ghost use Rattle.std.specs.List.{list_all, position_or_len};
-ghost use Rattle.m11_asm.specs.Statements.{before_comment, elements_of, folded, is_blank, is_name_character, numbers_of, same_bytes, statement_of, statement_in, trimmed, without_blanks_before, without_blanks_behind, words_or_other, directive_of};
+ghost use Rattle.m11_base.specs.Mnemonics.{folded, is_name_character};
+ghost use Rattle.m11_asm.specs.Statements.{before_comment, elements_of, is_blank, numbers_of, same_bytes, statement_of, statement_in, trimmed, without_blanks_before, without_blanks_behind, words_or_other, directive_of};
 ghost use Rattle.m11_asm.specs.Parsing.{meaning_of};
 
 use m11_base::read_octal;
