@@ -10,7 +10,7 @@ use Rattle.m11_obj.specs.declared.gsd.GsdEntry.{GsdEntry}
 use Rattle.m11_obj.specs.declared.records.RecordKind.{RecordKind}
 use Rattle.m11_obj.specs.declared.records.RecordKind.TheVariants as kind
 use Rattle.m11_obj.specs.Records.{Content, Gsd, EndOfGsd, Text, Relocations, InternalSymbols, EndOfModule}
-use Rattle.m11_obj.specs.Reading.{◌>>=◌, first_byte, first_word, first_name_word, first_name, kind_of, first_entry, entries_within, entries_of, relocations_of, type_of, first_type, content_behind, content_of, kind_in}
+use Rattle.m11_obj.specs.Reading.{◌>>=◌, first_byte, first_word, first_name_word, first_name, kind_of, first_entry, items_within, entries_of, relocations_of, type_of, first_type, content_behind, content_of, kind_in}
 
 -- ---- steps that did not fail
 
@@ -22,10 +22,10 @@ guard_ok : {A : Type 0} (b : Bool) (x y : A) (fault : RecordFault) → cond b (O
 guard_ok true x y fault e = cc
 guard_ok false x y fault e = absurd cc
 
-abbrev done : {A : Type 0} → A → Result A RecordFault
+abbrev pub done : {A : Type 0} → A → Result A RecordFault
 done x = Ok x
 
-ok_is : {A : Type 0} (x y : A) → done x ≡ done y → x ≡ y
+pub ok_is : {A : Type 0} (x y : A) → done x ≡ done y → x ≡ y
 ok_is x y e = cc
 
 -- the rest is what stands behind so many bytes
@@ -48,7 +48,7 @@ Takes-then m n a b c first second =
       behind = second.behind ∙ ap (drop n) first.behind ∙ drop-drop n m a;
     }
 
-byte_takes : (bytes : List ℕ) (x : ℕ × List ℕ) → first_byte bytes ≡ Ok x → Takes 1 bytes x.1
+pub byte_takes : (bytes : List ℕ) (x : ℕ × List ℕ) → first_byte bytes ≡ Ok x → Takes 1 bytes x.1
 byte_takes [] x e = absurd cc
 byte_takes (byte ∷ rest) x e =
     record { enough = omega arith; behind = sym (ap (λ (p : ℕ × List ℕ). p.1) (ok_is (byte, rest) x e)) }
@@ -67,7 +67,7 @@ name_word_takes bytes x e =
     let same = guard_ok (ltb b.0.0 word_limit) b.0 x BadName b.2 in
     subst (λ (p : ℕ × List ℕ). Takes 2 bytes p.1) same (word_takes bytes b.0 b.1)
 
-name_takes : (bytes : List ℕ) (x : (ℕ × ℕ) × List ℕ) → first_name bytes ≡ Ok x → Takes 4 bytes x.1
+pub name_takes : (bytes : List ℕ) (x : (ℕ × ℕ) × List ℕ) → first_name bytes ≡ Ok x → Takes 4 bytes x.1
 unfolding first_name
 name_takes bytes x e =
     let a = bind_ok (first_name_word bytes) (λ first. first_name_word first.1 >>= λ second. Ok ((first.0, second.0), second.1)) x e in
@@ -80,7 +80,7 @@ name_takes bytes x e =
 abbrev entry_of : ℕ × ℕ → ℕ → GsdKind → ℕ → GsdEntry
 entry_of name flags kind value = record { name = name; flags = flags; kind = kind; value = value }
 
-entry_takes : (bytes : List ℕ) (x : GsdEntry × List ℕ) → first_entry bytes ≡ Ok x → Takes 8 bytes x.1
+pub entry_takes : (bytes : List ℕ) (x : GsdEntry × List ℕ) → first_entry bytes ≡ Ok x → Takes 8 bytes x.1
 unfolding first_entry
 entry_takes bytes x e =
     let name = bind_ok (first_name bytes) (λ name. first_byte name.1 >>= λ flags. first_byte flags.1 >>= λ code. kind_of code.0 >>= λ kind. first_word code.1 >>= λ value. Ok (entry_of name.0 flags.0 kind value.0, value.1)) x e in
@@ -97,16 +97,16 @@ entry_takes bytes x e =
 -- ---- entries
 
 -- the others, where the first was read
-others_of : (n byte : ℕ) (bytes : List ℕ) (entries : List GsdEntry) → entries_within (suc n) (byte ∷ bytes) ≡ Ok entries
-    → (first : GsdEntry × List ℕ) × (others : List GsdEntry) × (first_entry (byte ∷ bytes) ≡ Ok first) × (entries_within n first.1 ≡ Ok others) × (first.0 ∷ others ≡ entries)
-unfolding entries_within
+others_of : (n byte : ℕ) (bytes : List ℕ) (entries : List GsdEntry) → items_within first_entry (suc n) (byte ∷ bytes) ≡ Ok entries
+    → (first : GsdEntry × List ℕ) × (others : List GsdEntry) × (first_entry (byte ∷ bytes) ≡ Ok first) × (items_within first_entry n first.1 ≡ Ok others) × (first.0 ∷ others ≡ entries)
+unfolding items_within
 others_of n byte bytes entries e =
-    let a = bind_ok (first_entry (byte ∷ bytes)) (λ first. entries_within n first.1 >>= λ others. Ok (first.0 ∷ others)) entries e in
-    let b = bind_ok (entries_within n a.0.1) (λ others. Ok (a.0.0 ∷ others)) entries a.2 in
+    let a = bind_ok (first_entry (byte ∷ bytes)) (λ first. items_within first_entry n first.1 >>= λ others. Ok (first.0 ∷ others)) entries e in
+    let b = bind_ok (items_within first_entry n a.0.1) (λ others. Ok (a.0.0 ∷ others)) entries a.2 in
     (a.0, b.0, a.1, b.1, ok_is (a.0.0 ∷ b.0) entries b.2)
 
-pub entries_length : (n : ℕ) (bytes : List ℕ) (entries : List GsdEntry) → length bytes ≤ n → entries_within n bytes ≡ Ok entries → length bytes ≡ 8 * length entries
-unfolding entries_within
+pub entries_length : (n : ℕ) (bytes : List ℕ) (entries : List GsdEntry) → length bytes ≤ n → items_within first_entry n bytes ≡ Ok entries → length bytes ≡ 8 * length entries
+unfolding items_within
 entries_length zero [] entries le e = let none = ok_is [] entries e in omega (arith, ap length none)
 entries_length zero (byte ∷ bytes) entries le e = absurd (omega arith)
 entries_length (suc n) [] entries le e = let none = ok_is [] entries e in omega (arith, ap length none)
@@ -117,8 +117,8 @@ entries_length (suc n) (byte ∷ bytes) entries le e =
     let others = entries_length n o.0.1 o.1 (omega (arith, t.enough)) o.3 in
     omega (arith, t.enough, ap length o.4)
 
-pub entry_place : (n i : ℕ) (bytes : List ℕ) (entries : List GsdEntry) (d : GsdEntry) → entries_within n bytes ≡ Ok entries → i < length entries → (rest : List ℕ) × (first_entry (drop (8 * i) bytes) ≡ Ok (get_or entries i d, rest))
-unfolding entries_within
+pub entry_place : (n i : ℕ) (bytes : List ℕ) (entries : List GsdEntry) (d : GsdEntry) → items_within first_entry n bytes ≡ Ok entries → i < length entries → (rest : List ℕ) × (first_entry (drop (8 * i) bytes) ≡ Ok (get_or entries i d, rest))
+unfolding items_within
 entry_place zero i bytes entries d e lt = let none = ok_is [] entries e in absurd (omega (arith, ap length none))
 entry_place (suc n) i [] entries d e lt = let none = ok_is [] entries e in absurd (omega (arith, ap length none))
 entry_place (suc n) zero (byte ∷ bytes) entries d e lt =

@@ -9,7 +9,7 @@ use Rattle.m11_obj.specs.declared.gsd.GsdKind.TheVariants.{ModuleName, ControlSe
 use Rattle.m11_obj.specs.declared.gsd.GsdEntry.{GsdEntry}
 use Rattle.m11_obj.specs.Frames.{word_bytes}
 use Rattle.m11_obj.specs.Gsd.{kind_code, name_bytes, entry_bytes, entries_bytes, EntryFits, EntriesFit}
-use Rattle.m11_obj.specs.Reading.{first_word, first_name_word, first_name, kind_of, first_entry, entries_within, entries_of}
+use Rattle.m11_obj.specs.Reading.{first_word, first_name_word, first_name, kind_of, first_entry, items_within, items_of, entries_of}
 
 -- ---- words and names
 
@@ -57,8 +57,8 @@ entries_count (entry ∷ entries) =
     let others = entries_count entries in
     omega (arith, length-append (entry_bytes entry) (entries_bytes entries))
 
-entries_within_again : (n : ℕ) (entries : List GsdEntry) → length entries ≤ n → AllByRecursion EntryFits entries → entries_within n (entries_bytes entries) ≡ Ok entries
-unfolding entries_within
+entries_within_again : (n : ℕ) (entries : List GsdEntry) → length entries ≤ n → AllByRecursion EntryFits entries → items_within first_entry n (entries_bytes entries) ≡ Ok entries
+unfolding items_within
 entries_within_again zero [] le fits = refl
 entries_within_again (suc n) [] le fits = refl
 entries_within_again zero (entry ∷ entries) le fits = absurd (omega arith)
@@ -66,6 +66,6 @@ entries_within_again (suc n) (entry ∷ entries) le fits =
     rw (entry_again entry (entries_bytes entries) fits.0, entries_within_again n entries (omega arith) fits.1) refl
 
 pub entries_again : (entries : List GsdEntry) → EntriesFit entries → entries_of (entries_bytes entries) ≡ Ok entries
-unfolding entries_of
+unfolding entries_of items_of
 entries_again entries fits =
     entries_within_again (length (entries_bytes entries)) entries (entries_count entries) (recursion_from_All EntryFits entries fits)

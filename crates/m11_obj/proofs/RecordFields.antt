@@ -9,7 +9,7 @@ use Rattle.m11_obj.specs.declared.gsd.GsdEntry.{GsdEntry}
 use Rattle.m11_obj.specs.declared.records.RecordKind.{RecordKind}
 use Rattle.m11_obj.specs.declared.records.RecordKind.TheVariants as kind
 use Rattle.m11_obj.specs.Records.{Content, Gsd, EndOfGsd, Text, Relocations, InternalSymbols, EndOfModule}
-use Rattle.m11_obj.specs.Reading.{◌>>=◌, first_word, first_entry, entries_of, first_type, content_behind, content_of, IsRecord, kind_in, record_kind, entries_in, record_entries, text_in, record_text}
+use Rattle.m11_obj.specs.Reading.{◌>>=◌, first_word, first_entry, items_of, entries_of, first_type, content_behind, content_of, IsRecord, kind_in, record_kind, entries_in, record_entries, text_in, record_text}
 use Rattle.m11_obj.proofs.FieldsOf.{bind_ok, ok_value, parts_of, entries_length, entry_place, word_takes}
 
 -- ---- the type
@@ -59,7 +59,7 @@ gsd_parts bytes entries e =
     (p.takes.enough, ap entries_of (sym p.takes.behind) ∙ a.1 ∙ ap (λ (es : List GsdEntry). done es) same)
 
 gsd_length : (bytes : List ℕ) (entries : List GsdEntry) → content_of bytes ≡ Ok (Gsd entries) → length bytes ≡ 2 + 8 * length entries
-unfolding entries_of
+unfolding entries_of items_of
 gsd_length bytes entries e =
     let p = gsd_parts bytes entries e in
     let long = entries_length (length (drop 2 bytes)) (drop 2 bytes) entries (omega arith) p.1 in
@@ -95,7 +95,7 @@ FoundAt bytes entries i d =
     (2 + 8 * i ≤ length bytes) × ((rest : List ℕ) × (first_entry (drop (2 + 8 * i) bytes) ≡ Ok (get_or entries i d, rest)))
 
 found_by_content : (bytes : List ℕ) (r : Result Content RecordFault) (i : ℕ) (d : GsdEntry) → content_of bytes ≡ r → i < length (entries_in r) → FoundAt bytes (entries_in r) i d
-unfolding entries_of
+unfolding entries_of items_of
 found_by_content bytes (Ok (Gsd entries)) i d is lt =
     let p = gsd_parts bytes entries is in
     let found = entry_place (length (drop 2 bytes)) i (drop 2 bytes) entries d p.1 lt in

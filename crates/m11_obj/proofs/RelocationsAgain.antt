@@ -11,7 +11,7 @@ use Rattle.m11_obj.specs.declared.relocations.Relocation.{Relocation}
 use Rattle.m11_obj.specs.Frames.{word_bytes}
 use Rattle.m11_obj.specs.Gsd.{name_bytes}
 use Rattle.m11_obj.specs.Relocations.{command, target_name, target_constant, optional_name, optional_word, byte_form, relocation_bytes, relocations_bytes, FormExists, RelocationFits, RelocationsFit}
-use Rattle.m11_obj.specs.Reading.{Form, Nothing, Constant, Name, NameAndConstant, form_of, first_target, first_relocation, relocations_within, relocations_of}
+use Rattle.m11_obj.specs.Reading.{Form, Nothing, Constant, Name, NameAndConstant, row_of, form_of, first_target, first_relocation, items_within, items_of, relocations_of}
 use Rattle.m11_obj.proofs.ReadAgain.{word_again, name_again}
 
 -- the row of a target's command
@@ -31,7 +31,7 @@ row (SectionAdditive name constant) = NameAndConstant (λ n c. SectionAdditive n
 row (SectionAdditiveDisplaced name constant) = NameAndConstant (λ n c. SectionAdditiveDisplaced n c)
 
 row_again : (is_byte : Bool) (target : Target) → FormExists is_byte target → form_of is_byte (command target) ≡ Ok (row target)
-unfolding form_of row
+unfolding form_of row_of row
 row_again false (Internal constant) exists = refl
 row_again false (Global name) exists = refl
 row_again false (InternalDisplaced constant) exists = refl
@@ -129,8 +129,8 @@ relocations_count (relocation ∷ relocations) =
     let others = relocations_count relocations in
     omega (arith, length-append (relocation_bytes relocation) (relocations_bytes relocations))
 
-relocations_within_again : (n : ℕ) (relocations : List Relocation) → length relocations ≤ n → AllByRecursion RelocationFits relocations → relocations_within n (relocations_bytes relocations) ≡ Ok relocations
-unfolding relocations_within
+relocations_within_again : (n : ℕ) (relocations : List Relocation) → length relocations ≤ n → AllByRecursion RelocationFits relocations → items_within first_relocation n (relocations_bytes relocations) ≡ Ok relocations
+unfolding items_within
 relocations_within_again zero [] le fits = refl
 relocations_within_again (suc n) [] le fits = refl
 relocations_within_again zero (relocation ∷ relocations) le fits = absurd (omega arith)
@@ -138,6 +138,6 @@ relocations_within_again (suc n) (relocation ∷ relocations) le fits =
     rw (relocation_again relocation (relocations_bytes relocations) fits.0, relocations_within_again n relocations (omega arith) fits.1) refl
 
 pub relocations_again : (relocations : List Relocation) → RelocationsFit relocations → relocations_of (relocations_bytes relocations) ≡ Ok relocations
-unfolding relocations_of
+unfolding relocations_of items_of
 relocations_again relocations fits =
     relocations_within_again (length (relocations_bytes relocations)) relocations (relocations_count relocations) (recursion_from_All RelocationFits relocations fits)

@@ -1,3 +1,4 @@
+pub mod Commands
 pub mod Fault
 pub mod Frames
 pub mod Gsd

@@ -3,6 +3,7 @@
 -- project's own: libraries, mapped arrays and complex relocation are left out. A missing byte is
 -- BadLength at the place where the bytes end.
 use Rattle.std.specs.Prelude.{◌≡◌, is_ok, true, ℕ, zero, suc, ◌+◌, ◌*◌, ◌%◌, Bool, ◌&&◌, List, [], ◌∷◌, length, slice_get, unwrap_or, Option, Some, None, Result, Ok, Err, nat_lt, nat_le, if◌then◌else◌}
+use Rattle.std.specs.Result.{result_unwrap_or}
 use Rattle.m11_base.specs.Rad50.{word_limit}
 use Rattle.m11_obj.specs.declared.fault.RecordFault.{RecordFault}
 use Rattle.m11_obj.specs.declared.fault.RecordFault.TheVariants.{UnknownType, BadLength, Library, MappedArray, Complex, UnknownRelocation, BadName}
@@ -44,6 +45,21 @@ first_name bytes = do
   second ← first_name_word first.1
   Ok ((first.0, second.0), second.1)
 
+-- ---- items one behind another
+
+-- items up to the end of the bytes, of which there are no more than the number
+unfoldable pub items_within : {A : Type 0} → (List ℕ → Result (A × List ℕ) RecordFault) → ℕ → List ℕ → Result (List A) RecordFault
+items_within first zero bytes = Ok []
+items_within first (suc n) [] = Ok []
+items_within first (suc n) (byte ∷ bytes) = do
+  item ← first (byte ∷ bytes)
+  others ← items_within first n item.1
+  Ok (item.0 ∷ others)
+
+-- items up to the end of the bytes; each takes some, so there are no more of them than bytes
+unfoldable pub items_of : {A : Type 0} → (List ℕ → Result (A × List ℕ) RecordFault) → List ℕ → Result (List A) RecordFault
+items_of first bytes = items_within first (length bytes) bytes
+
 -- ---- entries of the global symbol directory
 
 -- the types of entries, each at the place of its code
@@ -63,17 +79,8 @@ first_entry bytes = do
   value ← first_word code.1
   Ok (record { name = name.0; flags = flags.0; kind = kind; value = value.0 }, value.1)
 
--- entries up to the end of the bytes, of which there are no more than the number
-unfoldable pub entries_within : ℕ → List ℕ → Result (List GsdEntry) RecordFault
-entries_within zero bytes = Ok []
-entries_within (suc n) [] = Ok []
-entries_within (suc n) (byte ∷ bytes) = do
-  first ← first_entry (byte ∷ bytes)
-  others ← entries_within n first.1
-  Ok (first.0 ∷ others)
-
 unfoldable pub entries_of : List ℕ → Result (List GsdEntry) RecordFault
-entries_of bytes = entries_within (length bytes) bytes
+entries_of bytes = items_of first_entry bytes
 
 -- ---- entries of a relocation directory
 
@@ -109,9 +116,12 @@ forms =
 abbrev pub is_without_byte_form : ℕ → Bool
 is_without_byte_form code = nat_le 7 code && nat_le code 9
 
+unfoldable pub row_of : ℕ → Result Form RecordFault
+row_of code = unwrap_or (slice_get forms code) (Err UnknownRelocation)
+
 unfoldable pub form_of : Bool → ℕ → Result Form RecordFault
 form_of is_byte code =
-    if is_byte && is_without_byte_form code then Err UnknownRelocation else unwrap_or (slice_get forms code) (Err UnknownRelocation)
+    if is_byte && is_without_byte_form code then Err UnknownRelocation else row_of code
 
 unfoldable pub first_target : Form → List ℕ → Result (Target × List ℕ) RecordFault
 first_target (Nothing target) bytes = Ok (target, bytes)
@@ -135,17 +145,8 @@ first_relocation bytes = do
   target ← first_target form displacement.1
   Ok (record { is_byte = nat_le 128 code.0; displacement = displacement.0; target = target.0 }, target.1)
 
--- relocations up to the end of the bytes, of which there are no more than the number
-unfoldable pub relocations_within : ℕ → List ℕ → Result (List Relocation) RecordFault
-relocations_within zero bytes = Ok []
-relocations_within (suc n) [] = Ok []
-relocations_within (suc n) (byte ∷ bytes) = do
-  first ← first_relocation (byte ∷ bytes)
-  others ← relocations_within n first.1
-  Ok (first.0 ∷ others)
-
 unfoldable pub relocations_of : List ℕ → Result (List Relocation) RecordFault
-relocations_of bytes = relocations_within (length bytes) bytes
+relocations_of bytes = items_of first_relocation bytes
 
 -- ---- records
 
@@ -187,6 +188,10 @@ content_of bytes = do
 abbrev pub IsRecord : List ℕ → Type 0
 IsRecord bytes = is_ok (content_of bytes) ≡ true
 
+-- the record of a block's content, held as that content, or the first fault
+abbrev pub record_of : List ℕ → Result (List ℕ) RecordFault
+record_of bytes = content_of bytes >>= λ content. Ok bytes
+
 -- ---- the fields of a record
 
 abbrev pub kind_in : Content → RecordKind
@@ -216,6 +221,26 @@ text_in content = None
 -- the load address and the bytes of a text record
 abbrev pub record_text : List ℕ → Option (ℕ × List ℕ)
 record_text bytes = text_in (content_of bytes)
+
+abbrev pub relocations_in : Result Content RecordFault → List Relocation
+relocations_in (Ok (Relocations relocations)) = relocations
+relocations_in content = []
+
+-- the relocations of a record, of which only a relocation directory has any
+abbrev pub record_relocations : List ℕ → List Relocation
+record_relocations bytes = relocations_in (content_of bytes)
+
+-- the bytes are those of relocations, up to their end
+abbrev pub AreRelocations : List ℕ → Type 0
+AreRelocations bytes = is_ok (relocations_of bytes) ≡ true
+
+-- the relocations in such bytes
+abbrev pub relocations_left : List ℕ → List Relocation
+relocations_left bytes = result_unwrap_or (relocations_of bytes) []
+
+-- whether something is there, or its fault
+abbrev pub checked : {A : Type 0} → Result A RecordFault → Result (Unit {0}) RecordFault
+checked read = read >>= λ x. Ok tt
 
 -- what a call that reads from the front of bytes answered, seen by view, is what stands there
 abbrev pub Gives : {X Y : Type 0} → (X → Y) → Result X RecordFault → Result Y RecordFault → Type 0

@@ -2,6 +2,7 @@
 //! File Formats Manual, "Object file format".)
 #![tactic(auto)]
 
+mod commands;
 mod fault;
 mod flags;
 mod frames;
@@ -14,5 +15,5 @@ pub use fault::RecordFault;
 pub use flags::{SectionFlags, SymbolFlags};
 pub use frames::{Block, block_bytes};
 pub use gsd::{GsdEntry, GsdKind};
-pub use records::{Record, RecordKind, record_bytes};
+pub use records::{Record, RecordKind, read_record, record_bytes};
 pub use relocations::{Relocation, Target};

@@ -2,11 +2,14 @@
 //! first fault. (RT-11 Volume and File Formats Manual, "Object file format".)
 
 ghost use Rattle.std.specs.Prelude.{◌≡◌, Ok};
-ghost use Rattle.m11_obj.specs.Reading.{Gives, first_byte, first_word, first_name, kind_of, first_entry, type_of, first_type};
+ghost use Rattle.m11_obj.specs.Commands.{form_in};
+ghost use Rattle.m11_obj.specs.Reading.{Gives, checked, first_byte, first_word, first_name, kind_of, first_entry, entries_of, first_target, first_relocation, relocations_of, type_of, first_type, content_behind, content_of};
 
+use crate::commands::{Command, command_of};
 use crate::fault::RecordFault;
 use crate::gsd::{GsdEntry, GsdKind};
 use crate::records::RecordKind;
+use crate::relocations::{Relocation, Target};
 use byteorder::{ByteOrder, LittleEndian};
 use m11_base::Name;
 
@@ -87,6 +90,53 @@ pub(crate) fn first_entry(bytes: &[u8]) -> Result<(GsdEntry, &[u8]), RecordFault
     ))
 }
 
+// What a command is followed by, as its target.
+#[tactic(auto, unfolding(crate::specs::Reading::first_target))]
+fn first_target(command: Command, bytes: &[u8]) -> Result<(Target, &[u8]), RecordFault>
+    ensures { Gives (λ x. (x.0, x.1.now)) result (first_target (form_in command) bytes.now) }
+{
+    match command {
+        Command::ProgramLimits => Ok((Target::ProgramLimits, bytes)),
+        Command::Constant(row) => {
+            let (constant, rest) = first_word(bytes)?;
+            Ok((row.target(constant), rest))
+        }
+        Command::Name(row) => match first_name(bytes) {
+            Ok((name, rest)) => Ok((row.target(name), rest)),
+            Err(fault) => Err(fault),
+        },
+        Command::NameAndConstant(row) => match first_name(bytes) {
+            Ok((name, rest)) => {
+                let (constant, rest) = first_word(rest)?;
+                Ok((row.target(name, constant), rest))
+            }
+            Err(fault) => Err(fault),
+        },
+    }
+}
+
+// An entry of a relocation directory.
+#[tactic(auto, unfolding(crate::specs::Reading::first_relocation))]
+pub(crate) fn first_relocation(bytes: &[u8]) -> Result<(Relocation, &[u8]), RecordFault>
+    ensures { Gives (λ x. (x.0, x.1.now)) result (first_relocation bytes.now) }
+{
+    let (code, rest) = first_byte(bytes)?;
+    let is_byte = code >= 0o200;
+    let command = command_of(is_byte, code % 0o200)?;
+    let (displacement, rest) = first_byte(rest)?;
+    match first_target(command, rest) {
+        Ok((target, rest)) => {
+            let relocation = Relocation {
+                is_byte,
+                displacement,
+                target,
+            };
+            Ok((relocation, rest))
+        }
+        Err(fault) => Err(fault),
+    }
+}
+
 #[tactic(auto, unfolding(crate::specs::Reading::type_of))]
 fn type_of(code: u16) -> Result<RecordKind, RecordFault>
     ensures { result ≡ type_of code }
@@ -112,3 +162,59 @@ pub(crate) fn first_type(bytes: &[u8]) -> Result<(RecordKind, &[u8]), RecordFaul
     let kind = type_of(code)?;
     Ok((kind, rest))
 }
+
+// Whether the bytes are directory entries, up to their end.
+fn check_entries(bytes: &[u8]) -> Result<(), RecordFault>
+    ensures { result ≡ checked (entries_of bytes.now) }
+{
+    let mut rest = bytes;
+    while !rest.is_empty() {
+        rest = match first_entry(rest) {
+            Ok((_, behind)) => behind,
+            Err(fault) => return Err(fault),
+        };
+    }
+    Ok(())
+}
+
+// Whether the bytes are relocations, up to their end.
+fn check_relocations(bytes: &[u8]) -> Result<(), RecordFault>
+    ensures { result ≡ checked (relocations_of bytes.now) }
+{
+    let mut rest = bytes;
+    while !rest.is_empty() {
+        rest = match first_relocation(rest) {
+            Ok((_, behind)) => behind,
+            Err(fault) => return Err(fault),
+        };
+    }
+    Ok(())
+}
+
+// Whether the bytes are what stands behind a type word.
+#[tactic(auto, unfolding(crate::specs::Reading::content_behind))]
+fn check_behind(kind: RecordKind, bytes: &[u8]) -> Result<(), RecordFault>
+    ensures { result ≡ checked (content_behind kind bytes.now) }
+{
+    match kind {
+        RecordKind::Gsd => check_entries(bytes),
+        RecordKind::Text => {
+            first_word(bytes)?;
+            Ok(())
+        }
+        RecordKind::Relocations => check_relocations(bytes),
+        RecordKind::EndOfGsd | RecordKind::InternalSymbols | RecordKind::EndOfModule => Ok(()),
+    }
+}
+
+// Whether the bytes are a record.
+#[tactic(auto, unfolding(crate::specs::Reading::content_of))]
+pub(crate) fn check_record(bytes: &[u8]) -> Result<(), RecordFault>
+    ensures { result ≡ checked (content_of bytes.now) }
+{
+    let (kind, rest) = first_type(bytes)?;
+    check_behind(kind, rest)
+}
+
+#[cfg(test)]
+mod tests;

@@ -4,12 +4,13 @@
 ghost use Rattle.std.specs.Prelude.{◌≡◌, ◌+◌, ◌≤◌, ◌<◌, ◌++◌, ℕ, List, length, Ok, IfOk, All, Some, IsSome, slice_get, option_map};
 ghost use Rattle.m11_obj.specs.Frames.{word_bytes, content_limit};
 ghost use Rattle.m11_obj.specs.Gsd.{entry_limit};
-ghost use Rattle.m11_obj.specs.Reading.{IsRecord, record_kind, record_entries, record_text};
+ghost use Rattle.m11_obj.specs.Reading.{IsRecord, record_of, record_kind, record_entries, record_text};
 ghost use Rattle.m11_obj.specs.Relocations.{relocations_bytes, FormExists};
 
+use crate::fault::RecordFault;
 use crate::frames::{Block, put_word};
 use crate::gsd::{GsdEntry, put_entry};
-use crate::reading::{first_entry, first_type, first_word};
+use crate::reading::{check_record, first_entry, first_type, first_word};
 use crate::relocations::{Relocation, put_relocation};
 use std::alloc::{AllocError, Global};
 use std::marker::Model;
@@ -233,8 +234,23 @@ pub fn record_bytes(alloc: Global, record: &Record) -> Result<Vec<u8>, AllocErro
     ensures bytes { IfOk result (λ v. v.items ≡ «record».now) }
     ensures fits { IfOk result (λ v. length v.items ≤ content_limit) }
     ensures means { IfOk result (λ v. IsRecord v.items) }
+    ensures again { IfOk result (λ v. record_of v.items ≡ Ok «record».now) }
 {
     Vec::from_slice(alloc, record.data())
+}
+
+/// The record that stands in a block's content, or the first fault in the order of its bytes: a type
+/// of record or of entry that there is not, a missing byte at the place where the bytes end, a library,
+/// a mapped array, a complex relocation, a command that there is not, a word of a name that is none.
+/// It takes no memory.
+pub fn read_record(content: &Block) -> Result<Record, RecordFault>
+    ensures { result ≡ record_of content.now.items }
+{
+    let bytes = content.as_slice();
+    check_record(bytes)?;
+    let mut content = Block::new();
+    content.try_extend_from_slice(bytes).unwrap();
+    Ok(Record { content })
 }
 
 #[cfg(test)]
