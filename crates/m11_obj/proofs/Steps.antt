@@ -42,7 +42,7 @@ target_length (NameAndConstant target) bytes x e =
 abbrev relocation_of : ℕ → ℕ → Target → Relocation
 relocation_of code displacement target = record { is_byte = nat_le 128 code; displacement = displacement; target = target }
 
-relocation_length : (bytes : List ℕ) (x : Relocation × List ℕ) → first_relocation bytes ≡ Ok x → length x.1 < length bytes
+pub relocation_length : (bytes : List ℕ) (x : Relocation × List ℕ) → first_relocation bytes ≡ Ok x → length x.1 + 2 ≤ length bytes
 unfolding first_relocation
 relocation_length bytes x e =
     let code = bind_ok (first_byte bytes) (λ code. form_of (nat_le 128 code.0) (code.0 % 128) >>= λ form. first_byte code.1 >>= λ displacement. first_target form displacement.1 >>= λ target. Ok (relocation_of code.0 displacement.0 target.0, target.1)) x e in
@@ -52,7 +52,8 @@ relocation_length bytes x e =
     omega (arith, takes_length 1 bytes code.0.1 (byte_takes bytes code.0 code.1), takes_length 1 code.0.1 displacement.0.1 (byte_takes code.0.1 displacement.0 displacement.1), target_length form.0 displacement.0.1 target.0 target.1, ok_length (relocation_of code.0.0 displacement.0.0 target.0.0, target.0.1) x target.2)
 
 pub relocation_shrinks : Shrinks first_relocation
-relocation_shrinks = record { shorter = relocation_length }
+relocation_shrinks =
+    record { shorter = λ bytes x is. omega (arith, relocation_length bytes x is) }
 
 -- ---- the checks
 

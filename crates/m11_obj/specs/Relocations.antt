@@ -97,3 +97,7 @@ pub record RelocationFits (relocation : Relocation) : Type 0 where
 
 abbrev pub RelocationsFit : List Relocation → Type 0
 RelocationsFit relocations = All RelocationFits relocations
+
+-- the most relocations that a block holds
+abbrev pub relocation_limit : ℕ
+relocation_limit = 255

@@ -3,6 +3,7 @@
 #![tactic(auto)]
 
 mod commands;
+mod directory;
 mod fault;
 mod flags;
 mod frames;
@@ -11,6 +12,7 @@ mod reading;
 mod records;
 mod relocations;
 
+pub use directory::Relocations;
 pub use fault::RecordFault;
 pub use flags::{SectionFlags, SymbolFlags};
 pub use frames::{Block, block_bytes};

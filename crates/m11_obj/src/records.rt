@@ -4,9 +4,10 @@
 ghost use Rattle.std.specs.Prelude.{◌≡◌, ◌+◌, ◌≤◌, ◌<◌, ◌++◌, ℕ, List, length, Ok, IfOk, All, Some, IsSome, slice_get, option_map};
 ghost use Rattle.m11_obj.specs.Frames.{word_bytes, content_limit};
 ghost use Rattle.m11_obj.specs.Gsd.{entry_limit};
-ghost use Rattle.m11_obj.specs.Reading.{IsRecord, record_of, record_kind, record_entries, record_text};
-ghost use Rattle.m11_obj.specs.Relocations.{relocations_bytes, FormExists};
+ghost use Rattle.m11_obj.specs.Reading.{IsRecord, AreRelocations, relocations_left, record_of, record_kind, record_entries, record_text, record_relocations};
+ghost use Rattle.m11_obj.specs.Relocations.{relocations_bytes, relocation_limit, FormExists};
 
+use crate::directory;
 use crate::fault::RecordFault;
 use crate::frames::{Block, put_word};
 use crate::gsd::{GsdEntry, put_entry};
@@ -181,6 +182,20 @@ fn text_at(bytes: &[u8]) -> (u16, &[u8])
     }
 }
 
+// The bytes of a record's relocations; a record of another type has none.
+fn relocation_bytes(bytes: &[u8]) -> &[u8]
+    requires is { IsRecord bytes.now }
+    requires fits { length bytes.now ≤ content_limit }
+    ensures are { AreRelocations result.now }
+    ensures left { relocations_left result.now ≡ record_relocations bytes.now }
+    ensures few { length (record_relocations bytes.now) ≤ relocation_limit }
+{
+    match kind_at(bytes) {
+        RecordKind::Relocations => bytes.split_at(2).1,
+        _ => &[],
+    }
+}
+
 // The fields.
 impl Record {
     /// The type of the record.
@@ -225,6 +240,22 @@ impl Record {
         ensures { option_map (λ text. text.1) (record_text self.now) ≡ Some result.now }
     {
         text_at(self.content.as_slice()).1
+    }
+
+    /// The relocation at an index, if there is one; a record of another type has none. It is read from
+    /// the front at each call.
+    pub fn relocation(&self, index: usize) -> Option<Relocation>
+        ensures { result ≡ slice_get (record_relocations self.now) index }
+    {
+        directory::relocation_at(relocation_bytes(self.content.as_slice()), index)
+    }
+
+    /// A walk over the relocations, in order, as they are at the indices from 0 on: at most 255.
+    pub fn each_relocation(&self) -> directory::Relocations<'_>
+        ensures all { result ≡ record_relocations self.now }
+        ensures few { length result ≤ relocation_limit }
+    {
+        directory::walk(relocation_bytes(self.content.as_slice()))
     }
 }
 
