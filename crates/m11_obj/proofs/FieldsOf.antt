@@ -18,7 +18,7 @@ pub bind_ok : {A B : Type 0} (r : Result A RecordFault) (f : A → Result B Reco
 bind_ok (Ok x) f y e = (x, refl, e)
 bind_ok (Err fault) f y e = absurd cc
 
-guard_ok : {A : Type 0} (b : Bool) (x y : A) (fault : RecordFault) → cond b (Ok x) (Err fault) ≡ Ok y → x ≡ y
+pub guard_ok : {A : Type 0} (b : Bool) (x y : A) (fault : RecordFault) → cond b (Ok x) (Err fault) ≡ Ok y → x ≡ y
 guard_ok true x y fault e = cc
 guard_ok false x y fault e = absurd cc
 
@@ -77,7 +77,7 @@ name_takes bytes x e =
     takes_same 4 bytes made x b.2 both
 
 -- what an entry is made of
-abbrev entry_of : ℕ × ℕ → ℕ → GsdKind → ℕ → GsdEntry
+abbrev pub entry_of : ℕ × ℕ → ℕ → GsdKind → ℕ → GsdEntry
 entry_of name flags kind value = record { name = name; flags = flags; kind = kind; value = value }
 
 pub entry_takes : (bytes : List ℕ) (x : GsdEntry × List ℕ) → first_entry bytes ≡ Ok x → Takes 8 bytes x.1

@@ -39,7 +39,7 @@ target_length (NameAndConstant target) bytes x e =
     let constant = bind_ok (first_word name.0.1) (λ constant. Ok (target name.0.0 constant.0, constant.1)) x name.2 in
     omega (arith, takes_length 4 bytes name.0.1 (name_takes bytes name.0 name.1), takes_length 2 name.0.1 constant.0.1 (word_takes name.0.1 constant.0 constant.1), ok_length (target name.0.0 constant.0.0, constant.0.1) x constant.2)
 
-abbrev relocation_of : ℕ → ℕ → Target → Relocation
+abbrev pub relocation_of : ℕ → ℕ → Target → Relocation
 relocation_of code displacement target = record { is_byte = nat_le 128 code; displacement = displacement; target = target }
 
 pub relocation_length : (bytes : List ℕ) (x : Relocation × List ℕ) → first_relocation bytes ≡ Ok x → length x.1 + 2 ≤ length bytes

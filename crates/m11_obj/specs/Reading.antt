@@ -15,7 +15,7 @@ use Rattle.m11_obj.specs.declared.relocations.Target.TheVariants.{Internal, Glob
 use Rattle.m11_obj.specs.declared.relocations.Relocation.{Relocation}
 use Rattle.m11_obj.specs.declared.records.RecordKind.{RecordKind}
 use Rattle.m11_obj.specs.declared.records.RecordKind.TheVariants as kind
-use Rattle.m11_obj.specs.Records.{Content, Gsd, EndOfGsd, Text, Relocations, InternalSymbols, EndOfModule}
+use Rattle.m11_obj.specs.Records.{Content, Gsd, EndOfGsd, Text, Relocations, InternalSymbols, EndOfModule, IsRecordOf}
 
 infixl 10 ◌>>=◌
 abbrev pub ◌>>=◌ : {A B : Type 0} → Result A RecordFault → (A → Result B RecordFault) → Result B RecordFault
@@ -187,6 +187,10 @@ content_of bytes = do
 -- the bytes are those of some record
 abbrev pub IsRecord : List ℕ → Type 0
 IsRecord bytes = is_ok (content_of bytes) ≡ true
+
+-- what is read stands in the bytes as it is written
+abbrev pub SaysWhatStands : List ℕ → Type 0
+SaysWhatStands bytes = (content : Content) × (content_of bytes ≡ Ok content) × IsRecordOf content bytes
 
 -- the record of a block's content, held as that content, or the first fault
 abbrev pub record_of : List ℕ → Result (List ℕ) RecordFault

@@ -1,6 +1,6 @@
 -- The records of an object, one in each block. (RT-11 Volume and File Formats Manual, "Object file
 -- format".) What a record says, and its one form in bytes as it is written.
-use Rattle.std.specs.Prelude.{ℕ, ◌+◌, ◌≤◌, ◌<◌, ◌^◌, List, ◌++◌, length}
+use Rattle.std.specs.Prelude.{◌≡◌, ℕ, ◌+◌, ◌≤◌, ◌<◌, ◌^◌, List, [], ◌++◌, length}
 use Rattle.m11_obj.specs.declared.gsd.GsdEntry.{GsdEntry}
 use Rattle.m11_obj.specs.declared.relocations.Relocation.{Relocation}
 use Rattle.m11_obj.specs.Frames.{word_bytes, content_limit}
@@ -34,3 +34,20 @@ Fits (Relocations relocations) =
     (length (relocations_bytes relocations) + 2 ≤ content_limit) × RelocationsFit relocations
 Fits InternalSymbols = Unit {0}
 Fits EndOfModule = Unit {0}
+
+-- records with fields; behind the type word of the others nothing is written, and what stands there is
+-- ignored
+abbrev pub HasFields : Content → Type 0
+HasFields (Gsd entries) = Unit {0}
+HasFields EndOfGsd = ⊥
+HasFields (Text address bytes) = Unit {0}
+HasFields (Relocations relocations) = Unit {0}
+HasFields InternalSymbols = ⊥
+HasFields EndOfModule = ⊥
+
+-- bytes of a block that are a record of this content: what is written for it, and bytes that are ignored
+pub record IsRecordOf (content : Content) (bytes : List ℕ) : Type 0 where
+  pub fits : Fits content
+  pub ignored : List ℕ
+  pub written : bytes ≡ record_data content ++ ignored
+  pub nothing : HasFields content → ignored ≡ []

@@ -1,9 +1,10 @@
 //! Reading fields from the front of bytes: each call answers the field and the bytes behind it, or the
 //! first fault. (RT-11 Volume and File Formats Manual, "Object file format".)
 
-ghost use Rattle.std.specs.Prelude.{◌≡◌, Ok};
+ghost use Rattle.std.specs.Prelude.{◌≡◌, ◌≤◌, length, Ok, OnOk};
 ghost use Rattle.m11_obj.specs.Commands.{form_in};
-ghost use Rattle.m11_obj.specs.Reading.{Gives, checked, first_byte, first_word, first_name, kind_of, first_entry, entries_of, first_target, first_relocation, relocations_of, type_of, first_type, content_behind, content_of};
+ghost use Rattle.m11_obj.specs.Frames.{content_limit};
+ghost use Rattle.m11_obj.specs.Reading.{Gives, checked, first_byte, first_word, first_name, kind_of, first_entry, entries_of, first_target, first_relocation, relocations_of, type_of, first_type, content_behind, content_of, SaysWhatStands};
 
 use crate::commands::{Command, command_of};
 use crate::fault::RecordFault;
@@ -210,7 +211,9 @@ fn check_behind(kind: RecordKind, bytes: &[u8]) -> Result<(), RecordFault>
 // Whether the bytes are a record.
 #[tactic(auto, unfolding(crate::specs::Reading::content_of))]
 pub(crate) fn check_record(bytes: &[u8]) -> Result<(), RecordFault>
-    ensures { result ≡ checked (content_of bytes.now) }
+    requires { length bytes.now ≤ content_limit }
+    ensures is { result ≡ checked (content_of bytes.now) }
+    ensures says { OnOk result (SaysWhatStands bytes.now) }
 {
     let (kind, rest) = first_type(bytes)?;
     check_behind(kind, rest)

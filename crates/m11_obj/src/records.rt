@@ -4,7 +4,8 @@
 ghost use Rattle.std.specs.Prelude.{◌≡◌, ◌+◌, ◌≤◌, ◌<◌, ◌++◌, ℕ, List, length, Ok, IfOk, All, Some, IsSome, slice_get, option_map};
 ghost use Rattle.m11_obj.specs.Frames.{word_bytes, content_limit};
 ghost use Rattle.m11_obj.specs.Gsd.{entry_limit};
-ghost use Rattle.m11_obj.specs.Reading.{IsRecord, AreRelocations, relocations_left, record_of, record_kind, record_entries, record_text, record_relocations};
+ghost use Rattle.m11_obj.specs.Reading.{content_of, IsRecord, SaysWhatStands, AreRelocations, relocations_left, record_of, record_kind, record_entries, record_text, record_relocations};
+ghost use Rattle.m11_obj.specs.Records.{Content, IsRecordOf};
 ghost use Rattle.m11_obj.specs.Relocations.{relocations_bytes, relocation_limit, FormExists};
 
 use crate::directory;
@@ -270,14 +271,22 @@ pub fn record_bytes(alloc: Global, record: &Record) -> Result<Vec<u8>, AllocErro
     Vec::from_slice(alloc, record.data())
 }
 
-/// The record that stands in a block's content, or the first fault in the order of its bytes: a type
-/// of record or of entry that there is not, a missing byte at the place where the bytes end, a library,
-/// a mapped array, a complex relocation, a command that there is not, a word of a name that is none.
-/// It takes no memory.
-pub fn read_record(content: &Block) -> Result<Record, RecordFault>
-    ensures { result ≡ record_of content.now.items }
+/// The record that stands in a block's content. It takes no memory.
+///
+/// Faults, of which the first in the order of the bytes is answered: `UnknownType` at a type of record
+/// or of entry that there is not, `Library` at record types 7 and 10, `MappedArray` at entry type 7,
+/// `Complex` at commands 17 and 217, `UnknownRelocation` at a command that there is not or that has no
+/// byte form, `BadName` at a word of a name from 175000 up, and `BadLength` where the bytes end before
+/// a field does.
+pub fn read_record(block: &Block) -> Result<Record, RecordFault>
+    ensures read { result ≡ record_of block.now.items }
+
+    // What stands in the bytes as it is written is read, and nothing else is.
+    ensures says { IfOk result SaysWhatStands }
+    ensures all { (content : Content) → IsRecordOf content block.now.items
+        → (content_of block.now.items ≡ Ok content) × (result ≡ Ok block.now.items) }
 {
-    let bytes = content.as_slice();
+    let bytes = block.as_slice();
     check_record(bytes)?;
     let mut content = Block::new();
     content.try_extend_from_slice(bytes).unwrap();
