@@ -1,5 +1,5 @@
-//! What the whole chain stands on: names in RADIX-50, octal texts, and the devices that give and
-//! take bytes.
+//! What the whole chain stands on: names in RADIX-50, octal texts, the instruction list, and the
+//! devices that give and take bytes.
 #![tactic(auto)]
 
 mod decoding;
