@@ -1,7 +1,9 @@
+pub mod Blocks
 pub mod Commands
 pub mod Fault
 pub mod Frames
 pub mod Gsd
+pub mod Limited
 pub mod Records
 pub mod Reading
 pub mod Relocations

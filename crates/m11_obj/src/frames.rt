@@ -43,6 +43,15 @@ fn sum_byte(bytes: &[u8]) -> u8
     0u8.wrapping_sub(total)
 }
 
+// The sum byte of the block of a content.
+pub(crate) fn block_sum(content: &[u8]) -> u8
+    requires { length content.now ≤ content_limit }
+    ensures { result ≡ sum_byte (header (length content.now) ++ content.now) }
+{
+    let header_sum = sum_byte(&header(content.len() as u16));
+    header_sum.wrapping_add(sum_byte(content))
+}
+
 /// The block of a content, as the bytes that are written. Needs a content of at most 512 bytes.
 #[tactic(auto, unfolding(crate::specs::Frames::block))]
 pub fn block_bytes(alloc: Global, content: &[u8]) -> Result<Vec<u8>, AllocError>

@@ -2,16 +2,21 @@
 //! File Formats Manual, "Object file format".)
 #![tactic(auto)]
 
+mod block_fault;
+mod blocks;
 mod commands;
 mod directory;
 mod fault;
 mod flags;
 mod frames;
 mod gsd;
+mod limited;
 mod reading;
 mod records;
 mod relocations;
 
+pub use block_fault::BlockFault;
+pub use blocks::BlockReader;
 pub use directory::Relocations;
 pub use fault::RecordFault;
 pub use flags::{SectionFlags, SymbolFlags};

@@ -1,0 +1,145 @@
+//! Reads the blocks of an object. (RT-11 Volume and File Formats Manual, "Object file format".)
+
+ghost use Rattle.std.specs.Prelude.{◌≡◌, ◌+◌, ◌≤◌, ◌++◌, ◌↔◌, ℕ, List, length, true, false, Ok, Err, IfOk, IsErr, IsTrue};
+ghost use Rattle.std.specs.Bool.{OnTrue, OnFalse};
+ghost use Rattle.arrayvec.specs.ArrayVec.{array_vec_len};
+ghost use Rattle.m11_obj.specs.Frames.{content_limit};
+ghost use Rattle.m11_obj.specs.Limited.{place, most_bytes};
+ghost use Rattle.m11_obj.specs.Blocks.{ReadsPart, ReadsStart, ReadsBlock, second, count, content_of, summed};
+
+use crate::block_fault::BlockFault;
+use crate::frames::{Block, block_sum};
+use crate::limited::{Lack, MOST_BYTES, next_byte, next_word};
+use m11_base::Feed;
+use std::marker::Model;
+
+// Goes behind zeros and the 001 that begins a block. It answers whether there is one.
+fn read_start<F: Feed>(feed: &mut F, room: &mut u32) -> Result<bool, BlockFault>
+    ensures { ReadsStart (place (F.text feed.old) (F.faults feed.old) room.old)
+        (place (F.text feed.new) (F.faults feed.new) room.new) result }
+{
+    'zeros: loop {
+        match next_byte(feed, room) {
+            Ok(0) => {}
+            Ok(1) => return Ok(true),
+            Ok(_) => return Err(BlockFault::BadStart),
+            Err(Lack::End) => return Ok(false),
+            Err(Lack::Device) => return Err(BlockFault::Device),
+            Err(Lack::TooMuch) => return Err(BlockFault::TooMuch),
+        }
+    }
+}
+
+fn read_second<F: Feed>(feed: &mut F, room: &mut u32) -> Result<(), BlockFault>
+    ensures { ReadsPart (λ _. tt) second (place (F.text feed.old) (F.faults feed.old) room.old)
+        (place (F.text feed.new) (F.faults feed.new) room.new) result }
+{
+    let byte = next_byte(feed, room)?;
+    if byte != 0 {
+        return Err(BlockFault::BadStart);
+    }
+    Ok(())
+}
+
+// The length as a count of the content's bytes.
+fn read_count<F: Feed>(feed: &mut F, room: &mut u32) -> Result<u16, BlockFault>
+    ensures part { ReadsPart (λ n. n) count (place (F.text feed.old) (F.faults feed.old) room.old)
+        (place (F.text feed.new) (F.faults feed.new) room.new) result }
+    ensures fits { IfOk result (λ n. n ≤ content_limit) }
+{
+    let length = next_word(feed, room)?;
+    if length < 4 {
+        return Err(BlockFault::TooShort);
+    }
+    if length > 516 {
+        return Err(BlockFault::TooLong);
+    }
+    Ok(length - 4)
+}
+
+fn read_content<F: Feed>(feed: &mut F, room: &mut u32, count: u16) -> Result<Block, BlockFault>
+    requires { count ≤ content_limit }
+    ensures { ReadsPart (λ b. b.items) (content_of count)
+        (place (F.text feed.old) (F.faults feed.old) room.old)
+        (place (F.text feed.new) (F.faults feed.new) room.new) result }
+{
+    let mut content = Block::new();
+    'bytes: for _ in 0..count {
+        let byte = next_byte(feed, room)?;
+        content.push(byte);
+    }
+    Ok(content)
+}
+
+// Goes behind the sum byte of a content.
+fn read_sum<F: Feed>(feed: &mut F, room: &mut u32, content: &Block) -> Result<(), BlockFault>
+    ensures { ReadsPart (λ _. content.now.items) (summed content.now.items)
+        (place (F.text feed.old) (F.faults feed.old) room.old)
+        (place (F.text feed.new) (F.faults feed.new) room.new) result }
+{
+    let byte = next_byte(feed, room)?;
+    if byte != block_sum(content) {
+        return Err(BlockFault::BadSum);
+    }
+    Ok(())
+}
+
+fn read_block<F: Feed>(feed: &mut F, room: &mut u32) -> Result<Option<Block>, BlockFault>
+    ensures { ReadsBlock (λ b. b.items) (place (F.text feed.old) (F.faults feed.old) room.old)
+        (place (F.text feed.new) (F.faults feed.new) room.new) result }
+{
+    if !read_start(feed, room)? {
+        return Ok(None);
+    }
+    read_second(feed, room)?;
+    let count = read_count(feed, room)?;
+    let content = read_content(feed, room, count)?;
+    read_sum(feed, room, &content)?;
+    Ok(Some(content))
+}
+
+/// Reads the blocks of one object, in order, from a feed. It takes no memory.
+#[derive(Drop)]
+pub struct BlockReader {
+    room: u32,
+    has_failed: bool,
+}
+
+impl Model for BlockReader {
+    ghost use Rattle.m11_obj.specs.Blocks.{BlockReading};
+
+    ghost Value = { BlockReading };
+
+    ghost view = { λ s. record { room = s.room; has_failed = s.has_failed } };
+}
+
+impl BlockReader {
+    /// A reader at the start of an object.
+    pub fn new() -> BlockReader
+        ensures { result ≡ record { room = most_bytes; has_failed = false } }
+    {
+        BlockReader {
+            room: MOST_BYTES,
+            has_failed: false,
+        }
+    }
+
+    /// The content of the next block, or `None` where the bytes end before one. Zeros before a block
+    /// are skipped. Behind the end the feed is asked again at the next call. A fault is the first one
+    /// in the order of the bytes; after it each call answers `Failed` and reads nothing.
+    pub fn next<F: Feed>(&mut self, feed: &mut F) -> Result<Option<Block>, BlockFault>
+        ensures reads { OnFalse self.old.has_failed (ReadsBlock (λ b. b.items)
+            (place (F.text feed.old) (F.faults feed.old) self.old.room)
+            (place (F.text feed.new) (F.faults feed.new) self.new.room) result) }
+        ensures failed { OnTrue self.old.has_failed
+            ((result ≡ Err BlockFault.Failed) × (self.new ≡ self.old) × (feed.new ≡ feed.old)) }
+        ensures fails { IsTrue self.new.has_failed ↔ IsErr result }
+    {
+        if self.has_failed {
+            return Err(BlockFault::Failed);
+        }
+        let answer = read_block(feed, &mut self.room);
+        self.has_failed = answer.is_err();
+        answer
+    }
+}
