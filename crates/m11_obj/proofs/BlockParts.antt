@@ -55,16 +55,16 @@ module _ (a b c : Place) (zeros : List ℕ) (took : Took a b zeros) (leads : (re
 
 -- ---- the parts of a block
 
-abbrev behind_content : List ℕ × List ℕ → Read BlockFault (List ℕ)
+abbrev pub behind_content : List ℕ × List ℕ → Read BlockFault (List ℕ)
 behind_content content = summed content.0 content.1
 
-abbrev behind_count : ℕ × List ℕ → Read BlockFault (List ℕ)
+abbrev pub behind_count : ℕ × List ℕ → Read BlockFault (List ℕ)
 behind_count count = content_of count.0 count.1 >>= behind_content
 
-abbrev behind_second : Unit {0} × List ℕ → Read BlockFault (List ℕ)
+abbrev pub behind_second : Unit {0} × List ℕ → Read BlockFault (List ℕ)
 behind_second second = count second.1 >>= behind_count
 
-abbrev behind_start : Unit {0} × List ℕ → Read BlockFault (List ℕ)
+abbrev pub behind_start : Unit {0} × List ℕ → Read BlockFault (List ℕ)
 behind_start start = second start.1 >>= behind_second
 
 module _ (a b : Place) where

@@ -52,6 +52,12 @@ first_block bytes = do
   content ← content_of count.0 count.1
   summed content.0 content.1
 
+-- blocks of these contents are read one after another, and behind the last there is none
+abbrev pub AreRead : List (List ℕ) → List ℕ → Type 0
+AreRead [] bytes = first_block bytes ≡ Err Between
+AreRead (content ∷ contents) bytes =
+    (rest : List ℕ) × (first_block bytes ≡ Ok (content, rest)) × AreRead contents rest
+
 -- what a fault says of the bytes
 abbrev pub why_of : BlockFault → Why BlockFault
 why_of fault.Device = Fails

@@ -1,11 +1,12 @@
 //! Reads the blocks of an object. (RT-11 Volume and File Formats Manual, "Object file format".)
 
-ghost use Rattle.std.specs.Prelude.{◌≡◌, ◌+◌, ◌≤◌, ◌++◌, ◌↔◌, ℕ, List, length, true, false, Ok, Err, IfOk, IsErr, IsTrue};
+ghost use Rattle.std.specs.Prelude.{◌≡◌, ◌+◌, ◌<◌, ◌≤◌, ◌++◌, ◌↔◌, ℕ, List, length, true, false, Ok, Err, IfOk, IsErr, IsTrue};
 ghost use Rattle.std.specs.Bool.{OnTrue, OnFalse};
+ghost use Rattle.std.specs.List.{AllByRecursion};
 ghost use Rattle.arrayvec.specs.ArrayVec.{array_vec_len};
-ghost use Rattle.m11_obj.specs.Frames.{content_limit};
+ghost use Rattle.m11_obj.specs.Frames.{content_limit, AreBlocks};
 ghost use Rattle.m11_obj.specs.Limited.{place, most_bytes};
-ghost use Rattle.m11_obj.specs.Blocks.{ReadsPart, ReadsStart, ReadsBlock, second, count, content_of, summed};
+ghost use Rattle.m11_obj.specs.Blocks.{AreRead, ReadsPart, ReadsStart, ReadsBlock, second, count, content_of, summed};
 
 use crate::block_fault::BlockFault;
 use crate::frames::{Block, block_sum};
@@ -96,6 +97,16 @@ fn read_block<F: Feed>(feed: &mut F, room: &mut u32) -> Result<Option<Block>, Bl
     let content = read_content(feed, room, count)?;
     read_sum(feed, room, &content)?;
     Ok(Some(content))
+}
+
+/// What a reader reads one after another is exactly the blocks that the bytes hold.
+#[tactic(auto, using(crate::proofs::BlockFrames::blocks_read, crate::proofs::BlockFrames::blocks_framed))]
+pub fn blocks_are_read()
+    ensures read { (contents : List (List ℕ)) (bytes : List ℕ)
+        → AreBlocks contents bytes → AreRead contents bytes }
+    ensures framed { (contents : List (List ℕ)) (bytes : List ℕ)
+        → AllByRecursion (λ byte. byte < 256) bytes → AreRead contents bytes → AreBlocks contents bytes }
+{
 }
 
 /// Reads the blocks of one object, in order, from a feed. It takes no memory.

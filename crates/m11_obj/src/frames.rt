@@ -1,8 +1,9 @@
 //! Blocks of formatted binary. (RT-11 Volume and File Formats Manual, "Object file format".)
 
-ghost use Rattle.std.specs.Prelude.{◌≡◌, ◌+◌, ◌≤◌, ◌<◌, ◌^◌, ◌++◌, ◌%◌, length, IfOk, sum};
+ghost use Rattle.std.specs.Prelude.{◌≡◌, ◌+◌, ◌≤◌, ◌<◌, ◌^◌, ◌++◌, ◌%◌, ℕ, List, length, Ok, IfOk, sum};
 ghost use Rattle.arrayvec.specs.ArrayVec.{array_vec_len};
 ghost use Rattle.m11_obj.specs.Frames.{word_bytes, sum_byte, header, block, content_limit};
+ghost use Rattle.m11_obj.specs.Blocks.{first_block};
 
 use arrayvec::ArrayVec;
 use byteorder::{ByteOrder, LittleEndian};
@@ -58,6 +59,9 @@ pub fn block_bytes(alloc: Global, content: &[u8]) -> Result<Vec<u8>, AllocError>
     requires { length content.now ≤ content_limit }
     ensures bytes { IfOk result (λ v. v.items ≡ block content.now) }
     ensures sum { IfOk result (λ v. sum v.items % 256 ≡ 0) }
+    // whatever follows it, a reader reads this content again
+    ensures again { IfOk result (λ v.
+        (rest : List ℕ) → first_block (v.items ++ rest) ≡ Ok (content.now, rest)) }
 {
     let mut bytes = Vec::new(alloc);
     bytes.extend_from_slice(&header(content.len() as u16))?;

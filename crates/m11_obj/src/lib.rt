@@ -17,6 +17,7 @@ mod relocations;
 
 pub use block_fault::BlockFault;
 pub use blocks::BlockReader;
+pub use blocks::{BlockReader, blocks_are_read};
 pub use directory::Relocations;
 pub use fault::RecordFault;
 pub use flags::{SectionFlags, SymbolFlags};
