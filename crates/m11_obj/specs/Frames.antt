@@ -12,14 +12,17 @@ word_bytes word = little_bytes 2 word
 abbrev pub sum_byte : List ℕ → ℕ
 sum_byte bytes = (256 - sum bytes % 256) % 256
 
+-- bytes and their sum byte
+abbrev pub with_sum : List ℕ → List ℕ
+with_sum bytes = bytes ++ sum_byte bytes ∷ []
+
 -- what stands before the content: the length counts these four bytes too
 abbrev pub header : ℕ → List ℕ
 header content_length = 1 ∷ 0 ∷ word_bytes (content_length + 4)
 
 -- a block: its header, its content, and the byte that makes the sum of all its bytes a multiple of 256
 unfoldable pub block : List ℕ → List ℕ
-block content =
-    (header (length content) ++ content) ++ sum_byte (header (length content) ++ content) ∷ []
+block content = with_sum (header (length content) ++ content)
 
 -- the most content that a block may have
 abbrev pub content_limit : ℕ

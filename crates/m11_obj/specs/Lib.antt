@@ -7,3 +7,4 @@ pub mod Limited
 pub mod Records
 pub mod Reading
 pub mod Relocations
+pub mod Tapes

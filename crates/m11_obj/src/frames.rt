@@ -2,7 +2,7 @@
 
 ghost use Rattle.std.specs.Prelude.{◌≡◌, ◌+◌, ◌≤◌, ◌<◌, ◌^◌, ◌++◌, ◌%◌, ℕ, List, length, Ok, IfOk, sum};
 ghost use Rattle.arrayvec.specs.ArrayVec.{array_vec_len};
-ghost use Rattle.m11_obj.specs.Frames.{word_bytes, sum_byte, header, block, content_limit};
+ghost use Rattle.m11_obj.specs.Frames.{word_bytes, sum_byte, with_sum, header, block, content_limit};
 ghost use Rattle.m11_obj.specs.Blocks.{first_block};
 
 use arrayvec::ArrayVec;
@@ -53,8 +53,25 @@ pub(crate) fn block_sum(content: &[u8]) -> u8
     header_sum.wrapping_add(sum_byte(content))
 }
 
+/// A header, a content, and the byte that makes the sum of all a multiple of 256.
+pub(crate) fn summed_bytes(
+    alloc: Global,
+    header: &[u8],
+    content: &[u8],
+) -> Result<Vec<u8>, AllocError>
+    ensures bytes { IfOk result (λ v. v.items ≡ with_sum (header.now ++ content.now)) }
+    ensures sum { IfOk result (λ v. sum v.items % 256 ≡ 0) }
+{
+    let mut bytes = Vec::new(alloc);
+    bytes.extend_from_slice(header)?;
+    bytes.extend_from_slice(content)?;
+    let last = sum_byte(&bytes);
+    bytes.push(last)?;
+    Ok(bytes)
+}
+
 /// The block of a content, as the bytes that are written. Needs a content of at most 512 bytes.
-#[tactic(auto, unfolding(crate::specs::Frames::block))]
+#[tactic(auto, using(crate::proofs::BlockFrames::block_again), unfolding(crate::specs::Frames::block))]
 pub fn block_bytes(alloc: Global, content: &[u8]) -> Result<Vec<u8>, AllocError>
     requires { length content.now ≤ content_limit }
     ensures bytes { IfOk result (λ v. v.items ≡ block content.now) }
@@ -63,12 +80,7 @@ pub fn block_bytes(alloc: Global, content: &[u8]) -> Result<Vec<u8>, AllocError>
     ensures again { IfOk result (λ v.
         (rest : List ℕ) → first_block (v.items ++ rest) ≡ Ok (content.now, rest)) }
 {
-    let mut bytes = Vec::new(alloc);
-    bytes.extend_from_slice(&header(content.len() as u16))?;
-    bytes.extend_from_slice(content)?;
-    let last = sum_byte(&bytes);
-    bytes.push(last)?;
-    Ok(bytes)
+    summed_bytes(alloc, &header(content.len() as u16), content)
 }
 
 #[cfg(test)]

@@ -14,6 +14,9 @@ mod limited;
 mod reading;
 mod records;
 mod relocations;
+mod tape_fault;
+mod tape_part;
+mod tapes;
 
 pub use block_fault::BlockFault;
 pub use blocks::BlockReader;
@@ -25,3 +28,6 @@ pub use frames::{Block, block_bytes};
 pub use gsd::{GsdEntry, GsdKind};
 pub use records::{Record, RecordKind, read_record, record_bytes};
 pub use relocations::{Relocation, Target};
+pub use tape_fault::TapeFault;
+pub use tape_part::TapePart;
+pub use tapes::{tape_block, tape_transfer};
