@@ -97,6 +97,11 @@ abbrev pub data_byte : List ℕ → Read TapeFault ℕ
 data_byte [] = Err Inside
 data_byte (byte ∷ rest) = Ok (byte, rest)
 
+-- a part whose count is one of a block of data
+abbrev pub PartFits : TapePart → Type 0
+PartFits (Data address count) = (0 < count) × (count ≤ data_limit)
+PartFits (Start address) = ⊤
+
 -- ---- where a reader stands
 
 -- how many more bytes it may read, and where in the tape it is

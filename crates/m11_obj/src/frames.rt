@@ -34,7 +34,7 @@ fn header(content_length: u16) -> [u8; 4]
 }
 
 // The byte that makes the sum of the bytes a multiple of 256.
-fn sum_byte(bytes: &[u8]) -> u8
+pub(crate) fn sum_byte(bytes: &[u8]) -> u8
     ensures { result ≡ sum_byte bytes.now }
 {
     let mut total: u8 = 0;
