@@ -119,17 +119,15 @@ abbrev pub stage_within : ℕ → ℕ → Result ℕ TapeFault → TapeStage
 stage_within left total (Ok byte) = InBlock (left - 1) ((total + byte) % 256)
 stage_within left total (Err e) = AfterFault
 
--- no byte of an open block is left, or a fault was answered
-abbrev pub MayGoOn : TapeStage → Type 0
-MayGoOn (InBlock left total) = left ≡ 0
-MayGoOn _ = ⊤
+-- how many bytes of the open block are left
+abbrev pub left_of : TapeStage → ℕ
+left_of (InBlock left total) = left
+left_of _ = 0
 
--- some byte of an open block is left, or a fault was answered
-abbrev pub MayTake : TapeStage → Type 0
-MayTake (InBlock left total) = 0 < left
-MayTake AfterFault = ⊤
-MayTake BeforeBlock = ⊥
-MayTake (AtEnd address) = ⊥
+-- how many bytes of data follow a part
+abbrev pub count_of : TapePart → ℕ
+count_of (Data address count) = count
+count_of (Start address) = 0
 
 -- nothing more is read
 abbrev pub HasStopped : TapeStage → Type 0

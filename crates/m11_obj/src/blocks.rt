@@ -154,3 +154,6 @@ impl BlockReader {
         answer
     }
 }
+
+#[cfg(test)]
+mod tests;

@@ -1,9 +1,9 @@
 //! Writes and reads tapes. (RT-11 Volume and File Formats Manual, "Absolute binary file format".)
 
-ghost use Rattle.std.specs.Prelude.{◌≡◌, ◌+◌, ◌<◌, ◌≤◌, ◌++◌, ◌%◌, ℕ, List, [], length, sum, IfOk, Ok, Err};
+ghost use Rattle.std.specs.Prelude.{◌≡◌, ◌+◌, ◌<◌, ◌≤◌, ◌++◌, ◌%◌, ℕ, List, [], length, sum, IfOk, MatchResult, Ok, Err};
 ghost use Rattle.m11_obj.specs.Limited.{place, most_bytes};
-ghost use Rattle.m11_obj.specs.declared.tape_part.TapeStage.TheVariants.{BeforeBlock};
-ghost use Rattle.m11_obj.specs.Tapes.{tape_header, tape_block, data_limit, total_of, ReadsPart, start, second, word, count, summed, transfer, first_part, next_part, stage_after, stage_within, data_byte, PartFits, MayGoOn, MayTake, HasStopped, ReadsNext, ReadsByte};
+ghost use Rattle.m11_obj.specs.declared.tape_part.TapeStage.TheVariants.{BeforeBlock, AfterFault};
+ghost use Rattle.m11_obj.specs.Tapes.{tape_header, tape_block, data_limit, total_of, ReadsPart, start, second, word, count, summed, transfer, first_part, next_part, stage_after, stage_within, data_byte, PartFits, left_of, count_of, HasStopped, ReadsNext, ReadsByte};
 
 use crate::frames::{sum_byte, summed_bytes};
 use crate::limited::{Lack, MOST_BYTES, next_byte, next_word};
@@ -219,10 +219,13 @@ impl TapeReader {
     /// fault is the first one in the order of the bytes; after it each call answers `Failed` and reads
     /// nothing.
     pub fn next<F: Feed>(&mut self, feed: &mut F) -> Result<TapePart, TapeFault>
-        requires { MayGoOn self.old.stage }
+        requires { left_of self.old.stage ≡ 0 }
         ensures reads { ReadsNext self.old.stage
             (place (F.text feed.old) (F.faults feed.old) self.old.room)
             (place (F.text feed.new) (F.faults feed.new) self.new.room) self.new.stage result }
+        ensures fits { IfOk result PartFits }
+        ensures left { MatchResult result (λ part. left_of self.new.stage ≡ count_of part)
+            (λ _. self.new.stage ≡ AfterFault) }
         ensures stays { HasStopped self.old.stage → (self.new ≡ self.old) × (feed.new ≡ feed.old) }
     {
         let answer = match self.stage {
@@ -238,10 +241,13 @@ impl TapeReader {
     /// The next byte of the open block, of which one must be left. After a fault each call answers
     /// `Failed` and reads nothing.
     pub fn byte<F: Feed>(&mut self, feed: &mut F) -> Result<u8, TapeFault>
-        requires { MayTake self.old.stage }
+        requires { left_of self.old.stage ≡ 0 → self.old.stage ≡ AfterFault }
         ensures reads { ReadsByte self.old.stage
             (place (F.text feed.old) (F.faults feed.old) self.old.room)
             (place (F.text feed.new) (F.faults feed.new) self.new.room) self.new.stage result }
+        ensures left { MatchResult result
+            (λ _. left_of self.old.stage ≡ left_of self.new.stage + 1)
+            (λ _. self.new.stage ≡ AfterFault) }
         ensures stays { HasStopped self.old.stage → (self.new ≡ self.old) × (feed.new ≡ feed.old) }
     {
         match self.stage {
@@ -255,3 +261,6 @@ impl TapeReader {
         }
     }
 }
+
+#[cfg(test)]
+mod tests;
