@@ -101,10 +101,10 @@ count_of_takes length n bytes rest e =
       | inr enough ↦ elim (chosen (ltb 516 length) (Err (Refused fault.TooLong bytes)) (done (length - 4) bytes) (Ok (n, rest)) enough.1) [
         | inl long ↦ absurd (let bad = long.1 in cc)
         | inr fits ↦
-          let least = ltb-false length 4 enough.0 in
-          let most = ltb-false 516 length fits.0 in
-          let is : length - 4 ≡ n = value_is (length - 4) n bytes rest fits.1 in
-          (omega arith, omega arith, rest_is (length - 4) n bytes rest fits.1)
+            let least = ltb-false length 4 enough.0 in
+            let most = ltb-false 516 length fits.0 in
+            let is : length - 4 ≡ n = value_is (length - 4) n bytes rest fits.1 in
+            (omega arith, omega arith, rest_is (length - 4) n bytes rest fits.1)
       ]
     ]
 
@@ -122,10 +122,10 @@ content_takes n bytes xs rest e =
     elim (chosen (ltb (length bytes) n) (Err Inside) (done (take n bytes) (drop n bytes)) (Ok (xs, rest)) e) [
       | inl short ↦ absurd (let bad = short.1 in cc)
       | inr enough ↦
-        let le = ltb-false (length bytes) n enough.0 in
-        let front : take n bytes ≡ xs = value_is (take n bytes) xs (drop n bytes) rest enough.1 in
-        let back : drop n bytes ≡ rest = rest_is (take n bytes) xs (drop n bytes) rest enough.1 in
-        (ap length (sym front) ∙ length-take-le n bytes (omega arith), sym (take-append-drop n bytes) ∙ rw (front, back) refl)
+          let le = ltb-false (length bytes) n enough.0 in
+          let front : take n bytes ≡ xs = value_is (take n bytes) xs (drop n bytes) rest enough.1 in
+          let back : drop n bytes ≡ rest = rest_is (take n bytes) xs (drop n bytes) rest enough.1 in
+          (ap length (sym front) ∙ length-take-le n bytes (omega arith), sym (take-append-drop n bytes) ∙ rw (front, back) refl)
     ]
 
 summed_takes : (xs ys bytes rest : List ℕ) → summed xs bytes ≡ Ok (ys, rest) → (xs ≡ ys) × (bytes ≡ sum_byte (header (length xs) ++ xs) ∷ rest)
@@ -134,7 +134,7 @@ summed_takes xs ys (byte ∷ bytes) rest e =
     let s : ℕ = sum_byte (header (length xs) ++ xs) in
     elim (chosen (eqb byte s) (done xs bytes) (Err (Refused fault.BadSum bytes)) (Ok (ys, rest)) e) [
       | inl hit ↦ let same : byte ≡ s = eqb-true byte s hit.0 in
-        (value_is xs ys bytes rest hit.1, rw (same, rest_is xs ys bytes rest hit.1) refl)
+          (value_is xs ys bytes rest hit.1, rw (same, rest_is xs ys bytes rest hit.1) refl)
       | inr miss ↦ absurd (let bad = miss.1 in cc)
     ]
 
@@ -151,9 +151,10 @@ block_behind bytes content rest small e =
     let sum_is = summed_takes xs.0.0 content xs.0.1 rest xs.2 in
     let same : xs.0.0 ≡ content = sum_is.0 in
     let long : length content ≡ n.0.0 = ap length (sym same) ∙ content_is.0 in
-    let tail : n.0.1 ≡ content ++ sum_byte (header (length content) ++ content) ∷ rest = content_is.1 ∙ rw (sum_is.1, same) refl in
-    (omega (arith, count_is.0, long),
-     rw (second_is, count_is.1, tail, ← long) (sym (block_parts content rest)))
+    let tail : n.0.1 ≡ content ++ sum_byte (header (length content) ++ content) ∷ rest = content_is.1 ∙ rw (sum_is.1, same) refl in (
+      omega (arith, count_is.0, long),
+      rw (second_is, count_is.1, tail, ← long) (sym (block_parts content rest)),
+    )
 
 -- ---- blocks one after another
 
@@ -201,14 +202,15 @@ framed [] content rest small e = absurd (let bad = sym nothing_read ∙ e in cc)
 framed (byte ∷ bytes) content rest small e =
     elim (begun byte bytes) [
       | inl zero_is ↦
-        let others = framed bytes content rest small.1 (sym zero_is.1 ∙ e) in
-        (others.0, λ contents h. let P : ℕ → Type 0 = λ first. AreBlocks (content ∷ contents) (first ∷ bytes) in subst P (sym zero_is.0) (Zero (others.1 contents h)))
+          let others = framed bytes content rest small.1 (sym zero_is.1 ∙ e) in
+          (others.0, λ contents h. let P : ℕ → Type 0 = λ first. AreBlocks (content ∷ contents) (first ∷ bytes) in subst P (sym zero_is.0) (Zero (others.1 contents h)))
       | inr other ↦ elim other [
         | inl one_is ↦
-          let found = block_behind bytes content rest small.1 (sym one_is.1 ∙ e) in
-          let is : byte ∷ bytes ≡ block content ++ rest = ap (λ (first : ℕ). first ∷ bytes) one_is.0 ∙ found.1 in
-          (bytes_behind (block content) rest (subst Bytes is small),
-           λ contents h. let P : List ℕ → Type 0 = λ xs. AreBlocks (content ∷ contents) xs in subst P (sym is) (Block content found.0 h))
+            let found = block_behind bytes content rest small.1 (sym one_is.1 ∙ e) in
+            let is : byte ∷ bytes ≡ block content ++ rest = ap (λ (first : ℕ). first ∷ bytes) one_is.0 ∙ found.1 in (
+              bytes_behind (block content) rest (subst Bytes is small),
+              λ contents h. let P : List ℕ → Type 0 = λ xs. AreBlocks (content ∷ contents) xs in subst P (sym is) (Block content found.0 h),
+            )
         | inr refused ↦ absurd (let bad = sym refused ∙ e in cc)
       ]
     ]
@@ -275,8 +277,8 @@ nothing_framed [] e = Nothing
 nothing_framed (byte ∷ bytes) e =
     elim (begun byte bytes) [
       | inl zero_is ↦
-        let P : ℕ → Type 0 = λ first. AreBlocks [] (first ∷ bytes) in
-        subst P (sym zero_is.0) (Zero (nothing_framed bytes (sym zero_is.1 ∙ e)))
+          let P : ℕ → Type 0 = λ first. AreBlocks [] (first ∷ bytes) in
+          subst P (sym zero_is.0) (Zero (nothing_framed bytes (sym zero_is.1 ∙ e)))
       | inr other ↦ elim other [
         | inl one_is ↦ absurd (start_within bytes (sym one_is.1 ∙ e))
         | inr refused ↦ absurd (let bad = sym refused ∙ e in cc)

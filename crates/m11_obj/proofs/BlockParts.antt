@@ -34,15 +34,15 @@ other_front byte rest not_zero not_one = rw (ne_eqb byte 0 not_zero, ne_eqb byte
 module _ (a b c : Place) (zeros : List ℕ) (took : Took a b zeros) (leads : (rest : List ℕ) → start (zeros ++ rest) ≡ start rest) where
   pub zero_skipped : (byte : ℕ) → byte ≡ 0 → Took b c (byte ∷ []) → (more : List ℕ) × Took a c more × ((rest : List ℕ) → start (more ++ rest) ≡ start rest)
   zero_skipped byte e next =
-    (zeros ++ byte ∷ [], took_then a b c zeros (byte ∷ []) took next, λ rest. ap start (append_assoc zeros (byte ∷ []) rest) ∙ leads (byte ∷ rest) ∙ zero_front byte rest e)
+      (zeros ++ byte ∷ [], took_then a b c zeros (byte ∷ []) took next, λ rest. ap start (append_assoc zeros (byte ∷ []) rest) ∙ leads (byte ∷ rest) ∙ zero_front byte rest e)
 
   pub start_read : (byte : ℕ) → byte ≡ 1 → Took b c (byte ∷ []) → Reads start a c tt
   start_read byte e next =
-    reads_behind start start a b c zeros took leads tt (record { given = byte ∷ []; took = next; is = λ rest. one_front byte rest e })
+      reads_behind start start a b c zeros took leads tt (record { given = byte ∷ []; took = next; is = λ rest. one_front byte rest e })
 
   pub start_refused : (byte : ℕ) → byte ≢ 0 → byte ≢ 1 → Took b c (byte ∷ []) → Stops start a c (why_of fault.BadStart)
   start_refused byte not_zero not_one next =
-    stops_behind start start a b c zeros took leads (why_of fault.BadStart) (byte ∷ [], next, λ rest. other_front byte rest not_zero not_one)
+      stops_behind start start a b c zeros took leads (why_of fault.BadStart) (byte ∷ [], next, λ rest. other_front byte rest not_zero not_one)
 
   pub start_ends : Lacks b c lack.End → Stops start a c EndsBetween
   start_ends lacks = stops_behind start start a b c zeros took leads EndsBetween ([], (b, took_nothing b, lacks), refl)
@@ -81,24 +81,24 @@ module _ (a b : Place) where
       pub count_stops : (why : Why BlockFault) → Stops count c d why → Stops first_block a d why
       unfolding first_block
       count_stops why s = then_stops start behind_start a b d tt started why
-        (then_stops second behind_second b c d tt begun why (first_stops count behind_count c d why s))
+          (then_stops second behind_second b c d tt begun why (first_stops count behind_count c d why s))
 
       module _ (n : ℕ) (counted : Reads count c d n) (e : Place) where
         pub content_stops : (why : Why BlockFault) → Stops (content_of n) d e why → Stops first_block a e why
         unfolding first_block
         content_stops why s = then_stops start behind_start a b e tt started why
-          (then_stops second behind_second b c e tt begun why
-          (then_stops count behind_count c d e n counted why (first_stops (content_of n) behind_content d e why s)))
+            (then_stops second behind_second b c e tt begun why
+            (then_stops count behind_count c d e n counted why (first_stops (content_of n) behind_content d e why s)))
 
         module _ (xs : List ℕ) (held : Reads (content_of n) d e xs) (f : Place) where
           pub sum_stops : (why : Why BlockFault) → Stops (summed xs) e f why → Stops first_block a f why
           unfolding first_block
           sum_stops why s = then_stops start behind_start a b f tt started why
-            (then_stops second behind_second b c f tt begun why
-            (then_stops count behind_count c d f n counted why (then_stops (content_of n) behind_content d e f xs held why s)))
+              (then_stops second behind_second b c f tt begun why
+              (then_stops count behind_count c d f n counted why (then_stops (content_of n) behind_content d e f xs held why s)))
 
           pub block_read : Reads (summed xs) e f xs → Reads first_block a f xs
           unfolding first_block
           block_read r = then_reads start behind_start a b f tt started xs
-            (then_reads second behind_second b c f tt begun xs
-            (then_reads count behind_count c d f n counted xs (then_reads (content_of n) behind_content d e f xs held xs r)))
+              (then_reads second behind_second b c f tt begun xs
+              (then_reads count behind_count c d f n counted xs (then_reads (content_of n) behind_content d e f xs held xs r)))

@@ -51,8 +51,8 @@ module _ {Fault A : Type 0} (read read' : List ℕ → Read Fault A) (a b c : Pl
 
   short_behind : (given : List ℕ) → IsShort (read' given) → IsShort (read (front ++ given))
   short_behind given short =
-    let P : Read Fault A → Type 0 = λ r. IsShort r in
-    subst P (sym (leads given)) short
+      let P : Read Fault A → Type 0 = λ r. IsShort r in
+      subst P (sym (leads given)) short
 
   pub stops_behind : (why : Why Fault) → Stops read' b c why → Stops read a c why
   stops_behind Fails s = (front ++ s.0, lacks_then a b c front s.0 lack.Device took s.1, short_behind s.0 s.2)
@@ -60,7 +60,7 @@ module _ {Fault A : Type 0} (read read' : List ℕ → Read Fault A) (a b c : Pl
   stops_behind EndsInside s = (front ++ s.0, lacks_then a b c front s.0 lack.End took s.1, leads s.0 ∙ s.2)
   stops_behind Passes s = (front ++ s.0, lacks_then a b c front s.0 lack.TooMuch took s.1, short_behind s.0 s.2)
   stops_behind (Refuses fault) s =
-    (front ++ s.0, took_then a b c front s.0 took s.1, λ rest. ap read (append_assoc front s.0 rest) ∙ leads (s.0 ++ rest) ∙ s.2 rest)
+      (front ++ s.0, took_then a b c front s.0 took s.1, λ rest. ap read (append_assoc front s.0 rest) ∙ leads (s.0 ++ rest) ∙ s.2 rest)
   stops_behind Never s = s
 
 -- ---- one part after another

@@ -32,11 +32,11 @@ other_front byte rest other = rw (ne_eqb byte 1 other) refl
 module _ (a b c : Place) (others : List ℕ) (took : Took a b others) (leads : (rest : List ℕ) → start (others ++ rest) ≡ start rest) where
   pub other_skipped : (byte : ℕ) → byte ≢ 1 → Took b c (byte ∷ []) → (more : List ℕ) × Took a c more × ((rest : List ℕ) → start (more ++ rest) ≡ start rest)
   other_skipped byte other next =
-    (others ++ byte ∷ [], took_then a b c others (byte ∷ []) took next, λ rest. ap start (append_assoc others (byte ∷ []) rest) ∙ leads (byte ∷ rest) ∙ other_front byte rest other)
+      (others ++ byte ∷ [], took_then a b c others (byte ∷ []) took next, λ rest. ap start (append_assoc others (byte ∷ []) rest) ∙ leads (byte ∷ rest) ∙ other_front byte rest other)
 
   pub start_read : (byte : ℕ) → byte ≡ 1 → Took b c (byte ∷ []) → Reads start a c tt
   start_read byte e next =
-    reads_behind start start a b c others took leads tt (record { given = byte ∷ []; took = next; is = λ rest. one_front byte rest e })
+      reads_behind start start a b c others took leads tt (record { given = byte ∷ []; took = next; is = λ rest. one_front byte rest e })
 
   pub start_ends : Lacks b c lack.End → Stops start a c (why_of fault.NoTransfer)
   start_ends lacks = stops_behind start start a b c others took leads (why_of fault.NoTransfer) ([], (b, took_nothing b, lacks), refl)
@@ -90,31 +90,31 @@ module _ (a b : Place) where
       pub part_count_stops : (why : Why TapeFault) → Stops count c d why → Stops first_part a d why
       unfolding first_part
       part_count_stops why s = then_stops start behind_start a b d tt started why
-        (then_stops second behind_second b c d tt begun why (first_stops count behind_count c d why s))
+          (then_stops second behind_second b c d tt begun why (first_stops count behind_count c d why s))
 
       module _ (n : ℕ) (counted : Reads count c d n) (e : Place) where
         pub part_address_stops : (why : Why TapeFault) → Stops word d e why → Stops first_part a e why
         unfolding first_part
         part_address_stops why s = then_stops start behind_start a b e tt started why
-          (then_stops second behind_second b c e tt begun why
-          (then_stops count behind_count c d e n counted why (first_stops word (behind_address n) d e why s)))
+            (then_stops second behind_second b c e tt begun why
+            (then_stops count behind_count c d e n counted why (first_stops word (behind_address n) d e why s)))
 
         module _ (address : ℕ) (placed : Reads word d e address) (f : Place) where
           part_behind : (answer : Result TapePart TapeFault) → ReadsPart (λ part. part) (part_of n address) e f answer → ReadsPart (λ part. part) first_part a f answer
           unfolding first_part
           part_behind (Ok part) r = then_reads start behind_start a b f tt started part
-            (then_reads second behind_second b c f tt begun part
-            (then_reads count behind_count c d f n counted part (then_reads word (behind_address n) d e f address placed part r)))
+              (then_reads second behind_second b c f tt begun part
+              (then_reads count behind_count c d f n counted part (then_reads word (behind_address n) d e f address placed part r)))
           part_behind (Err fault) s = then_stops start behind_start a b f tt started (why_of fault)
-            (then_stops second behind_second b c f tt begun (why_of fault)
-            (then_stops count behind_count c d f n counted (why_of fault) (then_stops word (behind_address n) d e f address placed (why_of fault) s)))
+              (then_stops second behind_second b c f tt begun (why_of fault)
+              (then_stops count behind_count c d f n counted (why_of fault) (then_stops word (behind_address n) d e f address placed (why_of fault) s)))
 
           pub part_transfer : n ≡ 0 → (answer : Result TapePart TapeFault) → ReadsPart (λ part. part) (transfer address) e f answer → ReadsPart (λ part. part) first_part a f answer
           part_transfer none answer r = part_behind answer (rw none r)
 
         pub part_data : n ≢ 0 → (address : ℕ) → Reads word d e address → Reads first_part a e (Data address n)
         part_data some address placed = part_behind address placed e (Ok (Data address n))
-          (record { given = []; took = took_nothing e; is = λ rest. rw (ne_eqb n 0 some) refl })
+            (record { given = []; took = took_nothing e; is = λ rest. rw (ne_eqb n 0 some) refl })
 
 -- ---- the part behind a block's data
 

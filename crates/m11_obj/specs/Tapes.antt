@@ -102,6 +102,21 @@ abbrev pub PartFits : TapePart → Type 0
 PartFits (Data address count) = (0 < count) × (count ≤ data_limit)
 PartFits (Start address) = ⊤
 
+-- the parts and bytes of a tape come one after another: the header of each block, its bytes, and behind
+-- them the next part; at last the transfer block
+abbrev pub AreRead : (List ℕ → Read TapeFault TapePart) → List (ℕ × List ℕ) → ℕ → List ℕ → Type 0
+AreRead read [] address bytes = (rest : List ℕ) × (read bytes ≡ Ok (Start address, rest))
+AreRead read (block ∷ blocks) address bytes =
+    (rest : List ℕ) × (read bytes ≡ Ok (Data block.0 (length block.1), block.1 ++ rest))
+    × AreRead (next_part (total_of block.0 block.1)) blocks address rest
+
+-- a block of data in front of some bytes is read again: its header, its bytes, and behind them the part
+-- that is read of those bytes alone
+abbrev pub IsReadAgain : ℕ → List ℕ → List ℕ → List ℕ → Type 0
+IsReadAgain address content block rest = (behind : List ℕ)
+    × (first_part (block ++ rest) ≡ Ok (Data address (length content), content ++ behind))
+    × (next_part (total_of address content) behind ≡ first_part rest)
+
 -- ---- where a reader stands
 
 -- how many more bytes it may read, and where in the tape it is

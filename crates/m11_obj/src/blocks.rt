@@ -106,8 +106,7 @@ pub fn blocks_are_read()
         → AreBlocks contents bytes → AreRead contents bytes }
     ensures framed { (contents : List (List ℕ)) (bytes : List ℕ)
         → AllByRecursion (λ byte. byte < 256) bytes → AreRead contents bytes → AreBlocks contents bytes }
-{
-}
+{}
 
 /// Reads the blocks of one object, in order, from a feed. It takes no memory.
 #[derive(Drop)]

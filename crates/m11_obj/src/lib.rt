@@ -30,4 +30,4 @@ pub use records::{Record, RecordKind, read_record, record_bytes};
 pub use relocations::{Relocation, Target};
 pub use tape_fault::TapeFault;
 pub use tape_part::TapePart;
-pub use tapes::{TapeReader, tape_block, tape_transfer};
+pub use tapes::{TapeReader, tape_block, tape_transfer, tapes_are_read};

@@ -1,9 +1,11 @@
 //! Writes and reads tapes. (RT-11 Volume and File Formats Manual, "Absolute binary file format".)
 
 ghost use Rattle.std.specs.Prelude.{◌≡◌, ◌+◌, ◌<◌, ◌≤◌, ◌++◌, ◌%◌, ℕ, List, [], length, sum, IfOk, MatchResult, Ok, Err};
+ghost use Rattle.std.specs.List.{AllByRecursion};
 ghost use Rattle.m11_obj.specs.Limited.{place, most_bytes};
 ghost use Rattle.m11_obj.specs.declared.tape_part.TapeStage.TheVariants.{BeforeBlock, AfterFault};
-ghost use Rattle.m11_obj.specs.Tapes.{tape_header, tape_block, data_limit, total_of, ReadsPart, start, second, word, count, summed, transfer, first_part, next_part, stage_after, stage_within, data_byte, PartFits, left_of, count_of, HasStopped, ReadsNext, ReadsByte};
+ghost use Rattle.m11_obj.specs.declared.tape_part.TapePart.TheVariants.{Start};
+ghost use Rattle.m11_obj.specs.Tapes.{tape_header, tape_block, data_limit, total_of, IsTape, AreRead, IsReadAgain, ReadsPart, start, second, word, count, summed, transfer, first_part, next_part, stage_after, stage_within, data_byte, PartFits, left_of, count_of, HasStopped, ReadsNext, ReadsByte};
 
 use crate::frames::{sum_byte, summed_bytes};
 use crate::limited::{Lack, MOST_BYTES, next_byte, next_word};
@@ -33,16 +35,21 @@ pub fn tape_block(alloc: Global, address: u16, bytes: &[u8]) -> Result<Vec<u8>, 
     requires fits { length bytes.now ≤ data_limit }
     ensures bytes { IfOk result (λ v. v.items ≡ tape_block address bytes.now) }
     ensures sum { IfOk result (λ v. sum v.items % 256 ≡ 0) }
+    // whatever follows it, a reader reads these bytes again
+    ensures again { IfOk result (λ v. (rest : List ℕ) → IsReadAgain address bytes.now v.items rest) }
 {
     summed_bytes(alloc, &header(address, bytes.len() as u16), bytes)
 }
 
 /// The transfer block of a tape: an even address is where the program starts, an odd one starts
 /// nothing.
-#[tactic(auto, unfolding(crate::specs::Tapes::tape_block))]
+#[tactic(auto, using(crate::proofs::TapeFrames::transfer_again), unfolding(crate::specs::Tapes::tape_block))]
 pub fn tape_transfer(alloc: Global, address: u16) -> Result<Vec<u8>, AllocError>
     ensures bytes { IfOk result (λ v. v.items ≡ tape_block address []) }
     ensures sum { IfOk result (λ v. sum v.items % 256 ≡ 0) }
+    // whatever follows it, a reader reads this start again, and nothing behind it
+    ensures again { IfOk result (λ v.
+        (rest : List ℕ) → first_part (v.items ++ rest) ≡ Ok (Start address, rest)) }
 {
     summed_bytes(alloc, &header(address, 0), &[])
 }
@@ -186,6 +193,16 @@ fn stage_after(answer: &Result<TapePart, TapeFault>) -> TapeStage
         Err(_) => TapeStage::AfterFault,
     }
 }
+
+/// What a reader reads part by part is exactly a tape of the format.
+#[tactic(auto, using(crate::proofs::TapeFrames::tape_read, crate::proofs::TapeFrames::tape_framed))]
+pub fn tapes_are_read()
+    ensures read { (blocks : List (ℕ × List ℕ)) (address : ℕ) (bytes : List ℕ)
+        → IsTape blocks address bytes → AreRead first_part blocks address bytes }
+    ensures framed { (blocks : List (ℕ × List ℕ)) (address : ℕ) (bytes : List ℕ)
+        → AllByRecursion (λ byte. byte < 256) bytes
+        → AreRead first_part blocks address bytes → IsTape blocks address bytes }
+{}
 
 /// Reads one tape, part by part, from a feed. It takes no memory.
 #[derive(Drop)]

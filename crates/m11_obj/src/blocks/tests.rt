@@ -77,10 +77,22 @@ fn zeros_stand_before_between_and_behind_blocks(rt: HostRuntime) {
 
 #[test]
 fn each_fault_of_an_object_comes_for_its_own_reason(rt: HostRuntime) {
-    assert_eq!(rt; fault_of(&rt, &[1, 0, 6, 0, 6]), Some(BlockFault::Truncated));
-    assert_eq!(rt; fault_of(&rt, &[1, 0, 6, 0, 6, 0, 0xf2]), Some(BlockFault::BadSum));
-    assert_eq!(rt; fault_of(&rt, &[2, 0, 6, 0, 6, 0, 0xf2]), Some(BlockFault::BadStart));
-    assert_eq!(rt; fault_of(&rt, &[1, 1, 6, 0, 6, 0, 0xf2]), Some(BlockFault::BadStart));
+    assert_eq!(rt;
+        fault_of(&rt, &[1, 0, 6, 0, 6]),
+        Some(BlockFault::Truncated)
+    );
+    assert_eq!(rt;
+        fault_of(&rt, &[1, 0, 6, 0, 6, 0, 0xf2]),
+        Some(BlockFault::BadSum)
+    );
+    assert_eq!(rt;
+        fault_of(&rt, &[2, 0, 6, 0, 6, 0, 0xf2]),
+        Some(BlockFault::BadStart)
+    );
+    assert_eq!(rt;
+        fault_of(&rt, &[1, 1, 6, 0, 6, 0, 0xf2]),
+        Some(BlockFault::BadStart)
+    );
     // the lengths 3 and 517 are refused at their second byte
     assert_eq!(rt; fault_of(&rt, &[1, 0, 3, 0]), Some(BlockFault::TooShort));
     assert_eq!(rt; fault_of(&rt, &[1, 0, 5, 2]), Some(BlockFault::TooLong));

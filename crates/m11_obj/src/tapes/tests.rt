@@ -1,3 +1,6 @@
+ghost use Rattle.std.specs.Prelude.{◌≡◌};
+ghost use Rattle.m11_obj.specs.Tapes.{left_of};
+
 use super::*;
 use m11_base::{DeviceFault, FuseFeed, MemoryFeed};
 use std::test::Fail;
@@ -25,7 +28,7 @@ fn start_of<F: Feed>(reader: &mut TapeReader, feed: &mut F) -> Result<u16, TapeF
     requires { left_of reader.old.stage ≡ 0 }
     ensures { left_of reader.new.stage ≡ 0 }
 {
-    'blocks: for _ in 0..9 {
+    'parts: for _ in 0..9 {
         match reader.next(feed)? {
             TapePart::Data { count, .. } => take_data(reader, feed, count)?,
             TapePart::Start(address) => return Ok(address),
@@ -65,7 +68,8 @@ fn the_parts_and_bytes_of_a_tape_are_read(rt: HostRuntime) {
             assert_eq!(rt; address, 0o1000);
             assert_eq!(rt; count, 6);
             for at in 0..count as usize {
-                assert_eq!(rt; reader.byte(&mut feed).ok(), TAPE.get(6 + at).copied());
+                let byte = reader.byte(&mut feed).expect(&rt, "a byte of data");
+                assert_eq!(rt; Some(byte), TAPE.get(6 + at).copied());
             }
         }
         _ => assert!(rt; false, "a block of data"),
@@ -110,8 +114,14 @@ fn each_fault_of_a_tape_comes_for_its_own_reason(rt: HostRuntime) {
     assert_eq!(rt; fault_of(&data[..7]), Some(TapeFault::Truncated));
     let wrong_sum = [1, 0, 7, 0, 0, 2, 0o101, 0o264, 1, 0, 6, 0, 0, 2, 0o367];
     assert_eq!(rt; fault_of(&wrong_sum), Some(TapeFault::BadSum));
-    assert_eq!(rt; fault_of(&[1, 0, 6, 0, 0, 2, 0o366]), Some(TapeFault::BadSum));
-    assert_eq!(rt; fault_of(&[1, 1, 6, 0, 0, 2, 0o366]), Some(TapeFault::BadStart));
+    assert_eq!(rt;
+        fault_of(&[1, 0, 6, 0, 0, 2, 0o366]),
+        Some(TapeFault::BadSum)
+    );
+    assert_eq!(rt;
+        fault_of(&[1, 1, 6, 0, 0, 2, 0o366]),
+        Some(TapeFault::BadStart)
+    );
     // the count 5 is refused at its second byte
     assert_eq!(rt; fault_of(&[1, 0, 5, 0]), Some(TapeFault::TooShort));
     assert_eq!(rt; fault_of(&[1, 0, 5]), Some(TapeFault::Truncated));
@@ -159,10 +169,16 @@ impl Feed for Zeros {
 #[test]
 fn the_byte_past_the_limit_is_too_much(rt: HostRuntime) {
     let mut endless = Zeros { left: u64::MAX };
-    assert_eq!(rt; TapeReader::new().next(&mut endless), Err(TapeFault::TooMuch));
+    assert_eq!(rt;
+        TapeReader::new().next(&mut endless),
+        Err(TapeFault::TooMuch)
+    );
     assert_eq!(rt; endless.left, u64::MAX - 4_194_305);
     let mut whole = Zeros { left: 4_194_304 };
-    assert_eq!(rt; TapeReader::new().next(&mut whole), Err(TapeFault::NoTransfer));
+    assert_eq!(rt;
+        TapeReader::new().next(&mut whole),
+        Err(TapeFault::NoTransfer)
+    );
 }
 
 #[test]
