@@ -1,15 +1,15 @@
 -- What is read is a block of the format, and what is a block is read.
-use Rattle.std.proofs.Common.{◌≡◌, ◌≢◌, ◌∙◌, ℕ, ◌+◌, ◌*◌, ◌-◌, ◌/◌, ◌%◌, ◌<◌, ◌≤◌, zero, suc, Bool, true, false, cond, ltb, eqb, List, [], ◌∷◌, ◌++◌, length, take, drop, Result, Ok, Err, refl, sym, ap, subst, append_assoc, arith, inl, inr, ◌⊎◌}
+use Rattle.std.proofs.Common.{◌≡◌, ◌∙◌, ℕ, ◌+◌, ◌*◌, ◌-◌, ◌/◌, ◌%◌, ◌<◌, ◌≤◌, Bool, true, false, cond, ltb, eqb, List, [], ◌∷◌, ◌++◌, length, take, drop, Result, Ok, Err, refl, sym, ap, subst, append_assoc, arith, inl, inr, ◌⊎◌}
 use Rattle.std.specs.List.{AllByRecursion}
 use Rattle.std.proofs.Math.Seq.{take-append_seam, drop-append_seam}
-use Rattle.std.proofs.lemmas.Bool.{le-ltb, ltb-false, ne_eqb, eqb-true}
+use Rattle.std.proofs.lemmas.Bool.{le-ltb, ltb-false, eqb-true}
 use Rattle.std.proofs.lemmas.Bool.Decides.{eqb_tells}
 use Rattle.std.proofs.lemmas.List.{take-append-drop, length-append, length-take-le}
 use Rattle.m11_obj.specs.declared.block_fault.BlockFault.{BlockFault}
 use Rattle.m11_obj.specs.declared.block_fault.BlockFault.TheVariants as fault
 use Rattle.m11_obj.specs.Frames.{word_bytes, sum_byte, header, block, content_limit, AreBlocks, Nothing, Zero, Block}
-use Rattle.m11_obj.specs.Limited.{Stop, Between, Inside, Refused, Read, ◌>>=◌}
-use Rattle.m11_obj.specs.Blocks.{start, second, count_of, count, content_of, summed, first_block, AreRead}
+use Rattle.m11_obj.specs.Limited.{Between, Inside, Refused, Read, ◌>>=◌}
+use Rattle.m11_obj.specs.Blocks.{second, count_of, count, content_of, summed, first_block, AreRead}
 use Rattle.m11_obj.proofs.BlockParts.{behind_start, behind_second, behind_count, behind_content}
 
 -- ---- a block is read

@@ -5,7 +5,7 @@ use Rattle.m11_obj.specs.declared.limited.Lack.{Lack}
 use Rattle.m11_obj.specs.declared.limited.Lack.TheVariants as lack
 use Rattle.m11_obj.specs.declared.block_fault.BlockFault.{BlockFault}
 use Rattle.m11_obj.specs.declared.block_fault.BlockFault.TheVariants as fault
-use Rattle.m11_obj.specs.Limited.{Place, Took, Lacks, TookThenLacks, Inside, Refused, Read, ◌>>=◌, IsShort, Why, EndsBetween, Reads, Stops}
+use Rattle.m11_obj.specs.Limited.{Place, Took, Lacks, TookThenLacks, Inside, Refused, Read, ◌>>=◌, Why, EndsBetween, Reads, Stops}
 use Rattle.m11_obj.specs.Blocks.{start, second, count, content_of, summed, first_block, missing, why_of}
 use Rattle.m11_obj.proofs.Limits.{took_nothing, took_then, reads_behind, stops_behind, first_stops, then_reads, then_stops}
 

@@ -1,10 +1,10 @@
 -- What was read of a feed one piece after another, joined.
-use Rattle.std.proofs.Common.{◌≡◌, ℕ, ◌+◌, ◌<◌, List, [], ◌∷◌, ◌++◌, length, Option, Some, None, Result, Ok, Err, refl, sym, ap, subst, ◌∙◌, arith, append_assoc, length-append}
+use Rattle.std.proofs.Common.{◌≡◌, ℕ, ◌<◌, List, [], ◌∷◌, ◌++◌, Option, Some, None, Ok, Err, refl, sym, ap, subst, ◌∙◌, arith, append_assoc, length-append}
 use Rattle.std.specs.List.{AllByRecursion}
 use Rattle.m11_base.specs.Feed.{Text}
 use Rattle.m11_obj.specs.declared.limited.Lack.{Lack}
 use Rattle.m11_obj.specs.declared.limited.Lack.TheVariants as lack
-use Rattle.m11_obj.specs.Limited.{Gave, Place, Took, Lacks, TookThenLacks, Stop, Between, Inside, Refused, Read, ◌>>=◌, IsShort, Why, Fails, EndsBetween, EndsInside, Passes, Refuses, Never, Reads, Stops}
+use Rattle.m11_obj.specs.Limited.{Gave, Place, Took, TookThenLacks, Stop, Between, Inside, Refused, Read, ◌>>=◌, IsShort, Why, Fails, EndsBetween, EndsInside, Passes, Refuses, Never, Reads, Stops}
 
 -- ---- what was given
 

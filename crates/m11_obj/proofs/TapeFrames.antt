@@ -8,7 +8,7 @@ use Rattle.m11_obj.specs.declared.tape_fault.TapeFault.TheVariants as fault
 use Rattle.m11_obj.specs.declared.tape_part.TapePart.{TapePart}
 use Rattle.m11_obj.specs.declared.tape_part.TapePart.TheVariants.{Data, Start}
 use Rattle.m11_obj.specs.Frames.{word_bytes, sum_byte, with_sum}
-use Rattle.m11_obj.specs.Limited.{Stop, Between, Inside, Refused, Read, ◌>>=◌}
+use Rattle.m11_obj.specs.Limited.{Refused, Read, ◌>>=◌}
 use Rattle.m11_obj.specs.Tapes.{tape_header, tape_block, data_limit, IsTape, Transfer, Skipped, Block, start, second, word, count, summed, total_of, transfer, part_of, first_part, next_part, AreRead, IsReadAgain}
 use Rattle.m11_obj.proofs.TapeParts.{behind_start, behind_second, behind_count, behind_address, behind_sum}
 

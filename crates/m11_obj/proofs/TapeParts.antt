@@ -1,5 +1,5 @@
 -- A tape is read part by part.
-use Rattle.std.proofs.Common.{◌≡◌, ◌≢◌, ◌∙◌, ℕ, List, [], ◌∷◌, ◌++◌, eqb, cond, false, Result, Ok, Err, refl, ap, append_assoc}
+use Rattle.std.proofs.Common.{◌≡◌, ◌≢◌, ◌∙◌, ℕ, List, [], ◌∷◌, ◌++◌, Result, Ok, Err, refl, ap, append_assoc}
 use Rattle.std.proofs.lemmas.Bool.{ne_eqb}
 use Rattle.m11_obj.specs.declared.limited.Lack.{Lack}
 use Rattle.m11_obj.specs.declared.limited.Lack.TheVariants as lack
@@ -7,7 +7,7 @@ use Rattle.m11_obj.specs.declared.tape_fault.TapeFault.{TapeFault}
 use Rattle.m11_obj.specs.declared.tape_fault.TapeFault.TheVariants as fault
 use Rattle.m11_obj.specs.declared.tape_part.TapePart.{TapePart}
 use Rattle.m11_obj.specs.declared.tape_part.TapePart.TheVariants.{Data, Start}
-use Rattle.m11_obj.specs.Limited.{Place, Took, Lacks, TookThenLacks, Inside, Read, ◌>>=◌, IsShort, Why, Reads, Stops}
+use Rattle.m11_obj.specs.Limited.{Place, Took, Lacks, TookThenLacks, Inside, Read, ◌>>=◌, Why, Reads, Stops}
 use Rattle.m11_obj.specs.Tapes.{start, second, word, count, summed, total_of, transfer, part_of, first_part, next_part, missing, why_of, ReadsPart}
 use Rattle.m11_obj.proofs.Limits.{took_nothing, took_then, reads_behind, stops_behind, first_stops, then_reads, then_stops}
 

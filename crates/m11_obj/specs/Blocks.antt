@@ -7,7 +7,7 @@ use Rattle.m11_obj.specs.declared.block_fault.BlockFault.TheVariants as fault
 use Rattle.m11_obj.specs.declared.limited.Lack.{Lack}
 use Rattle.m11_obj.specs.declared.limited.Lack.TheVariants as lack
 use Rattle.m11_obj.specs.Frames.{sum_byte, header, content_limit}
-use Rattle.m11_obj.specs.Limited.{Place, Stop, Between, Inside, Refused, Read, ◌>>=◌, Why, Fails, EndsBetween, EndsInside, Passes, Refuses, Never, Reads, Stops}
+use Rattle.m11_obj.specs.Limited.{Place, Between, Inside, Refused, Read, ◌>>=◌, Why, Fails, EndsBetween, EndsInside, Passes, Refuses, Never, Reads, Stops}
 
 -- the 001 that begins a block, behind zeros
 abbrev pub start : List ℕ → Read BlockFault (Unit {0})

@@ -12,7 +12,7 @@ use Rattle.m11_obj.specs.declared.tape_part.TapePart.TheVariants.{Data, Start}
 use Rattle.m11_obj.specs.declared.tape_part.TapeStage.{TapeStage}
 use Rattle.m11_obj.specs.declared.tape_part.TapeStage.TheVariants.{BeforeBlock, InBlock, AtEnd, AfterFault}
 use Rattle.m11_obj.specs.Frames.{word_bytes, with_sum}
-use Rattle.m11_obj.specs.Limited.{Place, Stop, Between, Inside, Refused, Read, ◌>>=◌, Why, Fails, EndsBetween, EndsInside, Passes, Refuses, Never, Reads, Stops}
+use Rattle.m11_obj.specs.Limited.{Place, Between, Inside, Refused, Read, ◌>>=◌, Why, Fails, EndsBetween, EndsInside, Passes, Refuses, Never, Reads, Stops}
 
 -- ---- the format
 

@@ -37,19 +37,23 @@ fn start_of<F: Feed>(reader: &mut TapeReader, feed: &mut F) -> Result<u16, TapeF
     Err(TapeFault::Failed)
 }
 
+// How many bytes a feed still gives, of 80 at most.
+fn bytes_left<F: Feed>(feed: &mut F) -> usize {
+    for given in 0..80 {
+        if !matches!(feed.next(), Ok(Some(_))) {
+            return given;
+        }
+    }
+    80
+}
+
 // The start of a tape of these bytes, or its fault; what is answered then, and how much is left.
 fn outcome_of(bytes: &[u8]) -> (Result<u16, TapeFault>, Result<TapePart, TapeFault>, usize) {
     let mut reader = TapeReader::new();
     let mut feed = MemoryFeed::new(bytes);
     let first = start_of(&mut reader, &mut feed);
     let second = reader.next(&mut feed);
-    let mut left = 0;
-    for _ in 0..80 {
-        if let Ok(Some(_)) = feed.next() {
-            left += 1;
-        }
-    }
-    (first, second, left)
+    (first, second, bytes_left(&mut feed))
 }
 
 fn fault_of(bytes: &[u8]) -> Option<TapeFault> {

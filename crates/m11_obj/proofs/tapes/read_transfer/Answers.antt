@@ -1,5 +1,4 @@
 use Rattle.std.proofs.lemmas.Result.{err_from_is_err_and}
-use Rattle.m11_obj.specs.Limited.{place}
 use Rattle.m11_obj.proofs.TapeParts.{transfer_stops, transfer_read}
 use Rattle.m11_obj.proofs.tapes.read_transfer.Goals as goal
 
