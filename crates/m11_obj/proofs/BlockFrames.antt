@@ -24,7 +24,7 @@ count_of_again n rest fits =
     let same : n + 4 - 4 ≡ n = omega arith in
     rw (least, most, same) refl
 
-count_again : (n : ℕ) (rest : List ℕ) → n ≤ content_limit → count (word_bytes (n + 4) ++ rest) ≡ Ok (n, rest)
+pub count_again : (n : ℕ) (rest : List ℕ) → n ≤ content_limit → count (word_bytes (n + 4) ++ rest) ≡ Ok (n, rest)
 count_again n rest fits =
     ap (λ (word : ℕ). count_of word rest) (word_number (n + 4) (omega arith)) ∙ count_of_again n rest fits
 
@@ -48,7 +48,7 @@ parts_again xs rest fits =
     ∙ ap (λ (r : Read BlockFault (List ℕ)). r >>= behind_content) (content_again xs (sum_byte (header (length xs) ++ xs) ∷ rest))
     ∙ summed_again xs rest
 
-block_parts : (xs rest : List ℕ) → block xs ++ rest ≡ 1 ∷ 0 ∷ (word_bytes (length xs + 4) ++ (xs ++ sum_byte (header (length xs) ++ xs) ∷ rest))
+pub block_parts : (xs rest : List ℕ) → block xs ++ rest ≡ 1 ∷ 0 ∷ (word_bytes (length xs + 4) ++ (xs ++ sum_byte (header (length xs) ++ xs) ∷ rest))
 unfolding block
 block_parts xs rest =
     let last : List ℕ = sum_byte (header (length xs) ++ xs) ∷ [] in
@@ -64,11 +64,11 @@ bind_ok (Ok x) f y e = (x, refl, e)
 bind_ok (Err stop) f y e = absurd cc
 
 -- the way that a test went
-chosen : {A : Type 0} (b : Bool) (x y z : A) → cond b x y ≡ z → ((b ≡ true) × (x ≡ z)) ⊎ ((b ≡ false) × (y ≡ z))
+pub chosen : {A : Type 0} (b : Bool) (x y z : A) → cond b x y ≡ z → ((b ≡ true) × (x ≡ z)) ⊎ ((b ≡ false) × (y ≡ z))
 chosen true x y z e = inl (refl, e)
 chosen false x y z e = inr (refl, e)
 
-abbrev done : {A : Type 0} → A → List ℕ → Read BlockFault A
+abbrev pub done : {A : Type 0} → A → List ℕ → Read BlockFault A
 done x rest = Ok (x, rest)
 
 abbrev whole : {A : Type 0} → A × List ℕ → Read BlockFault A
@@ -86,7 +86,7 @@ rest_is {A} x y xs ys e = ap (λ (p : A × List ℕ). p.1) (ok_is (x, xs) (y, ys
 value_is : {A : Type 0} (x y : A) (xs ys : List ℕ) → done x xs ≡ done y ys → x ≡ y
 value_is {A} x y xs ys e = ap (λ (p : A × List ℕ). p.0) (ok_is (x, xs) (y, ys) e)
 
-second_takes : (bytes rest : List ℕ) → second bytes ≡ Ok (tt, rest) → bytes ≡ 0 ∷ rest
+pub second_takes : (bytes rest : List ℕ) → second bytes ≡ Ok (tt, rest) → bytes ≡ 0 ∷ rest
 second_takes [] rest e = absurd cc
 second_takes (byte ∷ bytes) rest e =
     elim (chosen (eqb byte 0) (done tt bytes) (Err (Refused fault.BadStart bytes)) (Ok (tt, rest)) e) [
@@ -108,7 +108,7 @@ count_of_takes length n bytes rest e =
       ]
     ]
 
-count_takes : (n : ℕ) (bytes rest : List ℕ) → Bytes bytes → count bytes ≡ Ok (n, rest) → (n ≤ content_limit) × (bytes ≡ word_bytes (n + 4) ++ rest)
+pub count_takes : (n : ℕ) (bytes rest : List ℕ) → Bytes bytes → count bytes ≡ Ok (n, rest) → (n ≤ content_limit) × (bytes ≡ word_bytes (n + 4) ++ rest)
 count_takes n [] rest small e = absurd cc
 count_takes n (low ∷ []) rest small e = absurd cc
 count_takes n (low ∷ high ∷ bytes) rest small e =
@@ -117,7 +117,7 @@ count_takes n (low ∷ high ∷ bytes) rest small e =
     let high_is : high ≡ (n + 4) / 256 % 256 = omega (arith, t.1, small.0, small.1.0) in
     (t.0, rw (← low_is, ← high_is, t.2) refl)
 
-content_takes : (n : ℕ) (bytes xs rest : List ℕ) → content_of n bytes ≡ Ok (xs, rest) → (length xs ≡ n) × (bytes ≡ xs ++ rest)
+pub content_takes : (n : ℕ) (bytes xs rest : List ℕ) → content_of n bytes ≡ Ok (xs, rest) → (length xs ≡ n) × (bytes ≡ xs ++ rest)
 content_takes n bytes xs rest e =
     elim (chosen (ltb (length bytes) n) (Err Inside) (done (take n bytes) (drop n bytes)) (Ok (xs, rest)) e) [
       | inl short ↦ absurd (let bad = short.1 in cc)
@@ -162,7 +162,7 @@ bytes_behind : (xs ys : List ℕ) → Bytes (xs ++ ys) → Bytes ys
 bytes_behind [] ys small = small
 bytes_behind (x ∷ xs) ys small = bytes_behind xs ys small.1
 
-zero_in_front : (bytes : List ℕ) → first_block (0 ∷ bytes) ≡ first_block bytes
+pub zero_in_front : (bytes : List ℕ) → first_block (0 ∷ bytes) ≡ first_block bytes
 unfolding first_block
 zero_in_front bytes = refl
 
@@ -170,7 +170,7 @@ zero_read : (contents : List (List ℕ)) (bytes : List ℕ) → AreRead contents
 zero_read [] bytes e = zero_in_front bytes ∙ e
 zero_read (content ∷ contents) bytes h = (h.0, zero_in_front bytes ∙ h.1, h.2)
 
-nothing_read : first_block [] ≡ Err Between
+pub nothing_read : first_block [] ≡ Err Between
 unfolding first_block
 nothing_read = refl
 
@@ -182,7 +182,7 @@ blocks_read _ _ (Block {contents = contents} {bytes = bytes} content fits h) =
     (bytes, block_again content bytes fits, blocks_read contents bytes h)
 
 -- how the first byte is taken
-begun : (byte : ℕ) (bytes : List ℕ) → ((byte ≡ 0) × (first_block (byte ∷ bytes) ≡ first_block bytes))
+pub begun : (byte : ℕ) (bytes : List ℕ) → ((byte ≡ 0) × (first_block (byte ∷ bytes) ≡ first_block bytes))
     ⊎ (((byte ≡ 1) × (first_block (byte ∷ bytes) ≡ behind_start (tt, bytes)))
     ⊎ (first_block (byte ∷ bytes) ≡ Err (Refused fault.BadStart bytes)))
 unfolding first_block
@@ -215,7 +215,7 @@ framed (byte ∷ bytes) content rest small e =
       ]
     ]
 
-bind_err : {A B E : Type 0} (r : Result A E) (f : A → Result B E) (stop : E) → (r >>= f) ≡ Err stop → (r ≡ Err stop) ⊎ ((x : A) × (r ≡ Ok x) × (f x ≡ Err stop))
+pub bind_err : {A B E : Type 0} (r : Result A E) (f : A → Result B E) (stop : E) → (r >>= f) ≡ Err stop → (r ≡ Err stop) ⊎ ((x : A) × (r ≡ Ok x) × (f x ≡ Err stop))
 bind_err {A} {B} {E} (Ok x) f stop e = inr (x, refl, e)
 bind_err {A} {B} {E} (Err other) f stop e = inl (ap (λ (s : E). Err s) (let same : other ≡ stop = cc in same))
 

@@ -1,12 +1,12 @@
 -- Reading the blocks of an object one after another: the block in front of some bytes, or the first
 -- fault in their order. (RT-11 Volume and File Formats Manual, "Object file format", formatted binary
 -- blocks.) The zeros before a block, the limits and which faults there are, are this project's own.
-use Rattle.std.specs.Prelude.{◌≡◌, ◌==◌, ℕ, ◌+◌, ◌-◌, ◌*◌, Bool, true, false, List, [], ◌∷◌, ◌++◌, length, take, drop, codes, Option, Some, None, Result, Ok, Err, nat_lt, if◌then◌else◌}
+use Rattle.std.specs.Prelude.{◌≡◌, replicate, ◌≤◌, ◌<◌, ◌==◌, ℕ, ◌+◌, ◌-◌, ◌*◌, Bool, true, false, List, [], ◌∷◌, ◌++◌, length, take, drop, codes, Option, Some, None, Result, Ok, Err, nat_lt, if◌then◌else◌}
 use Rattle.m11_obj.specs.declared.block_fault.BlockFault.{BlockFault}
 use Rattle.m11_obj.specs.declared.block_fault.BlockFault.TheVariants as fault
 use Rattle.m11_obj.specs.declared.limited.Lack.{Lack}
 use Rattle.m11_obj.specs.declared.limited.Lack.TheVariants as lack
-use Rattle.m11_obj.specs.Frames.{sum_byte, header, content_limit}
+use Rattle.m11_obj.specs.Frames.{sum_byte, header, block, content_limit}
 use Rattle.m11_obj.specs.Limited.{Place, Between, Inside, Refused, Read, ◌>>=◌, Why, Fails, EndsBetween, EndsInside, Passes, Refuses, Never, Reads, Stops}
 
 -- the 001 that begins a block, behind zeros
@@ -57,6 +57,18 @@ abbrev pub AreRead : List (List ℕ) → List ℕ → Type 0
 AreRead [] bytes = first_block bytes ≡ Err Between
 AreRead (content ∷ contents) bytes =
     (rest : List ℕ) × (first_block bytes ≡ Ok (content, rest)) × AreRead contents rest
+
+-- zeros, and then the beginning of a block, with some of its bytes and not with all of them
+pub record IsCut (bytes : List ℕ) : Type 0 where
+  pub zeros : ℕ
+  pub content : List ℕ
+  pub part : List ℕ
+  pub missing : List ℕ
+  pub fits : length content ≤ content_limit
+  pub split : block content ≡ part ++ missing
+  pub some : 0 < length part
+  pub cut : 0 < length missing
+  pub is : bytes ≡ replicate zeros 0 ++ part
 
 -- what a fault says of the bytes
 abbrev pub why_of : BlockFault → Why BlockFault

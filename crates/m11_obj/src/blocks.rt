@@ -5,8 +5,8 @@ ghost use Rattle.std.specs.Bool.{OnTrue, OnFalse};
 ghost use Rattle.std.specs.List.{AllByRecursion};
 ghost use Rattle.arrayvec.specs.ArrayVec.{array_vec_len};
 ghost use Rattle.m11_obj.specs.Frames.{content_limit, AreBlocks};
-ghost use Rattle.m11_obj.specs.Limited.{place, most_bytes};
-ghost use Rattle.m11_obj.specs.Blocks.{AreRead, ReadsPart, ReadsStart, ReadsBlock, second, count, content_of, summed};
+ghost use Rattle.m11_obj.specs.Limited.{place, most_bytes, Inside};
+ghost use Rattle.m11_obj.specs.Blocks.{first_block, IsCut, AreRead, ReadsPart, ReadsStart, ReadsBlock, second, count, content_of, summed};
 
 use crate::block_fault::BlockFault;
 use crate::frames::{Block, block_sum};
@@ -99,13 +99,18 @@ fn read_block<F: Feed>(feed: &mut F, room: &mut u32) -> Result<Option<Block>, Bl
     Ok(Some(content))
 }
 
-/// What a reader reads one after another is exactly the blocks that the bytes hold.
-#[tactic(auto, using(crate::proofs::BlockFrames::blocks_read, crate::proofs::BlockFrames::blocks_framed))]
+/// What a reader reads one after another is exactly the blocks that the bytes hold, and it finds their end
+/// inside a block exactly where they end with a beginning of one.
+#[tactic(auto, using(crate::proofs::BlockFrames::blocks_read, crate::proofs::BlockFrames::blocks_framed, crate::proofs::BlockCuts::cut_read, crate::proofs::BlockCuts::read_cut))]
 pub fn blocks_are_read()
     ensures read { (contents : List (List ℕ)) (bytes : List ℕ)
         → AreBlocks contents bytes → AreRead contents bytes }
     ensures framed { (contents : List (List ℕ)) (bytes : List ℕ)
         → AllByRecursion (λ byte. byte < 256) bytes → AreRead contents bytes → AreBlocks contents bytes }
+    // bytes end inside a block exactly where they are a beginning of one
+    ensures cut { (bytes : List ℕ) → IsCut bytes → first_block bytes ≡ Err Inside }
+    ensures inside { (bytes : List ℕ) → AllByRecursion (λ byte. byte < 256) bytes
+        → first_block bytes ≡ Err Inside → IsCut bytes }
 {}
 
 /// Reads the blocks of one object, in order, from a feed. It takes no memory.
