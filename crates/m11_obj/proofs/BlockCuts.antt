@@ -1,14 +1,14 @@
 -- The bytes end inside a block exactly where they are a block's beginning behind zeros.
-use Rattle.std.proofs.Common.{◌≡◌, ◌≢◌, ◌∙◌, ℕ, zero, suc, ◌+◌, ◌*◌, ◌-◌, ◌/◌, ◌%◌, ◌<◌, ◌≤◌, true, false, cond, ltb, eqb, List, [], ◌∷◌, ◌++◌, length, take, drop, replicate, Result, Ok, Err, refl, sym, ap, subst, append_assoc, arith, inl, inr, ◌⊎◌}
+use Rattle.std.proofs.Common.{◌≡◌, ◌∙◌, ℕ, zero, suc, ◌+◌, ◌*◌, ◌-◌, ◌/◌, ◌%◌, ◌<◌, ◌≤◌, cond, ltb, eqb, List, [], ◌∷◌, ◌++◌, length, take, drop, replicate, Err, refl, sym, ap, subst, append_assoc, arith, inl, inr, ◌⊎◌}
 use Rattle.std.specs.List.{AllByRecursion}
 use Rattle.std.proofs.Math.Seq.{drop-length}
-use Rattle.std.proofs.lemmas.Bool.{le-ltb, lt-ltb, ltb-false, ltb-true, cases_lt}
-use Rattle.std.proofs.lemmas.List.{length-append, length-replicate, append-nil, length-drop}
+use Rattle.std.proofs.lemmas.Bool.{le-ltb, lt-ltb, ltb-true, cases_lt}
+use Rattle.std.proofs.lemmas.List.{length-append, length-replicate, append-nil}
 use Rattle.m11_obj.specs.declared.block_fault.BlockFault.{BlockFault}
 use Rattle.m11_obj.specs.declared.block_fault.BlockFault.TheVariants as fault
 use Rattle.m11_obj.specs.Frames.{word_bytes, sum_byte, header, block, content_limit}
-use Rattle.m11_obj.specs.Limited.{Stop, Between, Inside, Refused, Read, ◌>>=◌}
-use Rattle.m11_obj.specs.Blocks.{start, second, count_of, count, content_of, summed, first_block, IsCut}
+use Rattle.m11_obj.specs.Limited.{Inside, Refused, Read, ◌>>=◌}
+use Rattle.m11_obj.specs.Blocks.{second, count_of, count, content_of, summed, first_block, IsCut}
 use Rattle.m11_obj.proofs.BlockParts.{behind_start, behind_second, behind_count, behind_content}
 use Rattle.m11_obj.proofs.BlockFrames.{chosen, done, bind_err, count_again, block_parts, second_takes, count_takes, content_takes, zero_in_front, nothing_read, begun}
 
@@ -175,9 +175,9 @@ cut_behind bytes small e =
     elim (bind_err (second bytes) behind_second Inside e) [
       | inl early ↦ subst P (sym (second_inside bytes early)) (cut_by [] (1 ∷ []) (0 ∷ 4 ∷ 0 ∷ 251 ∷ []) (omega arith) (omega arith) (omega arith) refl)
       | inr s ↦
-        let second_is : bytes ≡ 0 ∷ s.0.1 = second_takes bytes s.0.1 s.1 in
-        let small' : Bytes (0 ∷ s.0.1) = subst Bytes second_is small in
-        subst P (sym second_is) (behind_count_byte s.0.1 small'.1 s.2)
+          let second_is : bytes ≡ 0 ∷ s.0.1 = second_takes bytes s.0.1 s.1 in
+          let small' : Bytes (0 ∷ s.0.1) = subst Bytes second_is small in
+          subst P (sym second_is) (behind_count_byte s.0.1 small'.1 s.2)
     ]
   where
     behind_header : (n : ℕ) (tail : List ℕ) → n ≤ content_limit → behind_count (n, tail) ≡ Err Inside → IsCut (1 ∷ 0 ∷ (word_bytes (n + 4) ++ tail))
@@ -185,11 +185,12 @@ cut_behind bytes small e =
         elim (bind_err (content_of n tail) behind_content Inside h) [
           | inl early ↦ cut_content n tail (content_inside n tail early) fits
           | inr xs ↦
-            let t = content_takes n tail xs.0.0 xs.0.1 xs.1 in
-            let none : xs.0.1 ≡ [] = summed_inside xs.0.0 xs.0.1 xs.2 in
-            let whole : tail ≡ xs.0.0 = t.1 ∙ ap (λ (rest : List ℕ). xs.0.0 ++ rest) none ∙ append-nil xs.0.0 in
-            cut_tail n xs.0.0 tail (last_of xs.0.0 ∷ []) t.0 fits (omega arith) (ap (λ (ys : List ℕ). ys ++ last_of xs.0.0 ∷ []) (sym whole))
+              let t = content_takes n tail xs.0.0 xs.0.1 xs.1 in
+              let none : xs.0.1 ≡ [] = summed_inside xs.0.0 xs.0.1 xs.2 in
+              let whole : tail ≡ xs.0.0 = t.1 ∙ ap (λ (rest : List ℕ). xs.0.0 ++ rest) none ∙ append-nil xs.0.0 in
+              cut_tail n xs.0.0 tail (last_of xs.0.0 ∷ []) t.0 fits (omega arith) (ap (λ (ys : List ℕ). ys ++ last_of xs.0.0 ∷ []) (sym whole))
         ]
+
     behind_count_byte : (rest : List ℕ) → Bytes rest → behind_second (tt, rest) ≡ Err Inside → IsCut (1 ∷ 0 ∷ rest)
     behind_count_byte rest small h =
         let Q : List ℕ → Type 0 = λ xs. IsCut (1 ∷ 0 ∷ xs) in
@@ -197,12 +198,12 @@ cut_behind bytes small e =
           | inl early ↦ elim (count_inside rest early) [
             | inl none ↦ subst Q (sym none) (cut_by [] (1 ∷ 0 ∷ []) (4 ∷ 0 ∷ 251 ∷ []) (omega arith) (omega arith) (omega arith) refl)
             | inr one ↦
-              let small' : Bytes (one.0 ∷ []) = subst Bytes one.1 small in
-              subst Q (sym one.1) (cut_low one.0 small'.0)
+                let small' : Bytes (one.0 ∷ []) = subst Bytes one.1 small in
+                subst Q (sym one.1) (cut_low one.0 small'.0)
           ]
           | inr n ↦
-            let t = count_takes n.0.0 rest n.0.1 small n.1 in
-            subst Q (sym t.1) (behind_header n.0.0 n.0.1 t.0 n.2)
+              let t = count_takes n.0.0 rest n.0.1 small n.1 in
+              subst Q (sym t.1) (behind_header n.0.0 n.0.1 t.0 n.2)
         ]
 
 one_more_zero : (bytes : List ℕ) → IsCut bytes → IsCut (0 ∷ bytes)
@@ -223,12 +224,12 @@ read_cut [] small e = absurd (let bad = sym nothing_read ∙ e in cc)
 read_cut (byte ∷ bytes) small e =
     elim (begun byte bytes) [
       | inl zero_is ↦
-        let P : ℕ → Type 0 = λ first. IsCut (first ∷ bytes) in
-        subst P (sym zero_is.0) (one_more_zero bytes (read_cut bytes small.1 (sym zero_is.1 ∙ e)))
+          let P : ℕ → Type 0 = λ first. IsCut (first ∷ bytes) in
+          subst P (sym zero_is.0) (one_more_zero bytes (read_cut bytes small.1 (sym zero_is.1 ∙ e)))
       | inr other ↦ elim other [
         | inl one_is ↦
-          let P : ℕ → Type 0 = λ first. IsCut (first ∷ bytes) in
-          subst P (sym one_is.0) (cut_behind bytes small.1 (sym one_is.1 ∙ e))
+            let P : ℕ → Type 0 = λ first. IsCut (first ∷ bytes) in
+            subst P (sym one_is.0) (cut_behind bytes small.1 (sym one_is.1 ∙ e))
         | inr refused ↦ absurd (let bad = sym refused ∙ e in cc)
       ]
     ]

@@ -7,9 +7,12 @@ use Rattle.m11_obj.specs.declared.tape_fault.TapeFault.{TapeFault}
 use Rattle.m11_obj.specs.declared.tape_fault.TapeFault.TheVariants as fault
 use Rattle.m11_obj.specs.declared.tape_part.TapePart.{TapePart}
 use Rattle.m11_obj.specs.declared.tape_part.TapePart.TheVariants.{Data, Start}
+use Rattle.std.proofs.lemmas.List.Sums.{sum_by-append}
+use Rattle.std.proofs.lemmas.List.{length-append}
+use Rattle.m11_obj.specs.declared.tape_part.TapeStage.TheVariants.{InBlock}
 use Rattle.m11_obj.specs.Frames.{word_bytes, sum_byte, with_sum}
 use Rattle.m11_obj.specs.Limited.{Refused, Read, ◌>>=◌}
-use Rattle.m11_obj.specs.Tapes.{tape_header, tape_block, data_limit, IsTape, Transfer, Skipped, Block, start, second, word, count, summed, total_of, transfer, part_of, first_part, next_part, AreRead, IsReadAgain}
+use Rattle.m11_obj.specs.Tapes.{tape_header, tape_block, data_limit, IsTape, Transfer, Skipped, Block, start, second, word, count, summed, total_of, transfer, part_of, first_part, next_part, AreRead, IsReadAgain, opened, stage_within}
 use Rattle.m11_obj.proofs.TapeParts.{behind_start, behind_second, behind_count, behind_address, behind_sum}
 
 -- ---- a tape is read
@@ -362,3 +365,25 @@ tape_framed (block ∷ blocks) address bytes small h =
     let found = data_framed bytes block.0 (length block.1) (block.1 ++ h.0) small h.1 in
     let t = behind_takes block.0 block.1 blocks address h.0 (bytes_behind block.1 h.0 found.0) h.2 in
     found.1 blocks address block.1 t.0 refl (ap (λ (xs : List ℕ). block.1 ++ xs) t.1) (tape_framed blocks address t.0 t.2 t.3)
+
+-- ---- the bytes of an open block
+
+sum-one_more : (xs ys : List ℕ) (byte : ℕ) → sum (xs ++ (ys ++ byte ∷ [])) ≡ sum (xs ++ ys) + byte
+sum-one_more xs ys byte =
+    ap sum (sym (append_assoc xs ys (byte ∷ []))) ∙ sum_by-append (λ n. n) (xs ++ ys) (byte ∷ []) ∙ omega arith
+
+-- a byte more of it was read
+pub opened_more : (address n byte : ℕ) (taken : List ℕ)
+    → stage_within (n - length taken) (sum (tape_header address n ++ taken) % 256) (Ok byte) ≡ opened address n (taken ++ byte ∷ [])
+opened_more address n byte taken =
+    let fewer : n - length taken - 1 ≡ n - length (taken ++ byte ∷ []) = omega (arith, length-append taken (byte ∷ [])) in
+    let more = sum-one_more (tape_header address n) taken byte in
+    let total : (sum (tape_header address n ++ taken) % 256 + byte) % 256 ≡ sum (tape_header address n ++ (taken ++ byte ∷ [])) % 256 = omega (arith, more) in
+    ap (λ (left : ℕ). InBlock left ((sum (tape_header address n ++ taken) % 256 + byte) % 256)) fewer
+    ∙ ap (λ (t : ℕ). InBlock (n - length (taken ++ byte ∷ [])) t) total
+
+-- all of it was read
+pub opened_all : (address : ℕ) (content : List ℕ) → opened address (length content) content ≡ InBlock 0 (total_of address content)
+opened_all address content =
+    let none : length content - length content ≡ 0 = omega arith in
+    ap (λ (left : ℕ). InBlock left (total_of address content)) none

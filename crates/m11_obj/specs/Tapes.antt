@@ -124,6 +124,10 @@ pub record TapeReading : Type 0 where
   pub room : ℕ
   pub stage : TapeStage
 
+-- a block is open of which these bytes were read
+abbrev pub opened : ℕ → ℕ → List ℕ → TapeStage
+opened address count taken = InBlock (count - length taken) (sum (tape_header address count ++ taken) % 256)
+
 -- behind a part, and behind a byte of the open block
 abbrev pub stage_after : Result TapePart TapeFault → TapeStage
 stage_after (Ok (Data address count)) = InBlock count (sum (tape_header address count) % 256)

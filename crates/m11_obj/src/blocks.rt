@@ -106,7 +106,8 @@ pub fn blocks_are_read()
     ensures read { (contents : List (List ℕ)) (bytes : List ℕ)
         → AreBlocks contents bytes → AreRead contents bytes }
     ensures framed { (contents : List (List ℕ)) (bytes : List ℕ)
-        → AllByRecursion (λ byte. byte < 256) bytes → AreRead contents bytes → AreBlocks contents bytes }
+        → AllByRecursion (λ byte. byte < 256) bytes
+        → AreRead contents bytes → AreBlocks contents bytes }
     // bytes end inside a block exactly where they are a beginning of one
     ensures cut { (bytes : List ℕ) → IsCut bytes → first_block bytes ≡ Err Inside }
     ensures inside { (bytes : List ℕ) → AllByRecursion (λ byte. byte < 256) bytes

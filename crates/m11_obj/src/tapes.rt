@@ -1,11 +1,11 @@
 //! Writes and reads tapes. (RT-11 Volume and File Formats Manual, "Absolute binary file format".)
 
-ghost use Rattle.std.specs.Prelude.{◌≡◌, ◌+◌, ◌<◌, ◌≤◌, ◌++◌, ◌%◌, ℕ, List, [], length, sum, IfOk, MatchResult, Ok, Err};
+ghost use Rattle.std.specs.Prelude.{◌≡◌, ◌+◌, ◌-◌, ◌<◌, ◌≤◌, ◌∷◌, ◌++◌, ◌%◌, ℕ, List, [], length, sum, IfOk, MatchResult, Ok, Err};
 ghost use Rattle.std.specs.List.{AllByRecursion};
 ghost use Rattle.m11_obj.specs.Limited.{place, most_bytes};
-ghost use Rattle.m11_obj.specs.declared.tape_part.TapeStage.TheVariants.{BeforeBlock, AfterFault};
+ghost use Rattle.m11_obj.specs.declared.tape_part.TapeStage.TheVariants.{BeforeBlock, InBlock, AfterFault};
 ghost use Rattle.m11_obj.specs.declared.tape_part.TapePart.TheVariants.{Start};
-ghost use Rattle.m11_obj.specs.Tapes.{tape_header, tape_block, data_limit, total_of, IsTape, AreRead, IsReadAgain, ReadsPart, start, second, word, count, summed, transfer, first_part, next_part, stage_after, stage_within, data_byte, PartFits, left_of, count_of, HasStopped, ReadsNext, ReadsByte};
+ghost use Rattle.m11_obj.specs.Tapes.{tape_header, tape_block, data_limit, total_of, IsTape, AreRead, opened, IsReadAgain, ReadsPart, start, second, word, count, summed, transfer, first_part, next_part, stage_after, stage_within, data_byte, PartFits, left_of, count_of, HasStopped, ReadsNext, ReadsByte};
 
 use crate::frames::{sum_byte, summed_bytes};
 use crate::limited::{Lack, MOST_BYTES, next_byte, next_word};
@@ -104,7 +104,8 @@ fn read_count<F: Feed>(feed: &mut F, room: &mut u32) -> Result<u16, TapeFault>
 
 // Goes behind the sum byte of bytes that have this sum.
 fn read_sum<F: Feed>(feed: &mut F, room: &mut u32, total: u8) -> Result<(), TapeFault>
-    ensures { ReadsPart (λ _. tt) (summed total) (place (F.text feed.old) (F.faults feed.old) room.old)
+    ensures { ReadsPart (λ _. tt) (summed total)
+        (place (F.text feed.old) (F.faults feed.old) room.old)
         (place (F.text feed.new) (F.faults feed.new) room.new) result }
 {
     let byte = next_byte(feed, room)?;
@@ -123,7 +124,8 @@ fn header_total(address: u16, count: u16) -> u8
 }
 
 fn read_transfer<F: Feed>(feed: &mut F, room: &mut u32, address: u16) -> Result<TapePart, TapeFault>
-    ensures part { ReadsPart (λ part. part) (transfer address) (place (F.text feed.old) (F.faults feed.old) room.old)
+    ensures part { ReadsPart (λ part. part) (transfer address)
+        (place (F.text feed.old) (F.faults feed.old) room.old)
         (place (F.text feed.new) (F.faults feed.new) room.new) result }
     ensures fits { IfOk result PartFits }
 {
@@ -133,7 +135,8 @@ fn read_transfer<F: Feed>(feed: &mut F, room: &mut u32, address: u16) -> Result<
 
 // The header of a block of data, or the whole transfer block.
 fn read_part<F: Feed>(feed: &mut F, room: &mut u32) -> Result<TapePart, TapeFault>
-    ensures part { ReadsPart (λ part. part) first_part (place (F.text feed.old) (F.faults feed.old) room.old)
+    ensures part { ReadsPart (λ part. part) first_part
+        (place (F.text feed.old) (F.faults feed.old) room.old)
         (place (F.text feed.new) (F.faults feed.new) room.new) result }
     ensures fits { IfOk result PartFits }
 {
@@ -149,7 +152,8 @@ fn read_part<F: Feed>(feed: &mut F, room: &mut u32) -> Result<TapePart, TapeFaul
 
 // The part behind the data of a block whose bytes have this sum.
 fn read_next<F: Feed>(feed: &mut F, room: &mut u32, total: u8) -> Result<TapePart, TapeFault>
-    ensures part { ReadsPart (λ part. part) (next_part total) (place (F.text feed.old) (F.faults feed.old) room.old)
+    ensures part { ReadsPart (λ part. part) (next_part total)
+        (place (F.text feed.old) (F.faults feed.old) room.old)
         (place (F.text feed.new) (F.faults feed.new) room.new) result }
     ensures fits { IfOk result PartFits }
 {
@@ -159,7 +163,8 @@ fn read_next<F: Feed>(feed: &mut F, room: &mut u32, total: u8) -> Result<TapePar
 
 // A byte of data.
 fn read_byte<F: Feed>(feed: &mut F, room: &mut u32) -> Result<u8, TapeFault>
-    ensures { ReadsPart (λ byte. byte) data_byte (place (F.text feed.old) (F.faults feed.old) room.old)
+    ensures { ReadsPart (λ byte. byte) data_byte
+        (place (F.text feed.old) (F.faults feed.old) room.old)
         (place (F.text feed.new) (F.faults feed.new) room.new) result }
 {
     Ok(next_byte(feed, room)?)
@@ -194,14 +199,21 @@ fn stage_after(answer: &Result<TapePart, TapeFault>) -> TapeStage
     }
 }
 
-/// What a reader reads part by part is exactly a tape of the format.
-#[tactic(auto, using(crate::proofs::TapeFrames::tape_read, crate::proofs::TapeFrames::tape_framed))]
+/// What a reader reads part by part is exactly a tape of the format; the bytes of a block are counted and
+/// added up one a call.
+#[tactic(auto, using(crate::proofs::TapeFrames::tape_read, crate::proofs::TapeFrames::tape_framed, crate::proofs::TapeFrames::opened_more, crate::proofs::TapeFrames::opened_all))]
 pub fn tapes_are_read()
     ensures read { (blocks : List (ℕ × List ℕ)) (address : ℕ) (bytes : List ℕ)
         → IsTape blocks address bytes → AreRead first_part blocks address bytes }
     ensures framed { (blocks : List (ℕ × List ℕ)) (address : ℕ) (bytes : List ℕ)
         → AllByRecursion (λ byte. byte < 256) bytes
         → AreRead first_part blocks address bytes → IsTape blocks address bytes }
+    // the stage of an open block behind one byte more, and behind all its bytes
+    ensures more { (address count byte : ℕ) (taken : List ℕ)
+        → stage_within (count - length taken) (sum (tape_header address count ++ taken) % 256) (Ok byte)
+        ≡ opened address count (taken ++ byte ∷ []) }
+    ensures all { (address : ℕ) (content : List ℕ)
+        → opened address (length content) content ≡ InBlock 0 (total_of address content) }
 {}
 
 /// Reads one tape, part by part, from a feed. It takes no memory.

@@ -1,6 +1,7 @@
 use super::*;
 use crate::frames::block_bytes;
-use m11_base::{DeviceFault, Feed, FuseFeed, MemoryFeed};
+use crate::limited::tests::Zeros;
+use m11_base::{Feed, FuseFeed, MemoryFeed};
 use std::process::Abort;
 use std::test::Fail;
 
@@ -113,30 +114,6 @@ fn a_block_of_512_bytes_is_read_again(rt: HostRuntime) -> Result<(), Fail> {
     }
     assert_eq!(rt; feed.next(), Ok(None));
     Ok(())
-}
-
-// Gives so many zeros.
-#[derive(Drop)]
-struct Zeros {
-    left: u64,
-}
-
-impl Feed for Zeros {
-    ghost use Rattle.std.specs.Prelude.{None};
-
-    ghost text = { λ _. None };
-
-    ghost faults = { λ _. 0 };
-
-    ghost left = { λ s. s.left };
-
-    fn next(&mut self) -> Result<Option<u8>, DeviceFault> {
-        if self.left == 0 {
-            return Ok(None);
-        }
-        self.left -= 1;
-        Ok(Some(0))
-    }
 }
 
 #[test]

@@ -2,7 +2,8 @@ ghost use Rattle.std.specs.Prelude.{◌≡◌};
 ghost use Rattle.m11_obj.specs.Tapes.{left_of};
 
 use super::*;
-use m11_base::{DeviceFault, FuseFeed, MemoryFeed};
+use crate::limited::tests::Zeros;
+use m11_base::{FuseFeed, MemoryFeed};
 use std::test::Fail;
 
 // `MOV #1,R0` and `HALT` at 1000, where the program starts: a block of 13 bytes, and the transfer
@@ -144,30 +145,6 @@ fn a_tape_that_was_written_is_read(rt: HostRuntime) -> Result<(), Fail> {
     bytes.extend_from_slice(&transfer)?;
     assert_eq!(rt; outcome_of(&bytes).0, Ok(0o1000));
     Ok(())
-}
-
-// Gives so many zeros.
-#[derive(Drop)]
-struct Zeros {
-    left: u64,
-}
-
-impl Feed for Zeros {
-    ghost use Rattle.std.specs.Prelude.{None};
-
-    ghost text = { λ _. None };
-
-    ghost faults = { λ _. 0 };
-
-    ghost left = { λ s. s.left };
-
-    fn next(&mut self) -> Result<Option<u8>, DeviceFault> {
-        if self.left == 0 {
-            return Ok(None);
-        }
-        self.left -= 1;
-        Ok(Some(0))
-    }
 }
 
 #[test]
