@@ -4,7 +4,7 @@ pub mod Fault
 pub mod Frames
 pub mod Gsd
 pub mod Limited
-pub mod Records
 pub mod Reading
+pub mod Records
 pub mod Relocations
 pub mod Tapes

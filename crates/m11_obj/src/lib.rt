@@ -19,7 +19,6 @@ mod tape_part;
 mod tapes;
 
 pub use block_fault::BlockFault;
-pub use blocks::BlockReader;
 pub use blocks::{BlockReader, blocks_are_read};
 pub use directory::Relocations;
 pub use fault::RecordFault;
