@@ -1,5 +1,6 @@
 //! Objects as formatted binary: blocks of bytes, and the records that stand in them. (RT-11 Volume and
-//! File Formats Manual, "Object file format".)
+//! File Formats Manual, "Object file format".) Tapes as absolute binary. (The same, "Absolute binary file
+//! format".) Both are read from feeds, whatever their bytes are.
 #![tactic(auto)]
 
 mod block_fault;

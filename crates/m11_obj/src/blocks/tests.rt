@@ -95,9 +95,20 @@ fn each_fault_of_an_object_comes_for_its_own_reason(rt: HostRuntime) {
         Some(BlockFault::BadStart)
     );
     // the lengths 3 and 517 are refused at their second byte
+    assert_eq!(rt;
+        fault_of(&rt, &[1, 0, 3, 0, 0xfc]),
+        Some(BlockFault::TooShort)
+    );
     assert_eq!(rt; fault_of(&rt, &[1, 0, 3, 0]), Some(BlockFault::TooShort));
-    assert_eq!(rt; fault_of(&rt, &[1, 0, 5, 2]), Some(BlockFault::TooLong));
     assert_eq!(rt; fault_of(&rt, &[1, 0, 3]), Some(BlockFault::Truncated));
+    let mut long = [0; 518];
+    long[0] = 1;
+    long[2] = 5;
+    long[3] = 2;
+    long[517] = 0xf8;
+    assert_eq!(rt; fault_of(&rt, &long), Some(BlockFault::TooLong));
+    assert_eq!(rt; fault_of(&rt, &long[..4]), Some(BlockFault::TooLong));
+    assert_eq!(rt; fault_of(&rt, &long[..3]), Some(BlockFault::Truncated));
     // 516 is the length of 512 bytes of content
     assert_eq!(rt; fault_of(&rt, &[1, 0, 4, 2]), Some(BlockFault::Truncated));
     assert_eq!(rt; fault_of(&rt, &[1, 0, 4, 0, 0xfb]), None);

@@ -128,6 +128,7 @@ fn each_fault_of_a_tape_comes_for_its_own_reason(rt: HostRuntime) {
         Some(TapeFault::BadStart)
     );
     // the count 5 is refused at its second byte
+    assert_eq!(rt; fault_of(&[1, 0, 5, 0, 0o372]), Some(TapeFault::TooShort));
     assert_eq!(rt; fault_of(&[1, 0, 5, 0]), Some(TapeFault::TooShort));
     assert_eq!(rt; fault_of(&[1, 0, 5]), Some(TapeFault::Truncated));
     assert_eq!(rt; fault_of(&[1, 0, 6, 0, 0, 2, 0o367]), None);
