@@ -1,6 +1,5 @@
 -- The bytes end inside a block exactly where they are a block's beginning behind zeros.
 use Rattle.std.proofs.Common.{◌≡◌, ◌∙◌, ℕ, zero, suc, ◌+◌, ◌*◌, ◌-◌, ◌/◌, ◌%◌, ◌<◌, ◌≤◌, cond, ltb, eqb, List, [], ◌∷◌, ◌++◌, length, take, drop, replicate, Err, refl, sym, ap, subst, append_assoc, arith, inl, inr, ◌⊎◌}
-use Rattle.std.specs.List.{AllByRecursion}
 use Rattle.std.proofs.Math.Seq.{drop-length}
 use Rattle.std.proofs.lemmas.Bool.{le-ltb, lt-ltb, ltb-true, cases_lt}
 use Rattle.std.proofs.lemmas.List.{length-append, length-replicate, append-nil}
@@ -10,7 +9,8 @@ use Rattle.m11_obj.specs.Frames.{word_bytes, sum_byte, header, block, content_li
 use Rattle.m11_obj.specs.Limited.{Inside, Refused, Read, ◌>>=◌}
 use Rattle.m11_obj.specs.Blocks.{second, count_of, count, content_of, summed, first_block, IsCut}
 use Rattle.m11_obj.proofs.BlockParts.{behind_start, behind_second, behind_count, behind_content}
-use Rattle.m11_obj.proofs.BlockFrames.{chosen, done, bind_err, count_again, block_parts, second_takes, count_takes, content_takes, zero_in_front, nothing_read, begun}
+use Rattle.m11_obj.proofs.ReadSteps.{Bytes, bind_err, chosen, done}
+use Rattle.m11_obj.proofs.BlockFrames.{count_again, block_parts, second_takes, count_takes, content_takes, zero_in_front, nothing_read, begun}
 
 -- ---- a block's beginning ends inside it
 
@@ -81,9 +81,6 @@ cut_read bytes c =
     ∙ cut_inside c.content c.part c.missing c.fits c.some c.cut (sym (block_parts c.content []) ∙ is)
 
 -- ---- what ends inside a block is a block's beginning
-
-abbrev Bytes : List ℕ → Type 0
-Bytes xs = AllByRecursion (λ byte. byte < 256) xs
 
 second_inside : (bytes : List ℕ) → second bytes ≡ Err Inside → bytes ≡ []
 second_inside [] e = refl

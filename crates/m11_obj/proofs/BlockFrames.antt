@@ -1,6 +1,5 @@
 -- What is read is a block of the format, and what is a block is read.
-use Rattle.std.proofs.Common.{◌≡◌, ◌∙◌, ℕ, ◌+◌, ◌*◌, ◌-◌, ◌/◌, ◌%◌, ◌<◌, ◌≤◌, Bool, true, false, cond, ltb, eqb, List, [], ◌∷◌, ◌++◌, length, take, drop, Result, Ok, Err, refl, sym, ap, subst, append_assoc, arith, inl, inr, ◌⊎◌}
-use Rattle.std.specs.List.{AllByRecursion}
+use Rattle.std.proofs.Common.{◌≡◌, ◌∙◌, ℕ, ◌+◌, ◌*◌, ◌-◌, ◌/◌, ◌%◌, ◌<◌, ◌≤◌, false, cond, ltb, eqb, List, [], ◌∷◌, ◌++◌, length, take, drop, Ok, Err, refl, sym, ap, subst, append_assoc, arith, inl, inr, ◌⊎◌}
 use Rattle.std.proofs.Math.Seq.{take-append_seam, drop-append_seam}
 use Rattle.std.proofs.lemmas.Bool.{le-ltb, ltb-false, eqb-true}
 use Rattle.std.proofs.lemmas.Bool.Decides.{eqb_tells}
@@ -10,6 +9,7 @@ use Rattle.m11_obj.specs.declared.block_fault.BlockFault.TheVariants as fault
 use Rattle.m11_obj.specs.Frames.{word_bytes, sum_byte, header, block, content_limit, AreBlocks, Nothing, Zero, Block}
 use Rattle.m11_obj.specs.Limited.{Between, Inside, Refused, Read, ◌>>=◌}
 use Rattle.m11_obj.specs.Blocks.{second, count_of, count, content_of, summed, first_block, AreRead}
+use Rattle.m11_obj.proofs.ReadSteps.{Bytes, bytes_behind, same_eqb, bind_ok, bind_err, chosen, done, rest_is, value_is}
 use Rattle.m11_obj.proofs.BlockParts.{behind_start, behind_second, behind_count, behind_content}
 
 -- ---- a block is read
@@ -33,9 +33,6 @@ content_again xs rest =
     let long : ltb (length (xs ++ rest)) (length xs) ≡ false = le-ltb _ _ (omega (arith, length-append xs rest)) in
     rw (long, take-append_seam xs rest, drop-append_seam xs rest) refl
 
-same_eqb : (x : ℕ) → eqb x x ≡ true
-same_eqb x = elim (eqb_tells x x) [ inl hit ↦ hit.0 | inr miss ↦ absurd (miss.1 refl) ]
-
 summed_again : (xs rest : List ℕ) → summed xs (sum_byte (header (length xs) ++ xs) ∷ rest) ≡ Ok (xs, rest)
 summed_again xs rest = rw (same_eqb (sum_byte (header (length xs) ++ xs))) refl
 
@@ -58,33 +55,6 @@ pub block_again : (content rest : List ℕ) → length content ≤ content_limit
 block_again content rest fits = ap first_block (block_parts content rest) ∙ parts_again content rest fits
 
 -- ---- what is read is a block
-
-bind_ok : {A B E : Type 0} (r : Result A E) (f : A → Result B E) (y : B) → (r >>= f) ≡ Ok y → (x : A) × (r ≡ Ok x) × (f x ≡ Ok y)
-bind_ok (Ok x) f y e = (x, refl, e)
-bind_ok (Err stop) f y e = absurd cc
-
--- the way that a test went
-pub chosen : {A : Type 0} (b : Bool) (x y z : A) → cond b x y ≡ z → ((b ≡ true) × (x ≡ z)) ⊎ ((b ≡ false) × (y ≡ z))
-chosen true x y z e = inl (refl, e)
-chosen false x y z e = inr (refl, e)
-
-abbrev pub done : {A : Type 0} → A → List ℕ → Read BlockFault A
-done x rest = Ok (x, rest)
-
-abbrev whole : {A : Type 0} → A × List ℕ → Read BlockFault A
-whole x = Ok x
-
-abbrev Bytes : List ℕ → Type 0
-Bytes xs = AllByRecursion (λ byte. byte < 256) xs
-
-ok_is : {A : Type 0} (x y : A × List ℕ) → whole x ≡ whole y → x ≡ y
-ok_is x y e = cc
-
-rest_is : {A : Type 0} (x y : A) (xs ys : List ℕ) → done x xs ≡ done y ys → xs ≡ ys
-rest_is {A} x y xs ys e = ap (λ (p : A × List ℕ). p.1) (ok_is (x, xs) (y, ys) e)
-
-value_is : {A : Type 0} (x y : A) (xs ys : List ℕ) → done x xs ≡ done y ys → x ≡ y
-value_is {A} x y xs ys e = ap (λ (p : A × List ℕ). p.0) (ok_is (x, xs) (y, ys) e)
 
 pub second_takes : (bytes rest : List ℕ) → second bytes ≡ Ok (tt, rest) → bytes ≡ 0 ∷ rest
 second_takes [] rest e = absurd cc
@@ -158,10 +128,6 @@ block_behind bytes content rest small e =
 
 -- ---- blocks one after another
 
-bytes_behind : (xs ys : List ℕ) → Bytes (xs ++ ys) → Bytes ys
-bytes_behind [] ys small = small
-bytes_behind (x ∷ xs) ys small = bytes_behind xs ys small.1
-
 pub zero_in_front : (bytes : List ℕ) → first_block (0 ∷ bytes) ≡ first_block bytes
 unfolding first_block
 zero_in_front bytes = refl
@@ -214,10 +180,6 @@ framed (byte ∷ bytes) content rest small e =
         | inr refused ↦ absurd (let bad = sym refused ∙ e in cc)
       ]
     ]
-
-pub bind_err : {A B E : Type 0} (r : Result A E) (f : A → Result B E) (stop : E) → (r >>= f) ≡ Err stop → (r ≡ Err stop) ⊎ ((x : A) × (r ≡ Ok x) × (f x ≡ Err stop))
-bind_err {A} {B} {E} (Ok x) f stop e = inr (x, refl, e)
-bind_err {A} {B} {E} (Err other) f stop e = inl (ap (λ (s : E). Err s) (let same : other ≡ stop = cc in same))
 
 -- ---- the end behind a block's first byte is inside it
 

@@ -1,10 +1,10 @@
 -- What was read of a feed one piece after another, joined.
-use Rattle.std.proofs.Common.{◌≡◌, ℕ, ◌<◌, List, [], ◌∷◌, ◌++◌, Option, Some, None, Ok, Err, refl, sym, ap, subst, ◌∙◌, arith, append_assoc, length-append}
-use Rattle.std.specs.List.{AllByRecursion}
+use Rattle.std.proofs.Common.{◌≡◌, ℕ, List, [], ◌++◌, Option, Some, None, Ok, Err, refl, sym, ap, subst, ◌∙◌, arith, append_assoc, length-append}
 use Rattle.m11_base.specs.Feed.{Text}
 use Rattle.m11_obj.specs.declared.limited.Lack.{Lack}
 use Rattle.m11_obj.specs.declared.limited.Lack.TheVariants as lack
 use Rattle.m11_obj.specs.Limited.{Gave, Place, Took, TookThenLacks, Stop, Between, Inside, Refused, Read, ◌>>=◌, IsShort, Why, Fails, EndsBetween, EndsInside, Passes, Refuses, Never, Reads, Stops}
+use Rattle.m11_obj.proofs.ReadSteps.{bytes_then}
 
 -- ---- what was given
 
@@ -17,13 +17,6 @@ gave_then None t1 t2 xs ys g h = tt
 gave_then (Some t) t1 t2 xs ys g h =
     let next = rw g.2 at h in
     (next.0, g.1 ∙ ap (λ (zs : List ℕ). xs ++ zs) next.1 ∙ sym (append_assoc xs ys next.0), next.2)
-
-abbrev Bytes : List ℕ → Type 0
-Bytes xs = AllByRecursion (λ byte. byte < 256) xs
-
-bytes_then : (xs ys : List ℕ) → Bytes xs → Bytes ys → Bytes (xs ++ ys)
-bytes_then [] ys g h = h
-bytes_then (x ∷ xs) ys g h = (g.0, bytes_then xs ys g.1 h)
 
 pub took_nothing : (p : Place) → Took p p []
 took_nothing p = record { gave = gave_nothing p.text; faults = refl; room = omega arith; bytes = tt }

@@ -1,6 +1,5 @@
 -- What is read is a tape of the format, and what is a tape is read.
-use Rattle.std.proofs.Common.{◌≡◌, ◌≢◌, ◌∙◌, ℕ, ◌+◌, ◌*◌, ◌-◌, ◌/◌, ◌%◌, ◌<◌, ◌≤◌, Bool, true, false, cond, ltb, eqb, List, [], ◌∷◌, ◌++◌, length, sum, Result, Ok, Err, refl, sym, ap, subst, append_assoc, arith, inl, inr, ◌⊎◌}
-use Rattle.std.specs.List.{AllByRecursion}
+use Rattle.std.proofs.Common.{◌≡◌, ◌≢◌, ◌∙◌, ℕ, ◌+◌, ◌*◌, ◌-◌, ◌/◌, ◌%◌, ◌<◌, ◌≤◌, false, cond, ltb, eqb, List, [], ◌∷◌, ◌++◌, length, sum, Ok, Err, refl, sym, ap, subst, append_assoc, arith, inl, inr, ◌⊎◌}
 use Rattle.std.proofs.lemmas.Bool.{le-ltb, ltb-false, ne_eqb, eqb-true}
 use Rattle.std.proofs.lemmas.Bool.Decides.{eqb_tells}
 use Rattle.m11_obj.specs.declared.tape_fault.TapeFault.{TapeFault}
@@ -13,6 +12,7 @@ use Rattle.m11_obj.specs.declared.tape_part.TapeStage.TheVariants.{InBlock}
 use Rattle.m11_obj.specs.Frames.{word_bytes, sum_byte, with_sum}
 use Rattle.m11_obj.specs.Limited.{Refused, Read, ◌>>=◌}
 use Rattle.m11_obj.specs.Tapes.{tape_header, tape_block, data_limit, IsTape, Transfer, Skipped, Block, start, second, word, count, summed, total_of, transfer, part_of, first_part, next_part, AreRead, IsReadAgain, opened, stage_within}
+use Rattle.m11_obj.proofs.ReadSteps.{Bytes, bytes_behind, bind_ok, chosen, done, rest_is, value_is}
 use Rattle.m11_obj.proofs.TapeParts.{behind_start, behind_second, behind_count, behind_address, behind_sum}
 
 -- ---- a tape is read
@@ -32,9 +32,6 @@ count_again n rest fits =
     let least : ltb (n + 6) 6 ≡ false = le-ltb (n + 6) 6 (omega arith) in
     let same : n + 6 - 6 ≡ n = omega arith in
     ap (λ (r : Read TapeFault ℕ). r >>= counted) (word_again (n + 6) rest (omega arith)) ∙ rw (least, same) refl
-
-same_eqb : (x : ℕ) → eqb x x ≡ true
-same_eqb x = elim (eqb_tells x x) [ inl hit ↦ hit.0 | inr miss ↦ absurd (miss.1 refl) ]
 
 -- a sum and its sum byte add up to a multiple of 256
 sum_closes : (s : ℕ) → (s % 256 + (256 - s % 256) % 256) % 256 ≡ 0
@@ -113,33 +110,6 @@ tape_read _ start _ (Block {blocks = blocks} {bytes = bytes} address content lt 
     )
 
 -- ---- what is read is a tape
-
-bind_ok : {A B E : Type 0} (r : Result A E) (f : A → Result B E) (y : B) → (r >>= f) ≡ Ok y → (x : A) × (r ≡ Ok x) × (f x ≡ Ok y)
-bind_ok (Ok x) f y e = (x, refl, e)
-bind_ok (Err stop) f y e = absurd cc
-
--- the way that a test went
-chosen : {A : Type 0} (b : Bool) (x y z : A) → cond b x y ≡ z → ((b ≡ true) × (x ≡ z)) ⊎ ((b ≡ false) × (y ≡ z))
-chosen true x y z e = inl (refl, e)
-chosen false x y z e = inr (refl, e)
-
-abbrev whole : {A : Type 0} → A × List ℕ → Read TapeFault A
-whole x = Ok x
-
-abbrev done : {A : Type 0} → A → List ℕ → Read TapeFault A
-done x rest = Ok (x, rest)
-
-abbrev Bytes : List ℕ → Type 0
-Bytes xs = AllByRecursion (λ byte. byte < 256) xs
-
-ok_is : {A : Type 0} (x y : A × List ℕ) → whole x ≡ whole y → x ≡ y
-ok_is x y e = cc
-
-rest_is : {A : Type 0} (x y : A) (xs ys : List ℕ) → done x xs ≡ done y ys → xs ≡ ys
-rest_is {A} x y xs ys e = ap (λ (p : A × List ℕ). p.1) (ok_is (x, xs) (y, ys) e)
-
-value_is : {A : Type 0} (x y : A) (xs ys : List ℕ) → done x xs ≡ done y ys → x ≡ y
-value_is {A} x y xs ys e = ap (λ (p : A × List ℕ). p.0) (ok_is (x, xs) (y, ys) e)
 
 second_takes : (bytes rest : List ℕ) → second bytes ≡ Ok (tt, rest) → bytes ≡ 0 ∷ rest
 second_takes [] rest e = absurd cc
@@ -353,10 +323,6 @@ data_framed (byte ∷ bytes) address n behind small e =
           let found = data_framed bytes address n behind small.1 (sym other.1 ∙ e) in
           (found.0, λ blocks start content rest long split tape. Skipped byte other.0 (found.1 blocks start content rest long split tape))
     ]
-
-bytes_behind : (xs ys : List ℕ) → Bytes (xs ++ ys) → Bytes ys
-bytes_behind [] ys small = small
-bytes_behind (x ∷ xs) ys small = bytes_behind xs ys small.1
 
 -- what is read is a tape
 pub tape_framed : (blocks : List (ℕ × List ℕ)) (address : ℕ) (bytes : List ℕ) → Bytes bytes → AreRead first_part blocks address bytes → IsTape blocks address bytes
