@@ -1,0 +1,65 @@
+//! Why a run ends, and what a step comes to.
+
+ghost use Rattle.std.specs.Prelude.{◌≡◌};
+
+/// Why a run of a program ends.
+#[derive(Clone, Copy, Debug, PartialEq, Eq)]
+pub enum Stop {
+    /// 1: HALT.
+    Halt,
+    /// 2: as many steps as are allowed were made.
+    Limit,
+    /// 3: WAIT, which nothing can end, since no device interrupts.
+    Wait,
+    /// 4: a trap could not push onto the stack.
+    StackFault,
+    /// 5: the tape says no start.
+    NoStart,
+    /// 6: the console's input failed.
+    InputFault,
+    /// 7: the console's output failed.
+    OutputFault,
+}
+
+/// What a step comes to.
+#[derive(Clone, Copy, Debug, PartialEq, Eq)]
+pub enum Turn {
+    /// The next instruction can be begun.
+    Next,
+    /// The machine stops.
+    Stopped(Stop),
+}
+
+impl Stop {
+    ghost use Rattle.m11_cpu.specs.Stops.{stop_name, stop_number};
+
+    /// The stop's number, from 1 to 7.
+    pub fn number(self) -> u8
+        ensures { result ≡ stop_number self }
+    {
+        match self {
+            Stop::Halt => 1,
+            Stop::Limit => 2,
+            Stop::Wait => 3,
+            Stop::StackFault => 4,
+            Stop::NoStart => 5,
+            Stop::InputFault => 6,
+            Stop::OutputFault => 7,
+        }
+    }
+
+    /// The stop's name, as the messages of a run have it.
+    pub fn name(self) -> &'static str
+        ensures { result.now ≡ stop_name self }
+    {
+        match self {
+            Stop::Halt => "HALT",
+            Stop::Limit => "LIMIT",
+            Stop::Wait => "WAIT",
+            Stop::StackFault => "STACK FAULT",
+            Stop::NoStart => "NO START",
+            Stop::InputFault => "INPUT FAULT",
+            Stop::OutputFault => "OUTPUT FAULT",
+        }
+    }
+}
