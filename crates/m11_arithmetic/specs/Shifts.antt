@@ -1,0 +1,48 @@
+-- Shifts by several places. (PDP-11/40 Processor Handbook, "Extended instruction set".)
+use Rattle.std.specs.Prelude.{ℕ, zero, suc, ◌-◌, ◌%◌, ◌^◌, ◌==◌, nat_lt, Bool, false, if◌then◌else◌, ◌||◌, ℤ, pos, negsuc, neg_ℤ, ◌*ℤ◌, int_lt}
+use Rattle.std.specs.Int.{int_div_euclid}
+use Rattle.m11_base.specs.declared.operand.Size.TheVariants.{Word}
+use Rattle.m11_arithmetic.specs.declared.results.Computed.{Computed}
+use Rattle.m11_arithmetic.specs.declared.results.Pair.{Pair}
+use Rattle.m11_arithmetic.specs.Sizes.{size_limit, signed, modulo, overflows}
+use Rattle.m11_arithmetic.specs.Results.{with_codes, pair_of}
+use Rattle.m11_arithmetic.specs.Extended.{joined}
+
+-- the six lowest bits of a count, the highest of them a sign: 31 places to the left to 32 to the right.
+-- (`negsuc n` is -(n + 1).)
+abbrev pub places : ℕ → ℤ
+places count = if nat_lt (count % 64) 32 then pos (count % 64) else negsuc (63 - count % 64)
+
+-- a number moved to the left by so many places, or to the right where there are less than 0: each place
+-- doubles it, or halves it and rounds down
+abbrev pub shifted : ℤ → ℤ → ℤ
+shifted number (pos n) = number *ℤ pos (2 ^ n)
+shifted number (negsuc n) = int_div_euclid number (pos (2 ^ suc n))
+
+-- the binary digit of a number that stands for 2 to the `place`
+abbrev pub digit : ℤ → ℕ → Bool
+digit number place = modulo 2 (int_div_euclid number (pos (2 ^ place))) == 1
+
+-- the last bit that left a number of `width` bits
+abbrev pub last_bit : ℕ → ℤ → ℤ → Bool
+last_bit width number (pos zero) = false
+last_bit width number (pos (suc n)) = digit (number *ℤ pos (2 ^ suc n)) width
+last_bit width number (negsuc n) = digit number n
+
+-- ASH: V where no word holds the exact number
+unfoldable pub shift_result : ℕ → ℕ → Computed
+shift_result value count =
+    with_codes Word (modulo (size_limit Word) (shifted (signed Word value) (places count)))
+    (overflows Word (shifted (signed Word value) (places count)))
+    (last_bit 16 (signed Word value) (places count))
+
+-- a number that 32 bits can't represent
+abbrev pub overflows_pair : ℤ → Bool
+overflows_pair number = int_lt number (neg_ℤ (pos 0o20000000000)) || int_lt (pos 0o17777777777) number
+
+-- ASHC: V where 32 bits don't hold the exact number
+unfoldable pub shift_pair_result : ℕ → ℕ → ℕ → Pair
+shift_pair_result high low count =
+    pair_of (modulo 0o40000000000 (shifted (joined high low) (places count)))
+    (overflows_pair (shifted (joined high low) (places count)))
+    (last_bit 32 (joined high low) (places count))

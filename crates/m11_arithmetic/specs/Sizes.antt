@@ -1,0 +1,40 @@
+-- Words and bytes as numbers, and numbers as words and bytes. (PDP-11/40 Processor Handbook, "Instruction
+-- set": condition codes, and two's complement numbers.)
+use Rattle.std.specs.Prelude.{ℕ, ◌-◌, ◌%◌, Bool, ◌||◌, ℤ, pos, negsuc, neg_ℤ, int_lt, int_le}
+use Rattle.std.specs.Int.{cast_signed, w8, w16}
+use Rattle.m11_base.specs.declared.operand.Size.{Size}
+use Rattle.m11_base.specs.declared.operand.Size.TheVariants.{Word, Byte}
+
+-- each value of a size lies below it
+abbrev pub size_limit : Size → ℕ
+size_limit Word = 0o200000
+size_limit Byte = 0o400
+
+-- the highest bit alone: from it on, values are negative
+abbrev pub sign_bit : Size → ℕ
+sign_bit Word = 0o100000
+sign_bit Byte = 0o200
+
+-- the number that a value is when its highest bit is a sign
+abbrev pub signed : Size → ℕ → ℤ
+signed Word value = cast_signed w16 value
+signed Byte value = cast_signed w8 value
+
+-- what is left of an exact number below a limit: its remainder, which is never negative. (`negsuc n` is
+-- -(n + 1).)
+abbrev pub modulo : ℕ → ℤ → ℕ
+modulo limit (pos n) = n % limit
+modulo limit (negsuc n) = limit - 1 - n % limit
+
+-- an exact number with a sign that the size can't represent
+abbrev pub overflows : Size → ℤ → Bool
+overflows Word number = int_lt number (neg_ℤ (pos 0o100000)) || int_lt (pos 0o077777) number
+overflows Byte number = int_lt number (neg_ℤ (pos 0o200)) || int_lt (pos 0o177) number
+
+-- an exact number that isn't a value of the size, when no bit is a sign
+abbrev pub is_outside : Size → ℤ → Bool
+is_outside size number = int_lt number (pos 0) || int_le (pos (size_limit size)) number
+
+-- the value with every bit turned
+abbrev pub complement : Size → ℕ → ℕ
+complement size value = size_limit size - 1 - value
