@@ -1,6 +1,6 @@
 -- The operations on a source and a destination. (PDP-11/40 Processor Handbook, "Instruction set": double
 -- operand instructions.)
-use Rattle.std.specs.Prelude.{ℕ, Bool, false, pos, ◌+ℤ◌, ◌-ℤ◌, bit_and, bit_or, bit_xor}
+use Rattle.std.specs.Prelude.{ℕ, false, pos, ◌+ℤ◌, ◌-ℤ◌, bit_and, bit_or, bit_xor}
 use Rattle.m11_base.specs.declared.instruction.ConditionCodes.{ConditionCodes}
 use Rattle.m11_base.specs.declared.instruction.DoubleOp.{DoubleOp}
 use Rattle.m11_base.specs.declared.instruction.DoubleOp.TheVariants.{Mov, Cmp, Bit, Bic, Bis, Add, Sub}

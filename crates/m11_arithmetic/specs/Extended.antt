@@ -1,8 +1,7 @@
 -- Multiplication and division. (PDP-11/40 Processor Handbook, "Extended instruction set".)
-use Rattle.std.specs.Prelude.{ℕ, ◌+◌, ◌*◌, Bool, true, false, if◌then◌else◌, ◌==◌, ℤ, pos, ◌*ℤ◌, int_lt, int_div, int_rem}
+use Rattle.std.specs.Prelude.{ℕ, ◌+◌, ◌*◌, true, false, if◌then◌else◌, ◌==◌, ℤ, pos, ◌*ℤ◌, int_lt, int_div, int_rem}
 use Rattle.std.specs.Int.{cast_signed, w32}
 use Rattle.std.specs.Ordering.{int_eq}
-use Rattle.m11_base.specs.declared.instruction.ConditionCodes.{ConditionCodes}
 use Rattle.m11_base.specs.declared.operand.Size.TheVariants.{Word}
 use Rattle.m11_arithmetic.specs.declared.results.Pair.{Pair}
 use Rattle.m11_arithmetic.specs.declared.results.Division.{Division}

@@ -1,11 +1,15 @@
 -- How results set the condition codes. (PDP-11/40 Processor Handbook, "Instruction set": condition codes.)
-use Rattle.std.specs.Prelude.{ℕ, ◌/◌, ◌%◌, ◌==◌, Bool, ℤ, pos, int_lt}
+use Rattle.std.specs.Prelude.{ℕ, ◌/◌, ◌%◌, ◌==◌, Bool, not, ℤ, pos, int_lt}
+use Rattle.std.specs.Bool.{beq}
 use Rattle.std.specs.Int.{cast_signed, w32}
 use Rattle.m11_base.specs.declared.operand.Size.{Size}
-use Rattle.m11_base.specs.declared.instruction.ConditionCodes.{ConditionCodes}
 use Rattle.m11_arithmetic.specs.declared.results.Computed.{Computed}
 use Rattle.m11_arithmetic.specs.declared.results.Pair.{Pair}
 use Rattle.m11_arithmetic.specs.Sizes.{size_limit, signed, modulo, overflows, is_outside}
+
+-- one of the two is set, and the other isn't
+abbrev pub differ : Bool → Bool → Bool
+differ first second = not (beq first second)
 
 -- a value sets N where it is negative, and Z where it is 0
 abbrev pub with_codes : Size → ℕ → Bool → Bool → Computed

@@ -1,7 +1,6 @@
 -- The operations on one operand. (PDP-11/40 Processor Handbook, "Instruction set": single operand
 -- instructions.)
-use Rattle.std.specs.Prelude.{ℕ, ◌+◌, ◌-◌, ◌*◌, ◌/◌, ◌%◌, ◌==◌, nat_le, Bool, true, false, not, ◌&&◌, if◌then◌else◌, ℤ, pos, neg_ℤ, ◌-ℤ◌, int_lt}
-use Rattle.std.specs.Bool.{xor}
+use Rattle.std.specs.Prelude.{ℕ, ◌+◌, ◌-◌, ◌*◌, ◌/◌, ◌%◌, ◌==◌, nat_le, Bool, true, false, not, ◌&&◌, if◌then◌else◌, pos, neg_ℤ, ◌-ℤ◌, int_lt}
 use Rattle.std.specs.Int.{from_bool, int_div_euclid}
 use Rattle.m11_base.specs.declared.instruction.ConditionCodes.{ConditionCodes}
 use Rattle.m11_base.specs.declared.instruction.SingleOp.{SingleOp}
@@ -10,7 +9,7 @@ use Rattle.m11_base.specs.declared.operand.Size.{Size}
 use Rattle.m11_base.specs.declared.operand.Size.TheVariants.{Word, Byte}
 use Rattle.m11_arithmetic.specs.declared.results.Computed.{Computed}
 use Rattle.m11_arithmetic.specs.Sizes.{size_limit, sign_bit, signed, modulo, overflows, complement}
-use Rattle.m11_arithmetic.specs.Results.{with_codes}
+use Rattle.m11_arithmetic.specs.Results.{differ, with_codes}
 use Rattle.m11_arithmetic.specs.Doubles.{sum, difference}
 
 -- nothing is computed
@@ -52,7 +51,7 @@ less_carry size value carry =
 
 -- a value after a step of one place: C is the bit that left, and V tells whether N and C differ
 abbrev pub stepped : Size → ℕ → Bool → Computed
-stepped size value bit = with_codes size value (xor (int_lt (signed size value) (pos 0)) bit) bit
+stepped size value bit = with_codes size value (differ (int_lt (signed size value) (pos 0)) bit) bit
 
 -- all bits are N; N and C stay as they were
 abbrev pub sign_filled : Size → ConditionCodes → Computed

@@ -11,7 +11,7 @@ use m11_base::{BranchOp, ConditionCodes};
 pub fn is_taken(operation: BranchOp, codes: ConditionCodes) -> bool
     ensures { result ≡ is_taken operation codes }
 {
-    let is_less = codes.negative != codes.overflow;
+    let is_less = codes.negative ^ codes.overflow;
     match operation {
         BranchOp::Br => true,
         BranchOp::Bne => !codes.zero,

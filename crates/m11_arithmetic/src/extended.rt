@@ -1,7 +1,7 @@
 //! Multiplication and division. (PDP-11/40 Processor Handbook, "Extended instruction set".)
 
-ghost use Rattle.std.specs.Prelude.{◌≡◌, ◌<◌, ◌≢◌, ◌^◌, pos, ◌≤ℤ◌, ◌<ℤ◌, neg_ℤ, unsigned_abs, ◌≤◌};
-ghost use Rattle.m11_arithmetic.specs.Extended.{joined, product_of, divided, division_of};
+ghost use Rattle.std.specs.Prelude.{◌≡◌, ◌≢◌, pos, int_div, int_rem};
+ghost use Rattle.m11_arithmetic.specs.Extended.{joined, product_of, divided, division_of, refused_quotient, done};
 
 use crate::results::{Division, Pair, pair_of};
 use crate::sizes::{kept, overflows, signed};
@@ -13,7 +13,7 @@ use m11_base::{ConditionCodes, Size};
 pub fn multiply(register: u16, source: u16) -> Pair
     ensures { result ≡ product_of register source }
 {
-    let product = i32::from(register.cast_signed()) * i32::from(source.cast_signed());
+    let product = signed(Size::Word, register) * signed(Size::Word, source);
     pair_of(
         product.cast_unsigned(),
         false,
@@ -51,20 +51,48 @@ fn divided(dividend: i32, divisor: i32) -> Division
     requires { divisor ≢ pos 0 }
     ensures { result ≡ divided dividend divisor }
 {
-    // 64 bits hold every quotient.
-    let quotient = i64::from(dividend) / i64::from(divisor);
-    let remainder = i64::from(dividend) % i64::from(divisor);
+    let quotient = quotient(dividend, divisor);
     if quotient < -0o100000 || 0o077777 < quotient {
-        return Division::Refused(ConditionCodes {
-            negative: quotient < 0,
-            zero: false,
-            overflow: true,
-            carry: false,
-        });
+        refused_quotient(quotient)
+    } else {
+        done(quotient as i32, remainder(dividend, divisor))
     }
+}
+
+// The quotient rounded towards 0. 32 bits don't hold the one of the least number and -1.
+fn quotient(dividend: i32, divisor: i32) -> i64
+    requires { divisor ≢ pos 0 }
+    ensures { result ≡ int_div dividend divisor }
+{
+    i64::from(dividend) / i64::from(divisor)
+}
+
+// What is left of the dividend then.
+fn remainder(dividend: i32, divisor: i32) -> i32
+    requires { divisor ≢ pos 0 }
+    ensures { result ≡ int_rem dividend divisor }
+{
+    (i64::from(dividend) % i64::from(divisor)) as i32
+}
+
+// No word holds the quotient.
+fn refused_quotient(quotient: i64) -> Division
+    ensures { result ≡ refused_quotient quotient }
+{
+    Division::Refused(ConditionCodes {
+        negative: quotient < 0,
+        zero: false,
+        overflow: true,
+        carry: false,
+    })
+}
+
+fn done(quotient: i32, remainder: i32) -> Division
+    ensures { result ≡ done quotient remainder }
+{
     Division::Done {
-        quotient: kept(Size::Word, quotient as i32),
-        remainder: kept(Size::Word, remainder as i32),
+        quotient: kept(Size::Word, quotient),
+        remainder: kept(Size::Word, remainder),
         codes: ConditionCodes {
             negative: quotient < 0,
             zero: quotient == 0,

@@ -94,7 +94,7 @@ fn stepped(size: Size, value: u16, bit: bool) -> Computed
     requires { value < size_limit size }
     ensures { result ≡ stepped size value bit }
 {
-    with_codes(size, value, (signed(size, value) < 0) != bit, bit)
+    with_codes(size, value, (signed(size, value) < 0) ^ bit, bit)
 }
 
 // The value a place to the right, with the carry in front of it.
