@@ -1,2 +1,4 @@
 pub mod Casts
+pub mod Comparing
+pub mod DoublePrecision
 pub mod Exact

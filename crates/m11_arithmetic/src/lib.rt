@@ -6,6 +6,7 @@
 mod branches;
 mod doubles;
 mod extended;
+mod laws;
 mod results;
 mod shifts;
 mod singles;
@@ -14,6 +15,7 @@ mod sizes;
 pub use branches::is_taken;
 pub use doubles::{double, exclusive_or};
 pub use extended::{divide, multiply};
+pub use laws::{branches_after_compare, double_precision_addition, double_precision_subtraction};
 pub use results::{Computed, Division, Pair};
 pub use shifts::{shift, shift_pair};
 pub use singles::single;

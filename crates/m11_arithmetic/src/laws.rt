@@ -1,0 +1,32 @@
+//! Laws of results and condition codes, in the words of the handbook. Each is a fact on the definitions that
+//! the operations meet. (PDP-11/40 Processor Handbook, "Instruction set" and "Extended instruction set".)
+
+ghost use Rattle.std.specs.Prelude.{◌≡◌, ◌<◌, ℕ, pos, neg_ℤ};
+ghost use Rattle.m11_base.specs.declared.instruction.ConditionCodes.{ConditionCodes};
+ghost use Rattle.m11_base.specs.declared.operand.Size.TheVariants.{Word, Byte};
+ghost use Rattle.m11_arithmetic.specs.Sizes.{signed};
+ghost use Rattle.m11_arithmetic.specs.Extended.{joined, division_of};
+ghost use Rattle.m11_arithmetic.specs.Shifts.{places, shift_result};
+ghost use Rattle.m11_arithmetic.specs.Laws.{CompareThenBranch, Adds, Subtracts, IsProduct, IsDivided, IsShiftedLeft, IsShiftedRight};
+
+/// Behind CMP each conditional branch is taken exactly where the relation of its name holds of the source and
+/// the destination: BLT, BGE, BGT and BLE of the numbers with signs; BLO, BHIS, BHI and BLOS of those without;
+/// BEQ and BNE of either. BLO is BCS, and BHIS is BCC.
+pub fn branches_after_compare()
+    ensures words { CompareThenBranch Word }
+    ensures bytes { CompareThenBranch Byte }
+{}
+
+/// ADD of the low words, ADC to the high word and ADD of the high words add numbers of 32 bits: the sum modulo
+/// 2 to the 32, whose carry is C behind ADC or C behind the last ADD.
+pub fn double_precision_addition()
+    ensures { (source_high source_low high low : ℕ) (codes : ConditionCodes) → source_high < 0o200000 → source_low < 0o200000
+        → high < 0o200000 → low < 0o200000 → Adds source_high source_low high low codes }
+{}
+
+/// SUB of the low words, SBC from the high word and SUB of the high words subtract numbers of 32 bits: the
+/// difference modulo 2 to the 32, whose borrow is C behind SBC or C behind the last SUB.
+pub fn double_precision_subtraction()
+    ensures { (source_high source_low high low : ℕ) (codes : ConditionCodes) → source_high < 0o200000 → source_low < 0o200000
+        → high < 0o200000 → low < 0o200000 → Subtracts source_high source_low high low codes }
+{}
