@@ -1,6 +1,6 @@
 -- CMP and the branches behind it.
-use Rattle.std.proofs.Common.{◌≡◌, refl, sym, ◌∙◌, ap, ℕ, suc, ◌+◌, ◌-◌, ◌*◌, ◌/◌, ◌%◌, ◌^◌, ◌<◌, ◌≤◌, ◌≢◌, ◌⊎◌, inl, inr, ℤ, pos, negsuc, ◌+ℤ◌, ◌-ℤ◌, ◌*ℤ◌, ◌≤ℤ◌, ◌<ℤ◌, neg_ℤ, to_z, of_z, w8, w16, w32, w64, arith, rules, Bool, true, false}
-use Rattle.std.specs.Prelude.{FitsSigned, int_lt, int_le, nat_lt, cond, not, ◌||◌, ◌==◌, IsTrue, ◌↔◌}
+use Rattle.std.proofs.Common.{◌≡◌, sym, ◌∙◌, ap, ℕ, ◌^◌, ◌<◌, ℤ, pos, ◌-ℤ◌, ◌≤ℤ◌, ◌<ℤ◌, of_z, w8, w16, arith, Bool, true}
+use Rattle.std.specs.Prelude.{int_lt, nat_lt, not, ◌||◌, ◌==◌, IsTrue, ◌↔◌}
 use Rattle.std.proofs.lemmas.Bool.{eqb-true, eq-eqb}
 use Rattle.std.proofs.lemmas.Bool.Decides.{nat_tests}
 use Rattle.std.proofs.lemmas.Int.{ints, of_z-to_z}

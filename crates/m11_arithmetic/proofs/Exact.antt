@@ -2,6 +2,7 @@
 use Rattle.std.proofs.Common.{◌≡◌, refl, sym, ◌∙◌, ap, ℕ, ◌^◌, ◌<◌, ◌≤◌, ℤ, pos, negsuc, ◌+ℤ◌, ◌-ℤ◌, ◌*ℤ◌, ◌≤ℤ◌, neg_ℤ, to_z, of_z, w16, w32, w64, arith, rules, Bool, true, false}
 use Rattle.std.specs.Prelude.{FitsSigned, unsigned_abs, int_div, int_rem, int_lt, cond, not, ltb, ◌||◌, ◌==◌}
 use Rattle.std.proofs.lemmas.Bool.{ltb-false}
+use Rattle.std.proofs.lemmas.Bool.Decides.{nat_tests}
 use Rattle.std.proofs.lemmas.Int.{ints, to_z-of_z, fits_signed_mul}
 use Rattle.m11_base.specs.declared.operand.Size.{Size}
 use Rattle.m11_base.specs.declared.operand.Size.TheVariants.{Word, Byte}
@@ -88,7 +89,7 @@ module _ (size : Size) (value kept : ℕ) (a c : ℤ) (overflow : Bool) (r : Com
 
 -- ---- products
 
-size_at_most : (number : ℤ) → FitsSigned w16 number → unsigned_abs number ≤ 2 ^ 15
+pub size_at_most : (number : ℤ) → FitsSigned w16 number → unsigned_abs number ≤ 2 ^ 15
 size_at_most (pos n) fits = omega (arith, fits.sfits)
 size_at_most (negsuc n) fits = omega (arith, fits.sfits)
 
@@ -96,16 +97,17 @@ word_size : (value : ℕ) → value < 2 ^ 16 → unsigned_abs (signed Word value
 word_size value below = size_at_most (signed Word value) (signed_fits Word value below)
 
 -- the 32 bits of a number that they hold
-bits_held : (number : ℤ) → FitsSigned w32 number → of_z w32 number ≡ modulo 0o40000000000 number
+pub bits_held : (number : ℤ) → FitsSigned w32 number → of_z w32 number ≡ modulo 0o40000000000 number
 bits_held (pos n) fits = omega (arith, fits.sfits)
 bits_held (negsuc n) fits = omega (arith, fits.sfits)
 
+pub product_fits : (register source : ℕ) → register < 2 ^ 16 → source < 2 ^ 16 → FitsSigned w32 (signed Word register *ℤ signed Word source)
+product_fits register source register_below source_below =
+    fits_signed_mul w32 (signed Word register) (signed Word source) (2 ^ 15) (2 ^ 15) (word_size register register_below)
+    (word_size source source_below) (omega arith)
+
 module _ (register source bits : ℕ) (a b : ℤ) (overflow : Bool) (r : Pair) (register_below : register < 2 ^ 16) (source_below : source < 2 ^ 16)
     (a_is : a ≡ signed Word register) (b_is : b ≡ signed Word source) where
-  product_fits : FitsSigned w32 (signed Word register *ℤ signed Word source)
-  product_fits =
-      fits_signed_mul w32 (signed Word register) (signed Word source) (2 ^ 15) (2 ^ 15) (word_size register register_below) (word_size source source_below) (omega arith)
-
   product_held : held (held a *ℤ held b) ≡ signed Word register *ℤ signed Word source
   product_held =
       let fits_a : FitsSigned w16 (signed Word register) = signed_fits Word register register_below in
@@ -113,14 +115,14 @@ module _ (register source bits : ℕ) (a b : ℤ) (overflow : Bool) (r : Pair) (
       let held_a : held a ≡ signed Word register = omega (arith, ints) in
       let held_b : held b ≡ signed Word source = omega (arith, ints) in
       ap (λ x. held (x *ℤ held b)) held_a ∙ ap (λ y. held (signed Word register *ℤ y)) held_b
-      ∙ to_z-of_z w32 (signed Word register *ℤ signed Word source) product_fits
+      ∙ to_z-of_z w32 (signed Word register *ℤ signed Word source) (product_fits register source register_below source_below)
 
   pub product_exact : bits ≡ of_z w32 (held (held a *ℤ held b)) → overflow ≡ overflows Word (held (held a *ℤ held b))
       → r ≡ pair_of bits false overflow → r ≡ product_of register source
   unfolding product_of
   product_exact bits_is overflow_is r_is =
       let product : ℤ = signed Word register *ℤ signed Word source in
-      r_is ∙ ap (λ n. pair_of n false overflow) (bits_is ∙ ap (of_z w32) product_held ∙ bits_held product product_fits)
+      r_is ∙ ap (λ n. pair_of n false overflow) (bits_is ∙ ap (of_z w32) product_held ∙ bits_held product (product_fits register source register_below source_below))
       ∙ ap (λ v. pair_of (modulo 0o40000000000 product) false v) (overflow_is ∙ ap (overflows Word) product_held)
 
 -- ---- quotients
@@ -147,6 +149,14 @@ or_false false b e = refl
 pub held_in_word : (number : ℤ) → overflows Word number ≡ false → FitsSigned w16 number
 held_in_word (pos n) e = record { sfits = omega (arith, ltb-false 32767 n e) }
 held_in_word (negsuc n) e = record { sfits = omega (arith, ltb-false 32767 n (or_false (ltb 32767 n) false e)) }
+
+-- a number that a word holds, written to one
+pub word_again : (number : ℤ) → FitsSigned w16 number → signed Word (modulo 0o200000 number) ≡ number
+word_again (pos n) fits = omega (arith, ints)
+word_again (negsuc n) fits = grind (arith, ints, nat_tests)
+
+pub word_holds : (number : ℤ) → FitsSigned w16 number → overflows Word number ≡ false
+word_holds number fits = grind (arith, ints, nat_tests)
 
 module _ (dividend divisor quotient remainder : ℤ) (r : Division) (dividend_fits : FitsSigned w32 dividend) (divisor_fits : FitsSigned w32 divisor)
     (quotient_fits : FitsSigned w64 quotient) (remainder_fits : FitsSigned w32 remainder) where

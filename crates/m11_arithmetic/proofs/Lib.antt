@@ -1,4 +1,6 @@
 pub mod Casts
 pub mod Comparing
 pub mod DoublePrecision
+pub mod Dividing
 pub mod Exact
+pub mod Shifting

@@ -1,20 +1,19 @@
 -- What a reader of the handbook expects of the results and codes, in its own words. (PDP-11/40 Processor
 -- Handbook, "Instruction set": branches, double precision; "Extended instruction set".)
-use Rattle.std.specs.Prelude.{ℕ, zero, suc, ◌+◌, ◌*◌, ◌%◌, ◌^◌, ◌<◌, ◌≤◌, ◌≡◌, ◌≢◌, ◌↔◌, ◌⊎◌, nat_lt, nat_le, Bool, true, false, ◌||◌, IsTrue, ℤ, pos, ◌+ℤ◌, ◌-ℤ◌, ◌*ℤ◌, ◌<ℤ◌, ◌≤ℤ◌, neg_ℤ, unsigned_abs, int_lt}
+use Rattle.std.specs.Prelude.{ℕ, zero, suc, ◌+◌, ◌*◌, ◌%◌, ◌^◌, ◌<◌, ◌≤◌, ◌≡◌, ◌≢◌, ◌↔◌, ◌⊎◌, nat_lt, nat_le, true, false, ◌||◌, IsTrue, ℤ, pos, ◌+ℤ◌, ◌-ℤ◌, ◌*ℤ◌, ◌<ℤ◌, ◌≤ℤ◌, unsigned_abs, int_lt}
 use Rattle.m11_base.specs.declared.instruction.ConditionCodes.{ConditionCodes}
 use Rattle.m11_base.specs.declared.instruction.DoubleOp.TheVariants.{Add, Sub, Cmp}
 use Rattle.m11_base.specs.declared.instruction.SingleOp.TheVariants.{Adc, Sbc}
 use Rattle.m11_base.specs.declared.instruction.BranchOp.TheVariants.{Bne, Beq, Bge, Blt, Bgt, Ble, Bhi, Blos, Bcc, Bcs}
 use Rattle.m11_base.specs.declared.operand.Size.{Size}
-use Rattle.m11_base.specs.declared.operand.Size.TheVariants.{Word, Byte}
+use Rattle.m11_base.specs.declared.operand.Size.TheVariants.{Word}
 use Rattle.m11_arithmetic.specs.declared.results.Computed.{Computed}
 use Rattle.m11_arithmetic.specs.declared.results.Division.{Division}
 use Rattle.m11_arithmetic.specs.declared.results.Division.TheVariants.{Done, Refused}
 use Rattle.m11_arithmetic.specs.Sizes.{size_limit, signed, modulo}
 use Rattle.m11_arithmetic.specs.Doubles.{double_result}
 use Rattle.m11_arithmetic.specs.Singles.{single_result}
-use Rattle.m11_arithmetic.specs.Extended.{joined, product_of, division_of}
-use Rattle.m11_arithmetic.specs.Shifts.{places, shift_result}
+use Rattle.m11_arithmetic.specs.Extended.{joined, product_of}
 use Rattle.m11_arithmetic.specs.Branches.{is_taken}
 
 -- ---- comparisons

@@ -30,3 +30,25 @@ pub fn double_precision_subtraction()
     ensures { (source_high source_low high low : ℕ) (codes : ConditionCodes) → source_high < 0o200000 → source_low < 0o200000
         → high < 0o200000 → low < 0o200000 → Subtracts source_high source_low high low codes }
 {}
+
+/// The two words of MUL are the exact product of the numbers with signs.
+pub fn multiplication()
+    ensures { (register source : ℕ) → register < 0o200000 → source < 0o200000 → IsProduct register source }
+{}
+
+/// Where DIV clears V, quotient and remainder are those of the exact numbers: the dividend is the quotient times
+/// the divisor and the remainder, which is smaller in size than the divisor, and 0 or of the dividend's sign.
+pub fn division()
+    ensures { (high low divisor : ℕ) → high < 0o200000 → low < 0o200000 → divisor < 0o200000
+        → IsDivided (joined high low) (signed Word divisor) (division_of high low divisor) }
+{}
+
+/// ASH by n places to the left gives the value times 2 to the n modulo 65536, which is what n steps give that
+/// double it; V is set exactly where the sign differed from the first one behind some step. ASH by n places to
+/// the right gives the number divided by 2 to the n, rounded down, and clears V.
+pub fn arithmetic_shifts()
+    ensures left { (value count n : ℕ) → value < 0o200000 → places count ≡ pos n
+        → IsShiftedLeft value n (shift_result value count) }
+    ensures right { (value count n : ℕ) → value < 0o200000 → places count ≡ neg_ℤ (pos n)
+        → IsShiftedRight value n (shift_result value count) }
+{}

@@ -15,7 +15,10 @@ mod sizes;
 pub use branches::is_taken;
 pub use doubles::{double, exclusive_or};
 pub use extended::{divide, multiply};
-pub use laws::{branches_after_compare, double_precision_addition, double_precision_subtraction};
+pub use laws::{
+    arithmetic_shifts, branches_after_compare, division, double_precision_addition,
+    double_precision_subtraction, multiplication,
+};
 pub use results::{Computed, Division, Pair};
 pub use shifts::{shift, shift_pair};
 pub use singles::single;
