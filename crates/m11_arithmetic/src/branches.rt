@@ -30,3 +30,6 @@ pub fn is_taken(operation: BranchOp, codes: ConditionCodes) -> bool
         BranchOp::Bcs => codes.carry,
     }
 }
+
+#[cfg(test)]
+mod tests;

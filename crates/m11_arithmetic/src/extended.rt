@@ -101,3 +101,6 @@ fn done(quotient: i32, remainder: i32) -> Division
         },
     }
 }
+
+#[cfg(test)]
+mod tests;

@@ -141,3 +141,6 @@ fn sign_filled(size: Size, codes: ConditionCodes) -> Computed
         },
     }
 }
+
+#[cfg(test)]
+mod tests;
