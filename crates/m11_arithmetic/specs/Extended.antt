@@ -6,7 +6,7 @@ use Rattle.m11_base.specs.declared.operand.Size.TheVariants.{Word}
 use Rattle.m11_arithmetic.specs.declared.results.Pair.{Pair}
 use Rattle.m11_arithmetic.specs.declared.results.Division.{Division}
 use Rattle.m11_arithmetic.specs.declared.results.Division.TheVariants.{Done, Refused}
-use Rattle.m11_arithmetic.specs.Sizes.{size_limit, signed, modulo, overflows}
+use Rattle.m11_arithmetic.specs.Sizes.{size_limit, pair_limit, signed, modulo, overflows}
 use Rattle.m11_arithmetic.specs.Results.{pair_of}
 
 -- the number of 32 bits that two words have together, the highest bit a sign
@@ -16,8 +16,8 @@ joined high low = cast_signed w32 (high * 0o200000 + low)
 -- MUL: C where no word holds the product
 unfoldable pub product_of : ℕ → ℕ → Pair
 product_of register source =
-    pair_of (modulo 0o40000000000 (signed Word register *ℤ signed Word source)) false
-    (overflows Word (signed Word register *ℤ signed Word source))
+    let product = signed Word register *ℤ signed Word source in
+    pair_of (modulo pair_limit product) false (overflows Word product)
 
 abbrev pub refused_by_zero : Division
 refused_by_zero = Refused (record { negative = false; zero = true; overflow = true; carry = true })
@@ -35,8 +35,8 @@ done quotient remainder =
 -- a number divided by another one that isn't 0: the quotient is rounded towards 0
 abbrev pub divided : ℤ → ℤ → Division
 divided dividend divisor =
-    if overflows Word (int_div dividend divisor) then refused_quotient (int_div dividend divisor)
-    else done (int_div dividend divisor) (int_rem dividend divisor)
+    let quotient = int_div dividend divisor in
+    if overflows Word quotient then refused_quotient quotient else done quotient (int_rem dividend divisor)
 
 -- DIV
 unfoldable pub division_of : ℕ → ℕ → ℕ → Division

@@ -10,7 +10,7 @@ use Rattle.m11_base.specs.declared.operand.Size.TheVariants.{Word}
 use Rattle.m11_arithmetic.specs.declared.results.Computed.{Computed}
 use Rattle.m11_arithmetic.specs.declared.results.Division.{Division}
 use Rattle.m11_arithmetic.specs.declared.results.Division.TheVariants.{Done, Refused}
-use Rattle.m11_arithmetic.specs.Sizes.{size_limit, signed, modulo}
+use Rattle.m11_arithmetic.specs.Sizes.{size_limit, pair_limit, signed, modulo}
 use Rattle.m11_arithmetic.specs.Doubles.{double_result}
 use Rattle.m11_arithmetic.specs.Singles.{single_result}
 use Rattle.m11_arithmetic.specs.Extended.{joined, product_of}
@@ -44,8 +44,8 @@ double_word high low = high * 0o200000 + low
 
 -- the sum's 32 bits, and the carry of the whole, which is C behind either of the last two operations
 pub record AreAdded (source destination : ℕ) (low middle high : Computed) : Type 0 where
-  pub value : double_word high.value low.value ≡ (source + destination) % 0o40000000000
-  pub carry : (middle.codes.carry || high.codes.carry) ≡ nat_le 0o40000000000 (source + destination)
+  pub value : double_word high.value low.value ≡ (source + destination) % pair_limit
+  pub carry : (middle.codes.carry || high.codes.carry) ≡ nat_le pair_limit (source + destination)
 
 -- ADD of the low words, ADC to the high word of the destination, ADD of the high words
 abbrev pub Adds : ℕ → ℕ → ℕ → ℕ → ConditionCodes → Type 0
@@ -58,7 +58,7 @@ Adds source_high source_low high low codes =
 -- the bits of the difference, and the borrow of the whole, which is C behind either of the last two
 -- operations
 pub record AreSubtracted (source destination : ℕ) (low middle high : Computed) : Type 0 where
-  pub value : double_word high.value low.value ≡ modulo 0o40000000000 (pos destination -ℤ pos source)
+  pub value : double_word high.value low.value ≡ modulo pair_limit (pos destination -ℤ pos source)
   pub carry : (middle.codes.carry || high.codes.carry) ≡ nat_lt destination source
 
 -- SUB of the low words, SBC from the high word of the destination, SUB of the high words

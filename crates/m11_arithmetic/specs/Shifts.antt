@@ -1,10 +1,10 @@
 -- Shifts by several places. (PDP-11/40 Processor Handbook, "Extended instruction set".)
-use Rattle.std.specs.Prelude.{ℕ, zero, suc, ◌-◌, ◌%◌, ◌^◌, ◌==◌, nat_lt, Bool, false, if◌then◌else◌, ◌||◌, ℤ, pos, negsuc, neg_ℤ, ◌*ℤ◌, int_lt}
+use Rattle.std.specs.Prelude.{ℕ, zero, suc, ◌-◌, ◌%◌, ◌^◌, ◌==◌, nat_lt, Bool, false, if◌then◌else◌, ℤ, pos, negsuc, ◌*ℤ◌}
 use Rattle.std.specs.Int.{int_div_euclid}
 use Rattle.m11_base.specs.declared.operand.Size.TheVariants.{Word}
 use Rattle.m11_arithmetic.specs.declared.results.Computed.{Computed}
 use Rattle.m11_arithmetic.specs.declared.results.Pair.{Pair}
-use Rattle.m11_arithmetic.specs.Sizes.{size_limit, signed, modulo, overflows}
+use Rattle.m11_arithmetic.specs.Sizes.{size_limit, pair_limit, signed, modulo, overflows, overflows_pair}
 use Rattle.m11_arithmetic.specs.Results.{with_codes, pair_of}
 use Rattle.m11_arithmetic.specs.Extended.{joined}
 
@@ -32,17 +32,13 @@ last_bit width number (negsuc n) = digit number n
 -- ASH: V where no word holds the exact number
 unfoldable pub shift_result : ℕ → ℕ → Computed
 shift_result value count =
-    with_codes Word (modulo (size_limit Word) (shifted (signed Word value) (places count)))
-    (overflows Word (shifted (signed Word value) (places count)))
-    (last_bit 16 (signed Word value) (places count))
-
--- a number that 32 bits can't represent
-abbrev pub overflows_pair : ℤ → Bool
-overflows_pair number = int_lt number (neg_ℤ (pos 0o20000000000)) || int_lt (pos 0o17777777777) number
+    let number = signed Word value in
+    let moved = shifted number (places count) in
+    with_codes Word (modulo (size_limit Word) moved) (overflows Word moved) (last_bit 16 number (places count))
 
 -- ASHC: V where 32 bits don't hold the exact number
 unfoldable pub shift_pair_result : ℕ → ℕ → ℕ → Pair
 shift_pair_result high low count =
-    pair_of (modulo 0o40000000000 (shifted (joined high low) (places count)))
-    (overflows_pair (shifted (joined high low) (places count)))
-    (last_bit 32 (joined high low) (places count))
+    let number = joined high low in
+    let moved = shifted number (places count) in
+    pair_of (modulo pair_limit moved) (overflows_pair moved) (last_bit 32 number (places count))

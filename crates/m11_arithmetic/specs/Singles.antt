@@ -40,14 +40,14 @@ keeping_carry codes computed = record {
 -- the value below 0 by as much as it was above: C unless the result is 0
 abbrev pub negated : Size → ℕ → Computed
 negated size value =
-    with_codes size (modulo (size_limit size) (neg_ℤ (pos value))) (overflows size (neg_ℤ (signed size value)))
-    (not (modulo (size_limit size) (neg_ℤ (pos value)) == 0))
+    let opposite = modulo (size_limit size) (neg_ℤ (pos value)) in
+    with_codes size opposite (overflows size (neg_ℤ (signed size value))) (not (opposite == 0))
 
 -- the carry taken off: V where the value was the sign bit alone and C was set, C where it was 0 and C was set
 abbrev pub less_carry : Size → ℕ → Bool → Computed
 less_carry size value carry =
-    with_codes size (modulo (size_limit size) (pos value -ℤ pos (from_bool carry)))
-    (value == sign_bit size && carry) (value == 0 && carry)
+    let left = modulo (size_limit size) (pos value -ℤ pos (from_bool carry)) in
+    with_codes size left (value == sign_bit size && carry) (value == 0 && carry)
 
 -- a value after a step of one place: C is the bit that left, and V tells whether N and C differ
 abbrev pub stepped : Size → ℕ → Bool → Computed

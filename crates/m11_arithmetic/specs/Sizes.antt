@@ -10,6 +10,10 @@ abbrev pub size_limit : Size → ℕ
 size_limit Word = 0o200000
 size_limit Byte = 0o400
 
+-- each number of 32 bits lies below it
+abbrev pub pair_limit : ℕ
+pair_limit = 0o40000000000
+
 -- the highest bit alone: from it on, values are negative
 abbrev pub sign_bit : Size → ℕ
 sign_bit Word = 0o100000
@@ -38,3 +42,7 @@ is_outside size number = int_lt number (pos 0) || int_le (pos (size_limit size))
 -- the value with every bit turned
 abbrev pub complement : Size → ℕ → ℕ
 complement size value = size_limit size - 1 - value
+
+-- an exact number with a sign that 32 bits can't represent
+abbrev pub overflows_pair : ℤ → Bool
+overflows_pair number = int_lt number (neg_ℤ (pos 0o20000000000)) || int_lt (pos 0o17777777777) number

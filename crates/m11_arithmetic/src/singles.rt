@@ -70,9 +70,9 @@ fn negated(size: Size, value: u16) -> Computed
     requires { value < size_limit size }
     ensures { result ≡ negated size value }
 {
-    let result_value = kept(size, -i32::from(value));
+    let opposite = kept(size, -i32::from(value));
     let overflow = overflows(size, -signed(size, value));
-    with_codes(size, result_value, overflow, result_value != 0)
+    with_codes(size, opposite, overflow, opposite != 0)
 }
 
 // The value with the carry taken off.
@@ -127,12 +127,11 @@ fn halved(size: Size, value: u16) -> Computed
 fn sign_filled(size: Size, codes: ConditionCodes) -> Computed
     ensures { result ≡ sign_filled size codes }
 {
-    let zero = 0;
     Computed {
         value: if codes.negative {
-            complement(size, zero)
+            complement(size, 0)
         } else {
-            zero
+            0
         },
         codes: ConditionCodes {
             zero: !codes.negative,
