@@ -3,6 +3,7 @@
 #![tactic(auto)]
 
 mod fault;
+mod memory;
 mod stop;
 
 pub use fault::{LoadFault, SimFault};
