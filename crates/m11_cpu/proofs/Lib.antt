@@ -1,1 +1,2 @@
+pub mod SixDigits
 pub mod WordsAsBytes

@@ -1,3 +1,4 @@
 pub mod Faults
 pub mod Memory
+pub mod Messages
 pub mod Stops

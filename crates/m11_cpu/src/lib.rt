@@ -4,6 +4,7 @@
 
 mod fault;
 mod memory;
+mod messages;
 mod stop;
 
 pub use fault::{LoadFault, SimFault};

@@ -92,3 +92,6 @@ impl Memory {
         }
     }
 }
+
+#[cfg(test)]
+mod tests;

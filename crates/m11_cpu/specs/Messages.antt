@@ -1,0 +1,45 @@
+-- What a run tells at its stop: one line with the stop's name and the number of steps, and one with the
+-- registers and the PSW, each as six octal digits. (This project's own. The registers and their names:
+-- PDP-11/40 Processor Handbook, "General registers".)
+use Rattle.std.specs.Prelude.{◌≡◌, ℕ, List, ◌++◌, slice_index_or, codes, Option, Result, Ok, Err}
+use Rattle.std.specs.Fmt.{decimal}
+use Rattle.std.specs.Io.KnownBytes.{Appends}
+use Rattle.m11_base.specs.Devices.{Rises}
+use Rattle.m11_base.specs.Octal.{octal_text}
+use Rattle.m11_base.specs.Sink.{AppendsBeginning}
+use Rattle.m11_cpu.specs.Stops.{stop_name}
+use Rattle.m11_cpu.specs.declared.stop.Stop.{Stop}
+use Rattle.m11_cpu.specs.declared.fault.SimFault.{SimFault}
+use Rattle.m11_cpu.specs.declared.fault.SimFault.TheVariants.{Load, Write, NoMemory}
+
+-- the stop, and how many steps were begun
+unfoldable pub stop_line : Stop → ℕ → List ℕ
+stop_line stop steps = stop_name stop ++ (codes " AFTER " ++ (decimal steps ++ codes " STEPS\n"))
+
+-- the digits of a register
+abbrev pub register_text : List ℕ → ℕ → List ℕ
+register_text registers number = octal_text (slice_index_or registers number 0)
+
+-- the registers, of which the last two have names of their own, and the PSW
+unfoldable pub register_line : List ℕ → ℕ → List ℕ
+register_line registers psw =
+    codes "R0 " ++ (register_text registers 0
+    ++ (codes " R1 " ++ (register_text registers 1
+    ++ (codes " R2 " ++ (register_text registers 2
+    ++ (codes " R3 " ++ (register_text registers 3
+    ++ (codes " R4 " ++ (register_text registers 4
+    ++ (codes " R5 " ++ (register_text registers 5
+    ++ (codes " SP " ++ (register_text registers 6
+    ++ (codes " PC " ++ (register_text registers 7
+    ++ (codes " PSW " ++ (octal_text psw ++ codes "\n")))))))))))))))))
+
+-- the messages of a stop
+abbrev pub messages_of : Stop → ℕ → List ℕ → ℕ → List ℕ
+messages_of stop steps registers psw = stop_line stop steps ++ register_line registers psw
+
+-- the text was put whole; or a beginning of it before the sink failed; or nothing, where memory was refused
+abbrev pub PutsMessages : {A : Type 0} → Option (List ℕ) → Option (List ℕ) → ℕ → ℕ → List ℕ → Result A SimFault → Type 0
+PutsMessages old new faults faults' text (Ok done) = Appends old new text × (faults' ≡ faults)
+PutsMessages old new faults faults' text (Err Write) = AppendsBeginning old new text × Rises faults faults'
+PutsMessages old new faults faults' text (Err NoMemory) = (new ≡ old) × (faults' ≡ faults)
+PutsMessages old new faults faults' text (Err (Load fault)) = ⊥
