@@ -1,7 +1,7 @@
 //! The memory: words in one vector, which every contract sees as bytes.
 
-ghost use Rattle.std.specs.Prelude.{◌≡◌, ◌<◌, ◌*◌, ◌%◌, IfOk, IsTrue, ◌↔◌, length, replicate, slice_set};
-ghost use Rattle.m11_cpu.specs.Memory.{byte_at, word_at, with_byte, with_word};
+ghost use Rattle.std.specs.Prelude.{◌≡◌, ◌<◌, ◌≤◌, ◌+◌, ◌*◌, ◌%◌, IfOk, IfSome, IsTrue, ◌↔◌, None, length, replicate};
+ghost use Rattle.m11_cpu.specs.Memory.{most_words, byte_at, word_at, with_byte, with_word};
 
 use std::alloc::{AllocError, Global};
 use std::marker::Model;
@@ -14,18 +14,22 @@ pub(crate) struct Memory {
 }
 
 impl Model for Memory {
-    ghost use Rattle.std.specs.Prelude.{List, ℕ};
-    ghost use Rattle.m11_cpu.specs.Memory.{bytes_of};
+    ghost use Rattle.std.specs.Prelude.{List, ℕ, ◌≤◌, length};
+    ghost use Rattle.m11_cpu.specs.Memory.{bytes_of, most_words};
 
     ghost Value = { List ℕ };
 
     ghost view = { λ m. bytes_of m.words.items };
+
+    ghost invariant = { λ m. length m.words.items ≤ most_words };
 }
 
 impl Memory {
-    /// A memory of this many words, all 0.
+    /// A memory of this many words, 28,672 at most, all 0: from 160000 on the addresses are those of
+    /// devices.
     #[tactic(auto, using(crate::proofs::WordsAsBytes::bytes_of_none))]
     pub(crate) fn new(alloc: Global, words: u16) -> Result<Memory, AllocError>
+        requires { words ≤ most_words }
         ensures { IfOk result (λ m. m ≡ replicate (2 * words) 0) }
     {
         Ok(Memory {
@@ -39,6 +43,20 @@ impl Memory {
         ensures { IsTrue result ↔ (address < length self.now) }
     {
         usize::from(address / 2) < self.words.len()
+    }
+
+    /// The address so far behind another one, where the memory has a byte there.
+    #[tactic(auto, using(crate::proofs::WordsAsBytes::length_of_bytes))]
+    pub(crate) fn place_behind(&self, address: u16, distance: u16) -> Option<u16>
+        ensures some { IfSome result (λ place. (place ≡ address + distance) × (place < length self.now)) }
+        ensures none { result ≡ None → length self.now ≤ address + distance }
+    {
+        let place = usize::from(address) + usize::from(distance);
+        if place / 2 < self.words.len() {
+            Some(place as u16)
+        } else {
+            None
+        }
     }
 
     /// The word at an even address inside the memory.
