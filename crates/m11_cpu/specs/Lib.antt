@@ -1,4 +1,5 @@
 pub mod Faults
+pub mod Loading
 pub mod Memory
 pub mod Messages
 pub mod Stops

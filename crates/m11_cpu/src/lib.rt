@@ -3,6 +3,7 @@
 #![tactic(auto)]
 
 mod fault;
+mod loading;
 mod memory;
 mod messages;
 mod stop;

@@ -35,3 +35,13 @@ fn a_memory_of_4096_words_ends_behind_017777(rt: HostRuntime) -> Result<(), Fail
     assert!(rt; !memory.holds(0o020000), "the byte behind it");
     Ok(())
 }
+
+#[test]
+fn an_address_behind_another_is_inside_the_memory_or_not(rt: HostRuntime) -> Result<(), Fail> {
+    let memory = Memory::new(rt.alloc(), 4_096)?;
+    assert_eq!(rt; memory.place_behind(0o1000, 3), Some(0o1003));
+    assert_eq!(rt; memory.place_behind(0o017776, 1), Some(0o017777));
+    assert_eq!(rt; memory.place_behind(0o017777, 1), None);
+    assert_eq!(rt; memory.place_behind(0o177777, 1), None);
+    Ok(())
+}

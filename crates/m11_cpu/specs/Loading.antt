@@ -1,0 +1,113 @@
+-- Loading: the blocks of a tape are put into memory, in order. (RT-11 Volume and File Formats Manual,
+-- "Absolute binary file format".) That a byte which would lie past the memory is refused as soon as it
+-- came, before the sum of its block is checked, is this project's own.
+use Rattle.std.specs.Prelude.{◌≡◌, ℕ, ◌+◌, ◌<◌, ◌≤◌, List, [], ◌∷◌, ◌++◌, length, take, drop, Option, Result, Ok, Err, ◌⊎◌}
+use Rattle.std.specs.List.{AllByRecursion}
+use Rattle.m11_base.specs.Feed.{Text}
+use Rattle.m11_obj.specs.Limited.{Place, place, Took, Read, Reads, Stops, most_bytes}
+use Rattle.m11_obj.specs.Tapes.{IsTape, total_of, first_part, next_part, data_byte, why_of}
+use Rattle.m11_obj.specs.declared.tape_fault.TapeFault.{TapeFault}
+use Rattle.m11_obj.specs.declared.tape_part.TapePart.{TapePart}
+use Rattle.m11_obj.specs.declared.tape_part.TapePart.TheVariants.{Data, Start}
+use Rattle.m11_cpu.specs.declared.fault.LoadFault.{LoadFault}
+use Rattle.m11_cpu.specs.declared.fault.LoadFault.TheVariants.{Tape, OutsideMemory}
+
+-- ---- what is put into memory
+
+-- the memory after bytes were put at an address and the places behind it
+abbrev pub with_bytes : ℕ → List ℕ → List ℕ → List ℕ
+with_bytes address bytes memory = take address memory ++ (bytes ++ drop (address + length bytes) memory)
+
+-- each byte has its place in a memory of this size. The places do not begin again behind 177777
+abbrev pub AreInside : ℕ → ℕ → List ℕ → Type 0
+AreInside size address bytes = (index : ℕ) → index < length bytes → address + index < size
+
+-- the memory after blocks, each an address and its bytes: where two lie over one another the later counts
+abbrev pub stored : List (ℕ × List ℕ) → List ℕ → List ℕ
+stored [] memory = memory
+stored (block ∷ blocks) memory = stored blocks (with_bytes block.0 block.1 memory)
+
+-- ---- what the feed gives
+
+-- what reads the part behind blocks: behind the data of one it begins with the sum byte of that block
+abbrev pub part_behind : (List ℕ → Read TapeFault TapePart) → List (ℕ × List ℕ) → List ℕ → Read TapeFault TapePart
+part_behind read [] = read
+part_behind read (block ∷ blocks) = part_behind (next_part (total_of block.0 block.1)) blocks
+
+-- bytes that hold blocks: for each those that are read as its header, and its data
+abbrev pub Hold : (List ℕ → Read TapeFault TapePart) → List (ℕ × List ℕ) → List ℕ → Type 0
+Hold read [] bytes = bytes ≡ []
+Hold read (block ∷ blocks) bytes = (header : List ℕ) × (behind : List ℕ) × (bytes ≡ header ++ (block.1 ++ behind))
+    × ((rest : List ℕ) → read (header ++ rest) ≡ Ok (Data block.0 (length block.1), rest))
+    × Hold (next_part (total_of block.0 block.1)) blocks behind
+
+-- ---- a load
+
+-- blocks were given, and put into memory, each inside it
+pub record PutBlocks (old new : Place) (before after : List ℕ) (blocks : List (ℕ × List ℕ)) : Type 0 where
+  pub given : List ℕ
+  pub took : Took old new given
+  pub hold : Hold first_part blocks given
+  pub inside : AllByRecursion (λ block. AreInside (length before) block.0 block.1) blocks
+  pub memory : after ≡ stored blocks before
+
+-- some of so many bytes that belong at an address were given, and put into memory, inside it
+pub record PutSome (old new : Place) (before after : List ℕ) (address count : ℕ) (taken : List ℕ) : Type 0 where
+  pub took : Took old new taken
+  pub some : length taken < count
+  pub inside : AreInside (length before) address taken
+  pub memory : after ≡ with_bytes address taken before
+
+-- a byte was given whose place is behind the memory
+abbrev pub GivesOutside : Place → Place → ℕ → ℕ → Type 0
+GivesOutside old new size place = (byte : ℕ) × Took old new (byte ∷ []) × (size ≤ place)
+
+-- a whole tape: its blocks, and then its transfer block, behind which no byte was given
+pub record LoadsTape (old new : Place) (before after : List ℕ) (start : ℕ) : Type 0 where
+  pub blocks : List (ℕ × List ℕ)
+  pub behind : Place
+  pub put : PutBlocks old behind before after blocks
+  pub last : Reads (part_behind first_part blocks) behind new (Start start)
+  pub tape : IsTape blocks start (put.given ++ last.given)
+
+-- some blocks of a tape, behind which no part can be read
+pub record StopsAtPart (old new : Place) (before after : List ℕ) (fault : TapeFault) : Type 0 where
+  pub blocks : List (ℕ × List ℕ)
+  pub behind : Place
+  pub put : PutBlocks old behind before after blocks
+  pub stops : Stops (part_behind first_part blocks) behind new (why_of fault)
+
+-- some blocks of a tape, and of one more its header and a beginning of its data
+pub record InsideData (old new : Place) (before after : List ℕ) (address : ℕ) (taken : List ℕ) : Type 0 where
+  pub blocks : List (ℕ × List ℕ)
+  pub behind : Place
+  pub held : List ℕ
+  pub put : PutBlocks old behind before held blocks
+  pub count : ℕ
+  pub opened : Place
+  pub header : Reads (part_behind first_part blocks) behind opened (Data address count)
+  pub part : PutSome opened new held after address count taken
+
+-- what a load comes to. After a fault the memory holds what was given before it
+abbrev pub Loads : Place → Place → List ℕ → List ℕ → Result ℕ LoadFault → Type 0
+Loads old new before after (Ok start) = LoadsTape old new before after start
+Loads old new before after (Err (Tape fault)) =
+    StopsAtPart old new before after fault
+    ⊎ ((address : ℕ) × (taken : List ℕ) × (here : Place) × InsideData old here before after address taken × Stops data_byte here new (why_of fault))
+Loads old new before after (Err OutsideMemory) =
+    (address : ℕ) × (taken : List ℕ) × (here : Place) × InsideData old here before after address taken × GivesOutside here new (length before) (address + length taken)
+
+-- the same of a feed, of which at most so many bytes as a tape may have are read
+abbrev pub LoadsFrom : Option Text → Option Text → ℕ → ℕ → List ℕ → List ℕ → Result ℕ LoadFault → Type 0
+LoadsFrom text text' faults faults' before after answer = (room : ℕ) × Loads (place text faults most_bytes) (place text' faults' room) before after answer
+
+-- ---- one block
+
+-- what the putting of a block's data comes to, the header of which was given
+abbrev pub PutsData : {A : Type 0} → Place → Place → List ℕ → List ℕ → ℕ → ℕ → List ℕ → Result A LoadFault → Type 0
+PutsData old new before after address count content (Ok done) =
+    (length content ≡ count) × Took old new content × AreInside (length before) address content × (after ≡ with_bytes address content before)
+PutsData old new before after address count content (Err (Tape fault)) =
+    (here : Place) × PutSome old here before after address count content × Stops data_byte here new (why_of fault)
+PutsData old new before after address count content (Err OutsideMemory) =
+    (here : Place) × PutSome old here before after address count content × GivesOutside here new (length before) (address + length content)

@@ -1,0 +1,62 @@
+//! Loads tapes. (RT-11 Volume and File Formats Manual, "Absolute binary file format".)
+
+ghost use Rattle.std.specs.Prelude.{◌≡◌, ◌+◌, ◌<◌, ◌%◌, ℕ, List, length, sum, MatchResult, ⊤};
+ghost use Rattle.m11_obj.specs.Limited.{place};
+ghost use Rattle.m11_obj.specs.Tapes.{tape_header, total_of};
+ghost use Rattle.m11_obj.specs.declared.tape_part.TapeStage.TheVariants.{InBlock};
+ghost use Rattle.m11_cpu.specs.Loading.{PutsData, LoadsFrom};
+
+use crate::fault::LoadFault;
+use crate::memory::Memory;
+use m11_base::Feed;
+use m11_obj::{TapePart, TapeReader};
+
+// Puts the data of the open block into memory.
+fn load_block<F: Feed>(
+    memory: &mut Memory,
+    reader: &mut TapeReader,
+    feed: &mut F,
+    address: u16,
+    count: u16,
+) -> Result<(), LoadFault>
+    requires { reader.old.stage ≡ InBlock count (sum (tape_header address count) % 256) }
+    ensures put { (content : List ℕ)
+        × PutsData (place (F.text feed.old) (F.faults feed.old) reader.old.room)
+        (place (F.text feed.new) (F.faults feed.new) reader.new.room)
+        memory.old memory.new address count content result
+        × MatchResult result (λ _. reader.new.stage ≡ InBlock 0 (total_of address content)) (λ _. ⊤) }
+    ensures size { length memory.new ≡ length memory.old }
+{
+    'bytes: for index in 0..count {
+        let byte = reader.byte(feed)?;
+        match memory.place_behind(address, index) {
+            Some(place) => memory.set_byte(place, byte),
+            None => return Err(LoadFault::OutsideMemory),
+        }
+    }
+    Ok(())
+}
+
+/// Puts the data of one tape into memory, a later byte over an earlier one, and answers the transfer
+/// address, even or odd. Behind the transfer block nothing is read. It takes no memory.
+///
+/// OutsideMemory: a byte came that belongs behind the memory. Any other fault is that of the tape, the
+/// first in the order of the bytes. The memory then holds what came before.
+pub(crate) fn load_tape<F: Feed>(memory: &mut Memory, feed: &mut F) -> Result<u16, LoadFault>
+    ensures loads { LoadsFrom (F.text feed.old) (F.text feed.new) (F.faults feed.old) (F.faults feed.new)
+        memory.old memory.new result }
+    ensures size { length memory.new ≡ length memory.old }
+{
+    let mut reader = TapeReader::new();
+    'parts: loop {
+        match reader.next(feed)? {
+            TapePart::Data { address, count } => {
+                load_block(memory, &mut reader, feed, address, count)?;
+            }
+            TapePart::Start(address) => return Ok(address),
+        }
+    }
+}
+
+#[cfg(test)]
+mod tests;
