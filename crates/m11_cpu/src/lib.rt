@@ -2,11 +2,27 @@
 //! memory and run, with a polled console and a limit on the steps.
 #![tactic(auto)]
 
+mod abort;
+mod access;
+mod console;
+mod destination_use;
+mod double_operands;
+mod execution;
+mod extended;
 mod fault;
+mod jumps;
 mod loading;
+mod machine;
 mod memory;
 mod messages;
+mod operands;
+mod single_operands;
+mod status;
+mod steps;
 mod stop;
+mod traps;
 
 pub use fault::{LoadFault, SimFault};
+pub use machine::Machine;
+pub use status::ProcessorStatus;
 pub use stop::{Stop, Turn};

@@ -1,6 +1,6 @@
 //! The memory: words in one vector, which every contract sees as bytes.
 
-ghost use Rattle.std.specs.Prelude.{◌≡◌, ◌<◌, ◌≤◌, ◌+◌, ◌*◌, ◌%◌, IfOk, IfSome, IsTrue, ◌↔◌, None, length, replicate};
+ghost use Rattle.std.specs.Prelude.{◌≡◌, ◌<◌, ◌≤◌, ◌+◌, ◌*◌, ◌%◌, IfOk, IfSome, nat_lt, None, length, replicate};
 ghost use Rattle.m11_cpu.specs.Memory.{most_words, byte_at, word_at, with_byte, with_word};
 
 use std::alloc::{AllocError, Global};
@@ -40,7 +40,7 @@ impl Memory {
     /// Whether the memory has a byte at this address.
     #[tactic(auto, using(crate::proofs::WordsAsBytes::length_of_bytes))]
     pub(crate) fn holds(&self, address: u16) -> bool
-        ensures { IsTrue result ↔ (address < length self.now) }
+        ensures { result ≡ nat_lt address (length self.now) }
     {
         usize::from(address / 2) < self.words.len()
     }

@@ -1,0 +1,9 @@
+use Rattle.m11_cpu.specs.DoubleOperands.{exclusive_or}
+use Rattle.m11_cpu.proofs.Dialogues.{bind_reads, change_exclusive_at}
+use Rattle.m11_cpu.proofs.machine.Machine.exclusive_or.Goals as goal
+
+pub returns : goal.returns
+unfolding exclusive_or
+returns g c =
+    bind_reads _ _ _ _ _ _ _ _ _ _ c.in_ok-place.ensures
+    (change_exclusive_at _ _ _ _ _ _ _ c.register_value-source.ensures c.change_exclusive.ensures)

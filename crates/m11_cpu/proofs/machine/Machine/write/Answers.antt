@@ -1,0 +1,9 @@
+use Rattle.m11_cpu.specs.SingleOperands.{write}
+use Rattle.m11_cpu.proofs.Dialogues.{bind_reads, put_result_at, writes_beside}
+use Rattle.m11_cpu.proofs.machine.Machine.write.Goals as goal
+
+pub returns : goal.returns
+unfolding write
+returns g c =
+    bind_reads _ _ _ _ _ _ _ _ _ _ c.in_ok-place.ensures
+    (put_result_at _ _ _ _ _ _ _ _ c.single-computed.ensures.computed (writes_beside _ _ _ _ _ c.put_result.ensures))

@@ -1,0 +1,28 @@
+-- What an instruction does, part by part: each part comes to a value or aborts the instruction, and leaves a machine.
+-- (This project's own words.)
+use Rattle.std.specs.Prelude.{ℕ, Result, Ok, Err}
+use Rattle.m11_cpu.specs.declared.abort.Abort.{Abort}
+use Rattle.m11_cpu.specs.declared.machine.Machine.{Machine}
+use Rattle.m11_cpu.specs.Dialogue.{Dialogue, Comes, after}
+
+abbrev pub Act : Type 0 → Type 0
+Act A = Machine → Dialogue (Result A Abort × Machine)
+
+-- a value that the machine has, and a change of the machine
+unfoldable pub value : {A : Type 0} → (Machine → A) → Act A
+value of m = Comes (Ok (of m), m)
+
+unfoldable pub change : (Machine → Machine) → Act (Unit {0})
+change by m = Comes (Ok tt, by m)
+
+unfoldable pub aborts : {A : Type 0} → Abort → Act A
+aborts abort m = Comes (Err abort, m)
+
+-- one part after the other; an abort ends them
+abbrev pub unless_aborted : {A B : Type 0} → (A → Act B) → Result A Abort → Act B
+unless_aborted next (Ok x) m = next x m
+unless_aborted next (Err abort) m = Comes (Err abort, m)
+
+infixl 10 ◌>>=◌
+unfoldable pub ◌>>=◌ : {A B : Type 0} → Act A → (A → Act B) → Act B
+(act >>= next) m = after (act m) (λ came. unless_aborted next came.0 came.1)

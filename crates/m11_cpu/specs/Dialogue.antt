@@ -1,0 +1,104 @@
+-- What a program has to do with the console: it asks for bytes, and it sends bytes. (This project's own words;
+-- no manual speaks of a failing device.)
+use Rattle.std.specs.Prelude.{◌≡◌, ℕ, ◌<◌, Bool, true, false, List, [], ◌∷◌, Option, Some, None}
+use Rattle.std.specs.Io.KnownBytes.{Appends}
+use Rattle.m11_base.specs.Devices.{Rises}
+use Rattle.m11_base.specs.Feed.{Text, GivesByte, GivesEnd, GivesFailure}
+
+-- what the input answers where it is asked
+pub data Reply : Type 0 where
+  Gives : ℕ → Reply
+  Ends : Reply
+  Fails : Reply
+
+-- what is done goes by the replies: at once it comes to a value; or it asks, and goes on by the reply; or it
+-- sends a byte, and goes on by whether it was taken
+pub data Dialogue (A : Type 0) : Type 0 where
+  Comes : A → Dialogue A
+  Asks : (Reply → Dialogue A) → Dialogue A
+  Sends : ℕ → (Bool → Dialogue A) → Dialogue A
+
+-- one after the other
+abbrev pub after : {A B : Type 0} → Dialogue A → (A → Dialogue B) → Dialogue B
+after (Comes x) next = next x
+after (Asks by) next = Asks (λ reply. after (by reply) next)
+after (Sends byte by) next = Sends byte (λ taken. after (by taken) next)
+
+-- ---- what was asked and sent
+
+pub data Exchange : Type 0 where
+  Asked : Reply → Exchange
+  Sent : ℕ → Bool → Exchange
+
+-- a dialogue comes to a value by these exchanges
+unfoldable pub Leads : {A : Type 0} → Dialogue A → List Exchange → A → Type 0
+Leads (Comes x) [] y = y ≡ x
+Leads (Comes x) (e ∷ es) y = ⊥
+Leads (Asks by) [] y = ⊥
+Leads (Asks by) (Asked reply ∷ es) y = Leads (by reply) es y
+Leads (Asks by) (Sent byte taken ∷ es) y = ⊥
+Leads (Sends byte by) [] y = ⊥
+Leads (Sends byte by) (Asked reply ∷ es) y = ⊥
+Leads (Sends byte by) (Sent sent taken ∷ es) y = (sent ≡ byte) × Leads (by taken) es y
+
+-- ---- the devices
+
+-- the feed that gives the input, and the sink that takes the output, by their texts and counts of failures
+pub record Input : Type 0 where
+  pub text : Option Text
+  pub faults : ℕ
+
+pub record Output : Type 0 where
+  pub text : Option (List ℕ)
+  pub faults : ℕ
+
+-- the devices that a call has: the input, the output, or both
+pub record Devices : Type 0 where
+  pub input : Option Input
+  pub output : Option Output
+
+abbrev pub output : Option (List ℕ) → ℕ → Output
+output text faults = record { text = text; faults = faults }
+
+abbrev pub input_alone : Option Text → ℕ → Devices
+input_alone text faults = record { input = Some (record { text = text; faults = faults }); output = None }
+
+abbrev pub output_alone : Option (List ℕ) → ℕ → Devices
+output_alone text faults = record { input = None; output = Some (output text faults) }
+
+abbrev pub both : Option Text → ℕ → Option (List ℕ) → ℕ → Devices
+both given given_faults taken taken_faults = record {
+  input = Some (record { text = given; faults = given_faults });
+  output = Some (output taken taken_faults);
+}
+
+-- the input gave such a reply
+abbrev pub Replies : Input → Input → Reply → Type 0
+Replies old new (Gives byte) = GivesByte old.text new.text byte × (new.faults ≡ old.faults) × (byte < 256)
+Replies old new Ends = GivesEnd old.text new.text × (new.faults ≡ old.faults)
+Replies old new Fails = GivesFailure old.text new.text old.faults × Rises old.faults new.faults
+
+-- the output took the byte, or failed and took nothing
+abbrev pub Takes : Output → Output → ℕ → Bool → Type 0
+Takes old new byte true = Appends old.text new.text (byte ∷ []) × (new.faults ≡ old.faults)
+Takes old new byte false = Appends old.text new.text [] × Rises old.faults new.faults
+
+-- a device that is there did so
+abbrev pub Did : {D : Type 0} → (D → D → Type 0) → Option D → Option D → Type 0
+Did did None new = ⊥
+Did did (Some old) None = ⊥
+Did did (Some old) (Some new) = did old new
+
+abbrev pub Happens : Devices → Devices → Exchange → Type 0
+Happens old new (Asked reply) = Did (λ i i'. Replies i i' reply) old.input new.input × (new.output ≡ old.output)
+Happens old new (Sent byte taken) = Did (λ o o'. Takes o o' byte taken) old.output new.output × (new.input ≡ old.input)
+
+unfoldable pub Happened : Devices → Devices → List Exchange → Type 0
+Happened old new [] = new ≡ old
+Happened old new (e ∷ es) = (middle : Devices) × Happens old middle e × Happened middle new es
+
+-- a dialogue with the devices came to this value
+pub record Does {A : Type 0} (dialogue : Dialogue A) (old new : Devices) (value : A) : Type 0 where
+  pub exchanges : List Exchange
+  pub leads : Leads dialogue exchanges value
+  pub happened : Happened old new exchanges

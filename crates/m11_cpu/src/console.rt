@@ -1,0 +1,75 @@
+//! The registers of the console. (SIMH PDP-11 manual, console terminal.)
+
+ghost use Rattle.std.specs.Prelude.{◌≡◌, ◌<◌};
+ghost use Rattle.m11_cpu.specs.Console.{device_at, is_waiting, receiver_bits, transmitter_bits};
+
+/// The receiver: what comes from the keyboard.
+#[derive(Clone, Copy, Debug, PartialEq, Eq)]
+pub(crate) struct Receiver {
+    /// The byte that came last.
+    pub(crate) byte: u8,
+    /// Whether that byte has come and was not read yet.
+    pub(crate) is_done: bool,
+    /// Bit 100 of its status, which is kept and raises nothing.
+    pub(crate) is_enabled: bool,
+    /// Whether the input has ended. It is not asked again.
+    pub(crate) has_ended: bool,
+}
+
+/// The transmitter: what goes to the printer. It is always ready.
+#[derive(Clone, Copy, Debug, PartialEq, Eq)]
+pub(crate) struct Transmitter {
+    /// Bit 100 of its status, which is kept and raises nothing.
+    pub(crate) is_enabled: bool,
+}
+
+/// A register of the console, or the processor status word, which answers at an address too.
+#[derive(Clone, Copy, Debug, PartialEq, Eq)]
+pub(crate) enum DeviceRegister {
+    ReceiverStatus,
+    ReceiverBuffer,
+    TransmitterStatus,
+    TransmitterBuffer,
+    ProcessorStatus,
+}
+
+/// The register whose word is at an even address.
+pub(crate) fn device_at(address: u16) -> Option<DeviceRegister>
+    ensures { result ≡ device_at address }
+{
+    match address {
+        0o177560 => Some(DeviceRegister::ReceiverStatus),
+        0o177562 => Some(DeviceRegister::ReceiverBuffer),
+        0o177564 => Some(DeviceRegister::TransmitterStatus),
+        0o177566 => Some(DeviceRegister::TransmitterBuffer),
+        0o177776 => Some(DeviceRegister::ProcessorStatus),
+        _ => None,
+    }
+}
+
+impl Receiver {
+    /// Whether a byte is to be asked for: none is there, and the input has not ended.
+    pub(crate) fn is_waiting(self) -> bool
+        ensures { result ≡ is_waiting self }
+    {
+        !self.is_done && !self.has_ended
+    }
+
+    /// The bits of its status.
+    pub(crate) fn status(self) -> u16
+        ensures bits { result ≡ receiver_bits self }
+        ensures byte { result < 256 }
+    {
+        u16::from(self.is_done) * 0o200 + u16::from(self.is_enabled) * 0o100
+    }
+}
+
+impl Transmitter {
+    /// The bits of its status.
+    pub(crate) fn status(self) -> u16
+        ensures bits { result ≡ transmitter_bits self }
+        ensures byte { result < 256 }
+    {
+        0o200 + u16::from(self.is_enabled) * 0o100
+    }
+}
