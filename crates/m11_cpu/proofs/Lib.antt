@@ -2,6 +2,8 @@ pub mod BlocksRead
 pub mod BytesPut
 pub mod DataPut
 pub mod Dialogues
+pub mod RunsDone
+pub mod SimulationDone
 pub mod SixDigits
 pub mod StepsDone
 pub mod TapePut

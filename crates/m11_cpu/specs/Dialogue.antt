@@ -57,19 +57,22 @@ pub record Devices : Type 0 where
   pub input : Option Input
   pub output : Option Output
 
-abbrev pub output : Option (List ℕ) → ℕ → Output
-output text faults = record { text = text; faults = faults }
+abbrev pub input_of : Option Text → ℕ → Input
+input_of text faults = record { text = text; faults = faults }
+
+abbrev pub output_of : Option (List ℕ) → ℕ → Output
+output_of text faults = record { text = text; faults = faults }
 
 abbrev pub input_alone : Option Text → ℕ → Devices
 input_alone text faults = record { input = Some (record { text = text; faults = faults }); output = None }
 
 abbrev pub output_alone : Option (List ℕ) → ℕ → Devices
-output_alone text faults = record { input = None; output = Some (output text faults) }
+output_alone text faults = record { input = None; output = Some (output_of text faults) }
 
 abbrev pub both : Option Text → ℕ → Option (List ℕ) → ℕ → Devices
 both given given_faults taken taken_faults = record {
   input = Some (record { text = given; faults = given_faults });
-  output = Some (output taken taken_faults);
+  output = Some (output_of taken taken_faults);
 }
 
 -- the input gave such a reply

@@ -15,7 +15,7 @@ use Rattle.m11_cpu.specs.declared.destination_use.DestinationUse.{DestinationUse
 use Rattle.m11_cpu.specs.declared.destination_use.DestinationUse.TheVariants.{Writes, Reads, Changes}
 use Rattle.m11_cpu.specs.Dialogue.{Comes}
 use Rattle.m11_cpu.specs.Machine.{finished, register_of, with_condition_codes, with_register}
-use Rattle.m11_cpu.specs.Places.{load, load_operand, place_of, put_result, store}
+use Rattle.m11_cpu.specs.Places.{fetch, fetch_operand, place_of, put_result, store}
 use Rattle.m11_cpu.specs.declared.operands.Place.{Place}
 use Rattle.m11_cpu.specs.declared.operands.Place.TheVariants.{InRegister, InMemory}
 
@@ -34,11 +34,11 @@ move_to place size source m = (store_moved place size source >>= λ _ n.
     Comes (Ok tt, finished place (double_result Mov size source 0 m.status.codes).codes n)) m
 
 unfoldable pub compare : DoubleOp → Place → Size → ℕ → Act (Unit {0})
-compare operation place size source = load place size >>= λ value m.
+compare operation place size source = fetch place size >>= λ value m.
     Comes (Ok tt, with_condition_codes (double_result operation size source value m.status.codes).codes m)
 
 unfoldable pub change_double : DoubleOp → Place → Size → ℕ → Act (Unit {0})
-change_double operation place size source = load place size >>= λ value m.
+change_double operation place size source = fetch place size >>= λ value m.
     put_result place size (double_result operation size source value m.status.codes) m
 
 abbrev pub double_by : DestinationUse → DoubleOp → Size → ℕ → Place → Act (Unit {0})
@@ -50,11 +50,11 @@ unfoldable pub double_at : DoubleOp → Size → ℕ → Place → Act (Unit {0}
 double_at operation = double_by (use_by_double operation) operation
 
 unfoldable pub double : DoubleOp → Size → Operand → Operand → Act (Unit {0})
-double operation size source destination = load_operand source size >>= λ value.
+double operation size source destination = fetch_operand source size >>= λ value.
     place_of destination size >>= double_at operation size value
 
 unfoldable pub change_exclusive : ℕ → Place → Act (Unit {0})
-change_exclusive source place = load place Word >>= λ value m.
+change_exclusive source place = fetch place Word >>= λ value m.
     put_result place Word (exclusive_or_result source value m.status.codes) m
 
 -- XOR: its register is read first

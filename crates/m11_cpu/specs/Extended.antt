@@ -14,7 +14,7 @@ use Rattle.m11_base.specs.declared.operand.Size.TheVariants.{Word}
 use Rattle.m11_cpu.specs.Acts.{Act, ◌>>=◌}
 use Rattle.m11_cpu.specs.Dialogue.{Comes}
 use Rattle.m11_cpu.specs.Machine.{register_of, with_condition_codes, with_register}
-use Rattle.m11_cpu.specs.Places.{load_operand}
+use Rattle.m11_cpu.specs.Places.{fetch_operand}
 use Rattle.m11_cpu.specs.declared.machine.Machine.{Machine}
 
 -- the register of the low word: the next one of an even register, and an odd one itself
@@ -61,5 +61,5 @@ extended_by Ashc register source m = pair_shifted register source m
 
 -- the source is fetched first, and the registers are read last
 unfoldable pub extended : ExtendedOp → Register → Operand → Act (Unit {0})
-extended operation register source = load_operand source Word >>= λ value m.
+extended operation register source = fetch_operand source Word >>= λ value m.
     Comes (Ok tt, extended_by operation register value m)

@@ -13,6 +13,8 @@ pub mod Machine
 pub mod Memory
 pub mod Messages
 pub mod Places
+pub mod Runs
+pub mod Simulation
 pub mod SingleOperands
 pub mod Status
 pub mod Steps

@@ -10,6 +10,7 @@ use Rattle.m11_obj.specs.declared.tape_fault.TapeFault.{TapeFault}
 use Rattle.m11_obj.specs.declared.tape_part.TapePart.{TapePart}
 use Rattle.m11_obj.specs.declared.tape_part.TapePart.TheVariants.{Data, Start}
 use Rattle.m11_cpu.specs.declared.fault.LoadFault.{LoadFault}
+use Rattle.m11_cpu.specs.declared.machine.Machine.{Machine}
 use Rattle.m11_cpu.specs.declared.fault.LoadFault.TheVariants.{Tape, OutsideMemory}
 
 -- ---- what is put into memory
@@ -100,6 +101,11 @@ Loads old new before after (Err OutsideMemory) =
 -- the same of a feed, of which at most so many bytes as a tape may have are read
 abbrev pub LoadsFrom : Option Text → Option Text → ℕ → ℕ → List ℕ → List ℕ → Result ℕ LoadFault → Type 0
 LoadsFrom text text' faults faults' before after answer = (room : ℕ) × Loads (place text faults most_bytes) (place text' faults' room) before after answer
+
+-- the same into a machine, of which nothing but the memory changes
+abbrev pub LoadsInto : Option Text → Option Text → ℕ → ℕ → Machine → Machine → Result ℕ LoadFault → Type 0
+LoadsInto text text' faults faults' before after answer =
+    LoadsFrom text text' faults faults' before.memory after.memory answer × (after ≡ record before { memory = after.memory })
 
 -- ---- one block
 

@@ -1,12 +1,34 @@
 -- The machine: memory, eight registers, the processor status, the console's receiver and transmitter, and the stop
 -- that stands. (PDP-11/40 Processor Handbook, "Central processor"; for the console SIMH PDP-11 manual.)
-use Rattle.std.specs.Prelude.{ℕ, ◌+◌, ◌%◌, ◌==◌, Bool, false, if◌then◌else◌, slice_index, slice_set}
+use Rattle.std.specs.Prelude.{ℕ, ◌+◌, ◌*◌, ◌%◌, ◌==◌, Bool, false, if◌then◌else◌, None, length, replicate, slice_index, slice_set}
 use Rattle.m11_base.specs.declared.instruction.ConditionCodes.{ConditionCodes}
 use Rattle.m11_base.specs.Operands.{register_number}
 use Rattle.m11_base.specs.declared.operand.Register.{Register}
+use Rattle.m11_cpu.specs.Memory.{byte_at}
+use Rattle.m11_cpu.specs.Status.{psw_of, status_of}
 use Rattle.m11_cpu.specs.declared.machine.Machine.{Machine}
 use Rattle.m11_cpu.specs.declared.operands.Place.{Place}
 use Rattle.m11_cpu.specs.declared.operands.Place.TheVariants.{InRegister, InMemory}
+
+-- the machine before anything was loaded: it has so many words of memory, and all is 0
+unfoldable pub new_machine : ℕ → Machine
+new_machine words = record {
+  memory = replicate (2 * words) 0;
+  registers = replicate 8 0;
+  status = status_of 0;
+  receiver = record { byte = 0; is_done = false; is_enabled = false; has_ended = false };
+  transmitter = record { is_enabled = false };
+  stopped = None;
+}
+
+abbrev pub memory_size : Machine → ℕ
+memory_size m = length m.memory
+
+abbrev pub byte_in : ℕ → Machine → ℕ
+byte_in address m = byte_at m.memory address
+
+abbrev pub psw_in : Machine → ℕ
+psw_in m = psw_of m.status
 
 abbrev pub register_of : Register → Machine → ℕ
 register_of register m = slice_index m.registers (register_number register)

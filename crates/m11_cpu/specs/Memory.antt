@@ -2,6 +2,10 @@
 -- behind it. (PDP-11/40 Processor Handbook, "Memory organization".)
 use Rattle.std.specs.Prelude.{ℕ, ◌+◌, ◌*◌, ◌/◌, ◌%◌, List, [], ◌∷◌, slice_index_or, slice_set}
 
+-- the least words that a machine may have here
+abbrev pub least_words : ℕ
+least_words = 4096
+
 -- the most words: the last 4,096 of the addresses are those of devices
 abbrev pub most_words : ℕ
 most_words = 28672

@@ -60,14 +60,14 @@ place_by mode.IndexDeferred register size m = (indexed register >>= deferred) m
 unfoldable pub place_of : Operand → Size → Act Place
 place_of operand size = place_by operand.mode operand.register size
 
-unfoldable pub load : Place → Size → Act ℕ
-load (InRegister register) Word m = Comes (Ok (register_of register m), m)
-load (InRegister register) Byte m = Comes (Ok (register_of register m % 256), m)
-load (InMemory address) Word m = load_word address m
-load (InMemory address) Byte m = load_byte address m
+unfoldable pub fetch : Place → Size → Act ℕ
+fetch (InRegister register) Word m = Comes (Ok (register_of register m), m)
+fetch (InRegister register) Byte m = Comes (Ok (register_of register m % 256), m)
+fetch (InMemory address) Word m = load_word address m
+fetch (InMemory address) Byte m = load_byte address m
 
-unfoldable pub load_operand : Operand → Size → Act ℕ
-load_operand operand size = place_of operand size >>= λ place. load place size
+unfoldable pub fetch_operand : Operand → Size → Act ℕ
+fetch_operand operand size = place_of operand size >>= λ place. fetch place size
 
 abbrev pub without_low_byte : ℕ → ℕ
 without_low_byte word = word / 256 * 256

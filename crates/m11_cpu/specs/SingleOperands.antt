@@ -13,18 +13,18 @@ use Rattle.m11_cpu.specs.declared.operands.Place.{Place}
 use Rattle.m11_cpu.specs.Dialogue.{Comes}
 use Rattle.m11_cpu.specs.Jumps.{jump}
 use Rattle.m11_cpu.specs.Machine.{with_condition_codes}
-use Rattle.m11_cpu.specs.Places.{load, load_operand, place_of, put_result}
+use Rattle.m11_cpu.specs.Places.{fetch, fetch_operand, place_of, put_result}
 
 unfoldable pub write : SingleOp → Size → Operand → Act (Unit {0})
 write operation size operand = place_of operand size >>= λ place m.
     put_result place size (single_result operation size 0 m.status.codes) m
 
 unfoldable pub test : SingleOp → Size → Operand → Act (Unit {0})
-test operation size operand = load_operand operand size >>= λ value m.
+test operation size operand = fetch_operand operand size >>= λ value m.
     Comes (Ok tt, with_condition_codes (single_result operation size value m.status.codes).codes m)
 
 unfoldable pub change_at : SingleOp → Size → Place → Act (Unit {0})
-change_at operation size place = load place size >>= λ value m.
+change_at operation size place = fetch place size >>= λ value m.
     put_result place size (single_result operation size value m.status.codes) m
 
 unfoldable pub change_single : SingleOp → Size → Operand → Act (Unit {0})

@@ -1,7 +1,7 @@
 //! Reading and writing by addresses: memory, the console's registers, the processor status word.
 
 ghost use Rattle.std.specs.Prelude.{◌≡◌, ◌<◌, ◌%◌, IfOk};
-ghost use Rattle.m11_cpu.specs.Dialogue.{Does, Takes, input_alone, output, output_alone};
+ghost use Rattle.m11_cpu.specs.Dialogue.{Does, Takes, input_alone, output_alone, output_of};
 ghost use Rattle.m11_cpu.specs.Access.{load_word, load_byte, load_device, load_odd, receive, receiver_status, take_character, store_word, store_byte, store_device, store_odd, send};
 
 use crate::abort::{Abort, Vector};
@@ -181,7 +181,7 @@ impl Machine {
 // Puts one byte. False where the output fails or takes nothing.
 #[tactic(auto, using(crate::proofs::Dialogues::takes_by_count))]
 fn put_byte<S: Sink>(sink: &mut S, byte: u8) -> bool
-    ensures { Takes (output (S.text sink.old) (S.faults sink.old)) (output (S.text sink.new) (S.faults sink.new))
+    ensures { Takes (output_of (S.text sink.old) (S.faults sink.old)) (output_of (S.text sink.new) (S.faults sink.new))
         byte result }
 {
     match sink.put(&[byte]) {

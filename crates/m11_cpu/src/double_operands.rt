@@ -27,7 +27,7 @@ impl Machine {
         ensures { Does (double operation size source destination self.old) (both (F.text feed.old) (F.faults feed.old) (S.text sink.old) (S.faults sink.old))
             (both (F.text feed.new) (F.faults feed.new) (S.text sink.new) (S.faults sink.new)) (result, self.new) }
     {
-        let source = self.load_operand(source, size, feed)?;
+        let source = self.fetch_operand(source, size, feed)?;
         let place = self.place_of(destination, size, feed)?;
         self.double_at(operation, size, source, place, feed, sink)
     }
@@ -110,7 +110,7 @@ impl Machine {
         ensures { Does (compare operation place size source self.old) (input_alone (F.text feed.old) (F.faults feed.old))
             (input_alone (F.text feed.new) (F.faults feed.new)) (result, self.new) }
     {
-        let destination = self.load(place, size, feed)?;
+        let destination = self.fetch(place, size, feed)?;
         let computed = m11_arithmetic::double(
             operation,
             size,
@@ -137,7 +137,7 @@ impl Machine {
         ensures { Does (change_double operation place size source self.old) (both (F.text feed.old) (F.faults feed.old) (S.text sink.old) (S.faults sink.old))
             (both (F.text feed.new) (F.faults feed.new) (S.text sink.new) (S.faults sink.new)) (result, self.new) }
     {
-        let destination = self.load(place, size, feed)?;
+        let destination = self.fetch(place, size, feed)?;
         let computed = m11_arithmetic::double(
             operation,
             size,
@@ -160,7 +160,7 @@ impl Machine {
         ensures { Does (exclusive_or register destination self.old) (both (F.text feed.old) (F.faults feed.old) (S.text sink.old) (S.faults sink.old))
             (both (F.text feed.new) (F.faults feed.new) (S.text sink.new) (S.faults sink.new)) (result, self.new) }
     {
-        let source = self.register_value(register);
+        let source = self.register(register);
         let place = self.place_of(destination, Size::Word, feed)?;
         self.change_exclusive(source, place, feed, sink)
     }
@@ -177,7 +177,7 @@ impl Machine {
         ensures { Does (change_exclusive source place self.old) (both (F.text feed.old) (F.faults feed.old) (S.text sink.old) (S.faults sink.old))
             (both (F.text feed.new) (F.faults feed.new) (S.text sink.new) (S.faults sink.new)) (result, self.new) }
     {
-        let value = self.load(place, Size::Word, feed)?;
+        let value = self.fetch(place, Size::Word, feed)?;
         let computed = m11_arithmetic::exclusive_or(source, value, self.status.codes);
         self.put_result(place, Size::Word, computed, sink)
     }

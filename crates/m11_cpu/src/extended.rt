@@ -23,7 +23,7 @@ impl Machine {
         ensures { Does (extended operation register source self.old) (input_alone (F.text feed.old) (F.faults feed.old))
             (input_alone (F.text feed.new) (F.faults feed.new)) (result, self.new) }
     {
-        let source = self.load_operand(source, Size::Word, feed)?;
+        let source = self.fetch_operand(source, Size::Word, feed)?;
         match operation {
             ExtendedOp::Mul => self.multiply(register, source),
             ExtendedOp::Div => self.divide(register, source),
@@ -37,7 +37,7 @@ impl Machine {
     fn multiply(&mut self, register: Register, source: u16)
         ensures { self.new ≡ multiplied register source self.old }
     {
-        let product = multiply(self.register_value(register), source);
+        let product = multiply(self.register(register), source);
         self.set_register(register, product.high);
         self.set_register(low_word_of(register), product.low);
         self.set_codes(product.codes);
@@ -48,11 +48,7 @@ impl Machine {
         ensures { self.new ≡ divided register source self.old }
     {
         let odd = low_word_of(register);
-        match divide(
-            self.register_value(register),
-            self.register_value(odd),
-            source,
-        ) {
+        match divide(self.register(register), self.register(odd), source) {
             Division::Done {
                 quotient,
                 remainder,
@@ -69,7 +65,7 @@ impl Machine {
     fn shift(&mut self, register: Register, count: u16)
         ensures { self.new ≡ shifted register count self.old }
     {
-        let computed = shift(self.register_value(register), count);
+        let computed = shift(self.register(register), count);
         self.set_register(register, computed.value);
         self.set_codes(computed.codes);
     }
@@ -78,11 +74,7 @@ impl Machine {
         ensures { self.new ≡ pair_shifted register count self.old }
     {
         let odd = low_word_of(register);
-        let pair = shift_pair(
-            self.register_value(register),
-            self.register_value(odd),
-            count,
-        );
+        let pair = shift_pair(self.register(register), self.register(odd), count);
         self.set_register(register, pair.high);
         self.set_register(odd, pair.low);
         self.set_codes(pair.codes);

@@ -16,7 +16,7 @@ impl Machine {
         ensures { self.new ≡ branched operation words self.old }
     {
         if is_taken(operation, self.status.codes) {
-            let target = words_on(self.register_value(Register::Pc), words);
+            let target = words_on(self.register(Register::Pc), words);
             self.set_register(Register::Pc, target);
         }
     }
@@ -77,8 +77,8 @@ impl Machine {
         ensures { Does (enter register target self.old) (output_alone (S.text sink.old) (S.faults sink.old))
             (output_alone (S.text sink.new) (S.faults sink.new)) (result, self.new) }
     {
-        self.push(self.register_value(register), sink)?;
-        self.set_register(register, self.register_value(Register::Pc));
+        self.push(self.register(register), sink)?;
+        self.set_register(register, self.register(Register::Pc));
         self.set_register(Register::Pc, target);
         Ok(())
     }
@@ -93,7 +93,7 @@ impl Machine {
         ensures { Does (return_by register self.old) (input_alone (F.text feed.old) (F.faults feed.old))
             (input_alone (F.text feed.new) (F.faults feed.new)) (result, self.new) }
     {
-        self.set_register(Register::Pc, self.register_value(register));
+        self.set_register(Register::Pc, self.register(register));
         let popped = self.pop(feed)?;
         self.set_register(register, popped);
         Ok(())
@@ -106,10 +106,10 @@ impl Machine {
             (input_alone (F.text feed.new) (F.faults feed.new)) (result, self.new) }
     {
         let parameters_end = self
-            .register_value(Register::Pc)
+            .register(Register::Pc)
             .wrapping_add(u16::from(words) * 2);
         self.set_register(Register::Sp, parameters_end);
-        self.set_register(Register::Pc, self.register_value(Register::R5));
+        self.set_register(Register::Pc, self.register(Register::R5));
         let popped = self.pop(feed)?;
         self.set_register(Register::R5, popped);
         Ok(())

@@ -16,6 +16,8 @@ mod machine;
 mod memory;
 mod messages;
 mod operands;
+mod runs;
+mod simulation;
 mod single_operands;
 mod status;
 mod steps;
@@ -24,5 +26,6 @@ mod traps;
 
 pub use fault::{LoadFault, SimFault};
 pub use machine::Machine;
+pub use simulation::sim_run;
 pub use status::ProcessorStatus;
-pub use stop::{Stop, Turn};
+pub use stop::{SimDone, Stop, Turn};

@@ -1,14 +1,20 @@
 //! The machine.
 
-ghost use Rattle.std.specs.Prelude.{◌≡◌, ◌≤◌, IfOk};
-ghost use Rattle.m11_cpu.specs.Machine.{advanced, finished, register_of, with_condition_codes, with_register};
+ghost use Rattle.std.specs.Prelude.{◌≡◌, ◌<◌, ◌≤◌, IfOk, nat_lt};
+ghost use Rattle.m11_base.specs.declared.operand.Register.TheVariants.{Pc};
+ghost use Rattle.m11_cpu.specs.Loading.{LoadsInto};
+ghost use Rattle.m11_cpu.specs.Memory.{least_words, most_words};
+ghost use Rattle.m11_cpu.specs.Machine.{advanced, byte_in, finished, memory_size, new_machine, psw_in, register_of, with_condition_codes, with_register};
 
 use crate::console::{Receiver, Transmitter};
+use crate::fault::LoadFault;
+use crate::loading::load_tape;
 use crate::memory::Memory;
 use crate::operands::Place;
 use crate::status::ProcessorStatus;
 use crate::stop::Stop;
-use m11_base::{ConditionCodes, Register};
+use m11_base::{ConditionCodes, Feed, Register};
+use std::alloc::{AllocError, Global};
 
 /// A PDP-11/40 with its memory and its console.
 #[derive(Drop)]
@@ -23,11 +29,77 @@ pub struct Machine {
 }
 
 impl Machine {
+    /// A machine with this many words of memory, 4,096 to 28,672. Memory, registers and processor status are 0.
+    ///
+    /// An error where memory is refused. It is the only call that takes memory.
+    #[tactic(auto, unfolding(crate::specs::Machine::new_machine))]
+    pub fn new(alloc: Global, words: u16) -> Result<Machine, AllocError>
+        requires least { least_words ≤ words }
+        requires most { words ≤ most_words }
+        ensures { IfOk result (λ m. m ≡ new_machine words) }
+    {
+        Ok(Machine {
+            memory: Memory::new(alloc, words)?,
+            registers: [0; 8],
+            status: ProcessorStatus::of_bits(0),
+            receiver: Receiver {
+                byte: 0,
+                is_done: false,
+                is_enabled: false,
+                has_ended: false,
+            },
+            transmitter: Transmitter { is_enabled: false },
+            stopped: None,
+        })
+    }
+
+    /// Puts the data of one tape into memory, a later byte over an earlier one, and answers the transfer address: where
+    /// it is even the program starts there, and an odd one starts nothing. Behind the transfer block nothing is read.
+    ///
+    /// `OutsideMemory`: a byte came that belongs behind the memory. Any other fault is that of the tape, the first in
+    /// the order of the bytes. The memory then holds what came before. It takes no memory.
+    pub fn load<F: Feed>(&mut self, tape: &mut F) -> Result<u16, LoadFault>
+        ensures { LoadsInto (F.text tape.old) (F.text tape.new) (F.faults tape.old) (F.faults tape.new)
+            self.old self.new result }
+    {
+        load_tape(&mut self.memory, tape)
+    }
+
+    /// Puts the program counter at an address.
+    pub fn start_at(&mut self, address: u16)
+        ensures { self.new ≡ with_register Pc address self.old }
+    {
+        self.set_register(Register::Pc, address);
+    }
+
     /// What a register holds.
-    pub(crate) fn register_value(&self, register: Register) -> u16
+    pub fn register(&self, register: Register) -> u16
         ensures { result ≡ register_of register self.now }
     {
         self.registers[usize::from(register.number())]
+    }
+
+    /// The processor status word.
+    pub fn psw(&self) -> u16
+        ensures word { result ≡ psw_in self.now }
+        ensures byte { result < 256 }
+    {
+        self.status.bits()
+    }
+
+    /// Whether the memory has a byte at this address.
+    pub fn has_byte(&self, address: u16) -> bool
+        ensures { result ≡ nat_lt address (memory_size self.now) }
+    {
+        self.memory.holds(address)
+    }
+
+    /// The byte at an address inside the memory.
+    pub fn byte(&self, address: u16) -> u8
+        requires { address < memory_size self.now }
+        ensures { result ≡ byte_in address self.now }
+    {
+        self.memory.byte(address)
     }
 
     /// Puts a word into a register.
@@ -41,7 +113,7 @@ impl Machine {
     pub(crate) fn advance(&mut self, register: Register, bytes: u16)
         ensures { self.new ≡ advanced register bytes self.old }
     {
-        self.set_register(register, self.register_value(register).wrapping_add(bytes));
+        self.set_register(register, self.register(register).wrapping_add(bytes));
     }
 
     /// Puts condition codes.

@@ -3,7 +3,7 @@
 ghost use Rattle.std.specs.Prelude.{◌≡◌, ◌+◌, ◌<◌, IfOk};
 ghost use Rattle.m11_arithmetic.specs.Sizes.{size_limit};
 ghost use Rattle.m11_cpu.specs.Dialogue.{Does, input_alone, output_alone};
-ghost use Rattle.m11_cpu.specs.Places.{back, deferred, forward, indexed, load, load_operand, next_word, place_of, put_result, step_of, store, without_low_byte};
+ghost use Rattle.m11_cpu.specs.Places.{back, deferred, forward, fetch, fetch_operand, indexed, next_word, place_of, put_result, step_of, store, without_low_byte};
 
 use crate::abort::Abort;
 use crate::machine::Machine;
@@ -34,7 +34,7 @@ impl Machine {
         let register = operand.register;
         match operand.mode {
             Mode::Register => Ok(Place::InRegister(register)),
-            Mode::RegisterDeferred => Ok(Place::InMemory(self.register_value(register))),
+            Mode::RegisterDeferred => Ok(Place::InMemory(self.register(register))),
             Mode::Autoincrement => Ok(Place::InMemory(self.forward(
                 register,
                 step_of(size, register),
@@ -75,7 +75,7 @@ impl Machine {
             (input_alone (F.text feed.new) (F.faults feed.new)) (result, self.new) }
     {
         let index = self.next_word(feed)?;
-        Ok(index.wrapping_add(self.register_value(register)))
+        Ok(index.wrapping_add(self.register(register)))
     }
 
     /// The next word of the program. The program counter steps behind it once it is read.
@@ -84,7 +84,7 @@ impl Machine {
         ensures { Does (next_word self.old) (input_alone (F.text feed.old) (F.faults feed.old))
             (input_alone (F.text feed.new) (F.faults feed.new)) (result, self.new) }
     {
-        let address = self.register_value(Register::Pc);
+        let address = self.register(Register::Pc);
         let word = self.load_word(address, feed)?;
         self.advance(Register::Pc, 2);
         Ok(word)
@@ -94,7 +94,7 @@ impl Machine {
     pub(crate) fn forward(&mut self, register: Register, bytes: u16) -> u16
         ensures { (result, self.new) ≡ forward register bytes self.old }
     {
-        let value = self.register_value(register);
+        let value = self.register(register);
         self.advance(register, bytes);
         value
     }
@@ -103,45 +103,45 @@ impl Machine {
     pub(crate) fn back(&mut self, register: Register, bytes: u16) -> u16
         ensures { (result, self.new) ≡ back register bytes self.old }
     {
-        let value = self.register_value(register).wrapping_sub(bytes);
+        let value = self.register(register).wrapping_sub(bytes);
         self.set_register(register, value);
         value
     }
 
     /// The word or byte in a place.
-    #[tactic(auto, using(crate::proofs::Dialogues::dialogues), unfolding(crate::specs::Places::load))]
-    pub(crate) fn load<F: Feed>(
+    #[tactic(auto, using(crate::proofs::Dialogues::dialogues), unfolding(crate::specs::Places::fetch))]
+    pub(crate) fn fetch<F: Feed>(
         &mut self,
         place: Place,
         size: Size,
         feed: &mut F,
     ) -> Result<u16, Abort>
-        ensures does { Does (load place size self.old) (input_alone (F.text feed.old) (F.faults feed.old))
+        ensures does { Does (fetch place size self.old) (input_alone (F.text feed.old) (F.faults feed.old))
             (input_alone (F.text feed.new) (F.faults feed.new)) (result, self.new) }
         ensures fits { IfOk result (λ value. value < size_limit size) }
     {
         match (place, size) {
-            (Place::InRegister(register), Size::Word) => Ok(self.register_value(register)),
-            (Place::InRegister(register), Size::Byte) => Ok(self.register_value(register) % 256),
+            (Place::InRegister(register), Size::Word) => Ok(self.register(register)),
+            (Place::InRegister(register), Size::Byte) => Ok(self.register(register) % 256),
             (Place::InMemory(address), Size::Word) => self.load_word(address, feed),
             (Place::InMemory(address), Size::Byte) => self.load_byte(address, feed),
         }
     }
 
     /// The word or byte that an operand means, fetched wholly: its place, and what is there.
-    #[tactic(auto, using(crate::proofs::Dialogues::dialogues), unfolding(crate::specs::Places::load_operand))]
-    pub(crate) fn load_operand<F: Feed>(
+    #[tactic(auto, using(crate::proofs::Dialogues::dialogues), unfolding(crate::specs::Places::fetch_operand))]
+    pub(crate) fn fetch_operand<F: Feed>(
         &mut self,
         operand: Operand,
         size: Size,
         feed: &mut F,
     ) -> Result<u16, Abort>
-        ensures does { Does (load_operand operand size self.old) (input_alone (F.text feed.old) (F.faults feed.old))
+        ensures does { Does (fetch_operand operand size self.old) (input_alone (F.text feed.old) (F.faults feed.old))
             (input_alone (F.text feed.new) (F.faults feed.new)) (result, self.new) }
         ensures fits { IfOk result (λ value. value < size_limit size) }
     {
         let place = self.place_of(operand, size, feed)?;
-        self.load(place, size, feed)
+        self.fetch(place, size, feed)
     }
 
     /// Puts a word, or a byte below 256, into a place. A byte in a register is its low byte.
@@ -159,7 +159,7 @@ impl Machine {
         match (place, size) {
             (Place::InRegister(register), Size::Word) => self.set_register(register, value),
             (Place::InRegister(register), Size::Byte) => {
-                let high = without_low_byte(self.register_value(register));
+                let high = without_low_byte(self.register(register));
                 self.set_register(register, high + value % 256);
             }
             (Place::InMemory(address), Size::Word) => return self.store_word(address, value, sink),

@@ -63,7 +63,7 @@ impl Machine {
         ensures { Does (test operation size operand self.old) (input_alone (F.text feed.old) (F.faults feed.old))
             (input_alone (F.text feed.new) (F.faults feed.new)) (result, self.new) }
     {
-        let value = self.load_operand(operand, size, feed)?;
+        let value = self.fetch_operand(operand, size, feed)?;
         let computed = m11_arithmetic::single(operation, size, value, self.status.codes);
         self.set_codes(computed.codes);
         Ok(())
@@ -99,7 +99,7 @@ impl Machine {
         ensures { Does (change_at operation size place self.old) (both (F.text feed.old) (F.faults feed.old) (S.text sink.old) (S.faults sink.old))
             (both (F.text feed.new) (F.faults feed.new) (S.text sink.new) (S.faults sink.new)) (result, self.new) }
     {
-        let value = self.load(place, size, feed)?;
+        let value = self.fetch(place, size, feed)?;
         let computed = m11_arithmetic::single(operation, size, value, self.status.codes);
         self.put_result(place, size, computed, sink)
     }

@@ -30,6 +30,12 @@ pub enum Turn {
     Stopped(Stop),
 }
 
+/// What a run of a program came to.
+#[derive(Clone, Copy, Debug, PartialEq, Eq)]
+pub struct SimDone {
+    pub stop: Stop,
+}
+
 impl Stop {
     ghost use Rattle.m11_cpu.specs.Stops.{stop_name, stop_number};
 

@@ -35,7 +35,7 @@ impl Machine {
             (output_alone (S.text sink.new) (S.faults sink.new)) (result, self.new) }
     {
         self.push(self.status.bits(), sink)?;
-        self.push(self.register_value(Register::Pc), sink)
+        self.push(self.register(Register::Pc), sink)
     }
 
     // The program counter and the processor status are those of a vector.

@@ -33,10 +33,10 @@ fn bytes_left<F: Feed>(feed: &mut F) -> usize {
 }
 
 // A block of the count 177777 at address 0, of which so many bytes of data came, all 0.
-fn longest_block(alloc: Global, data: usize) -> Result<Vec<u8>, AllocError>
-    requires { data < 65536 }
+fn longest_block(alloc: Global, count: usize) -> Result<Vec<u8>, AllocError>
+    requires { count < 65536 }
 {
-    let mut bytes = vec![in alloc; 0; 6 + data]?;
+    let mut bytes = vec![in alloc; 0; 6 + count]?;
     bytes[0] = 0o001;
     bytes[2] = 0o377;
     bytes[3] = 0o377;

@@ -6,4 +6,4 @@ pub returns : goal.returns
 unfolding exclusive_or
 returns g c =
     bind_reads _ _ _ _ _ _ _ _ _ _ c.in_ok-place.ensures
-    (change_exclusive_at _ _ _ _ _ _ _ c.register_value-source.ensures c.change_exclusive.ensures)
+    (change_exclusive_at _ _ _ _ _ _ _ c.register-source.ensures c.change_exclusive.ensures)

@@ -1,6 +1,6 @@
 use Rattle.std.proofs.Common.{refl, subst, true, false, Bool}
 use Rattle.m11_cpu.specs.Access.{send, sent}
-use Rattle.m11_cpu.specs.Dialogue.{Takes, output}
+use Rattle.m11_cpu.specs.Dialogue.{Takes}
 use Rattle.m11_cpu.proofs.Dialogues.{sends_at_once, comes}
 use Rattle.m11_cpu.proofs.machine.Machine.send.Goals as goal
 

@@ -1,0 +1,78 @@
+-- Runs, step by step.
+use Rattle.std.proofs.Common.{◌≡◌, ℕ, zero, suc, ◌+◌, ◌-◌, ◌<◌, ◌≤◌, refl, sym, subst, ap, ◌∙◌, arith}
+use Rattle.m11_cpu.specs.declared.machine.Machine.{Machine}
+use Rattle.m11_cpu.specs.declared.runs.Ran.{Ran}
+use Rattle.m11_cpu.specs.declared.stop.Stop.{Stop}
+use Rattle.m11_cpu.specs.declared.stop.Stop.TheVariants.{Limit}
+use Rattle.m11_cpu.specs.declared.stop.Turn.TheVariants.{Next, Stopped}
+use Rattle.m11_cpu.specs.Dialogue.{Devices, Does}
+use Rattle.m11_cpu.specs.Runs.{one_more, run, run_counted}
+use Rattle.m11_cpu.specs.Steps.{step}
+use Rattle.m11_cpu.proofs.Dialogues.{comes, then_does}
+
+abbrev pub ran : Stop → ℕ → Ran
+ran stop steps = record { stop = stop; steps = steps }
+
+-- what is left of a run leads to its whole: so many steps were made
+abbrev pub GoesOn : ℕ → ℕ → Machine → Machine → Devices → Devices → Type 0
+GoesOn limit done m m' old middle = (stop : Stop) (steps : ℕ) (new : Devices) (n : Machine)
+    → Does (run_counted (limit - done) m') middle new (ran stop steps, n)
+    → Does (run_counted limit m) old new (ran stop (done + steps), n)
+
+pub begins : (limit : ℕ) (m : Machine) (old : Devices) → GoesOn limit 0 m m old old
+begins limit m old stop steps new n h =
+    let P : ℕ → Type 0 = λ k. Does (run_counted limit m) old new (ran stop k, n) in
+    let e : steps ≡ 0 + steps = omega arith in
+    let Q : ℕ → Type 0 = λ k. Does (run_counted k m) old new (ran stop steps, n) in
+    let f : limit - 0 ≡ limit = omega arith in
+    subst P e (subst Q f h)
+
+run_next : (left : ℕ) (m m' n : Machine) (old middle new : Devices) (stop : Stop) (steps : ℕ)
+    → Does (step m) old middle (Next, m') → Does (run_counted left m') middle new (ran stop steps, n)
+    → Does (run_counted (suc left) m) old new (ran stop (steps + 1), n)
+unfolding run_counted
+run_next left m m' n old middle new stop steps h k =
+    then_does (step m) _ old middle new (Next, m') _ h
+    (then_does (run_counted left m') _ middle new new (ran stop steps, n) _ k (comes new _ _ refl))
+
+run_stops : (left : ℕ) (m m' : Machine) (old new : Devices) (stop : Stop) → Does (step m) old new (Stopped stop, m')
+    → Does (run_counted (suc left) m) old new (ran stop 1, m')
+unfolding run_counted
+run_stops left m m' old new stop h = then_does (step m) _ old new new (Stopped stop, m') _ h (comes new _ _ refl)
+
+run_ends : (m : Machine) (d : Devices) → Does (run_counted 0 m) d d (ran Limit 0, m)
+unfolding run_counted
+run_ends m d = comes d _ _ refl
+
+pub goes_on : (limit done : ℕ) (m m' m'' : Machine) (old middle later : Devices) → done < limit
+    → GoesOn limit done m m' old middle → Does (step m') middle later (Next, m'')
+    → GoesOn limit (done + 1) m m'' old later
+goes_on limit done m m' m'' old middle later lt i h stop steps new n k =
+    let e : limit - done ≡ suc (limit - (done + 1)) = omega arith in
+    let P : ℕ → Type 0 = λ left. Does (run_counted left m') middle new (ran stop (steps + 1), n) in
+    let whole = i stop (steps + 1) new n (subst P (sym e) (run_next (limit - (done + 1)) m' m'' n middle later new stop steps h k)) in
+    let Q : ℕ → Type 0 = λ all. Does (run_counted limit m) old new (ran stop all, n) in
+    let f : done + (steps + 1) ≡ done + 1 + steps = omega arith in
+    subst Q f whole
+
+pub stops : (limit done : ℕ) (m m' m'' : Machine) (old middle new : Devices) (stop : Stop) → done < limit
+    → GoesOn limit done m m' old middle → Does (step m') middle new (Stopped stop, m'')
+    → Does (run_counted limit m) old new (ran stop (done + 1), m'')
+stops limit done m m' m'' old middle new stop lt i h =
+    let e : limit - done ≡ suc (limit - (done + 1)) = omega arith in
+    let P : ℕ → Type 0 = λ left. Does (run_counted left m') middle new (ran stop 1, m'') in
+    i stop 1 new m'' (subst P (sym e) (run_stops (limit - (done + 1)) m' m'' middle new stop h))
+
+pub ends : (limit done : ℕ) (m m' : Machine) (old new : Devices) → limit ≡ done → GoesOn limit done m m' old new
+    → Does (run_counted limit m) old new (ran Limit limit, m')
+ends limit done m m' old new e i =
+    let z : limit - done ≡ 0 = omega arith in
+    let P : ℕ → Type 0 = λ left. Does (run_counted left m') new new (ran Limit 0, m') in
+    let Q : ℕ → Type 0 = λ all. Does (run_counted limit m) old new (ran Limit all, m') in
+    let f : done + 0 ≡ limit = omega arith in
+    subst Q f (i Limit 0 new m' (subst P (sym z) (run_ends m' new)))
+
+pub run_told : (limit : ℕ) (m m' : Machine) (old new : Devices) (r : Ran) → Does (run_counted limit m) old new (r, m')
+    → Does (run limit m) old new (r.stop, m')
+unfolding run
+run_told limit m m' old new r h = then_does (run_counted limit m) _ old new new (r, m') _ h (comes new _ _ refl)

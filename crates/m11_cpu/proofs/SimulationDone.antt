@@ -1,0 +1,46 @@
+-- How whole runs end in a fault.
+use Rattle.std.proofs.Common.{◌≡◌, ℕ, List, Option, Result, Ok, Err, refl, sym, subst, ap₂, inl, inr}
+use Rattle.std.specs.Prelude.{unwrap_or}
+use Rattle.m11_cpu.specs.declared.fault.LoadFault.{LoadFault}
+use Rattle.m11_cpu.specs.declared.fault.SimFault.{SimFault}
+use Rattle.m11_cpu.specs.declared.fault.SimFault.TheVariants.{Load, Write, NoMemory}
+use Rattle.m11_cpu.specs.declared.machine.Machine.{Machine}
+use Rattle.m11_cpu.specs.declared.runs.Ran.{Ran}
+use Rattle.m11_cpu.specs.Dialogue.{Devices, Does, Input, Output}
+use Rattle.m11_cpu.specs.Loading.{LoadsInto}
+use Rattle.m11_cpu.specs.Machine.{new_machine, psw_in}
+use Rattle.m11_cpu.specs.Messages.{PutsMessages, messages_of}
+use Rattle.m11_cpu.specs.Simulation.{HasRun, Loaded, Simulates, started, text_at_stop}
+
+pub not_loaded : (start : Option ℕ) (words limit : ℕ) (tape tape' : Input) (console : Devices) (told : Output)
+    (machine m : Machine) (fault : LoadFault) → machine ≡ new_machine words
+    → LoadsInto tape.text tape'.text tape.faults tape'.faults machine m (Err fault)
+    → Simulates start words limit tape tape' console console told told (Err (Load fault))
+not_loaded start words limit tape tape' console told machine m fault e h =
+    let P : Machine → Type 0 = λ n. LoadsInto tape.text tape'.text tape.faults tape'.faults n m (Err fault) in
+    (m, subst P e h, refl, refl)
+
+pub has_run : (start : Option ℕ) (words limit : ℕ) (tape tape' : Input) (console console' : Devices) (ran : Ran)
+    (machine loaded m : Machine) (transfer address : ℕ) → machine ≡ new_machine words
+    → LoadsInto tape.text tape'.text tape.faults tape'.faults machine loaded (Ok transfer)
+    → address ≡ unwrap_or start transfer → Does (started address limit loaded) console console' (ran, m)
+    → HasRun start words limit tape tape' console console' ran m
+has_run start words limit tape tape' console console' ran machine loaded m transfer address e h f k =
+    let P : Machine → Type 0 = λ n. LoadsInto tape.text tape'.text tape.faults tape'.faults n loaded (Ok transfer) in
+    let Q : ℕ → Type 0 = λ n. Does (started n limit loaded) console console' (ran, m) in
+    record { transfer = transfer; loaded = loaded; loads = subst P e h; runs = subst Q f k }
+
+pub not_told : (start : Option ℕ) (words limit : ℕ) (tape tape' : Input) (console console' : Devices)
+    (told told' : Output) (ran : Ran) (m : Machine) (psw : ℕ) (fault : SimFault)
+    → HasRun start words limit tape tape' console console' ran m → psw ≡ psw_in m
+    → PutsMessages {A = Unit {0}} told.text told'.text told.faults told'.faults
+    (messages_of ran.stop ran.steps m.registers psw) (Err fault)
+    → Simulates start words limit tape tape' console console' told told' (Err fault)
+not_told start words limit tape tape' console console' told told' ran m psw Write run e h =
+    let P : ℕ → Type 0 = λ n. PutsMessages {A = Unit {0}} told.text told'.text told.faults told'.faults
+    (messages_of ran.stop ran.steps m.registers n) (Err Write) in
+    (ran, m, run, (subst P e h).0, (subst P e h).1)
+not_told start words limit tape tape' console console' told told' ran m psw NoMemory run e h =
+    let to : Option (List ℕ) → ℕ → Output = λ t f. record { text = t; faults = f } in
+    (ap₂ to h.0 h.1, inr (ran, m, run))
+not_told start words limit tape tape' console console' told told' ran m psw (Load fault) run e h = absurd h

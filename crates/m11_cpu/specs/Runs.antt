@@ -1,0 +1,27 @@
+-- Runs: steps, until one stops or a limit is reached. (This project's own.)
+use Rattle.std.specs.Prelude.{ℕ, zero, suc, ◌+◌}
+use Rattle.m11_cpu.specs.Dialogue.{Dialogue, Comes, after}
+use Rattle.m11_cpu.specs.Steps.{step}
+use Rattle.m11_cpu.specs.declared.machine.Machine.{Machine}
+use Rattle.m11_cpu.specs.declared.runs.Ran.{Ran}
+use Rattle.m11_cpu.specs.declared.stop.Stop.{Stop}
+use Rattle.m11_cpu.specs.declared.stop.Stop.TheVariants.{Limit}
+use Rattle.m11_cpu.specs.declared.stop.Turn.{Turn}
+use Rattle.m11_cpu.specs.declared.stop.Turn.TheVariants.{Next, Stopped}
+
+-- one more step was begun before these
+abbrev pub one_more : Ran → Ran
+one_more ran = record { stop = ran.stop; steps = ran.steps + 1 }
+
+-- behind a step: it stops, or more are made
+abbrev pub behind : (Machine → Dialogue (Ran × Machine)) → Turn → Machine → Dialogue (Ran × Machine)
+behind more Next m = after (more m) (λ ran. Comes (one_more ran.0, ran.1))
+behind more (Stopped stop) m = Comes (record { stop = stop; steps = 1 }, m)
+
+-- as many steps as the limit allows, or up to the one that stops, which counts too
+unfoldable pub run_counted : ℕ → Machine → Dialogue (Ran × Machine)
+run_counted zero m = Comes (record { stop = Limit; steps = 0 }, m)
+run_counted (suc left) m = after (step m) (λ came. behind (run_counted left) came.0 came.1)
+
+unfoldable pub run : ℕ → Machine → Dialogue (Stop × Machine)
+run limit m = after (run_counted limit m) (λ ran. Comes (ran.0.stop, ran.1))

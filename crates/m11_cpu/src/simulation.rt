@@ -1,0 +1,79 @@
+//! A whole run: a tape is loaded and started, and its stop is told.
+
+ghost use Rattle.std.specs.Prelude.{◌≡◌, ◌≤◌};
+ghost use Rattle.m11_cpu.specs.Dialogue.{Does, both, input_of, output_of};
+ghost use Rattle.m11_cpu.specs.Memory.{least_words, most_words};
+ghost use Rattle.m11_cpu.specs.Simulation.{Simulates, started};
+
+use crate::fault::SimFault;
+use crate::machine::Machine;
+use crate::messages::put_messages;
+use crate::runs::Ran;
+use crate::stop::{SimDone, Stop};
+use m11_base::{Feed, Sink};
+use std::alloc::Global;
+
+/// Loads a tape into a new machine of `words` words of memory, 4,096 to 28,672, and makes steps from its start on,
+/// `limit` of them at most. `start` replaces the transfer address of the tape; an odd address starts nothing. At the stop two lines go to
+/// `messages`: the stop with the number of steps, and the registers.
+///
+/// Faults: the tape was not loaded, and nothing was run; the messages could not be written, and a beginning of them was;
+/// memory was refused, before anything was read or when the run had stopped. A failing console is no fault but a stop.
+pub fn sim_run<T: Feed, I: Feed, O: Sink, M: Sink>(
+    alloc: Global,
+    tape: &mut T,
+    start: Option<u16>,
+    words: u16,
+    limit: u32,
+    input: &mut I,
+    output: &mut O,
+    messages: &mut M,
+) -> Result<SimDone, SimFault>
+    requires least { least_words ≤ words }
+    requires most { words ≤ most_words }
+    ensures { Simulates start words limit
+        (input_of (T.text tape.old) (T.faults tape.old)) (input_of (T.text tape.new) (T.faults tape.new))
+        (both (I.text input.old) (I.faults input.old) (O.text output.old) (O.faults output.old))
+        (both (I.text input.new) (I.faults input.new) (O.text output.new) (O.faults output.new))
+        (output_of (M.text messages.old) (M.faults messages.old)) (output_of (M.text messages.new) (M.faults messages.new))
+        result }
+{
+    let mut machine = Machine::new(alloc, words)?;
+    let transfer = machine.load(tape)?;
+    let ran = machine.started(start.unwrap_or(transfer), limit, input, output);
+    put_messages(
+        alloc,
+        messages,
+        ran.stop,
+        ran.steps,
+        &machine.registers,
+        machine.psw(),
+    )?;
+    Ok(SimDone { stop: ran.stop })
+}
+
+impl Machine {
+    // Runs from an even address on. An odd one starts nothing.
+    #[tactic(auto, using(crate::proofs::Dialogues::dialogues), unfolding(crate::specs::Simulation::started))]
+    fn started<F: Feed, S: Sink>(
+        &mut self,
+        address: u16,
+        limit: u32,
+        feed: &mut F,
+        sink: &mut S,
+    ) -> Ran
+        ensures { Does (started address limit self.old)
+            (both (F.text feed.old) (F.faults feed.old) (S.text sink.old) (S.faults sink.old))
+            (both (F.text feed.new) (F.faults feed.new) (S.text sink.new) (S.faults sink.new))
+            (result, self.new) }
+    {
+        if address % 2 == 1 {
+            return Ran {
+                stop: Stop::NoStart,
+                steps: 0,
+            };
+        }
+        self.start_at(address);
+        self.run_counted(limit, feed, sink)
+    }
+}
