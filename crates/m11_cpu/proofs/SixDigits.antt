@@ -5,15 +5,15 @@ use Rattle.std.proofs.lemmas.Grind.{common_steps}
 use Rattle.std.specs.Fmt.{digits, digits_onto, char_count, padded_integral, format_spec}
 use Rattle.m11_base.specs.Octal.{octal_text}
 
+-- ---- the digits, from the last one on
+
 last_digit : (k n : ℕ) (acc : List ℕ) → n < 8 → digits_onto (suc k) 8 false n acc ≡ (48 + n % 8) ∷ acc
 last_digit k n acc small = grind (arith, common_steps)
 
 one_more : (k n : ℕ) (acc : List ℕ) → 8 ≤ n → digits_onto (suc k) 8 false n acc ≡ digits_onto k 8 false (n / 8) ((48 + n % 8) ∷ acc)
 one_more k n acc large = grind (arith, common_steps)
 
--- the text of a number below 2 to the 16, as it is printed
-abbrev printed : ℕ → List ℕ
-printed n = padded_integral (format_spec 32 0 4 6 (2 ^ 64 - 1)) false [] (digits 8 false n)
+-- ---- the digits, by how many there are
 
 one_digit : (n : ℕ) → n < 8 → digits 8 false n ≡ (48 + n % 8) ∷ []
 unfolding digits
@@ -59,6 +59,12 @@ six_digits n large small =
     ∙ one_more 60 (n / 8 / 8 / 8) ((48 + n / 8 / 8 % 8) ∷ (48 + n / 8 % 8) ∷ (48 + n % 8) ∷ []) (omega arith)
     ∙ one_more 59 (n / 8 / 8 / 8 / 8) ((48 + n / 8 / 8 / 8 % 8) ∷ (48 + n / 8 / 8 % 8) ∷ (48 + n / 8 % 8) ∷ (48 + n % 8) ∷ []) (omega arith)
     ∙ last_digit 58 (n / 8 / 8 / 8 / 8 / 8) ((48 + n / 8 / 8 / 8 / 8 % 8) ∷ (48 + n / 8 / 8 / 8 % 8) ∷ (48 + n / 8 / 8 % 8) ∷ (48 + n / 8 % 8) ∷ (48 + n % 8) ∷ []) (omega arith)
+
+-- ---- with zeros before them
+
+-- the text of a number below 2 to the 16, as it is printed
+abbrev printed : ℕ → List ℕ
+printed n = padded_integral (format_spec 32 0 4 6 (2 ^ 64 - 1)) false [] (digits 8 false n)
 
 printed_one : (n : ℕ) → n < 8 → printed n ≡ octal_text n
 unfolding padded_integral char_count

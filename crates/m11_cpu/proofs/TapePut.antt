@@ -1,16 +1,18 @@
 -- The blocks of a tape, given and put into memory one after another.
-use Rattle.std.proofs.Common.{◌≡◌, ℕ, ◌<◌, List, [], ◌∷◌, ◌++◌, length, Result, Ok, Err, refl, sym, ap, subst, ◌∙◌, arith, inl, inr}
+use Rattle.std.proofs.Common.{◌≡◌, ℕ, ◌<◌, List, [], ◌∷◌, ◌++◌, length, Option, Result, Ok, Err, refl, sym, ap, subst, ◌∙◌, arith, inl, inr}
 use Rattle.m11_obj.specs.declared.tape_fault.TapeFault.{TapeFault}
+use Rattle.m11_obj.specs.declared.tape_fault.TapeFault.TheVariants as fault
 use Rattle.m11_obj.specs.declared.tape_part.TapePart.{TapePart}
 use Rattle.m11_obj.specs.declared.tape_part.TapePart.TheVariants.{Data, Start}
 use Rattle.m11_obj.specs.declared.tape_part.TapeStage.{TapeStage}
 use Rattle.m11_obj.specs.declared.tape_part.TapeStage.TheVariants.{BeforeBlock, InBlock, AtEnd, AfterFault}
-use Rattle.m11_obj.specs.Limited.{Place, Took, Reads}
-use Rattle.m11_obj.specs.Tapes.{total_of, first_part, stage_after, left_of, ReadsPart, ReadsNext}
+use Rattle.m11_obj.specs.Limited.{Place, place, most_bytes, Took, Read, Reads, Stops}
+use Rattle.m11_obj.specs.Tapes.{total_of, first_part, data_byte, stage_after, left_of, why_of, ReadsPart, ReadsNext}
+use Rattle.m11_base.specs.Feed.{Text}
 use Rattle.m11_obj.proofs.Limits.{took_nothing, took_then}
 use Rattle.m11_cpu.specs.declared.fault.LoadFault.{LoadFault}
 use Rattle.m11_cpu.specs.declared.fault.LoadFault.TheVariants.{Tape, OutsideMemory}
-use Rattle.m11_cpu.specs.Loading.{with_bytes, AreInside, part_behind, PutBlocks, PutSome, LoadsTape, InsideData, Loads, PutsData}
+use Rattle.m11_cpu.specs.Loading.{with_bytes, AreInside, part_behind, PutBlocks, PutSome, LoadsTape, InsideData, Loads, LoadsFrom, PutsData, CountsFailure}
 use Rattle.m11_cpu.proofs.BytesPut.{block_put, block_inside}
 use Rattle.m11_cpu.proofs.BlocksRead.{behind_more, hold_more, is_tape, StandsBefore, next_is}
 
@@ -89,3 +91,35 @@ module _ (old here : Place) (before now : List ℕ) (stage : TapeStage) (blocks 
         block_fails A (Tape fault) p = inr (address, content, p.0, inside_block p.0 p.1, p.2)
         block_fails A OutsideMemory p =
             (address, content, p.0, inside_block p.0 p.1, (p.2.0, p.2.1, omega (arith, l.size, p.2.2)))
+
+-- ---- failures of the feed
+
+-- a part or byte that is not read
+stop_counts : {A : Type 0} (read : List ℕ → Read TapeFault A) (a b : Place) (fault : TapeFault) → Stops read a b (why_of fault) → CountsFailure a.faults b.faults (Err (Tape fault))
+stop_counts read a b fault.Device s = rw (sym s.1.1.faults) s.1.2.1
+stop_counts read a b fault.Truncated s = s.1.2.1 ∙ s.1.1.faults
+stop_counts read a b fault.BadSum s = s.1.faults
+stop_counts read a b fault.BadStart s = s.1.faults
+stop_counts read a b fault.TooShort s = s.1.faults
+stop_counts read a b fault.Failed s = absurd s
+stop_counts read a b fault.NoTransfer s = s.1.2.1 ∙ s.1.1.faults
+stop_counts read a b fault.TooMuch s = s.1.2.2 ∙ s.1.1.faults
+
+counts_behind : (first here : ℕ) (new : ℕ) (answer : Result ℕ LoadFault) → here ≡ first → CountsFailure here new answer → CountsFailure first new answer
+counts_behind first here new answer same counts =
+    subst (λ (n : ℕ). CountsFailure n new answer) same counts
+
+load_counts : (old new : Place) (before after : List ℕ) (answer : Result ℕ LoadFault) → Loads old new before after answer → CountsFailure old.faults new.faults answer
+load_counts old new before after (Ok start) l = l.last.took.faults ∙ l.put.took.faults
+load_counts old new before after (Err (Tape fault)) (inl s) =
+    counts_behind old.faults s.behind.faults new.faults (Err (Tape fault)) s.put.took.faults (stop_counts (part_behind first_part s.blocks) s.behind new fault s.stops)
+load_counts old new before after (Err (Tape fault)) (inr s) =
+    let part = s.3 in
+    counts_behind old.faults s.2.faults new.faults (Err (Tape fault)) (part.part.took.faults ∙ part.header.took.faults ∙ part.put.took.faults)
+    (stop_counts data_byte s.2 new fault s.4)
+load_counts old new before after (Err OutsideMemory) s =
+    let part = s.3 in s.4.1.faults ∙ part.part.took.faults ∙ part.header.took.faults ∙ part.put.took.faults
+
+pub counts_from : (text text' : Option Text) (faults faults' : ℕ) (before after : List ℕ) (answer : Result ℕ LoadFault) → LoadsFrom text text' faults faults' before after answer → CountsFailure faults faults' answer
+counts_from text text' faults faults' before after answer l =
+    load_counts (place text faults most_bytes) (place text' faults' l.0) before after answer l.1

@@ -3,10 +3,12 @@
 -- came, before the sum of its block is checked, is this project's own.
 use Rattle.std.specs.Prelude.{◌≡◌, ℕ, ◌+◌, ◌<◌, ◌≤◌, List, [], ◌∷◌, ◌++◌, length, take, drop, Option, Result, Ok, Err, ◌⊎◌}
 use Rattle.std.specs.List.{AllByRecursion}
+use Rattle.m11_base.specs.Devices.{Rises}
 use Rattle.m11_base.specs.Feed.{Text}
 use Rattle.m11_obj.specs.Limited.{Place, place, Took, Read, Reads, Stops, most_bytes}
 use Rattle.m11_obj.specs.Tapes.{IsTape, total_of, first_part, next_part, data_byte, why_of}
 use Rattle.m11_obj.specs.declared.tape_fault.TapeFault.{TapeFault}
+use Rattle.m11_obj.specs.declared.tape_fault.TapeFault.TheVariants as fault
 use Rattle.m11_obj.specs.declared.tape_part.TapePart.{TapePart}
 use Rattle.m11_obj.specs.declared.tape_part.TapePart.TheVariants.{Data, Start}
 use Rattle.m11_cpu.specs.declared.fault.LoadFault.{LoadFault}
@@ -102,10 +104,16 @@ Loads old new before after (Err OutsideMemory) =
 abbrev pub LoadsFrom : Option Text → Option Text → ℕ → ℕ → List ℕ → List ℕ → Result ℕ LoadFault → Type 0
 LoadsFrom text text' faults faults' before after answer = (room : ℕ) × Loads (place text faults most_bytes) (place text' faults' room) before after answer
 
+-- the feed's count of failures tells of one where the load does, and stays where it does not
+abbrev pub CountsFailure : ℕ → ℕ → Result ℕ LoadFault → Type 0
+CountsFailure faults faults' (Err (Tape fault.Device)) = Rises faults faults'
+CountsFailure faults faults' _ = faults' ≡ faults
+
 -- the same into a machine, of which nothing but the memory changes
 abbrev pub LoadsInto : Option Text → Option Text → ℕ → ℕ → Machine → Machine → Result ℕ LoadFault → Type 0
 LoadsInto text text' faults faults' before after answer =
-    LoadsFrom text text' faults faults' before.memory after.memory answer × (after ≡ record before { memory = after.memory })
+    LoadsFrom text text' faults faults' before.memory after.memory answer
+    × CountsFailure faults faults' answer × (after ≡ record before { memory = after.memory })
 
 -- ---- one block
 

@@ -4,7 +4,7 @@ ghost use Rattle.std.specs.Prelude.{◌≡◌, ◌+◌, ◌<◌, ◌%◌, ℕ, L
 ghost use Rattle.m11_obj.specs.Limited.{place};
 ghost use Rattle.m11_obj.specs.Tapes.{tape_header, total_of};
 ghost use Rattle.m11_obj.specs.declared.tape_part.TapeStage.TheVariants.{InBlock};
-ghost use Rattle.m11_cpu.specs.Loading.{PutsData, LoadsFrom};
+ghost use Rattle.m11_cpu.specs.Loading.{PutsData, LoadsFrom, CountsFailure};
 
 use crate::fault::LoadFault;
 use crate::memory::Memory;
@@ -45,6 +45,7 @@ fn load_block<F: Feed>(
 pub(crate) fn load_tape<F: Feed>(memory: &mut Memory, feed: &mut F) -> Result<u16, LoadFault>
     ensures loads { LoadsFrom (F.text feed.old) (F.text feed.new) (F.faults feed.old) (F.faults feed.new)
         memory.old memory.new result }
+    ensures counts { CountsFailure (F.faults feed.old) (F.faults feed.new) result }
     ensures size { length memory.new ≡ length memory.old }
 {
     let mut reader = TapeReader::new();

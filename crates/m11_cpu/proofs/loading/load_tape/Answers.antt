@@ -3,7 +3,7 @@ use Rattle.std.proofs.lemmas.Result.{err_from_is_err_and}
 use Rattle.m11_obj.specs.declared.tape_part.TapePart.{TapePart}
 use Rattle.m11_obj.specs.Limited.{place, most_bytes}
 use Rattle.m11_obj.specs.Tapes.{stage_after}
-use Rattle.m11_cpu.proofs.TapePut.{none_loaded, block_ended, stage_is, part_stops, tape_ends, room_falls, block_loaded, block_fails}
+use Rattle.m11_cpu.proofs.TapePut.{none_loaded, block_ended, stage_is, part_stops, tape_ends, room_falls, block_loaded, block_fails, counts_from}
 use Rattle.m11_cpu.proofs.loading.load_tape.Goals as goal
 
 pub parts-init : goal.parts-init
@@ -59,3 +59,15 @@ returns-in-Start-clause-loads g c =
 
 pub returns-in-Start-clause-size : goal.returns-in-Start-clause-size
 returns-in-Start-clause-size g c = c.parts.invariant.1.size
+
+pub returns-in_err-address-clause-counts : goal.returns-in_err-address-clause-counts
+returns-in_err-address-clause-counts g c =
+    counts_from (g.F.Feed.text c.args.feed.now) (g.F.Feed.text c.next.new.feed) (g.F.Feed.faults c.args.feed.now) (g.F.Feed.faults c.next.new.feed) c.args.memory.now c.parts.memory c.from_residual.result (returns-in_err-address-clause-loads g c)
+
+pub returns-in_err-load_block-in-Data-clause-counts : goal.returns-in_err-load_block-in-Data-clause-counts
+returns-in_err-load_block-in-Data-clause-counts g c =
+    counts_from (g.F.Feed.text c.args.feed.now) (g.F.Feed.text c.load_block.new.feed) (g.F.Feed.faults c.args.feed.now) (g.F.Feed.faults c.load_block.new.feed) c.args.memory.now c.load_block.new.memory c.from_residual-in_err-load_block-in-Data.result (returns-in_err-load_block-in-Data-clause-loads g c)
+
+pub returns-in-Start-clause-counts : goal.returns-in-Start-clause-counts
+returns-in-Start-clause-counts g c =
+    counts_from (g.F.Feed.text c.args.feed.now) (g.F.Feed.text c.next.new.feed) (g.F.Feed.faults c.args.feed.now) (g.F.Feed.faults c.next.new.feed) c.args.memory.now c.parts.memory (Ok c.in-Start.address) (returns-in-Start-clause-loads g c)
