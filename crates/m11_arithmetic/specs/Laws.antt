@@ -83,11 +83,16 @@ pub record IsQuotient (dividend divisor quotient remainder : ℤ) : Type 0 where
   pub smaller : unsigned_abs remainder < unsigned_abs divisor
   pub sign : (remainder ≡ pos 0) ⊎ (int_lt remainder (pos 0) ≡ int_lt dividend (pos 0))
 
--- a division that is done clears V, and one that is refused sets it
+-- no two words are the quotient and the remainder
+abbrev pub HasNoQuotient : ℤ → ℤ → Type 0
+HasNoQuotient dividend divisor = (quotient remainder : ℕ) → quotient < 0o200000 → remainder < 0o200000
+    → IsQuotient dividend divisor (signed Word quotient) (signed Word remainder) → ⊥
+
+-- a division that is done clears V; one that is refused sets it, and was by 0 or has no quotient
 abbrev pub IsDivided : ℤ → ℤ → Division → Type 0
 IsDivided dividend divisor (Done quotient remainder codes) =
     (codes.overflow ≡ false) × IsQuotient dividend divisor (signed Word quotient) (signed Word remainder)
-IsDivided dividend divisor (Refused codes) = codes.overflow ≡ true
+IsDivided dividend divisor (Refused codes) = (codes.overflow ≡ true) × ((divisor ≡ pos 0) ⊎ HasNoQuotient dividend divisor)
 
 -- ---- shifts
 

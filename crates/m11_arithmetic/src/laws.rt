@@ -38,6 +38,7 @@ pub fn multiplication()
 
 /// Where DIV clears V, quotient and remainder are those of the exact numbers: the dividend is the quotient times
 /// the divisor and the remainder, which is smaller in size than the divisor, and 0 or of the dividend's sign.
+/// Where DIV sets V, the divisor is 0, or no two words are such a quotient and remainder.
 pub fn division()
     ensures { (high low divisor : ℕ) → high < 0o200000 → low < 0o200000 → divisor < 0o200000
         → IsDivided (joined high low) (signed Word divisor) (division_of high low divisor) }
