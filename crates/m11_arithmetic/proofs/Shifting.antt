@@ -1,6 +1,6 @@
 -- Shifts as steps, and the exact numbers that they stand for.
 use Rattle.std.proofs.Common.{◌≡◌, refl, sym, subst, ◌∙◌, ap, ℕ, zero, suc, ◌+◌, ◌*◌, ◌/◌, ◌%◌, ◌^◌, ◌<◌, ◌≤◌, ◌≢◌, inl, inr, ℤ, pos, negsuc, ◌+ℤ◌, ◌*ℤ◌, ◌≤ℤ◌, ◌<ℤ◌, neg_ℤ, w16, arith, true, false}
-use Rattle.std.specs.Prelude.{FitsSigned, int_lt}
+use Rattle.std.specs.Prelude.{nat_le, FitsSigned, int_lt}
 use Rattle.std.specs.Int.{int_div_euclid}
 use Rattle.std.proofs.Math.Nat.{pow-suc, div-le_self}
 use Rattle.std.proofs.lemmas.Nat.{div-add-mod', mod_below, pow_pos}
@@ -9,10 +9,10 @@ use Rattle.std.proofs.lemmas.Bool.Decides.{nat_tests}
 use Rattle.std.proofs.lemmas.Int.{ints}
 use Rattle.m11_base.specs.declared.operand.Size.TheVariants.{Word}
 use Rattle.m11_arithmetic.specs.Sizes.{size_limit, signed, modulo, overflows}
-use Rattle.m11_arithmetic.specs.Shifts.{places, shifted, last_bit, shift_result}
+use Rattle.m11_arithmetic.specs.Shifts.{places, shifted, last_bit, digit, shift_result}
 use Rattle.m11_arithmetic.specs.declared.results.Computed.{Computed}
 use Rattle.m11_arithmetic.specs.Results.{with_codes}
-use Rattle.m11_arithmetic.specs.Laws.{steps_left, SignChanges, IsShiftedLeft, IsShiftedRight}
+use Rattle.m11_arithmetic.specs.Laws.{steps_left, left_last, SignChanges, IsShiftedLeft, IsShiftedRight}
 use Rattle.m11_arithmetic.proofs.Exact.{held_in_word, word_again, word_holds, signed_fits}
 
 -- a number doubled n times
@@ -121,6 +121,17 @@ result_by value count =
     with_codes Word (modulo (size_limit Word) (shifted (signed Word value) count)) (overflows Word (shifted (signed Word value) count))
     (last_bit 16 (signed Word value) count)
 
+-- the digit above the word of a double is the highest digit in the word
+digit_of_double : (number : ℤ) → digit (number +ℤ number) 16 ≡ nat_le 0o100000 (modulo 0o200000 number)
+digit_of_double (pos a) = grind (arith, nat_tests)
+digit_of_double (negsuc a) = grind (arith, nat_tests)
+
+last_is : (value n : ℕ) → value < 0o200000 → last_bit 16 (signed Word value) (pos n) ≡ left_last n value
+last_is value zero below = refl
+last_is value (suc n) below =
+    ap (λ z. digit z 16) (times_more (signed Word value) n) ∙ digit_of_double (times (signed Word value) n)
+        ∙ ap (λ m. nat_le 0o100000 m) (sym (steps_are value n below))
+
 left_by : (value n : ℕ) → value < 0o200000 → IsShiftedLeft value n (result_by value (pos n))
 left_by value n below =
     let number : ℤ = times (signed Word value) n in record {
@@ -133,6 +144,7 @@ left_by value n below =
           | inr held_in ↦ absurd (differs (no_changes value n k below k_below held_in))
         ],
       );
+      carry = last_is value n below;
     }
 
 pub left : (value count n : ℕ) → value < 0o200000 → places count ≡ pos n → IsShiftedLeft value n (shift_result value count)

@@ -1,6 +1,6 @@
 -- What a reader of the handbook expects of the results and codes, in its own words. (PDP-11/40 Processor
 -- Handbook, "Instruction set": branches, double precision; "Extended instruction set".)
-use Rattle.std.specs.Prelude.{ℕ, zero, suc, ◌+◌, ◌*◌, ◌%◌, ◌^◌, ◌<◌, ◌≤◌, ◌≡◌, ◌≢◌, ◌↔◌, ◌⊎◌, nat_lt, nat_le, true, false, ◌||◌, IsTrue, ℤ, pos, ◌+ℤ◌, ◌-ℤ◌, ◌*ℤ◌, ◌<ℤ◌, ◌≤ℤ◌, unsigned_abs, int_lt}
+use Rattle.std.specs.Prelude.{ℕ, zero, suc, ◌+◌, ◌*◌, ◌%◌, ◌^◌, ◌<◌, ◌≤◌, ◌≡◌, ◌≢◌, ◌↔◌, ◌⊎◌, nat_lt, nat_le, Bool, true, false, ◌||◌, IsTrue, ℤ, pos, ◌+ℤ◌, ◌-ℤ◌, ◌*ℤ◌, ◌<ℤ◌, ◌≤ℤ◌, unsigned_abs, int_lt}
 use Rattle.m11_base.specs.declared.instruction.ConditionCodes.{ConditionCodes}
 use Rattle.m11_base.specs.declared.instruction.DoubleOp.TheVariants.{Add, Sub, Cmp}
 use Rattle.m11_base.specs.declared.instruction.SingleOp.TheVariants.{Adc, Sbc}
@@ -105,11 +105,17 @@ steps_left (suc n) value = (steps_left n value + steps_left n value) % 0o200000
 abbrev pub SignChanges : ℕ → ℕ → Type 0
 SignChanges value n = (k : ℕ) × (k ≤ n) × (int_lt (signed Word (steps_left k value)) (pos 0) ≢ int_lt (signed Word value) (pos 0))
 
+-- the bit that left at the last of so many steps to the left
+abbrev pub left_last : ℕ → ℕ → Bool
+left_last zero value = false
+left_last (suc n) value = nat_le 0o100000 (steps_left n value)
+
 -- n places to the left
 pub record IsShiftedLeft (value n : ℕ) (result : Computed) : Type 0 where
   pub value_times : result.value ≡ value * 2 ^ n % 0o200000
   pub by_steps : result.value ≡ steps_left n value
   pub sign_changes : IsTrue result.codes.overflow ↔ SignChanges value n
+  pub carry : result.codes.carry ≡ left_last n value
 
 -- n places to the right: the number divided by 2 to the n, rounded down
 pub record IsShiftedRight (value n : ℕ) (result : Computed) : Type 0 where

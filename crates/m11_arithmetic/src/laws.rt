@@ -45,8 +45,9 @@ pub fn division()
 {}
 
 /// ASH by n places to the left gives the value times 2 to the n modulo 65536, which is what n steps give that
-/// double it; V is set exactly where the sign differed from the first one behind some step. ASH by n places to
-/// the right gives the number divided by 2 to the n, rounded down, and clears V.
+/// double it; V is set exactly where the sign differed from the first one behind some step, and C is the bit that
+/// left at the last step. ASH by n places to the right gives the number divided by 2 to the n, rounded down, and
+/// clears V.
 pub fn arithmetic_shifts()
     ensures left { (value count n : ℕ) → value < 0o200000 → places count ≡ pos n
         → IsShiftedLeft value n (shift_result value count) }
