@@ -1,9 +1,9 @@
 -- Shifts as steps, and the exact numbers that they stand for.
 use Rattle.std.proofs.Common.{◌≡◌, refl, sym, subst, ◌∙◌, ap, ℕ, zero, suc, ◌+◌, ◌*◌, ◌/◌, ◌%◌, ◌^◌, ◌<◌, ◌≤◌, ◌≢◌, inl, inr, ℤ, pos, negsuc, ◌+ℤ◌, ◌*ℤ◌, ◌≤ℤ◌, ◌<ℤ◌, neg_ℤ, w16, arith, true, false}
-use Rattle.std.specs.Prelude.{nat_le, FitsSigned, int_lt}
+use Rattle.std.specs.Prelude.{nat_le, FitsSigned, int_lt, ◌==◌}
 use Rattle.std.specs.Int.{int_div_euclid}
 use Rattle.std.proofs.Math.Nat.{pow-suc, div-le_self}
-use Rattle.std.proofs.lemmas.Nat.{div-add-mod', mod_below, pow_pos}
+use Rattle.std.proofs.lemmas.Nat.{div-add-mod', mod_below, pow_pos, shr-shr}
 use Rattle.std.proofs.lemmas.Bool.{cases_Bool, cases_lt, le-ltb, false≢true}
 use Rattle.std.proofs.lemmas.Bool.Decides.{nat_tests}
 use Rattle.std.proofs.lemmas.Int.{ints}
@@ -12,7 +12,7 @@ use Rattle.m11_arithmetic.specs.Sizes.{size_limit, signed, modulo, overflows}
 use Rattle.m11_arithmetic.specs.Shifts.{places, shifted, last_bit, digit, shift_result}
 use Rattle.m11_arithmetic.specs.declared.results.Computed.{Computed}
 use Rattle.m11_arithmetic.specs.Results.{with_codes}
-use Rattle.m11_arithmetic.specs.Laws.{steps_left, left_last, SignChanges, IsShiftedLeft, IsShiftedRight}
+use Rattle.m11_arithmetic.specs.Laws.{steps_left, left_last, steps_right, SignChanges, IsShiftedLeft, IsShiftedRight}
 use Rattle.m11_arithmetic.proofs.Exact.{held_in_word, word_again, word_holds, signed_fits}
 
 -- a number doubled n times
@@ -130,7 +130,7 @@ last_is : (value n : ℕ) → value < 0o200000 → last_bit 16 (signed Word valu
 last_is value zero below = refl
 last_is value (suc n) below =
     ap (λ z. digit z 16) (times_more (signed Word value) n) ∙ digit_of_double (times (signed Word value) n)
-        ∙ ap (λ m. nat_le 0o100000 m) (sym (steps_are value n below))
+    ∙ ap (λ m. nat_le 0o100000 m) (sym (steps_are value n below))
 
 left_by : (value n : ℕ) → value < 0o200000 → IsShiftedLeft value n (result_by value (pos n))
 left_by value n below =
@@ -193,6 +193,7 @@ quotient_fits (negsuc a) divisor fits = record { sfits = omega (arith, div-le_se
 floored : (value : ℕ) (divisor : ℕ) (quotient : ℤ) → value < 0o200000 → 0 < divisor → quotient ≡ int_div_euclid (signed Word value) (pos divisor)
     → ((signed Word (modulo 0o200000 quotient) *ℤ pos divisor) ≤ℤ signed Word value)
     × (signed Word value <ℤ ((signed Word (modulo 0o200000 quotient) +ℤ pos 1) *ℤ pos divisor)) × (overflows Word quotient ≡ false)
+    × (signed Word (modulo 0o200000 quotient) ≡ quotient)
 floored value divisor quotient below positive quotient_is =
     let number : ℤ = signed Word value in
     let fits : FitsSigned w16 quotient =
@@ -200,19 +201,35 @@ floored value divisor quotient below positive quotient_is =
     let again : int_div_euclid number (pos divisor) ≡ signed Word (modulo 0o200000 quotient) = sym quotient_is ∙ sym (word_again quotient fits) in
     let From : ℤ → Type 0 = λ z. (z *ℤ pos divisor) ≤ℤ number in
     let To : ℤ → Type 0 = λ z. number <ℤ ((z +ℤ pos 1) *ℤ pos divisor) in
-    (subst From again (quotient_below number divisor positive), subst To again (quotient_above number divisor positive), word_holds quotient fits)
+    (subst From again (quotient_below number divisor positive), subst To again (quotient_above number divisor positive), word_holds quotient fits, word_again quotient fits)
 
 by_one : (number : ℤ) → number ≡ int_div_euclid number (pos 1)
 by_one (pos a) = ap pos (omega arith)
 by_one (negsuc a) = ap negsuc (omega arith)
 
+halves : (number : ℤ) (n : ℕ) → int_div_euclid (int_div_euclid number (pos (2 ^ n))) (pos 2) ≡ int_div_euclid number (pos (2 ^ suc n))
+halves (pos a) n = ap pos (shr-shr a n 1 ∙ ap (λ k. a / 2 ^ k) (let e : n + 1 ≡ suc n = omega arith in e))
+halves (negsuc a) n = ap negsuc (shr-shr a n 1 ∙ ap (λ k. a / 2 ^ k) (let e : n + 1 ≡ suc n = omega arith in e))
+
+-- the steps are a division
+steps_right_are : (number : ℤ) (n : ℕ) → steps_right n number ≡ int_div_euclid number (pos (2 ^ n))
+steps_right_are number zero = by_one number
+steps_right_are number (suc n) = ap (λ z. int_div_euclid z (pos 2)) (steps_right_are number n) ∙ halves number n
+
 right_by : (value n : ℕ) → value < 0o200000 → IsShiftedRight value n (result_by value (neg_ℤ (pos n)))
 right_by value zero below =
     let f = floored value 1 (times (signed Word value) 0) below (omega arith) (times_none (signed Word value) ∙ by_one (signed Word value)) in
-    record { from = f.0; to = f.1; sign_kept = f.2 }
+    record { from = f.0; to = f.1; by_steps = f.3 ∙ times_none (signed Word value); sign_kept = f.2; carry = refl }
 right_by value (suc n) below =
-    let f = floored value (2 ^ suc n) (int_div_euclid (signed Word value) (pos (2 ^ suc n))) below (pow_pos (suc n)) refl in
-    record { from = f.0; to = f.1; sign_kept = f.2 }
+    let number : ℤ = signed Word value in
+    let f = floored value (2 ^ suc n) (int_div_euclid number (pos (2 ^ suc n))) below (pow_pos (suc n)) refl in
+    record {
+      from = f.0;
+      to = f.1;
+      by_steps = f.3 ∙ sym (steps_right_are number (suc n));
+      sign_kept = f.2;
+      carry = ap (λ z. modulo 2 z == 1) (sym (steps_right_are number n));
+    }
 
 pub right : (value count n : ℕ) → value < 0o200000 → places count ≡ neg_ℤ (pos n) → IsShiftedRight value n (shift_result value count)
 unfolding shift_result

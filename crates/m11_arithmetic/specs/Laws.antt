@@ -1,6 +1,7 @@
 -- What a reader of the handbook expects of the results and codes, in its own words. (PDP-11/40 Processor
 -- Handbook, "Instruction set": branches, double precision; "Extended instruction set".)
-use Rattle.std.specs.Prelude.{ℕ, zero, suc, ◌+◌, ◌*◌, ◌%◌, ◌^◌, ◌<◌, ◌≤◌, ◌≡◌, ◌≢◌, ◌↔◌, ◌⊎◌, nat_lt, nat_le, Bool, true, false, ◌||◌, IsTrue, ℤ, pos, ◌+ℤ◌, ◌-ℤ◌, ◌*ℤ◌, ◌<ℤ◌, ◌≤ℤ◌, unsigned_abs, int_lt}
+use Rattle.std.specs.Prelude.{ℕ, zero, suc, ◌+◌, ◌*◌, ◌%◌, ◌^◌, ◌<◌, ◌≤◌, ◌≡◌, ◌≢◌, ◌↔◌, ◌⊎◌, nat_lt, nat_le, Bool, true, false, ◌||◌, IsTrue, ℤ, pos, ◌+ℤ◌, ◌-ℤ◌, ◌*ℤ◌, ◌<ℤ◌, ◌≤ℤ◌, unsigned_abs, int_lt, ◌==◌}
+use Rattle.std.specs.Int.{int_div_euclid}
 use Rattle.m11_base.specs.declared.instruction.ConditionCodes.{ConditionCodes}
 use Rattle.m11_base.specs.declared.instruction.DoubleOp.TheVariants.{Add, Sub, Cmp}
 use Rattle.m11_base.specs.declared.instruction.SingleOp.TheVariants.{Adc, Sbc}
@@ -117,8 +118,20 @@ pub record IsShiftedLeft (value n : ℕ) (result : Computed) : Type 0 where
   pub sign_changes : IsTrue result.codes.overflow ↔ SignChanges value n
   pub carry : result.codes.carry ≡ left_last n value
 
+-- a number behind so many steps to the right: each halves it, rounded down
+abbrev pub steps_right : ℕ → ℤ → ℤ
+steps_right zero number = number
+steps_right (suc n) number = int_div_euclid (steps_right n number) (pos 2)
+
+-- the bit that left at the last of so many steps to the right
+abbrev pub right_last : ℕ → ℤ → Bool
+right_last zero number = false
+right_last (suc n) number = modulo 2 (steps_right n number) == 1
+
 -- n places to the right: the number divided by 2 to the n, rounded down
 pub record IsShiftedRight (value n : ℕ) (result : Computed) : Type 0 where
   pub from : (signed Word result.value *ℤ pos (2 ^ n)) ≤ℤ signed Word value
   pub to : signed Word value <ℤ ((signed Word result.value +ℤ pos 1) *ℤ pos (2 ^ n))
+  pub by_steps : signed Word result.value ≡ steps_right n (signed Word value)
   pub sign_kept : result.codes.overflow ≡ false
+  pub carry : result.codes.carry ≡ right_last n (signed Word value)
