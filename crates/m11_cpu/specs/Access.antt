@@ -5,7 +5,7 @@ use Rattle.std.specs.Prelude.{ℕ, ◌+◌, ◌-◌, ◌/◌, ◌%◌, ◌==◌,
 use Rattle.m11_cpu.specs.declared.abort.Abort.{Abort}
 use Rattle.m11_cpu.specs.declared.abort.Abort.TheVariants.{Traps, Stops}
 use Rattle.m11_cpu.specs.declared.abort.Vector.TheVariants.{BusError}
-use Rattle.m11_cpu.specs.declared.stop.Stop.TheVariants.{InputFault, OutputFault}
+use Rattle.m11_cpu.specs.declared.stop.LastingStop.TheVariants.{InputFault, OutputFault}
 use Rattle.m11_cpu.specs.declared.machine.Machine.{Machine}
 use Rattle.m11_cpu.specs.Dialogue.{Dialogue, Comes, Asks, Sends, Reply, Gives, Ends, Fails}
 use Rattle.m11_cpu.specs.Acts.{Act, value, aborts, ◌>>=◌}

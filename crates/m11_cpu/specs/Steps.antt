@@ -13,7 +13,8 @@ use Rattle.m11_cpu.specs.declared.abort.Vector.TheVariants.{Breakpoint}
 use Rattle.m11_cpu.specs.declared.execution.Ending.{Ending}
 use Rattle.m11_cpu.specs.declared.execution.Ending.TheVariants as ending
 use Rattle.m11_cpu.specs.declared.machine.Machine.{Machine}
-use Rattle.m11_cpu.specs.declared.stop.Stop.{Stop}
+use Rattle.m11_cpu.specs.Stops.{stop_of}
+use Rattle.m11_cpu.specs.declared.stop.LastingStop.{LastingStop}
 use Rattle.m11_cpu.specs.declared.stop.Stop.TheVariants.{Halt, Wait}
 use Rattle.m11_cpu.specs.declared.stop.Turn.{Turn}
 use Rattle.m11_cpu.specs.declared.stop.Turn.TheVariants.{Next, Stopped}
@@ -36,8 +37,8 @@ turned (Err (Traps vector)) m = trap vector m
 turned (Err (Stops stop)) m = Comes (stopped_by stop m)
 
 -- a stop that stands is answered again
-abbrev pub step_unless : Option Stop → Machine → Dialogue (Turn × Machine)
-step_unless (Some stop) m = Comes (Stopped stop, m)
+abbrev pub step_unless : Option LastingStop → Machine → Dialogue (Turn × Machine)
+step_unless (Some stop) m = Comes (Stopped (stop_of stop), m)
 step_unless None m = after (instruction m) (λ came. turned came.0 came.1)
 
 unfoldable pub step : Machine → Dialogue (Turn × Machine)

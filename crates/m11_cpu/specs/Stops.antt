@@ -1,7 +1,15 @@
 -- How a stop is told. (This project's own.)
 use Rattle.std.specs.Prelude.{ℕ, List, codes}
+use Rattle.m11_cpu.specs.declared.stop.LastingStop.{LastingStop}
+use Rattle.m11_cpu.specs.declared.stop.LastingStop.TheVariants as lasting
 use Rattle.m11_cpu.specs.declared.stop.Stop.{Stop}
 use Rattle.m11_cpu.specs.declared.stop.Stop.TheVariants.{Halt, Limit, Wait, StackFault, NoStart, InputFault, OutputFault}
+
+-- the stops that stand
+abbrev pub stop_of : LastingStop → Stop
+stop_of lasting.StackFault = StackFault
+stop_of lasting.InputFault = InputFault
+stop_of lasting.OutputFault = OutputFault
 
 -- the number of a stop
 abbrev pub stop_number : Stop → ℕ

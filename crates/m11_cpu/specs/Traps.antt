@@ -13,8 +13,9 @@ use Rattle.m11_cpu.specs.declared.abort.Abort.TheVariants.{Traps, Stops}
 use Rattle.m11_cpu.specs.declared.abort.Vector.{Vector}
 use Rattle.m11_cpu.specs.declared.abort.Vector.TheVariants.{BusError, Reserved, Breakpoint, InputOutput, Emulator, Trap}
 use Rattle.m11_cpu.specs.declared.machine.Machine.{Machine}
-use Rattle.m11_cpu.specs.declared.stop.Stop.{Stop}
-use Rattle.m11_cpu.specs.declared.stop.Stop.TheVariants.{StackFault}
+use Rattle.m11_cpu.specs.Stops.{stop_of}
+use Rattle.m11_cpu.specs.declared.stop.LastingStop.{LastingStop}
+use Rattle.m11_cpu.specs.declared.stop.LastingStop.TheVariants.{StackFault}
 use Rattle.m11_cpu.specs.declared.stop.Turn.{Turn}
 use Rattle.m11_cpu.specs.declared.stop.Turn.TheVariants.{Next, Stopped}
 
@@ -34,8 +35,8 @@ vectored vector m = record (with_register Pc (word_at m.memory (vector_address v
 }
 
 -- the machine stops for good
-abbrev pub stopped_by : Stop → Machine → Turn × Machine
-stopped_by stop m = (Stopped stop, record m { stopped = Some stop })
+abbrev pub stopped_by : LastingStop → Machine → Turn × Machine
+stopped_by stop m = (Stopped (stop_of stop), record m { stopped = Some stop })
 
 unfoldable pub push_state : Act (Unit {0})
 push_state m = (push (psw_of m.status) >>= λ _ n. push (register_of Pc n) n) m

@@ -1,6 +1,6 @@
 //! Why an instruction does not come to its end.
 
-use crate::stop::Stop;
+use crate::stop::LastingStop;
 
 /// Where a trap finds its program counter; the word behind it is its processor status.
 #[derive(Clone, Copy, Debug, PartialEq, Eq)]
@@ -25,5 +25,5 @@ pub(crate) enum Abort {
     /// It traps.
     Traps(Vector),
     /// A device of the console failed.
-    Stops(Stop),
+    Stops(LastingStop),
 }

@@ -7,7 +7,7 @@ ghost use Rattle.m11_cpu.specs.Access.{load_word, load_byte, load_device, load_o
 use crate::abort::{Abort, Vector};
 use crate::console::{DeviceRegister, device_at};
 use crate::machine::Machine;
-use crate::stop::Stop;
+use crate::stop::LastingStop;
 use m11_base::{Feed, Sink};
 
 impl Machine {
@@ -89,7 +89,7 @@ impl Machine {
                 self.receiver.has_ended = true;
                 Ok(())
             }
-            Err(_) => Err(Abort::Stops(Stop::InputFault)),
+            Err(_) => Err(Abort::Stops(LastingStop::InputFault)),
         }
     }
 
@@ -173,7 +173,7 @@ impl Machine {
         if put_byte(sink, byte) {
             Ok(())
         } else {
-            Err(Abort::Stops(Stop::OutputFault))
+            Err(Abort::Stops(LastingStop::OutputFault))
         }
     }
 }

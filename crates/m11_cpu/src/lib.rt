@@ -28,4 +28,4 @@ pub use fault::{LoadFault, SimFault};
 pub use machine::Machine;
 pub use simulation::sim_run;
 pub use status::ProcessorStatus;
-pub use stop::{SimDone, Stop, Turn};
+pub use stop::{LastingStop, SimDone, Stop, Turn};

@@ -12,7 +12,7 @@ use crate::loading::load_tape;
 use crate::memory::Memory;
 use crate::operands::Place;
 use crate::status::ProcessorStatus;
-use crate::stop::Stop;
+use crate::stop::LastingStop;
 use m11_base::{ConditionCodes, Feed, Register};
 use std::alloc::{AllocError, Global};
 
@@ -25,7 +25,7 @@ pub struct Machine {
     pub(crate) receiver: Receiver,
     pub(crate) transmitter: Transmitter,
     /// The stop after which no step is made any more.
-    pub(crate) stopped: Option<Stop>,
+    pub(crate) stopped: Option<LastingStop>,
 }
 
 impl Machine {

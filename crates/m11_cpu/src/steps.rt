@@ -23,7 +23,7 @@ impl Machine {
             (result, self.new) }
     {
         if let Some(stop) = self.stopped {
-            return Turn::Stopped(stop);
+            return Turn::Stopped(stop.stop());
         }
         let ending = self.instruction(feed, sink);
         self.turned(ending, sink)

@@ -21,6 +21,17 @@ pub enum Stop {
     OutputFault,
 }
 
+/// A stop that stands: each further step answers it, and changes nothing.
+#[derive(Clone, Copy, Debug, PartialEq, Eq)]
+pub enum LastingStop {
+    /// A trap could not push onto the stack.
+    StackFault,
+    /// The console's input failed.
+    InputFault,
+    /// The console's output failed.
+    OutputFault,
+}
+
 /// What a step comes to.
 #[derive(Clone, Copy, Debug, PartialEq, Eq)]
 pub enum Turn {
@@ -28,6 +39,21 @@ pub enum Turn {
     Next,
     /// The machine stops.
     Stopped(Stop),
+}
+
+impl LastingStop {
+    ghost use Rattle.m11_cpu.specs.Stops.{stop_of};
+
+    /// The stop that it is.
+    pub fn stop(self) -> Stop
+        ensures { result ≡ stop_of self }
+    {
+        match self {
+            LastingStop::StackFault => Stop::StackFault,
+            LastingStop::InputFault => Stop::InputFault,
+            LastingStop::OutputFault => Stop::OutputFault,
+        }
+    }
 }
 
 /// What a run of a program came to.

@@ -8,7 +8,7 @@ ghost use Rattle.m11_cpu.specs.Traps.{push_state, stopped_by, trap, vectored};
 use crate::abort::{Abort, Vector};
 use crate::machine::Machine;
 use crate::status::ProcessorStatus;
-use crate::stop::{Stop, Turn};
+use crate::stop::{LastingStop, Turn};
 use m11_base::{Register, Sink};
 
 impl Machine {
@@ -23,7 +23,7 @@ impl Machine {
                 self.load_vector(vector);
                 Turn::Next
             }
-            Err(Abort::Traps(_)) => self.stop_by(Stop::StackFault),
+            Err(Abort::Traps(_)) => self.stop_by(LastingStop::StackFault),
             Err(Abort::Stops(stop)) => self.stop_by(stop),
         }
     }
@@ -61,10 +61,10 @@ impl Machine {
     }
 
     /// Stops the machine for good.
-    pub(crate) fn stop_by(&mut self, stop: Stop) -> Turn
+    pub(crate) fn stop_by(&mut self, stop: LastingStop) -> Turn
         ensures { (result, self.new) ≡ stopped_by stop self.old }
     {
         self.stopped = Some(stop);
-        Turn::Stopped(stop)
+        Turn::Stopped(stop.stop())
     }
 }

@@ -4,7 +4,7 @@ use Rattle.m11_cpu.proofs.StepsDone.{step_goes, step_stopped}
 use Rattle.m11_cpu.proofs.machine.Machine.step.Goals as goal
 
 pub returns-in-Some : goal.returns-in-Some
-returns-in-Some g c = step_stopped _ c.in-Some.stop _ c.in-Some.is
+returns-in-Some g c = step_stopped _ c.in-Some.stop _ _ c.in-Some.is c.stop.ensures
 
 pub returns : goal.returns
 returns g c =
