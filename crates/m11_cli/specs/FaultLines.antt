@@ -7,11 +7,14 @@ use Rattle.std.specs.Fmt.{decimal}
 use Rattle.m11_asm.specs.Faults.{name_of, number_of, output_name}
 use Rattle.m11_asm.specs.declared.fault.AsmFault.{AsmFault}
 use Rattle.m11_asm.specs.declared.fault.AsmFault.TheVariants as asm
+use Rattle.m11_cpu.specs.Faults.{sim_fault_name, sim_fault_number}
+use Rattle.m11_cpu.specs.declared.fault.SimFault.{SimFault}
+use Rattle.m11_cpu.specs.declared.fault.SimFault.TheVariants as sim
 use Rattle.m11_cli.specs.Usage.{usage_name, usage_number}
 use Rattle.m11_cli.specs.declared.outcome.Outcome.{Outcome}
-use Rattle.m11_cli.specs.declared.outcome.Outcome.TheVariants.{Usage, Asm, NotOpened}
+use Rattle.m11_cli.specs.declared.outcome.Outcome.TheVariants.{Usage, Asm, Sim, NotOpened}
 use Rattle.m11_cli.specs.declared.usage.UsageFault.{UsageFault}
-use Rattle.m11_cli.specs.declared.usage.UsageFault.TheVariants.{Help, Words, NoMemory}
+use Rattle.m11_cli.specs.declared.usage.UsageFault.TheVariants.{Help, Words}
 
 -- a line of words: a blank is 32, a line feed 10
 abbrev pub line : List (List ℕ) → List ℕ
@@ -34,11 +37,22 @@ added asm.NoMemory = []
 abbrev pub asm_line : AsmFault → List ℕ
 asm_line fault = line_for (codes "ASM") (number_of fault) (name_of fault) (added fault)
 
--- the parser's own text stands for a line where it has one
+-- what a fault of a run adds: the messages, where they could not be written
+abbrev pub sim_added : SimFault → List (List ℕ)
+sim_added (sim.Load fault) = []
+sim_added sim.Write = codes "MESSAGES" ∷ []
+sim_added sim.NoMemory = []
+
+-- the line of a fault of a run
+abbrev pub sim_line : SimFault → List ℕ
+sim_line fault =
+    line_for (codes "SIM") (sim_fault_number fault) (sim_fault_name fault) (sim_added fault)
+
+-- the line of a fault of the words; the parser's own text stands for a line where it has one
 abbrev pub usage_line : UsageFault → List ℕ
 usage_line (Help error) = []
 usage_line (Words error) = []
-usage_line NoMemory = line_for (codes "USAGE") (usage_number NoMemory) (usage_name NoMemory) []
+usage_line fault = line_for (codes "USAGE") (usage_number fault) (usage_name fault) []
 
 -- the line of what a command came to; none where there is no fault, and none where the words or the
 -- paths have been answered with a text of their own
@@ -46,6 +60,8 @@ abbrev pub line_of : Outcome → List ℕ
 line_of (Usage fault) = usage_line fault
 line_of (Asm (Ok done)) = []
 line_of (Asm (Err fault)) = asm_line fault
+line_of (Sim (Ok done)) = []
+line_of (Sim (Err fault)) = sim_line fault
 line_of NotOpened = []
 
 -- the line for a file that could not be opened

@@ -7,7 +7,7 @@ use Rattle.m11_cli.specs.declared.tasks.AsmTask.{AsmTask}
 use Rattle.m11_cli.specs.declared.tasks.Task.{Task}
 use Rattle.m11_cli.specs.declared.tasks.Task.TheVariants.{Asm}
 use Rattle.m11_cli.specs.declared.usage.UsageFault.{UsageFault}
-use Rattle.m11_cli.specs.declared.usage.UsageFault.TheVariants.{Help, Words, NoMemory}
+use Rattle.m11_cli.specs.declared.usage.UsageFault.TheVariants.{Help, Words, BadOctal, OddAddress, BadAddress, NoMemory}
 
 -- the paths of an assembly, as entries state them: the object is the first value of `output`, the
 -- sources are all values of `sources` in order
@@ -29,4 +29,7 @@ Plans words (Err (Help error)) =
     (kind_of error ≡ kind.DisplayHelp) × IsAmong kind.DisplayHelp (fault_of application words)
 Plans words (Err (Words error)) =
     (kind_of error ≢ kind.DisplayHelp) × IsAmong (kind_of error) (fault_of application words)
+Plans words (Err BadOctal) = ⊥
+Plans words (Err OddAddress) = ⊥
+Plans words (Err BadAddress) = ⊥
 Plans words (Err NoMemory) = ⊤

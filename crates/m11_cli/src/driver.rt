@@ -85,7 +85,10 @@ fn tell_usage<O: Print, E: Print>(fault: &UsageFault, out: &O, err: &E) {
     let _ = match fault {
         UsageFault::Help(error) => out.print(error),
         UsageFault::Words(error) => err.print(error),
-        UsageFault::NoMemory => Ok(()),
+        UsageFault::BadOctal
+        | UsageFault::OddAddress
+        | UsageFault::BadAddress
+        | UsageFault::NoMemory => Ok(()),
     };
 }
 

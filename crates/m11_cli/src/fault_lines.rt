@@ -4,12 +4,16 @@ ghost use Rattle.std.specs.Prelude.{◌≡◌, OnErr, OnOk};
 ghost use Rattle.std.specs.Io.KnownBytes.{Appends};
 ghost use Rattle.m11_base.specs.Devices.{Rises};
 ghost use Rattle.m11_base.specs.Sink.{AppendsBeginning};
-ghost use Rattle.m11_cli.specs.FaultLines.{asm_line, line_of, open_line};
+ghost use Rattle.m11_cpu.specs.declared.fault.LoadFault.TheVariants.{Tape};
+ghost use Rattle.m11_cpu.specs.declared.fault.SimFault.TheVariants.{Load};
+ghost use Rattle.m11_cli.specs.FaultLines.{asm_line, line_of, open_line, sim_line, usage_line};
 
 use crate::outcome::Outcome;
 use crate::usage::UsageFault;
 use m11_asm::{AsmFault, AsmOutput};
 use m11_base::{PutFault, Sink, put_all};
+use m11_cpu::{LoadFault, SimFault};
+use m11_obj::TapeFault;
 
 /// Puts the line of the outcome's fault: `?M11`, the command, the fault's number and its name, and
 /// for a write the output's name, as `?M11 ASM 2 Write OBJECT`. Nothing where there is no fault,
@@ -43,9 +47,24 @@ fn fault_text(outcome: &Outcome) -> &'static str
     ensures { result.now ≡ line_of outcome.now }
 {
     match outcome {
-        Outcome::Usage(UsageFault::NoMemory) => "?M11 USAGE 90 NoMemory\n",
+        Outcome::Usage(fault) => usage_text(fault),
         Outcome::Asm(Err(fault)) => asm_text(*fault),
-        Outcome::Usage(_) | Outcome::Asm(Ok(_)) | Outcome::NotOpened => "",
+        Outcome::Sim(Err(fault)) => sim_text(*fault),
+        Outcome::Asm(Ok(_)) | Outcome::Sim(Ok(_)) | Outcome::NotOpened => "",
+    }
+}
+
+// The line of a fault of the words.
+#[tactic(auto, unfolding(crate::proofs::Decimals::decimals))]
+fn usage_text(fault: &UsageFault) -> &'static str
+    ensures { result.now ≡ usage_line fault.now }
+{
+    match fault {
+        UsageFault::Help(_) | UsageFault::Words(_) => "",
+        UsageFault::BadOctal => "?M11 USAGE 3 BadOctal\n",
+        UsageFault::OddAddress => "?M11 USAGE 4 OddAddress\n",
+        UsageFault::BadAddress => "?M11 USAGE 5 BadAddress\n",
+        UsageFault::NoMemory => "?M11 USAGE 90 NoMemory\n",
     }
 }
 
@@ -62,5 +81,35 @@ fn asm_text(fault: AsmFault) -> &'static str
         AsmFault::TooMuchSource => "?M11 ASM 6 TooMuchSource\n",
         AsmFault::NotYet => "?M11 ASM 7 NotYet\n",
         AsmFault::NoMemory => "?M11 ASM 90 NoMemory\n",
+    }
+}
+
+// The line of a fault of a run.
+#[tactic(auto, unfolding(crate::proofs::Decimals::decimals))]
+fn sim_text(fault: SimFault) -> &'static str
+    ensures { result.now ≡ sim_line fault }
+{
+    match fault {
+        SimFault::Load(LoadFault::Tape(fault)) => tape_text(fault),
+        SimFault::Load(LoadFault::OutsideMemory) => "?M11 SIM 10 OutsideMemory\n",
+        SimFault::Write => "?M11 SIM 11 Write MESSAGES\n",
+        SimFault::NoMemory => "?M11 SIM 90 NoMemory\n",
+    }
+}
+
+// The line of a fault of the tape.
+#[tactic(auto, unfolding(crate::proofs::Decimals::decimals))]
+fn tape_text(fault: TapeFault) -> &'static str
+    ensures { result.now ≡ sim_line (Load (Tape fault)) }
+{
+    match fault {
+        TapeFault::Device => "?M11 SIM 1 Device\n",
+        TapeFault::Truncated => "?M11 SIM 2 Truncated\n",
+        TapeFault::BadSum => "?M11 SIM 3 BadSum\n",
+        TapeFault::BadStart => "?M11 SIM 5 BadStart\n",
+        TapeFault::TooShort => "?M11 SIM 6 TooShort\n",
+        TapeFault::Failed => "?M11 SIM 7 Failed\n",
+        TapeFault::NoTransfer => "?M11 SIM 8 NoTransfer\n",
+        TapeFault::TooMuch => "?M11 SIM 9 TooMuch\n",
     }
 }

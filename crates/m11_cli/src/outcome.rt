@@ -1,10 +1,12 @@
 //! What a command came to, and the status that it leaves.
 
 ghost use Rattle.std.specs.Prelude.{◌≡◌};
-ghost use Rattle.m11_cli.specs.Outcomes.{status_of};
+ghost use Rattle.m11_cli.specs.Outcomes.{sim_status, status_of, stop_status};
 
 use crate::usage::UsageFault;
 use m11_asm::{AsmDone, AsmFault};
+use m11_cpu::{LoadFault, SimDone, SimFault, Stop};
+use m11_obj::TapeFault;
 
 /// What a command came to.
 #[derive(Debug, Drop)]
@@ -13,24 +15,57 @@ pub enum Outcome {
     Usage(UsageFault),
     /// An assembly ran.
     Asm(Result<AsmDone, AsmFault>),
+    /// A tape was run.
+    Sim(Result<SimDone, SimFault>),
     /// A file could not be opened, so nothing ran.
     NotOpened,
 }
 
-/// The status that a command leaves: 0 done or helped, 1 done with flagged lines, 2 words that are
-/// refused, 3 a device or a file that does not open, 5 no memory, 6 a limit.
+/// The status that a command leaves: 0 done, halted or helped, 1 done with flagged lines or stopped
+/// otherwise, 2 words that are refused, 3 a device or a file that does not open, 4 a malformed tape
+/// or one that does not fit the memory, 5 no memory, 6 a limit.
 pub fn status(outcome: &Outcome) -> u8
     ensures { result ≡ status_of outcome.now }
 {
     match outcome {
         Outcome::Usage(UsageFault::Help(_)) => 0,
-        Outcome::Usage(UsageFault::Words(_)) => 2,
+        Outcome::Usage(
+            UsageFault::Words(_)
+            | UsageFault::BadOctal
+            | UsageFault::OddAddress
+            | UsageFault::BadAddress,
+        ) => 2,
         Outcome::Usage(UsageFault::NoMemory) => 5,
         Outcome::Asm(Ok(done)) if done.flagged == 0 => 0,
         Outcome::Asm(Ok(_)) => 1,
         Outcome::Asm(Err(AsmFault::Read | AsmFault::Write(_))) => 3,
         Outcome::Asm(Err(AsmFault::TooMuchSource | AsmFault::NotYet)) => 6,
         Outcome::Asm(Err(AsmFault::NoMemory)) => 5,
+        Outcome::Sim(Ok(done)) => stop_status(done.stop),
+        Outcome::Sim(Err(fault)) => sim_status(*fault),
         Outcome::NotOpened => 3,
+    }
+}
+
+// The status of a run that stopped.
+fn stop_status(stop: Stop) -> u8
+    ensures { result ≡ stop_status stop }
+{
+    match stop {
+        Stop::Halt => 0,
+        Stop::Limit | Stop::Wait | Stop::StackFault | Stop::NoStart => 1,
+        Stop::InputFault | Stop::OutputFault => 3,
+    }
+}
+
+// The status of a run that gave no stop.
+fn sim_status(fault: SimFault) -> u8
+    ensures { result ≡ sim_status fault }
+{
+    match fault {
+        SimFault::Load(LoadFault::Tape(TapeFault::Device)) | SimFault::Write => 3,
+        SimFault::Load(LoadFault::Tape(TapeFault::TooMuch)) => 6,
+        SimFault::Load(_) => 4,
+        SimFault::NoMemory => 5,
     }
 }

@@ -1,6 +1,8 @@
 use crate::{Outcome, Task, UsageFault, command, command_without_words, fault_line, plan, status};
 use m11_asm::{AsmDone, AsmFault, AsmOutput};
-use m11_base::MemorySink;
+use m11_base::{MemorySink, OctalFault};
+use m11_cpu::{LoadFault, SimDone, SimFault, Stop};
+use m11_obj::TapeFault;
 use std::alloc::AllocError;
 use std::cell::RefCell;
 use std::fmt::{Display, Write};
@@ -98,14 +100,21 @@ fn help_is_told_apart_from_refusals(rt: HostRuntime) {
 }
 
 #[test]
-fn want_of_memory_has_its_number_and_name(rt: HostRuntime) {
-    let fault = UsageFault::from(AllocError);
-    assert_eq!(rt; fault.number(), 90);
-    assert_eq!(rt; fault.name(), "NoMemory");
+fn each_refusal_past_the_parser_has_its_number_and_name(rt: HostRuntime) {
+    let faults = [
+        (UsageFault::from(OctalFault::Empty), 3, "BadOctal"),
+        (UsageFault::OddAddress, 4, "OddAddress"),
+        (UsageFault::BadAddress, 5, "BadAddress"),
+        (UsageFault::from(AllocError), 90, "NoMemory"),
+    ];
+    for (fault, number, name) in &faults {
+        assert_eq!(rt; fault.number(), *number);
+        assert_eq!(rt; fault.name(), *name);
+    }
 }
 
 #[test]
-fn each_outcome_has_its_status(rt: HostRuntime) {
+fn each_outcome_of_an_assembly_has_its_status(rt: HostRuntime) {
     let statuses = [
         (Outcome::Asm(Ok(AsmDone { flagged: 0 })), 0),
         (Outcome::Asm(Ok(AsmDone { flagged: 2 })), 1),
@@ -119,19 +128,120 @@ fn each_outcome_has_its_status(rt: HostRuntime) {
     }
 }
 
+// Each stop, and the status that it leaves.
+const STOPS: [(Stop, u8); 7] = [
+    (Stop::Halt, 0),
+    (Stop::Limit, 1),
+    (Stop::Wait, 1),
+    (Stop::StackFault, 1),
+    (Stop::NoStart, 1),
+    (Stop::InputFault, 3),
+    (Stop::OutputFault, 3),
+];
+
 #[test]
-fn a_write_fault_is_told_with_its_output(rt: HostRuntime) -> Result<(), Fail> {
-    let mut sink = MemorySink::new(rt.alloc());
-    fault_line(
-        &Outcome::Asm(Err(AsmFault::Write(AsmOutput::Object))),
-        &mut sink,
-    )?;
-    fault_line(&Outcome::NotOpened, &mut sink)?;
-    fault_line(&Outcome::Usage(UsageFault::NoMemory), &mut sink)?;
-    assert_eq!(rt;
-        sink.bytes(),
-        b"?M11 ASM 2 Write OBJECT\n?M11 USAGE 90 NoMemory\n".as_slice()
-    );
+fn only_a_halted_run_is_done(rt: HostRuntime) {
+    for (stop, expected) in STOPS {
+        assert_eq!(rt; status(&Outcome::Sim(Ok(SimDone { stop }))), expected);
+    }
+}
+
+// Faults of a run, the status that each leaves and its line.
+const SIM_FAULTS: [(SimFault, u8, &str); 11] = [
+    (
+        SimFault::Load(LoadFault::Tape(TapeFault::Device)),
+        3,
+        "?M11 SIM 1 Device\n",
+    ),
+    (
+        SimFault::Load(LoadFault::Tape(TapeFault::Truncated)),
+        4,
+        "?M11 SIM 2 Truncated\n",
+    ),
+    (
+        SimFault::Load(LoadFault::Tape(TapeFault::BadSum)),
+        4,
+        "?M11 SIM 3 BadSum\n",
+    ),
+    (
+        SimFault::Load(LoadFault::Tape(TapeFault::BadStart)),
+        4,
+        "?M11 SIM 5 BadStart\n",
+    ),
+    (
+        SimFault::Load(LoadFault::Tape(TapeFault::TooShort)),
+        4,
+        "?M11 SIM 6 TooShort\n",
+    ),
+    (
+        SimFault::Load(LoadFault::Tape(TapeFault::Failed)),
+        4,
+        "?M11 SIM 7 Failed\n",
+    ),
+    (
+        SimFault::Load(LoadFault::Tape(TapeFault::NoTransfer)),
+        4,
+        "?M11 SIM 8 NoTransfer\n",
+    ),
+    (
+        SimFault::Load(LoadFault::Tape(TapeFault::TooMuch)),
+        6,
+        "?M11 SIM 9 TooMuch\n",
+    ),
+    (
+        SimFault::Load(LoadFault::OutsideMemory),
+        4,
+        "?M11 SIM 10 OutsideMemory\n",
+    ),
+    (SimFault::Write, 3, "?M11 SIM 11 Write MESSAGES\n"),
+    (SimFault::NoMemory, 5, "?M11 SIM 90 NoMemory\n"),
+];
+
+#[test]
+fn each_fault_of_a_run_has_its_status_and_line(rt: HostRuntime) -> Result<(), Fail> {
+    for (fault, expected, line) in SIM_FAULTS {
+        let outcome = Outcome::Sim(Err(fault));
+        assert_eq!(rt; status(&outcome), expected);
+        let mut sink = MemorySink::new(rt.alloc());
+        fault_line(&outcome, &mut sink)?;
+        assert_eq!(rt; sink.bytes(), line.as_bytes());
+    }
+    Ok(())
+}
+
+// Other outcomes, and the line of each.
+const LINES: [(Outcome, &str); 7] = [
+    (
+        Outcome::Asm(Err(AsmFault::Write(AsmOutput::Object))),
+        "?M11 ASM 2 Write OBJECT\n",
+    ),
+    (
+        Outcome::Usage(UsageFault::BadOctal),
+        "?M11 USAGE 3 BadOctal\n",
+    ),
+    (
+        Outcome::Usage(UsageFault::OddAddress),
+        "?M11 USAGE 4 OddAddress\n",
+    ),
+    (
+        Outcome::Usage(UsageFault::BadAddress),
+        "?M11 USAGE 5 BadAddress\n",
+    ),
+    (
+        Outcome::Usage(UsageFault::NoMemory),
+        "?M11 USAGE 90 NoMemory\n",
+    ),
+    (Outcome::Sim(Ok(SimDone { stop: Stop::Limit })), ""),
+    (Outcome::NotOpened, ""),
+];
+
+#[test]
+fn each_fault_is_told_in_one_line(rt: HostRuntime) -> Result<(), Fail> {
+    for (outcome, line) in &LINES {
+        let mut sink = MemorySink::new(rt.alloc());
+        fault_line(outcome, &mut sink)?;
+        assert_eq!(rt; sink.bytes(), line.as_bytes());
+    }
     Ok(())
 }
 

@@ -2,9 +2,10 @@
 
 ghost use Rattle.std.specs.Prelude.{◌≡◌};
 ghost use Rattle.m11_cli.specs.Usage.{Keeps, usage_name, usage_number};
-ghost use Rattle.m11_cli.specs.declared.usage.UsageFault.TheVariants.{NoMemory};
+ghost use Rattle.m11_cli.specs.declared.usage.UsageFault.TheVariants.{BadOctal, NoMemory};
 
 use clap::error::ErrorKind;
+use m11_base::OctalFault;
 use std::alloc::{AllocError, AllocFailed};
 use thiserror::Error;
 
@@ -17,6 +18,15 @@ pub enum UsageFault {
     /// 2: the words are refused. The error's text says why.
     #[error("the words are refused")]
     Words(clap::Error),
+    /// 3: an address that is no octal word.
+    #[error("an address is no octal word")]
+    BadOctal,
+    /// 4: an odd address.
+    #[error("an address is odd")]
+    OddAddress,
+    /// 5: an address over 157776, which lies past every memory.
+    #[error("an address is over 157776")]
+    BadAddress,
     /// 90: memory was refused.
     #[error("no memory")]
     NoMemory,
@@ -30,6 +40,9 @@ impl UsageFault {
         match self {
             UsageFault::Help(_) => 1,
             UsageFault::Words(_) => 2,
+            UsageFault::BadOctal => 3,
+            UsageFault::OddAddress => 4,
+            UsageFault::BadAddress => 5,
             UsageFault::NoMemory => 90,
         }
     }
@@ -41,6 +54,9 @@ impl UsageFault {
         match self {
             UsageFault::Help(_) => "Help",
             UsageFault::Words(_) => "Words",
+            UsageFault::BadOctal => "BadOctal",
+            UsageFault::OddAddress => "OddAddress",
+            UsageFault::BadAddress => "BadAddress",
             UsageFault::NoMemory => "NoMemory",
         }
     }
@@ -55,6 +71,14 @@ impl From<clap::Error> for UsageFault {
             ErrorKind::OutOfMemory => UsageFault::NoMemory,
             _ => UsageFault::Words(error),
         }
+    }
+}
+
+impl From<OctalFault> for UsageFault {
+    ghost from_gives = { λ _ e. e ≡ BadOctal };
+
+    fn from(_fault: OctalFault) -> UsageFault {
+        UsageFault::BadOctal
     }
 }
 
