@@ -1,5 +1,5 @@
 -- What the getters of a parse read, by the entries.
-use Rattle.std.proofs.Common.{◌≡◌, ◌∙◌, ap, ap₂, List, [], Option, Some, None, option_map, unwrap_or}
+use Rattle.std.proofs.Common.{◌≡◌, ◌∙◌, sym, ap, ap₂, List, [], Option, Some, None, option_map, unwrap_or}
 use Rattle.std.specs.Borrow.{Bor}
 use Rattle.clap.specs.Words.{Row, Text, all_of, first_of, first_value, matched_of, raw_values, rows_of, subcommand_name_of, subcommand_rows, subcommand_rows_of}
 use Rattle.clap.specs.declared.parser.matches.Found.{Found}
@@ -10,6 +10,11 @@ use Rattle.clap.specs.declared.parser.matches.ArgMatches.{ArgMatches}
 use Rattle.clap.specs.declared.parser.matches.ArgMatches.TheViews.{out-ArgMatches, out-SubCommand}
 use Rattle.clap.specs.declared.parser.matches.SubCommand.{SubCommand}
 use Rattle.clap.proofs.WalkLemmas.{first_value-rows, raw_values-rows}
+
+-- the first value that a getter reads, by the entries
+pub first_given : (f : Found) (id : Text) (o : Option (Bor Text)) → option_map (λ s. s.now) o ≡ first_value f id
+    → first_of id (rows_of f) ≡ option_map (λ s. s.now) o
+first_given f id o e = sym (e ∙ first_value-rows f id)
 
 -- the first value, or a reference to an empty text
 pub first_is : (f : Found) (id : Text) (o : Option (Bor Text)) (d : Bor Text)

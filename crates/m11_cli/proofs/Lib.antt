@@ -1,4 +1,6 @@
 pub mod Decimals
 pub mod Entered
 pub mod Entries
+pub mod Numbers
+pub mod Starts
 pub mod TaskPaths

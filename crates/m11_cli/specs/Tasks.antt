@@ -1,11 +1,16 @@
 -- What a command line asks for. (This project's own.)
-use Rattle.std.specs.Prelude.{◌≡◌, ◌≢◌, ⊤, List, [], map, Option, Some, None, Result, Ok, Err, codes, unwrap_or}
-use Rattle.clap.specs.Words.{IsAmong, Row, Text, all_of, fault_of, first_of, kind_of, subcommand_of}
+use Rattle.std.specs.Prelude.{◌≡◌, ◌≢◌, ◌≤◌, ◌==◌, ◌%◌, ⊤, ℕ, List, [], map, Option, Some, None, Result, Ok, Err, codes, unwrap_or, if◌then◌else◌, nat_lt, IfSome}
+use Rattle.std.specs.Str.Parse.{digits_value, without_leading_plus}
+use Rattle.clap.specs.Words.{IsAmong, Row, Text, all_of, fault_of, first_of, kind_of, one_of, subcommand_of}
+use Rattle.clap.specs.ValueTests.{is_unsigned_in}
+use Rattle.m11_base.specs.Octal.{octal_of}
+use Rattle.m11_base.specs.declared.fault.OctalFault.{OctalFault}
 use Rattle.clap.specs.declared.error.kind.ErrorKind.TheVariants as kind
-use Rattle.m11_cli.specs.Commands.{application}
+use Rattle.m11_cli.specs.Commands.{application, default_steps, least_words, most_steps, most_words}
 use Rattle.m11_cli.specs.declared.tasks.AsmTask.{AsmTask}
+use Rattle.m11_cli.specs.declared.tasks.SimTask.{SimTask}
 use Rattle.m11_cli.specs.declared.tasks.Task.{Task}
-use Rattle.m11_cli.specs.declared.tasks.Task.TheVariants.{Asm}
+use Rattle.m11_cli.specs.declared.tasks.Task.TheVariants.{Asm, Sim}
 use Rattle.m11_cli.specs.declared.usage.UsageFault.{UsageFault}
 use Rattle.m11_cli.specs.declared.usage.UsageFault.TheVariants.{Help, Words, BadOctal, OddAddress, BadAddress, NoMemory}
 
@@ -15,13 +20,72 @@ pub record IsAsmTask (rows : List Row) (task : AsmTask) : Type 0 where
   pub object : task.object.now ≡ unwrap_or (first_of (codes "output") rows) []
   pub sources : map (λ s. s.now) task.sources.items ≡ unwrap_or (all_of (codes "sources") rows) []
 
+-- an address of memory, where the word is one: even, and not past the greatest memory
+abbrev pub address_of_word : ℕ → Result ℕ UsageFault
+address_of_word word =
+    if word % 2 == 1 then Err OddAddress
+    else if nat_lt 0o157776 word then Err BadAddress else Ok word
+
+abbrev pub address_of_octal : Result ℕ OctalFault → Result ℕ UsageFault
+address_of_octal (Ok word) = address_of_word word
+address_of_octal (Err fault) = Err BadOctal
+
+-- the address that a text spells, or the first fault in the order of their numbers
+abbrev pub address_of : Text → Result ℕ UsageFault
+address_of text = address_of_octal (octal_of text)
+
+abbrev pub start_at : Result ℕ UsageFault → Result (Option ℕ) UsageFault
+start_at (Ok address) = Ok (Some address)
+start_at (Err fault) = Err fault
+
+-- the start, where a text for it is given
+abbrev pub start_of : Option Text → Result (Option ℕ) UsageFault
+start_of None = Ok None
+start_of (Some text) = start_at (address_of text)
+
+-- the decimal number that is given, where it lies within bounds, else another one. (Words with a
+-- number outside the bounds come to no task: the parser refuses them.)
+abbrev pub number_or : ℕ → ℕ → ℕ → Option Text → ℕ
+number_or other least most None = other
+number_or other least most (Some text) =
+    if is_unsigned_in least most text then digits_value 10 (without_leading_plus text) else other
+
+-- what a run is to do, as entries state it: the tape is the first value of `tape`; the start is
+-- that of `start`, if there is one; the words of memory and the most steps are the numbers of
+-- `words` and `steps`, or all of the memory and a million
+pub record IsSimTask (rows : List Row) (task : SimTask) : Type 0 where
+  pub tape : task.tape.now ≡ unwrap_or (first_of (codes "tape") rows) []
+  pub start : start_of (first_of (codes "start") rows) ≡ Ok task.start
+  pub words : task.words ≡ number_or most_words least_words most_words (one_of (codes "words") rows)
+  pub limit : task.limit ≡ number_or default_steps 0 most_steps (one_of (codes "steps") rows)
+
+-- a task is one that can be done: the memory has a size that there is, the start lies in the
+-- greatest one, and the steps are within their bound
+abbrev pub IsDoable : Task → Type 0
+IsDoable (Asm task) = ⊤
+IsDoable (Sim task) = (least_words ≤ task.words) × (task.words ≤ most_words)
+    × (task.limit ≤ most_steps)
+    × IfSome task.start (λ start. (start % 2 ≡ 0) × (start ≤ 0o157776))
+
 -- the task of the command that was entered, with its entries
 abbrev pub IsTask : Option (Text × List Row) → Task → Type 0
 IsTask None task = ⊥
 IsTask (Some entered) (Asm task) = (entered.0 ≡ codes "asm") × IsAsmTask entered.1 task
+IsTask (Some entered) (Sim task) = (entered.0 ≡ codes "sim") × IsSimTask entered.1 task
+
+-- the fault of the start that was entered for a run
+abbrev pub HasStartFault : Option (Text × List Row) → UsageFault → Type 0
+HasStartFault None fault = ⊥
+HasStartFault (Some entered) fault =
+    (entered.0 ≡ codes "sim") × (start_of (first_of (codes "start") entered.1) ≡ Err fault)
+
+-- the parser takes the words, and they enter a start that has this fault
+abbrev pub IsStartRefused : List Text → UsageFault → Type 0
+IsStartRefused words fault =
+    (fault_of application words ≡ []) × HasStartFault (subcommand_of application words) fault
 
 -- what the words come to: a task where they are not refused, else one of the refusals that they
--- have; memory may run out at any words
+-- have, those of the parser first; memory may run out at any words
 abbrev pub Plans : List Text → Result Task UsageFault → Type 0
 Plans words (Ok task) =
     (fault_of application words ≡ []) × IsTask (subcommand_of application words) task
@@ -29,7 +93,7 @@ Plans words (Err (Help error)) =
     (kind_of error ≡ kind.DisplayHelp) × IsAmong kind.DisplayHelp (fault_of application words)
 Plans words (Err (Words error)) =
     (kind_of error ≢ kind.DisplayHelp) × IsAmong (kind_of error) (fault_of application words)
-Plans words (Err BadOctal) = ⊥
-Plans words (Err OddAddress) = ⊥
-Plans words (Err BadAddress) = ⊥
+Plans words (Err BadOctal) = IsStartRefused words BadOctal
+Plans words (Err OddAddress) = IsStartRefused words OddAddress
+Plans words (Err BadAddress) = IsStartRefused words BadAddress
 Plans words (Err NoMemory) = ⊤

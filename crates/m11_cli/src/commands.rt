@@ -3,9 +3,9 @@
 ghost use Rattle.std.specs.Prelude.{◌≡◌, IfOk, false};
 ghost use Rattle.clap.specs.Words.{app_of, rule_of, shape_of};
 ghost use Rattle.clap.specs.declared.builder.command.Command.TheViews.{out-Command as fields_of};
-ghost use Rattle.m11_cli.specs.Commands.{application, asm_shape, object_rule, sources_rule};
+ghost use Rattle.m11_cli.specs.Commands.{application, asm_shape, object_rule, sim_shape, sources_rule, start_rule, steps_rule, tape_rule, words_rule};
 
-use clap::{Arg, ArgAction, Command};
+use clap::{Arg, ArgAction, Command, value_parser};
 use std::alloc::{AllocError, Global};
 
 /// `m11` with its commands.
@@ -14,10 +14,11 @@ pub(crate) fn application_command<'a>(alloc: Global) -> Result<Command<'a>, Allo
     ensures local { IfOk result (λ c. (fields_of c).has_globals ≡ false) }
 {
     Command::new(alloc, "m11")
-        .about("A MACRO-11 assembler")
+        .about("A MACRO-11 assembler and a PDP-11/40 simulator")
         .disable_help_subcommand(true)
         .subcommand_required(true)
-        .subcommand(asm_command(alloc)?)
+        .subcommand(asm_command(alloc)?)?
+        .subcommand(sim_command(alloc)?)
 }
 
 /// `asm -o OBJ SOURCE...`.
@@ -55,4 +56,70 @@ fn sources_argument<'a>(alloc: Global) -> Arg<'a>
         .help("The sources to assemble, in order")
         .required(true)
         .action(ArgAction::Append)
+}
+
+/// `sim [-n STEPS] [-s OCTAL] [-k WORDS] TAPE`.
+fn sim_command<'a>(alloc: Global) -> Result<Command<'a>, AllocError>
+    ensures shape { IfOk result (λ c. shape_of c ≡ sim_shape) }
+    ensures local { IfOk result (λ c. (fields_of c).has_globals ≡ false) }
+{
+    Command::new(alloc, "sim")
+        .about("Load a tape into a PDP-11/40 and run it")
+        .arg(steps_argument(alloc))?
+        .arg(start_argument(alloc))?
+        .arg(words_argument(alloc))?
+        .arg(tape_argument(alloc))
+}
+
+/// `-n STEPS`.
+fn steps_argument<'a>(alloc: Global) -> Arg<'a>
+    ensures rule { rule_of result ≡ steps_rule }
+    ensures local { result.global ≡ false }
+{
+    Arg::new(alloc, "steps")
+        .short('n')
+        .long("steps")
+        .value_name("STEPS")
+        .help("The most steps to make, in decimal: 0 to 1000000000 [default: 1000000]")
+        .value_parser(value_parser!(u32).range(0..=1_000_000_000))
+        .action(ArgAction::Set)
+}
+
+/// `-s OCTAL`.
+fn start_argument<'a>(alloc: Global) -> Arg<'a>
+    ensures rule { rule_of result ≡ start_rule }
+    ensures local { result.global ≡ false }
+{
+    Arg::new(alloc, "start")
+        .short('s')
+        .long("start")
+        .value_name("OCTAL")
+        .help("Where to start in place of the tape's start: even, at most 157776")
+        .action(ArgAction::Set)
+}
+
+/// `-k WORDS`.
+fn words_argument<'a>(alloc: Global) -> Arg<'a>
+    ensures rule { rule_of result ≡ words_rule }
+    ensures local { result.global ≡ false }
+{
+    Arg::new(alloc, "words")
+        .short('k')
+        .long("words")
+        .value_name("WORDS")
+        .help("The words of memory, in decimal: 4096 to 28672 [default: 28672]")
+        .value_parser(value_parser!(u32).range(4_096..=28_672))
+        .action(ArgAction::Set)
+}
+
+/// `TAPE`.
+fn tape_argument<'a>(alloc: Global) -> Arg<'a>
+    ensures rule { rule_of result ≡ tape_rule }
+    ensures local { result.global ≡ false }
+{
+    Arg::new(alloc, "tape")
+        .value_name("TAPE")
+        .help("The tape to load and run")
+        .required(true)
+        .action(ArgAction::Set)
 }

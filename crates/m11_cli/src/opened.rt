@@ -29,7 +29,7 @@ impl<T: Drop> From<AllocFailed<T>> for OpenFault<'_> {
     }
 }
 
-/// A source, read through a buffer.
+/// A source or a tape, read through a buffer.
 pub(crate) type Source<F> = ReaderFeed<BufReader<F>>;
 
 /// The files of an assembly. Each source is open twice, since it is read twice.
@@ -77,8 +77,8 @@ fn open_twice<'a, R: Files + AllocGlobal>(
     Ok((once, again))
 }
 
-// A source that is read once.
-fn open_source<'a, R: Files + AllocGlobal>(
+/// Opens a source or a tape, to be read once.
+pub(crate) fn open_source<'a, R: Files + AllocGlobal>(
     rt: &R,
     path: &'a str,
 ) -> Result<Source<R::File>, OpenFault<'a>>

@@ -1,12 +1,14 @@
 //! What a command line asks for.
 
-ghost use Rattle.std.specs.Prelude.{◌≡◌, [], IfOk, map, unwrap_or};
-ghost use Rattle.clap.specs.Words.{all_of, first_of, found_of, rows_of};
-ghost use Rattle.m11_cli.specs.Tasks.{IsAsmTask, Plans};
+ghost use Rattle.std.specs.Prelude.{◌≡◌, ◌≤◌, [], Err, IfErr, IfOk, codes, map, unwrap_or};
+ghost use Rattle.clap.specs.Words.{all_of, first_of, found_of, one_of, rows_of};
+ghost use Rattle.m11_cli.specs.declared.tasks.Task.TheVariants.{Sim};
+ghost use Rattle.m11_cli.specs.Tasks.{IsAsmTask, IsDoable, IsSimTask, Plans, address_of, number_or, start_of};
 
 use crate::commands::application_command;
 use crate::usage::UsageFault;
 use clap::ArgMatches;
+use m11_base::read_octal;
 use std::alloc::{AllocError, Global};
 use std::convert::AsStr;
 
@@ -19,23 +21,58 @@ pub struct AsmTask<'a> {
     pub sources: Vec<&'a str>,
 }
 
+/// What a run of a tape is to do.
+#[derive(Debug, Drop)]
+pub struct SimTask<'a> {
+    /// The path of the tape.
+    pub tape: &'a str,
+    /// Where to start in place of the tape's own start: an even address up to 0o157776.
+    pub start: Option<u16>,
+    /// How many words of memory there are, from 4,096 to 28,672.
+    pub words: u16,
+    /// How many steps are allowed, up to 1,000,000,000.
+    pub limit: u32,
+}
+
 /// What a command line asks for.
 #[derive(Debug, Drop)]
 pub enum Task<'a> {
     /// `asm`: to assemble.
     Asm(AsmTask<'a>),
+    /// `sim`: to run a tape.
+    Sim(SimTask<'a>),
 }
+
+/// The most steps that may be allowed.
+const MOST_STEPS: u32 = 1_000_000_000;
+
+/// The steps that are allowed where the words do not say.
+const DEFAULT_STEPS: u32 = 1_000_000;
+
+/// The fewest words of memory.
+const LEAST_WORDS: u32 = 4_096;
+
+/// The most words of memory, and those that there are where the words do not say.
+const MOST_WORDS: u32 = 28_672;
+
+/// The greatest even address in front of the addresses of devices.
+const LAST_ADDRESS: u16 = 0o157776;
 
 /// Reads a command line, whose first word is the program's name.
 ///
-/// `Help` where help is asked for, `Words` where the words are refused, and `NoMemory`.
+/// `Help` where help is asked for and `Words` where the parser refuses the words; where it takes
+/// them, `BadOctal`, `OddAddress` and `BadAddress` for a start, in this order; and `NoMemory`.
 pub fn plan<'a, S: AsStr>(alloc: Global, words: &'a [S]) -> Result<Task<'a>, UsageFault>
-    ensures { Plans (map S.text words.entry.now) result }
+    ensures planned { Plans (map S.text words.entry.now) result }
+    ensures doable { IfOk result IsDoable }
 {
     let command = application_command(alloc)?;
     let matches = command.try_get_matches_from(words)?;
     if let Some(entries) = matches.subcommand_matches("asm") {
         return Ok(Task::Asm(asm_task(alloc, entries)?));
+    }
+    if let Some(entries) = matches.subcommand_matches("sim") {
+        return Ok(Task::Sim(sim_task(entries)?));
     }
     // The parser refuses words that enter no command.
     unreachable!()
@@ -49,6 +86,59 @@ fn asm_task<'a>(alloc: Global, entries: &ArgMatches<'a>) -> Result<AsmTask<'a>, 
         object: first_text(entries, "output"),
         sources: all_texts(alloc, entries, "sources")?,
     })
+}
+
+// The task that the entries of `sim` state, or the fault of their start.
+fn sim_task<'a>(entries: &ArgMatches<'a>) -> Result<SimTask<'a>, UsageFault>
+    ensures task { IfOk result (IsSimTask (rows_of (found_of entries.now))) }
+    ensures doable { IfOk result (λ task. IsDoable (Sim task)) }
+    ensures fault { IfErr result (λ fault.
+        start_of (first_of (codes "start") (rows_of (found_of entries.now))) ≡ Err fault) }
+{
+    Ok(SimTask {
+        tape: first_text(entries, "tape"),
+        start: start_given(entries)?,
+        words: number_given(entries, "words", LEAST_WORDS, MOST_WORDS, MOST_WORDS) as u16,
+        limit: number_given(entries, "steps", 0, MOST_STEPS, DEFAULT_STEPS),
+    })
+}
+
+// Where to start, if the entries say it.
+#[tactic(auto, using(crate::proofs::Entries::first_given))]
+fn start_given(entries: &ArgMatches<'_>) -> Result<Option<u16>, UsageFault>
+    ensures { result ≡ start_of (first_of (codes "start") (rows_of (found_of entries.now))) }
+{
+    match entries.get_str("start") {
+        Some(text) => Ok(Some(address(text)?)),
+        None => Ok(None),
+    }
+}
+
+// The address that a text spells.
+fn address(text: &str) -> Result<u16, UsageFault>
+    ensures { result ≡ address_of text.now }
+{
+    let word = read_octal(text.as_bytes())?;
+    if word % 2 == 1 {
+        return Err(UsageFault::OddAddress);
+    }
+    if word > LAST_ADDRESS {
+        return Err(UsageFault::BadAddress);
+    }
+    Ok(word)
+}
+
+// The number that an option states, where it lies within bounds, else another one. The parser takes
+// no number outside the bounds.
+fn number_given(entries: &ArgMatches<'_>, id: &str, least: u32, most: u32, other: u32) -> u32
+    ensures number { result ≡ number_or other least most
+        (one_of id.now (rows_of (found_of entries.now))) }
+    ensures within { least ≤ other → other ≤ most → (least ≤ result) × (result ≤ most) }
+{
+    match entries.get_one::<u32>(id) {
+        Some(number) if least <= number && number <= most => number,
+        _ => other,
+    }
 }
 
 // The first value of an argument; the empty text where there is none.

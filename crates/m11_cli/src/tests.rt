@@ -10,6 +10,8 @@ use std::io::{ErrorKind, Print};
 use std::test::Fail;
 use std::{fs, io};
 
+mod sim;
+
 // Keeps what is printed to it.
 #[derive(Drop)]
 struct Kept {
@@ -61,26 +63,40 @@ impl Print for Kept {
 
 #[test]
 fn asm_takes_an_object_and_sources(rt: HostRuntime) -> Result<(), Fail> {
-    let Task::Asm(task) = plan(rt.alloc(), &["m11", "asm", "A.MAC", "-o", "P.OBJ", "B.MAC"])?;
+    let words = ["m11", "asm", "A.MAC", "-o", "P.OBJ", "B.MAC"];
+    let task = plan(rt.alloc(), words.as_slice())?;
+    let Task::Asm(task) = task else {
+        return Err(Fail::new("no assembly"));
+    };
     assert_eq!(rt; task.object, "P.OBJ");
     assert_eq!(rt; task.sources.as_slice(), ["A.MAC", "B.MAC"].as_slice());
     Ok(())
 }
 
 // Words that no command takes.
-const REFUSED: [&[&str]; 5] = [
+const REFUSED: [&[&str]; 14] = [
     &["m11"],
     &["m11", "help"],
     &["m11", "link", "A.OBJ"],
     &["m11", "asm", "A.MAC"],
     &["m11", "asm", "-o", "A.OBJ", "-o", "B.OBJ", "A.MAC"],
+    &["m11", "sim"],
+    &["m11", "sim", "A.TAP", "B.TAP"],
+    &["m11", "sim", "-n", "1000000001", "A.TAP"],
+    &["m11", "sim", "-n", "1", "-n", "1", "A.TAP"],
+    &["m11", "sim", "-k", "4095", "A.TAP"],
+    &["m11", "sim", "-k", "28673", "A.TAP"],
+    &["m11", "sim", "-k", "0x2000", "A.TAP"],
+    &["m11", "sim", "-s", "1000", "-s", "1000", "A.TAP"],
+    &["m11", "sim", "-s", "18", "-k", "4095", "A.TAP"],
 ];
 
 // Words that ask for help.
-const HELPED: [&[&str]; 3] = [
+const HELPED: [&[&str]; 4] = [
     &["m11", "--help"],
     &["m11", "asm", "-h"],
     &["m11", "asm", "-o", "A.OBJ", "--help"],
+    &["m11", "sim", "-s", "18", "--help"],
 ];
 
 #[test]
@@ -253,7 +269,7 @@ fn help_is_printed_and_refused_words_are_told(rt: HostRuntime) {
         command(&rt, &mut io::empty(), &out, &err, &["m11", "--help"]),
         0
     );
-    assert!(rt; out.is_told("A MACRO-11 assembler\n") && err.has(""));
+    assert!(rt; out.is_told("A MACRO-11 assembler and a PDP-11/40 simulator\n") && err.has(""));
     let out = Kept::new(&rt);
     assert_eq!(rt;
         command(&rt, &mut io::empty(), &out, &err, &["m11", "link"]),
