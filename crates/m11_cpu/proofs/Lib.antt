@@ -1,10 +1,12 @@
 pub mod BlocksRead
 pub mod BytesPut
+pub mod ConsoleExact
 pub mod DataPut
 pub mod Dialogues
 pub mod RunsDone
 pub mod SimulationDone
 pub mod SixDigits
 pub mod StepsDone
+pub mod StopsStand
 pub mod TapePut
 pub mod WordsAsBytes

@@ -8,6 +8,7 @@ pub mod Execution
 pub mod Extended
 pub mod Faults
 pub mod Jumps
+pub mod Laws
 pub mod Loading
 pub mod Machine
 pub mod Memory

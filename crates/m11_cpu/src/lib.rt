@@ -11,6 +11,7 @@ mod execution;
 mod extended;
 mod fault;
 mod jumps;
+mod laws;
 mod loading;
 mod machine;
 mod memory;
@@ -25,6 +26,7 @@ mod stop;
 mod traps;
 
 pub use fault::{LoadFault, SimFault};
+pub use laws::{console_is_exact, stops_stand};
 pub use machine::Machine;
 pub use simulation::sim_run;
 pub use status::ProcessorStatus;

@@ -1,0 +1,68 @@
+-- What a reader of the handbook expects of steps and runs, in its own words. (PDP-11/40 Processor Handbook; what
+-- is said of the console is this project's own.)
+use Rattle.std.specs.Prelude.{◌≡◌, ℕ, ◌+◌, Bool, true, false, List, [], ◌∷◌, ◌++◌, length, Option, Some, None, ⊤}
+use Rattle.std.specs.Io.KnownBytes.{Appends}
+use Rattle.m11_obj.specs.Limited.{Gave}
+use Rattle.m11_cpu.specs.Dialogue.{Dialogue, Devices, Exchange, Asked, Sent, Reply, Gives, Ends, Fails, Happened, Input, Leads, Output}
+use Rattle.m11_cpu.specs.Runs.{run_counted}
+use Rattle.m11_cpu.specs.Steps.{step}
+use Rattle.m11_cpu.specs.declared.machine.Machine.{Machine}
+use Rattle.m11_cpu.specs.declared.runs.Ran.{Ran}
+use Rattle.m11_cpu.specs.declared.stop.LastingStop.{LastingStop}
+use Rattle.m11_cpu.specs.declared.stop.LastingStop.TheVariants as lasting
+use Rattle.m11_cpu.specs.declared.stop.Stop.{Stop}
+use Rattle.m11_cpu.specs.declared.stop.Stop.TheVariants.{Halt, Limit, Wait, StackFault, NoStart, InputFault, OutputFault}
+use Rattle.m11_cpu.specs.declared.stop.Turn.{Turn}
+use Rattle.m11_cpu.specs.declared.stop.Turn.TheVariants.{Next, Stopped}
+
+-- ---- the console
+
+-- the bytes that the input gave, and those that the output took
+abbrev pub given : List Exchange → List ℕ
+given [] = []
+given (Asked (Gives byte) ∷ es) = byte ∷ given es
+given (Asked Ends ∷ es) = given es
+given (Asked Fails ∷ es) = given es
+given (Sent byte taken ∷ es) = given es
+
+abbrev pub taken : List Exchange → List ℕ
+taken [] = []
+taken (Asked reply ∷ es) = taken es
+taken (Sent byte true ∷ es) = byte ∷ taken es
+taken (Sent byte false ∷ es) = taken es
+
+-- the input, where it is there, gave just these bytes, and no others
+abbrev pub GaveJust : Option Input → Option Input → List ℕ → Type 0
+GaveJust None None bytes = bytes ≡ []
+GaveJust None (Some new) bytes = ⊥
+GaveJust (Some old) None bytes = ⊥
+GaveJust (Some old) (Some new) bytes = Gave old.text new.text bytes
+
+-- the output, where it is there, gained just these bytes
+abbrev pub GainedJust : Option Output → Option Output → List ℕ → Type 0
+GainedJust None None bytes = bytes ≡ []
+GainedJust None (Some new) bytes = ⊥
+GainedJust (Some old) None bytes = ⊥
+GainedJust (Some old) (Some new) bytes = Appends old.text new.text bytes
+
+-- ---- stops
+
+-- a stop that stands is kept by the machine
+abbrev pub Stands : Turn → Machine → Type 0
+Stands Next m = ⊤
+Stands (Stopped Halt) m = ⊤
+Stands (Stopped Limit) m = ⊥
+Stands (Stopped Wait) m = ⊤
+Stands (Stopped StackFault) m = m.stopped ≡ Some lasting.StackFault
+Stands (Stopped NoStart) m = ⊥
+Stands (Stopped InputFault) m = m.stopped ≡ Some lasting.InputFault
+Stands (Stopped OutputFault) m = m.stopped ≡ Some lasting.OutputFault
+
+-- ---- runs
+
+-- a run whose first steps reach their limit goes on as a run of the steps that are left
+abbrev pub AreJoined : ℕ → ℕ → Machine → Machine → Machine → Type 0
+AreJoined first second m m' m'' = (es fs : List Exchange) (steps : ℕ) (ran : Ran)
+    → Leads (run_counted first m) es (record { stop = Limit; steps = steps }, m')
+    → Leads (run_counted second m') fs (ran, m'')
+    → Leads (run_counted (first + second) m) (es ++ fs) (record { stop = ran.stop; steps = first + ran.steps }, m'')
