@@ -13,7 +13,7 @@ use Rattle.m11_cpu.specs.DoubleOperands.{change_exclusive}
 use Rattle.m11_cpu.specs.Jumps.{push}
 use Rattle.m11_cpu.specs.Places.{put_result}
 use Rattle.m11_cpu.specs.Acts.{Act, value, change, ◌>>=◌}
-use Rattle.m11_cpu.specs.Dialogue.{Reply, Gives, Ends, Fails, Dialogue, Comes, Asks, Sends, after, Exchange, Asked, Sent, Leads, Devices, Happens, Happened, Does, Replies, Takes, Did, Input, Output}
+use Rattle.m11_cpu.specs.Dialogue.{Reply, Dialogue, Comes, Asks, Sends, after, Exchange, Asked, Sent, Leads, Devices, Happened, Does, Replies, Takes, Input, Output}
 
 leads_after : {A B : Type 0} (d : Dialogue A) (es fs : List Exchange) (x : A) (next : A → Dialogue B) (y : B)
     → Leads d es x → Leads (next x) fs y → Leads (after d next) (es ++ fs) y

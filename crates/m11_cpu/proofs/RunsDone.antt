@@ -1,12 +1,12 @@
 -- Runs, step by step.
-use Rattle.std.proofs.Common.{◌≡◌, ℕ, zero, suc, ◌+◌, ◌-◌, ◌<◌, ◌≤◌, refl, sym, subst, ap, ◌∙◌, arith}
+use Rattle.std.proofs.Common.{◌≡◌, ℕ, suc, ◌+◌, ◌-◌, ◌<◌, refl, sym, subst, arith}
 use Rattle.m11_cpu.specs.declared.machine.Machine.{Machine}
 use Rattle.m11_cpu.specs.declared.runs.Ran.{Ran}
 use Rattle.m11_cpu.specs.declared.stop.Stop.{Stop}
 use Rattle.m11_cpu.specs.declared.stop.Stop.TheVariants.{Limit}
 use Rattle.m11_cpu.specs.declared.stop.Turn.TheVariants.{Next, Stopped}
 use Rattle.m11_cpu.specs.Dialogue.{Devices, Does}
-use Rattle.m11_cpu.specs.Runs.{one_more, run, run_counted}
+use Rattle.m11_cpu.specs.Runs.{run, run_counted}
 use Rattle.m11_cpu.specs.Steps.{step}
 use Rattle.m11_cpu.proofs.Dialogues.{comes, then_does}
 

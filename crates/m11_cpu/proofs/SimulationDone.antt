@@ -1,5 +1,5 @@
 -- How whole runs end in a fault.
-use Rattle.std.proofs.Common.{◌≡◌, ℕ, List, Option, Result, Ok, Err, refl, sym, subst, ap₂, inl, inr}
+use Rattle.std.proofs.Common.{◌≡◌, ℕ, List, Option, Ok, Err, refl, subst, ap₂, inr}
 use Rattle.std.specs.Prelude.{unwrap_or}
 use Rattle.m11_cpu.specs.declared.fault.LoadFault.{LoadFault}
 use Rattle.m11_cpu.specs.declared.fault.SimFault.{SimFault}
@@ -10,7 +10,7 @@ use Rattle.m11_cpu.specs.Dialogue.{Devices, Does, Input, Output}
 use Rattle.m11_cpu.specs.Loading.{LoadsInto}
 use Rattle.m11_cpu.specs.Machine.{new_machine, psw_in}
 use Rattle.m11_cpu.specs.Messages.{PutsMessages, messages_of}
-use Rattle.m11_cpu.specs.Simulation.{HasRun, Loaded, Simulates, started, text_at_stop}
+use Rattle.m11_cpu.specs.Simulation.{HasRun, Simulates, started}
 
 pub not_loaded : (start : Option ℕ) (words limit : ℕ) (tape tape' : Input) (console : Devices) (told : Output)
     (machine m : Machine) (fault : LoadFault) → machine ≡ new_machine words

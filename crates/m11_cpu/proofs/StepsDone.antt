@@ -1,5 +1,5 @@
 -- What traps and steps come to, exit by exit.
-use Rattle.std.proofs.Common.{◌≡◌, Option, Some, None, Result, Ok, Err, refl, sym, subst, ap, ◌∙◌}
+use Rattle.std.proofs.Common.{◌≡◌, Option, Some, None, Result, Ok, Err, sym, subst, ap, ◌∙◌}
 use Rattle.m11_base.specs.declared.instruction.Insn.{Insn}
 use Rattle.m11_cpu.specs.declared.abort.Abort.{Abort}
 use Rattle.m11_cpu.specs.declared.abort.Abort.TheVariants.{Traps, Stops}

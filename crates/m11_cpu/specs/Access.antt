@@ -1,14 +1,14 @@
 -- What is read and written at an address: the memory, the console's four registers, and the processor status word.
 -- (PDP-11/40 Processor Handbook, "Addressing", "Processor traps"; SIMH PDP-11 manual, console terminal. That the data
 -- register of the transmitter reads 0, and that no other address past the memory answers, is this project's own.)
-use Rattle.std.specs.Prelude.{ℕ, ◌+◌, ◌-◌, ◌/◌, ◌%◌, ◌==◌, Bool, true, false, cond, not, ◌&&◌, ◌||◌, nat_lt, if◌then◌else◌, length, Option, Some, None, Result, Ok, Err}
+use Rattle.std.specs.Prelude.{ℕ, ◌-◌, ◌/◌, ◌%◌, ◌==◌, Bool, true, false, nat_lt, if◌then◌else◌, length, Option, Some, None, Result, Ok, Err}
 use Rattle.m11_cpu.specs.declared.abort.Abort.{Abort}
 use Rattle.m11_cpu.specs.declared.abort.Abort.TheVariants.{Traps, Stops}
 use Rattle.m11_cpu.specs.declared.abort.Vector.TheVariants.{BusError}
 use Rattle.m11_cpu.specs.declared.stop.LastingStop.TheVariants.{InputFault, OutputFault}
 use Rattle.m11_cpu.specs.declared.machine.Machine.{Machine}
-use Rattle.m11_cpu.specs.Dialogue.{Dialogue, Comes, Asks, Sends, Reply, Gives, Ends, Fails}
-use Rattle.m11_cpu.specs.Acts.{Act, value, aborts, ◌>>=◌}
+use Rattle.m11_cpu.specs.Dialogue.{Comes, Asks, Sends, Reply, Gives, Ends, Fails}
+use Rattle.m11_cpu.specs.Acts.{Act, value, ◌>>=◌}
 use Rattle.m11_cpu.specs.Console.{device_at, is_waiting, receiver_bits, transmitter_bits}
 use Rattle.m11_cpu.specs.declared.console.DeviceRegister.{DeviceRegister}
 use Rattle.m11_cpu.specs.declared.console.DeviceRegister.TheVariants.{ReceiverStatus, ReceiverBuffer, TransmitterStatus, TransmitterBuffer, ProcessorStatus}

@@ -1,6 +1,6 @@
 -- What an instruction does, part by part: each part comes to a value or aborts the instruction, and leaves a machine.
 -- (This project's own words.)
-use Rattle.std.specs.Prelude.{ℕ, Result, Ok, Err}
+use Rattle.std.specs.Prelude.{Result, Ok, Err}
 use Rattle.m11_cpu.specs.declared.abort.Abort.{Abort}
 use Rattle.m11_cpu.specs.declared.machine.Machine.{Machine}
 use Rattle.m11_cpu.specs.Dialogue.{Dialogue, Comes, after}

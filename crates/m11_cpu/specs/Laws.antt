@@ -1,16 +1,13 @@
 -- What a reader of the handbook expects of steps and runs, in its own words. (PDP-11/40 Processor Handbook; what
 -- is said of the console is this project's own.)
-use Rattle.std.specs.Prelude.{◌≡◌, ℕ, ◌+◌, Bool, true, false, List, [], ◌∷◌, ◌++◌, length, Option, Some, None, ⊤}
+use Rattle.std.specs.Prelude.{◌≡◌, ℕ, ◌+◌, true, false, List, [], ◌∷◌, ◌++◌, Option, Some, None, ⊤}
 use Rattle.std.specs.Io.KnownBytes.{Appends}
 use Rattle.m11_obj.specs.Limited.{Gave}
-use Rattle.m11_cpu.specs.Dialogue.{Dialogue, Devices, Exchange, Asked, Sent, Reply, Gives, Ends, Fails, Happened, Input, Leads, Output}
+use Rattle.m11_cpu.specs.Dialogue.{Exchange, Asked, Sent, Gives, Ends, Fails, Input, Leads, Output}
 use Rattle.m11_cpu.specs.Runs.{run_counted}
-use Rattle.m11_cpu.specs.Steps.{step}
 use Rattle.m11_cpu.specs.declared.machine.Machine.{Machine}
 use Rattle.m11_cpu.specs.declared.runs.Ran.{Ran}
-use Rattle.m11_cpu.specs.declared.stop.LastingStop.{LastingStop}
 use Rattle.m11_cpu.specs.declared.stop.LastingStop.TheVariants as lasting
-use Rattle.m11_cpu.specs.declared.stop.Stop.{Stop}
 use Rattle.m11_cpu.specs.declared.stop.Stop.TheVariants.{Halt, Limit, Wait, StackFault, NoStart, InputFault, OutputFault}
 use Rattle.m11_cpu.specs.declared.stop.Turn.{Turn}
 use Rattle.m11_cpu.specs.declared.stop.Turn.TheVariants.{Next, Stopped}

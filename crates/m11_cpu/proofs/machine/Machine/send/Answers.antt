@@ -1,6 +1,5 @@
-use Rattle.std.proofs.Common.{refl, subst, true, false, Bool}
-use Rattle.m11_cpu.specs.Access.{send, sent}
-use Rattle.m11_cpu.specs.Dialogue.{Takes}
+use Rattle.std.proofs.Common.{refl, true, false}
+use Rattle.m11_cpu.specs.Access.{send}
 use Rattle.m11_cpu.proofs.Dialogues.{sends_at_once, comes}
 use Rattle.m11_cpu.proofs.machine.Machine.send.Goals as goal
 
