@@ -1,0 +1,171 @@
+//! What the tests of whole programs share: tapes of words, runs of them, and what is looked at behind a run.
+
+use crate::runs::Ran;
+use crate::{Machine, Stop};
+use m11_base::{DeviceFault, Feed, FuseFeed, FuseSink, MemoryFeed, Register, WriterSink};
+use m11_obj::{tape_block, tape_transfer};
+use std::alloc::{AllocError, Global};
+use std::process::Abort;
+use std::test::Fail;
+
+mod simulations;
+
+// Words that stand in memory one behind another, from an address on.
+pub(crate) type Part = (u16, &'static [u16]);
+
+// Vector 4 leads to a HALT at 002000.
+pub(crate) const BUS_ERROR_HALTS: Part = (0o4, &[0o002000, 0o000000]);
+
+// What is looked at behind a run.
+#[derive(Clone, Copy, Debug)]
+pub(crate) enum Fact {
+    // What a register holds.
+    In(Register, u16),
+    // The processor status word.
+    Psw(u16),
+    // The word at an address.
+    At(u16, u16),
+    // How many bytes of the input were taken.
+    Asked(usize),
+    // What was sent to the console.
+    Sent(&'static [u8]),
+}
+
+// A program, and what it is run on.
+#[derive(Clone, Copy)]
+pub(crate) struct Program {
+    pub(crate) parts: &'static [Part],
+    pub(crate) start: u16,
+    pub(crate) words: u16,
+    pub(crate) limit: u32,
+    pub(crate) input: &'static [u8],
+    // How many reads and writes of the console pass. Each further one fails.
+    pub(crate) reads: u64,
+    pub(crate) writes: u64,
+}
+
+impl Program {
+    // A program that starts at 1000 in the whole memory, with a console that has no input and never fails.
+    pub(crate) fn of(parts: &'static [Part]) -> Program {
+        Program {
+            parts,
+            start: 0o1000,
+            words: 28_672,
+            limit: 1_000,
+            input: b"",
+            reads: u64::MAX,
+            writes: u64::MAX,
+        }
+    }
+}
+
+// A feed that counts the bytes that it gave.
+#[derive(Drop)]
+struct CountedFeed<F: Feed> {
+    feed: F,
+    given: usize,
+}
+
+impl<F: Feed> Feed for CountedFeed<F> {
+    ghost text = { λ s. F.text s.feed };
+
+    ghost faults = { λ s. F.faults s.feed };
+
+    ghost left = { λ s. F.left s.feed };
+
+    fn next(&mut self) -> Result<Option<u8>, DeviceFault> {
+        let answer = self.feed.next();
+        if matches!(answer, Ok(Some(_))) {
+            self.given = self.given.saturating_add(1);
+        }
+        answer
+    }
+}
+
+// The bytes of words, the low byte of each first.
+fn bytes_of(alloc: Global, words: &[u16]) -> Result<Vec<u8>, AllocError> {
+    let mut bytes = Vec::new(alloc);
+    for word in words {
+        bytes.extend_from_slice(&word.to_le_bytes())?;
+    }
+    Ok(bytes)
+}
+
+// The tape of a program: a block for each part, and the transfer block.
+pub(crate) fn tape_of(
+    rt: &(impl Abort + AllocGlobal),
+    parts: &[Part],
+    start: u16,
+) -> Result<Vec<u8>, AllocError> {
+    let alloc = rt.alloc();
+    let mut tape = Vec::new(alloc);
+    for (address, words) in parts {
+        let bytes = bytes_of(alloc, words)?;
+        assert!(rt; 0 < bytes.len() && bytes.len() <= 1_000);
+        let block = tape_block(alloc, *address, bytes.as_slice())?;
+        tape.extend_from_slice(block.as_slice())?;
+    }
+    tape.extend_from_slice(tape_transfer(alloc, start)?.as_slice())?;
+    Ok(tape)
+}
+
+// The word at an address, where memory has both its bytes.
+fn word_at(machine: &Machine, address: u16) -> Option<u16> {
+    let behind = address.checked_add(1)?;
+    if !machine.has_byte(address) || !machine.has_byte(behind) {
+        return None;
+    }
+    Some(u16::from_le_bytes([machine.byte(address), machine.byte(behind)]))
+}
+
+// A machine that has run, with what its console took and sent.
+#[derive(Drop)]
+struct Behind<'a> {
+    machine: &'a Machine,
+    asked: usize,
+    sent: &'a [u8],
+}
+
+impl Behind<'_> {
+    fn has(&self, fact: Fact) -> bool {
+        match fact {
+            Fact::In(register, value) => self.machine.register(register) == value,
+            Fact::Psw(bits) => self.machine.psw() == bits,
+            Fact::At(address, value) => word_at(self.machine, address) == Some(value),
+            Fact::Asked(count) => self.asked == count,
+            Fact::Sent(bytes) => self.sent == bytes,
+        }
+    }
+}
+
+// Runs a program from its tape on: it stops so after so many steps, and then each of the facts holds.
+pub(crate) fn check(
+    rt: &(impl Abort + AllocGlobal),
+    program: Program,
+    stop: Stop,
+    steps: u32,
+    facts: &[Fact],
+) -> Result<(), Fail> {
+    let tape = tape_of(rt, program.parts, program.start)?;
+    assert!(rt; 4_096 <= program.words && program.words <= 28_672);
+    let mut machine = Machine::new(rt.alloc(), program.words)?;
+    let start = machine.load(&mut MemoryFeed::new(tape.as_slice()))?;
+    machine.start_at(start);
+    let mut input = CountedFeed {
+        feed: FuseFeed::new(MemoryFeed::new(program.input), program.reads),
+        given: 0,
+    };
+    let mut sent = Vec::new(rt.alloc());
+    let mut output = FuseSink::new(WriterSink::new(&mut sent), program.writes, 1);
+    let ran = machine.run_counted(program.limit, &mut input, &mut output);
+    assert_eq!(rt; ran, Ran { stop, steps });
+    let behind = Behind {
+        machine: &machine,
+        asked: input.given,
+        sent: sent.as_slice(),
+    };
+    for fact in facts {
+        assert!(rt; behind.has(*fact), "{fact:?}");
+    }
+    Ok(())
+}
