@@ -8,13 +8,14 @@ use std::alloc::{AllocError, Global};
 use std::process::Abort;
 use std::test::Fail;
 
+mod programs;
 mod simulations;
 
 // Words that stand in memory one behind another, from an address on.
-pub(crate) type Part = (u16, &'static [u16]);
+pub(crate) type Part<'a> = (u16, &'a [u16]);
 
 // Vector 4 leads to a HALT at 002000.
-pub(crate) const BUS_ERROR_HALTS: Part = (0o4, &[0o002000, 0o000000]);
+pub(crate) const BUS_ERROR_HALTS: Part<'static> = (0o4, &[0o002000, 0o000000]);
 
 // What is looked at behind a run.
 #[derive(Clone, Copy, Debug)]
@@ -33,20 +34,20 @@ pub(crate) enum Fact {
 
 // A program, and what it is run on.
 #[derive(Clone, Copy)]
-pub(crate) struct Program {
-    pub(crate) parts: &'static [Part],
+pub(crate) struct Program<'a> {
+    pub(crate) parts: &'a [Part<'a>],
     pub(crate) start: u16,
     pub(crate) words: u16,
     pub(crate) limit: u32,
-    pub(crate) input: &'static [u8],
+    pub(crate) input: &'a [u8],
     // How many reads and writes of the console pass. Each further one fails.
     pub(crate) reads: u64,
     pub(crate) writes: u64,
 }
 
-impl Program {
+impl<'a> Program<'a> {
     // A program that starts at 1000 in the whole memory, with a console that has no input and never fails.
-    pub(crate) fn of(parts: &'static [Part]) -> Program {
+    pub(crate) fn of(parts: &'a [Part<'a>]) -> Program<'a> {
         Program {
             parts,
             start: 0o1000,
@@ -94,7 +95,7 @@ fn bytes_of(alloc: Global, words: &[u16]) -> Result<Vec<u8>, AllocError> {
 // The tape of a program: a block for each part, and the transfer block.
 pub(crate) fn tape_of(
     rt: &(impl Abort + AllocGlobal),
-    parts: &[Part],
+    parts: &[Part<'_>],
     start: u16,
 ) -> Result<Vec<u8>, AllocError> {
     let alloc = rt.alloc();
@@ -141,7 +142,7 @@ impl Behind<'_> {
 // Runs a program from its tape on: it stops so after so many steps, and then each of the facts holds.
 pub(crate) fn check(
     rt: &(impl Abort + AllocGlobal),
-    program: Program,
+    program: Program<'_>,
     stop: Stop,
     steps: u32,
     facts: &[Fact],

@@ -20,7 +20,7 @@ static HALTS_WITHOUT_START: [u8; 20] = [
 ];
 
 // Waits until the receiver is done, moves its byte to the transmitter, and halts.
-const POLLS: [Part; 1] = [(
+const POLLS: [Part<'static>; 1] = [(
     0o1000,
     &[
         0o105737, 0o177560, 0o100375, 0o113700, 0o177562, 0o110037, 0o177566, 0o000000,
@@ -28,7 +28,7 @@ const POLLS: [Part; 1] = [(
 )];
 
 // Does so three times, and halts.
-const POLLS_THREE: [Part; 1] = [(
+const POLLS_THREE: [Part<'static>; 1] = [(
     0o1000,
     &[
         0o012701, 0o000003, 0o105737, 0o177560, 0o100375, 0o113700, 0o177562, 0o110037, 0o177566,
