@@ -15,7 +15,7 @@ use Rattle.m11_cpu.specs.Places.{put_result}
 use Rattle.m11_cpu.specs.Acts.{Act, value, change, ◌>>=◌}
 use Rattle.m11_cpu.specs.Dialogue.{Reply, Dialogue, Comes, Asks, Sends, after, Exchange, Asked, Sent, Leads, Devices, Happened, Does, Replies, Takes, Input, Output}
 
-leads_after : {A B : Type 0} (d : Dialogue A) (es fs : List Exchange) (x : A) (next : A → Dialogue B) (y : B)
+pub leads_after : {A B : Type 0} (d : Dialogue A) (es fs : List Exchange) (x : A) (next : A → Dialogue B) (y : B)
     → Leads d es x → Leads (next x) fs y → Leads (after d next) (es ++ fs) y
 unfolding Leads
 leads_after {A = A} (Comes x) [] fs z next y e h = let P : A → Type 0 = λ v. Leads (next v) fs y in subst P e h

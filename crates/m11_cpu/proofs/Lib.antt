@@ -4,6 +4,7 @@ pub mod ConsoleExact
 pub mod DataPut
 pub mod Dialogues
 pub mod RunsDone
+pub mod RunsJoined
 pub mod SimulationDone
 pub mod SixDigits
 pub mod StepsDone

@@ -30,7 +30,7 @@ behind_it (Sends byte by) next (Asked reply ∷ es) y h = absurd h
 behind_it (Sends byte by) next (Sent sent was_taken ∷ es) y h = behind_it (by was_taken) next es y h.1
 
 -- what comes at once
-at_once : {A : Type 0} (x y : A) (es : List Exchange) → Leads (Comes x) es y → y ≡ x
+pub at_once : {A : Type 0} (x y : A) (es : List Exchange) → Leads (Comes x) es y → y ≡ x
 unfolding Leads
 at_once x y [] h = h
 at_once x y (e ∷ es) h = absurd h

@@ -1,8 +1,8 @@
 //! Laws of steps and runs.
 
-ghost use Rattle.std.specs.Prelude.{◌≡◌, List, Some};
+ghost use Rattle.std.specs.Prelude.{◌≡◌, List, ℕ, Some};
 ghost use Rattle.m11_cpu.specs.Dialogue.{Comes, Devices, Exchange, Happened, Leads};
-ghost use Rattle.m11_cpu.specs.Laws.{GainedJust, GaveJust, Stands, given, taken};
+ghost use Rattle.m11_cpu.specs.Laws.{AreJoined, GainedJust, GaveJust, Stands, given, taken};
 ghost use Rattle.m11_cpu.specs.Steps.{step};
 ghost use Rattle.m11_cpu.specs.Stops.{stop_of};
 ghost use Rattle.m11_cpu.specs.declared.machine.Machine.{Machine};
@@ -28,4 +28,10 @@ pub fn stops_stand()
         → Leads (step m) exchanges came → Stands came.0 came.1 }
     ensures again { (m : Machine) (stop : LastingStop) → m.stopped ≡ Some stop
         → step m ≡ Comes (Stopped (stop_of stop), m) }
+{}
+
+/// A run of as many steps as two limits together allow is a run of the first limit, where that answers `Limit`, and then one of the second.
+#[tactic(auto, using(crate::proofs::RunsJoined::runs_joined))]
+pub fn runs_are_joined()
+    ensures { (first second : ℕ) (m middle last : Machine) → AreJoined first second m middle last }
 {}
