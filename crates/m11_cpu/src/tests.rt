@@ -8,8 +8,12 @@ use std::alloc::{AllocError, Global};
 use std::process::Abort;
 use std::test::Fail;
 
+mod addressing;
+mod console;
+mod instructions;
 mod programs;
 mod simulations;
+mod traps;
 
 // Words that stand in memory one behind another, from an address on.
 pub(crate) type Part<'a> = (u16, &'a [u16]);
