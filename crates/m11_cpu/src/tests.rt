@@ -10,6 +10,7 @@ use std::test::Fail;
 
 mod addressing;
 mod console;
+mod failed_accesses;
 mod instructions;
 mod programs;
 mod simulations;

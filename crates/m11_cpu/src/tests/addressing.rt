@@ -296,3 +296,75 @@ fn the_program_counter_steps_back_to_its_own_instruction(rt: HostRuntime) -> Res
         &[At(0o110756, 0o001000), In(Pc, 0o1000)],
     )
 }
+
+#[test]
+fn an_instruction_changes_the_word_or_the_byte_of_memory_that_it_finds(
+    rt: HostRuntime,
+) -> Result<(), Fail> {
+    check_over(&rt, &[0o012701, 0o4000, 0o005011], &[At(0o4000, 0)])?;
+    check_over(&rt, &[0o012701, 0o2777, 0o105011], &[At(0o2776, 0o000002)])?;
+    check_over(
+        &rt,
+        &[0o012701, 0o4000, 0o005121],
+        &[At(0o4000, 0o177666), In(R1, 0o4002)],
+    )?;
+    check_over(
+        &rt,
+        &[0o012701, 0o4000, 0o105221],
+        &[At(0o4000, 0o112), In(R1, 0o4001)],
+    )?;
+    check_over(
+        &rt,
+        &[0o012701, 0o3000, 0o005231],
+        &[At(0o4000, 0o112), In(R1, 0o3002)],
+    )?;
+    check_over(
+        &rt,
+        &[0o012701, 0o4002, 0o005441],
+        &[At(0o4000, 0o177667), In(R1, 0o4000)],
+    )?;
+    check_over(
+        &rt,
+        &[0o012701, 0o3002, 0o000351],
+        &[At(0o4000, 0o044400), In(R1, 0o3000)],
+    )?;
+    check_over(&rt, &[0o012701, 0o4000, 0o006361, 2], &[At(0o4002, 0o444)])?;
+    check_over(&rt, &[0o012701, 0o3000, 0o006171, 4], &[At(0o4004, 0o666)])?;
+    check_over(&rt, &[0o012701, 0o4000, 0o006711], &[At(0o4000, 0)])
+}
+
+#[test]
+fn an_instruction_of_two_operands_takes_one_from_memory(rt: HostRuntime) -> Result<(), Fail> {
+    check_over(
+        &rt,
+        &[0o012701, 1, 0o060137, 0o4000],
+        &[At(0o4000, 0o112), In(R1, 1)],
+    )?;
+    check_over(
+        &rt,
+        &[0o012701, 1, 0o160137, 0o4000],
+        &[At(0o4000, 0o110), In(R1, 1)],
+    )?;
+    check_over(
+        &rt,
+        &[0o012701, 1, 0o020137, 0o4000],
+        &[At(0o4000, 0o111), In(R1, 1)],
+    )?;
+    check_over(
+        &rt,
+        &[0o012701, 1, 0o050137, 0o4002],
+        &[At(0o4002, 0o223), In(R1, 1)],
+    )?;
+    check_over(
+        &rt,
+        &[0o012701, 2, 0o140137, 0o4002],
+        &[At(0o4002, 0o220), In(R1, 2)],
+    )?;
+    check_over(
+        &rt,
+        &[0o012701, 9, 0o074137, 0o4000],
+        &[At(0o4000, 0o100), In(R1, 9)],
+    )?;
+    check_over(&rt, &[0o012701, 2, 0o070137, 0o4000], &[In(R1, 0o222)])?;
+    check_over(&rt, &[0o012701, 1, 0o072137, 0o4000], &[In(R1, 0o001000)])
+}

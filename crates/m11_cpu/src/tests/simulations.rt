@@ -1,5 +1,6 @@
 //! Whole runs, from the bytes of a tape to the messages.
 
+use self::Messages::{Are, Begin};
 use super::{Part, tape_of};
 use crate::{LoadFault, SimDone, SimFault, Stop, sim_run};
 use m11_base::{FuseFeed, FuseSink, MemoryFeed, WriterSink};
@@ -64,16 +65,32 @@ impl<'a> Simulation<'a> {
     }
 }
 
+// The messages of a run, or what they begin with.
+#[derive(Clone, Copy)]
+enum Messages<'a> {
+    Are(&'a [u8]),
+    Begin(&'a [u8]),
+}
+
+impl Messages<'_> {
+    fn agree(self, told: &[u8]) -> bool {
+        match self {
+            Messages::Are(text) => told == text,
+            Messages::Begin(text) => told.starts_with(text),
+        }
+    }
+}
+
 // What a run comes to: its outcome, what it sends to the console, and its messages.
 #[derive(Clone, Copy)]
 struct Wanted<'a> {
     outcome: Result<SimDone, SimFault>,
     sent: &'a [u8],
-    told: &'a [u8],
+    told: Messages<'a>,
 }
 
 // A run that stops.
-fn stopped<'a>(stop: Stop, sent: &'a [u8], told: &'a [u8]) -> Wanted<'a> {
+fn stopped<'a>(stop: Stop, sent: &'a [u8], told: Messages<'a>) -> Wanted<'a> {
     Wanted {
         outcome: Ok(SimDone { stop }),
         sent,
@@ -81,8 +98,7 @@ fn stopped<'a>(stop: Stop, sent: &'a [u8], told: &'a [u8]) -> Wanted<'a> {
     }
 }
 
-// Runs a tape in the whole memory. The messages are the wanted ones, or begin with them where they are wanted to the
-// end of the first line only.
+// Runs a tape in the whole memory, to what is wanted.
 fn check(
     rt: &(impl Abort + AllocGlobal),
     simulation: Simulation<'_>,
@@ -102,7 +118,7 @@ fn check(
     );
     assert_eq!(rt; outcome, wanted.outcome);
     assert!(rt; sent.as_slice() == wanted.sent, "what was sent");
-    assert!(rt; told.as_slice().starts_with(wanted.told), "the messages");
+    assert!(rt; wanted.told.agree(told.as_slice()), "the messages");
     Ok(())
 }
 
@@ -134,7 +150,11 @@ fn a_program_runs_to_its_halt_and_the_registers_are_told(rt: HostRuntime) -> Res
     let told = b"HALT AFTER 2 STEPS\n\
         R0 000001 R1 000000 R2 000000 R3 000000 R4 000000 R5 000000 \
         SP 000000 PC 001006 PSW 000000\n";
-    check(&rt, Simulation::of(&HALTS), stopped(Stop::Halt, b"", told))
+    check(
+        &rt,
+        Simulation::of(&HALTS),
+        stopped(Stop::Halt, b"", Are(told)),
+    )
 }
 
 #[test]
@@ -145,7 +165,11 @@ fn a_halt_in_the_last_step_that_is_allowed_wins_over_the_limit(
         limit: 2,
         ..Simulation::of(&HALTS)
     };
-    check(&rt, two, stopped(Stop::Halt, b"", b"HALT AFTER 2 STEPS\n"))
+    check(
+        &rt,
+        two,
+        stopped(Stop::Halt, b"", Begin(b"HALT AFTER 2 STEPS\n")),
+    )
 }
 
 #[test]
@@ -157,7 +181,7 @@ fn a_run_stops_when_it_has_made_as_many_steps_as_it_may(rt: HostRuntime) -> Resu
     let told = b"LIMIT AFTER 1 STEPS\n\
         R0 000001 R1 000000 R2 000000 R3 000000 R4 000000 R5 000000 \
         SP 000000 PC 001004 PSW 000000\n";
-    check(&rt, one, stopped(Stop::Limit, b"", told))?;
+    check(&rt, one, stopped(Stop::Limit, b"", Are(told)))?;
     let none = Simulation {
         limit: 0,
         ..Simulation::of(&HALTS)
@@ -165,7 +189,7 @@ fn a_run_stops_when_it_has_made_as_many_steps_as_it_may(rt: HostRuntime) -> Resu
     let told = b"LIMIT AFTER 0 STEPS\n\
         R0 000000 R1 000000 R2 000000 R3 000000 R4 000000 R5 000000 \
         SP 000000 PC 001000 PSW 000000\n";
-    check(&rt, none, stopped(Stop::Limit, b"", told))
+    check(&rt, none, stopped(Stop::Limit, b"", Are(told)))
 }
 
 #[test]
@@ -174,9 +198,9 @@ fn an_odd_transfer_address_starts_nothing(rt: HostRuntime) -> Result<(), Fail> {
         R0 000000 R1 000000 R2 000000 R3 000000 R4 000000 R5 000000 \
         SP 000000 PC 000000 PSW 000000\n";
     let odd = Simulation::of(&HALTS_WITHOUT_START);
-    check(&rt, odd, stopped(Stop::NoStart, b"", told))?;
+    check(&rt, odd, stopped(Stop::NoStart, b"", Are(told)))?;
     let no_steps = Simulation { limit: 0, ..odd };
-    check(&rt, no_steps, stopped(Stop::NoStart, b"", told))
+    check(&rt, no_steps, stopped(Stop::NoStart, b"", Are(told)))
 }
 
 #[test]
@@ -188,7 +212,7 @@ fn a_start_that_is_given_replaces_the_transfer_address(rt: HostRuntime) -> Resul
     let told = b"HALT AFTER 2 STEPS\n\
         R0 000001 R1 000000 R2 000000 R3 000000 R4 000000 R5 000000 \
         SP 000000 PC 001006 PSW 000000\n";
-    check(&rt, given, stopped(Stop::Halt, b"", told))?;
+    check(&rt, given, stopped(Stop::Halt, b"", Are(told)))?;
     let behind = Simulation {
         start: Some(0o1004),
         ..Simulation::of(&HALTS)
@@ -196,7 +220,7 @@ fn a_start_that_is_given_replaces_the_transfer_address(rt: HostRuntime) -> Resul
     check(
         &rt,
         behind,
-        stopped(Stop::Halt, b"", b"HALT AFTER 1 STEPS\nR0 000000 "),
+        stopped(Stop::Halt, b"", Begin(b"HALT AFTER 1 STEPS\nR0 000000 ")),
     )
 }
 
@@ -263,7 +287,7 @@ fn a_program_that_polls_moves_a_byte_of_the_console(rt: HostRuntime) -> Result<(
     let told = b"HALT AFTER 5 STEPS\n\
         R0 000101 R1 000000 R2 000000 R3 000000 R4 000000 R5 000000 \
         SP 000000 PC 001020 PSW 000000\n";
-    check(&rt, polls, stopped(Stop::Halt, b"A", told))
+    check(&rt, polls, stopped(Stop::Halt, b"A", Are(told)))
 }
 
 #[test]
@@ -276,7 +300,7 @@ fn a_program_polls_in_vain_where_the_input_has_ended(rt: HostRuntime) -> Result<
     let told = b"LIMIT AFTER 10 STEPS\n\
         R0 000000 R1 000000 R2 000000 R3 000000 R4 000000 R5 000000 \
         SP 000000 PC 001000 PSW 000004\n";
-    check(&rt, ten, stopped(Stop::Limit, b"", told))
+    check(&rt, ten, stopped(Stop::Limit, b"", Are(told)))
 }
 
 #[test]
@@ -290,7 +314,7 @@ fn a_run_stops_at_the_read_that_fails(rt: HostRuntime) -> Result<(), Fail> {
     let told = b"INPUT FAULT AFTER 1 STEPS\n\
         R0 000000 R1 000000 R2 000000 R3 000000 R4 000000 R5 000000 \
         SP 000000 PC 001004 PSW 000000\n";
-    check(&rt, failing, stopped(Stop::InputFault, b"", told))
+    check(&rt, failing, stopped(Stop::InputFault, b"", Are(told)))
 }
 
 #[test]
@@ -304,7 +328,7 @@ fn a_run_stops_at_the_write_that_fails(rt: HostRuntime) -> Result<(), Fail> {
     let told = b"OUTPUT FAULT AFTER 4 STEPS\n\
         R0 000101 R1 000000 R2 000000 R3 000000 R4 000000 R5 000000 \
         SP 000000 PC 001016 PSW 000000\n";
-    check(&rt, failing, stopped(Stop::OutputFault, b"", told))
+    check(&rt, failing, stopped(Stop::OutputFault, b"", Are(told)))
 }
 
 #[test]
@@ -319,22 +343,22 @@ fn each_read_that_fails_stops_at_its_own_step(rt: HostRuntime) -> Result<(), Fai
     check(
         &rt,
         reads(0),
-        stopped(fault, b"", b"INPUT FAULT AFTER 2 STEPS\n"),
+        stopped(fault, b"", Begin(b"INPUT FAULT AFTER 2 STEPS\n")),
     )?;
     check(
         &rt,
         reads(1),
-        stopped(fault, b"A", b"INPUT FAULT AFTER 7 STEPS\n"),
+        stopped(fault, b"A", Begin(b"INPUT FAULT AFTER 7 STEPS\n")),
     )?;
     check(
         &rt,
         reads(2),
-        stopped(fault, b"AB", b"INPUT FAULT AFTER 12 STEPS\n"),
+        stopped(fault, b"AB", Begin(b"INPUT FAULT AFTER 12 STEPS\n")),
     )?;
     check(
         &rt,
         reads(3),
-        stopped(Stop::Halt, b"ABC", b"HALT AFTER 17 STEPS\n"),
+        stopped(Stop::Halt, b"ABC", Begin(b"HALT AFTER 17 STEPS\n")),
     )
 }
 
@@ -350,21 +374,35 @@ fn each_write_that_fails_stops_at_its_own_step(rt: HostRuntime) -> Result<(), Fa
     check(
         &rt,
         writes(0),
-        stopped(fault, b"", b"OUTPUT FAULT AFTER 5 STEPS\n"),
+        stopped(fault, b"", Begin(b"OUTPUT FAULT AFTER 5 STEPS\n")),
     )?;
     check(
         &rt,
         writes(1),
-        stopped(fault, b"A", b"OUTPUT FAULT AFTER 10 STEPS\n"),
+        stopped(fault, b"A", Begin(b"OUTPUT FAULT AFTER 10 STEPS\n")),
     )?;
     check(
         &rt,
         writes(2),
-        stopped(fault, b"AB", b"OUTPUT FAULT AFTER 15 STEPS\n"),
+        stopped(fault, b"AB", Begin(b"OUTPUT FAULT AFTER 15 STEPS\n")),
     )?;
     check(
         &rt,
         writes(3),
-        stopped(Stop::Halt, b"ABC", b"HALT AFTER 17 STEPS\n"),
+        stopped(Stop::Halt, b"ABC", Begin(b"HALT AFTER 17 STEPS\n")),
     )
+}
+
+#[test]
+fn a_tape_that_is_wrong_gives_its_first_fault(rt: HostRuntime) -> Result<(), Fail> {
+    let tape = |fault| SimFault::Load(LoadFault::Tape(fault));
+    let too_short = Simulation::of(&[0o001, 0o000, 0o005, 0o000]);
+    check_fault(&rt, too_short, tape(TapeFault::TooShort))?;
+    check_fault(&rt, Simulation::of(&[0o001]), tape(TapeFault::Truncated))?;
+    let bad_start = Simulation::of(&[0o001, 0o001, 0o000]);
+    check_fault(&rt, bad_start, tape(TapeFault::BadStart))?;
+    let mut bytes = HALTS_WITHOUT_START;
+    bytes[19] = 0o371;
+    check_fault(&rt, Simulation::of(&bytes), tape(TapeFault::BadSum))?;
+    check_fault(&rt, Simulation::of(b""), tape(TapeFault::NoTransfer))
 }

@@ -211,3 +211,20 @@ fn a_step_after_a_stack_fault_answers_it_and_changes_nothing(rt: HostRuntime) ->
     assert_eq!(rt; machine.register(Pc), 0o1002);
     Ok(())
 }
+
+#[test]
+fn t_that_is_set_at_a_halt_traces_the_instruction_behind_it(rt: HostRuntime) -> Result<(), Fail> {
+    let mut feed = MemoryFeed::new(b"");
+    let mut sink = MemorySink::new(rt.alloc());
+    let words = [
+        0o012706, 0o001000, 0o012746, 0o000020, 0o012746, 0o001016, 0o000006, 0o000000, 0o000240,
+    ];
+    let mut machine = machine_of(&rt, &words)?;
+    assert_eq!(rt; machine.run(9, &mut feed, &mut sink), Halt);
+    assert_eq!(rt; machine.register(Pc), 0o1020);
+    assert_eq!(rt; machine.psw(), 0o20);
+    assert_eq!(rt; machine.step(&mut feed, &mut sink), Next);
+    assert_eq!(rt; machine.register(Pc), 0);
+    assert_eq!(rt; machine.register(Sp), 0o774);
+    Ok(())
+}
