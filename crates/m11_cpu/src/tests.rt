@@ -22,6 +22,14 @@ pub(crate) type Part<'a> = (u16, &'a [u16]);
 // Vector 4 leads to a HALT at 002000.
 pub(crate) const BUS_ERROR_HALTS: Part<'static> = (0o4, &[0o002000, 0o000000]);
 
+// Waits until the receiver is done, moves its byte to the transmitter, and halts.
+pub(crate) const POLLS: [Part<'static>; 1] = [(
+    0o1000,
+    &[
+        0o105737, 0o177560, 0o100375, 0o113700, 0o177562, 0o110037, 0o177566, 0o000000,
+    ],
+)];
+
 // What is looked at behind a run.
 #[derive(Clone, Copy, Debug)]
 pub(crate) enum Fact {
@@ -115,6 +123,19 @@ pub(crate) fn tape_of(
     Ok(tape)
 }
 
+// A machine that has loaded the tape of a program, at its start.
+pub(crate) fn machine_of(
+    rt: &(impl Abort + AllocGlobal),
+    program: Program<'_>,
+) -> Result<Machine, Fail> {
+    let tape = tape_of(rt, program.parts, program.start)?;
+    assert!(rt; 4_096 <= program.words && program.words <= 28_672);
+    let mut machine = Machine::new(rt.alloc(), program.words)?;
+    let start = machine.load(&mut MemoryFeed::new(tape.as_slice()))?;
+    machine.start_at(start);
+    Ok(machine)
+}
+
 // The word at an address, where memory has both its bytes.
 fn word_at(machine: &Machine, address: u16) -> Option<u16> {
     let behind = address.checked_add(1)?;
@@ -152,11 +173,7 @@ pub(crate) fn check(
     steps: u32,
     facts: &[Fact],
 ) -> Result<(), Fail> {
-    let tape = tape_of(rt, program.parts, program.start)?;
-    assert!(rt; 4_096 <= program.words && program.words <= 28_672);
-    let mut machine = Machine::new(rt.alloc(), program.words)?;
-    let start = machine.load(&mut MemoryFeed::new(tape.as_slice()))?;
-    machine.start_at(start);
+    let mut machine = machine_of(rt, program)?;
     let mut input = CountedFeed {
         feed: FuseFeed::new(MemoryFeed::new(program.input), program.reads),
         given: 0,

@@ -1,6 +1,6 @@
 //! Each instruction once in each of its sizes, with results and codes as the handbook gives them.
 
-use super::tape_of;
+use super::{Program, machine_of};
 use crate::status::ProcessorStatus;
 use crate::{Machine, Turn};
 use m11_base::Register::{Pc, R0, R1};
@@ -17,10 +17,8 @@ fn machine_before(
     words: &[u16],
     before: State,
 ) -> Result<Machine, Fail> {
-    let tape = tape_of(rt, &[(0o1000, words)], 0o1000)?;
-    let mut machine = Machine::new(rt.alloc(), 4_096)?;
-    let start = machine.load(&mut MemoryFeed::new(tape.as_slice()))?;
-    machine.start_at(start);
+    let parts = [(0o1000, words)];
+    let mut machine = machine_of(rt, Program::of(&parts))?;
     machine.set_register(R0, before.0);
     machine.set_register(R1, before.1);
     machine.status = ProcessorStatus::of_bits(before.2);

@@ -1,18 +1,10 @@
 //! Programs, each of which tells one reading of the handbook from another.
 
 use super::Fact::{Asked, At, In, Psw, Sent};
-use super::{BUS_ERROR_HALTS, Part, Program, check};
+use super::{BUS_ERROR_HALTS, POLLS, Part, Program, check};
 use crate::Stop::{Halt, InputFault, Limit, OutputFault, StackFault};
 use m11_base::Register::{Pc, R0, R1, R3, Sp};
 use std::test::Fail;
-
-// Waits until the receiver is done, moves its byte to the transmitter, and halts.
-const POLLS: [Part<'static>; 1] = [(
-    0o1000,
-    &[
-        0o105737, 0o177560, 0o100375, 0o113700, 0o177562, 0o110037, 0o177566, 0o000000,
-    ],
-)];
 
 #[test]
 fn the_console_is_asked_once_and_sent_to_once_and_in_their_steps(
@@ -485,7 +477,7 @@ fn rti_that_sets_t_is_traced_at_once(rt: HostRuntime) -> Result<(), Fail> {
 
 // Reads the word at 020000, the first behind 4,096 words.
 const READS_020000: [Part<'static>; 2] = [
-    (0o4, &[0o002000, 0o000000]),
+    BUS_ERROR_HALTS,
     (0o1000, &[0o012706, 0o001000, 0o013700, 0o020000]),
 ];
 

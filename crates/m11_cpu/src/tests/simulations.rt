@@ -1,7 +1,7 @@
 //! Whole runs, from the bytes of a tape to the messages.
 
 use self::Messages::{Are, Begin};
-use super::{Part, tape_of};
+use super::{POLLS, Part, tape_of};
 use crate::{LoadFault, SimDone, SimFault, Stop, sim_run};
 use m11_base::{FuseFeed, FuseSink, MemoryFeed, WriterSink};
 use m11_obj::TapeFault;
@@ -20,15 +20,7 @@ static HALTS_WITHOUT_START: [u8; 20] = [
     0o001, 0o000, 0o006, 0o000, 0o001, 0o000, 0o370,
 ];
 
-// Waits until the receiver is done, moves its byte to the transmitter, and halts.
-const POLLS: [Part<'static>; 1] = [(
-    0o1000,
-    &[
-        0o105737, 0o177560, 0o100375, 0o113700, 0o177562, 0o110037, 0o177566, 0o000000,
-    ],
-)];
-
-// Does so three times, and halts.
+// Waits for a byte and moves it three times, and halts.
 const POLLS_THREE: [Part<'static>; 1] = [(
     0o1000,
     &[

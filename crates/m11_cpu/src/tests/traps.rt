@@ -1,10 +1,10 @@
 //! Jumps, subroutines, traps and stops.
 
 use super::Fact::{At, In, Psw};
-use super::{Program, check, tape_of};
+use super::{Program, check, machine_of};
+use crate::Stop;
 use crate::Stop::{Halt, Wait};
 use crate::Turn::{Next, Stopped};
-use crate::{Machine, Stop};
 use m11_base::Register::{Pc, R0, R1, R5, Sp};
 use m11_base::{MemoryFeed, MemorySink};
 use std::process::Abort;
@@ -169,20 +169,14 @@ fn wait_stops(rt: HostRuntime) -> Result<(), Fail> {
     check(&rt, waits, Wait, 1, &[In(Pc, 0o001002)])
 }
 
-// A machine with these words at 1000, and so at 1000.
-fn machine_of(rt: &(impl Abort + AllocGlobal), words: &[u16]) -> Result<Machine, Fail> {
-    let tape = tape_of(rt, &[(0o1000, words)], 0o1000)?;
-    let mut machine = Machine::new(rt.alloc(), 28_672)?;
-    let start = machine.load(&mut MemoryFeed::new(tape.as_slice()))?;
-    machine.start_at(start);
-    Ok(machine)
-}
-
 #[test]
 fn a_step_after_halt_and_wait_goes_on_behind_them(rt: HostRuntime) -> Result<(), Fail> {
     let mut feed = MemoryFeed::new(b"");
     let mut sink = MemorySink::new(rt.alloc());
-    let mut machine = machine_of(&rt, &[0o000000, 0o000001, 0o005200, 0o000000])?;
+    let mut machine = machine_of(
+        &rt,
+        Program::of(&[(0o1000, &[0o000000, 0o000001, 0o005200, 0o000000])]),
+    )?;
     assert_eq!(rt; machine.step(&mut feed, &mut sink), Stopped(Halt));
     assert_eq!(rt; machine.step(&mut feed, &mut sink), Stopped(Wait));
     assert_eq!(rt; machine.step(&mut feed, &mut sink), Next);
@@ -196,7 +190,7 @@ fn a_step_after_halt_and_wait_goes_on_behind_them(rt: HostRuntime) -> Result<(),
 fn a_step_after_a_stack_fault_answers_it_and_changes_nothing(rt: HostRuntime) -> Result<(), Fail> {
     let mut feed = MemoryFeed::new(b"");
     let mut sink = MemorySink::new(rt.alloc());
-    let mut machine = machine_of(&rt, &[0o104000, 0o005200])?;
+    let mut machine = machine_of(&rt, Program::of(&[(0o1000, &[0o104000, 0o005200])]))?;
     assert_eq!(rt;
         machine.step(&mut feed, &mut sink),
         Stopped(Stop::StackFault)
@@ -216,10 +210,14 @@ fn a_step_after_a_stack_fault_answers_it_and_changes_nothing(rt: HostRuntime) ->
 fn t_that_is_set_at_a_halt_traces_the_instruction_behind_it(rt: HostRuntime) -> Result<(), Fail> {
     let mut feed = MemoryFeed::new(b"");
     let mut sink = MemorySink::new(rt.alloc());
-    let words = [
-        0o012706, 0o001000, 0o012746, 0o000020, 0o012746, 0o001016, 0o000006, 0o000000, 0o000240,
-    ];
-    let mut machine = machine_of(&rt, &words)?;
+    let traced = Program::of(&[(
+        0o1000,
+        &[
+            0o012706, 0o001000, 0o012746, 0o000020, 0o012746, 0o001016, 0o000006, 0o000000,
+            0o000240,
+        ],
+    )]);
+    let mut machine = machine_of(&rt, traced)?;
     assert_eq!(rt; machine.run(9, &mut feed, &mut sink), Halt);
     assert_eq!(rt; machine.register(Pc), 0o1020);
     assert_eq!(rt; machine.psw(), 0o20);
