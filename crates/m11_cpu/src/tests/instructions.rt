@@ -11,7 +11,7 @@ use std::test::Fail;
 // R0, R1, and the bits of the processor status word: N 10, Z 4, V 2, C 1.
 type State = (u16, u16, u16);
 
-// A machine with these words at 1000, and so at 1000.
+// A machine in this state, with these words at 1000 as its next ones.
 fn machine_before(
     rt: &(impl Abort + AllocGlobal),
     words: &[u16],
