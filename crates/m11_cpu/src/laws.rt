@@ -10,8 +10,9 @@ ghost use Rattle.m11_cpu.specs.declared.stop.LastingStop.{LastingStop};
 ghost use Rattle.m11_cpu.specs.declared.stop.Turn.{Turn};
 ghost use Rattle.m11_cpu.specs.declared.stop.Turn.TheVariants.{Stopped};
 
-/// Whatever is asked and sent: the input gave just the bytes that it answered with, in order, and the output gained just
-/// the bytes that it took. So behind a step, or a run, nothing was asked for ahead, and nothing is held back.
+/// Whatever is asked and sent: the input gave just the bytes that it answered with, in order, and the output
+/// gained just the bytes that it took. So behind a step, or a run, nothing was asked for ahead, and nothing is
+/// held back.
 #[tactic(auto, using(crate::proofs::ConsoleExact::input_exact, crate::proofs::ConsoleExact::output_exact))]
 pub fn console_is_exact()
     ensures input { (old new : Devices) (exchanges : List Exchange) → Happened old new exchanges
@@ -20,8 +21,9 @@ pub fn console_is_exact()
         → GainedJust old.output new.output (taken exchanges) }
 {}
 
-/// A step that stops for a stack fault, or for a device that failed, leaves a machine that keeps this stop; a step is never stopped by a
-/// limit, or for want of a start. A machine that keeps a stop answers it at each step, and nothing changes.
+/// A step that stops for a stack fault, or for a device that failed, leaves a machine that keeps this stop; a
+/// step is never stopped by a limit, or for want of a start. A machine that keeps a stop answers it at each
+/// step, and nothing changes.
 #[tactic(auto, using(crate::proofs::StopsStand::step_stands, crate::proofs::StopsStand::step_again))]
 pub fn stops_stand()
     ensures kept { (m : Machine) (exchanges : List Exchange) (came : Turn × Machine)
@@ -30,7 +32,8 @@ pub fn stops_stand()
         → step m ≡ Comes (Stopped (stop_of stop), m) }
 {}
 
-/// A run of as many steps as two limits together allow is a run of the first limit, where that answers `Limit`, and then one of the second.
+/// A run of as many steps as two limits together allow is a run of the first limit, where that answers
+/// `Limit`, and then one of the second.
 #[tactic(auto, using(crate::proofs::RunsJoined::runs_joined))]
 pub fn runs_are_joined()
     ensures { (first second : ℕ) (m middle last : Machine) → AreJoined first second m middle last }

@@ -13,12 +13,13 @@ use crate::stop::{SimDone, Stop};
 use m11_base::{Feed, Sink};
 use std::alloc::Global;
 
-/// Loads a tape into a new machine of `words` words of memory, 4,096 to 28,672, and makes steps from its start on,
-/// `limit` of them at most. `start` replaces the transfer address of the tape; an odd address starts nothing. At the stop two lines go to
-/// `messages`: the stop with the number of steps, and the registers.
+/// Loads a tape into a new machine of `words` words of memory, 4,096 to 28,672, and makes steps from its start
+/// on, `limit` of them at most. `start` replaces the transfer address of the tape; an odd address starts
+/// nothing. At the stop two lines go to `messages`: the stop with the number of steps, and the registers.
 ///
-/// Faults: the tape was not loaded, and nothing was run; the messages could not be written, and a beginning of them was;
-/// memory was refused, before anything was read or when the run had stopped. A failing console is no fault but a stop.
+/// Faults: the tape was not loaded, and nothing was run; the messages could not be written, and a beginning of
+/// them was; memory was refused, before anything was read or when the run had stopped. A failing console is no
+/// fault but a stop.
 pub fn sim_run<T: Feed, I: Feed, O: Sink, M: Sink>(
     alloc: Global,
     tape: &mut T,
