@@ -57,7 +57,7 @@ pub struct Operand {
 }
 
 // The modes, each at the place of its code.
-const MODES: [Mode; 8] = [
+static MODES: [Mode; 8] = [
     Mode::Register,
     Mode::RegisterDeferred,
     Mode::Autoincrement,
@@ -69,7 +69,7 @@ const MODES: [Mode; 8] = [
 ];
 
 // The registers, each at the place of its number.
-const REGISTERS: [Register; 8] = [
+static REGISTERS: [Register; 8] = [
     Register::R0,
     Register::R1,
     Register::R2,

@@ -35,7 +35,7 @@ macro_rules! op {
 
 // By the upper four bits.
 #[rattlefmt::skip]
-pub(crate) const DOUBLES: [Option<Op>; 16] = [
+pub(crate) static DOUBLES: [Option<Op>; 16] = [
     None, op!(Double Mov Word), op!(Double Cmp Word), op!(Double Bit Word),
     op!(Double Bic Word), op!(Double Bis Word), op!(Double Add Word), None,
     None, op!(Double Mov Byte), op!(Double Cmp Byte), op!(Double Bit Byte),
@@ -44,28 +44,28 @@ pub(crate) const DOUBLES: [Option<Op>; 16] = [
 
 // Words 07xxxx, by the next octal digit.
 #[rattlefmt::skip]
-pub(crate) const EXTENDED: [Option<Op>; 8] = [
+pub(crate) static EXTENDED: [Option<Op>; 8] = [
     op!(Extended Mul), op!(Extended Div), op!(Extended Ash), op!(Extended Ashc),
     op!(Register Xor), None, None, Some(Op::Sob),
 ];
 
 // Words 000000 to 000007.
 #[rattlefmt::skip]
-pub(crate) const BARE: [Option<Op>; 8] = [
+pub(crate) static BARE: [Option<Op>; 8] = [
     op!(Bare Halt), op!(Bare Wait), op!(Bare Rti), op!(Bare Bpt),
     op!(Bare Iot), op!(Bare Reset), op!(Bare Rtt), None,
 ];
 
 // Words 0002xx, by the next octal digit.
 #[rattlefmt::skip]
-pub(crate) const LAST: [Option<Op>; 8] = [
+pub(crate) static LAST: [Option<Op>; 8] = [
     Some(Op::Rts), None, None, None,
     op!(Condition Clear), op!(Condition Clear), op!(Condition Set), op!(Condition Set),
 ];
 
 // Other words 00xxxx, by the next two octal digits.
 #[rattlefmt::skip]
-pub(crate) const LOW: [Option<Op>; 64] = [
+pub(crate) static LOW: [Option<Op>; 64] = [
     None, op!(Single Jmp Word), None, op!(Single Swab Word),
     op!(Branch Br), op!(Branch Br), op!(Branch Br), op!(Branch Br),
     op!(Branch Bne), op!(Branch Bne), op!(Branch Bne), op!(Branch Bne),
@@ -86,7 +86,7 @@ pub(crate) const LOW: [Option<Op>; 64] = [
 
 // Words 10xxxx, by the next two octal digits.
 #[rattlefmt::skip]
-pub(crate) const HIGH: [Option<Op>; 64] = [
+pub(crate) static HIGH: [Option<Op>; 64] = [
     op!(Branch Bpl), op!(Branch Bpl), op!(Branch Bpl), op!(Branch Bpl),
     op!(Branch Bmi), op!(Branch Bmi), op!(Branch Bmi), op!(Branch Bmi),
     op!(Branch Bhi), op!(Branch Bhi), op!(Branch Bhi), op!(Branch Bhi),
