@@ -1,8 +1,13 @@
+pub mod AtOnce
 pub mod BlocksRead
 pub mod BytesPut
+pub mod CallsBack
 pub mod ConsoleExact
 pub mod DataPut
 pub mod Dialogues
+pub mod Loads
+pub mod Parts
+pub mod RegistersPut
 pub mod RunsDone
 pub mod RunsJoined
 pub mod SimulationDone

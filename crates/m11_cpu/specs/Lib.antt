@@ -4,6 +4,7 @@ pub mod Console
 pub mod DestinationUse
 pub mod Dialogue
 pub mod DoubleOperands
+pub mod Exchanges
 pub mod Execution
 pub mod Extended
 pub mod Faults
@@ -14,6 +15,7 @@ pub mod Machine
 pub mod Memory
 pub mod Messages
 pub mod Places
+pub mod Returns
 pub mod Runs
 pub mod Simulation
 pub mod SingleOperands
@@ -21,3 +23,4 @@ pub mod Status
 pub mod Steps
 pub mod Stops
 pub mod Traps
+pub mod Writes

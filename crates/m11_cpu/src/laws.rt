@@ -1,8 +1,11 @@
 //! Laws of steps and runs.
 
 ghost use Rattle.std.specs.Prelude.{◌≡◌, List, ℕ, Some};
+ghost use Rattle.m11_base.specs.declared.operand.Operand.{Operand};
+ghost use Rattle.m11_base.specs.declared.operand.Register.{Register};
 ghost use Rattle.m11_cpu.specs.Dialogue.{Comes, Devices, Exchange, Happened, Leads};
 ghost use Rattle.m11_cpu.specs.Laws.{AreJoined, GainedJust, GaveJust, Stands, given, taken};
+ghost use Rattle.m11_cpu.specs.Returns.{CallsReturn};
 ghost use Rattle.m11_cpu.specs.Steps.{step};
 ghost use Rattle.m11_cpu.specs.Stops.{stop_of};
 ghost use Rattle.m11_cpu.specs.declared.machine.Machine.{Machine};
@@ -37,4 +40,13 @@ pub fn stops_stand()
 #[tactic(auto, using(crate::proofs::RunsJoined::runs_joined))]
 pub fn runs_are_joined()
     ensures { (first second : ℕ) (m middle last : Machine) → AreJoined first second m middle last }
+{}
+
+/// A call comes back: JSR by one of the registers 0 to 5, whose operand steps neither that register nor the stack
+/// pointer and whose push goes to memory, leads to the address that the operand means. Where RTS by that register
+/// stands there behind the push, one more step leads behind the call, asks and sends nothing, and leaves that
+/// register and the stack pointer as they were. (PDP-11/40 Processor Handbook, JSR and RTS.)
+#[tactic(auto, using(crate::proofs::CallsBack::calls_back))]
+pub fn calls_return()
+    ensures { (register : Register) (operand : Operand) (m : Machine) → CallsReturn register operand m }
 {}
