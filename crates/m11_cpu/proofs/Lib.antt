@@ -15,4 +15,5 @@ pub mod SixDigits
 pub mod StepsDone
 pub mod StopsStand
 pub mod TapePut
+pub mod TrapsBack
 pub mod WordsAsBytes

@@ -1,13 +1,15 @@
 //! Laws of steps and runs.
 
 ghost use Rattle.std.specs.Prelude.{◌≡◌, List, ℕ, Some};
+ghost use Rattle.m11_base.specs.declared.instruction.Insn.{Insn};
 ghost use Rattle.m11_base.specs.declared.operand.Operand.{Operand};
 ghost use Rattle.m11_base.specs.declared.operand.Register.{Register};
 ghost use Rattle.m11_cpu.specs.Dialogue.{Comes, Devices, Exchange, Happened, Leads};
 ghost use Rattle.m11_cpu.specs.Laws.{AreJoined, GainedJust, GaveJust, Stands, given, taken};
-ghost use Rattle.m11_cpu.specs.Returns.{CallsReturn};
+ghost use Rattle.m11_cpu.specs.Returns.{CallsReturn, HasRoom, IsRunning, TrapInstructionsReturn, TrapReturns};
 ghost use Rattle.m11_cpu.specs.Steps.{step};
 ghost use Rattle.m11_cpu.specs.Stops.{stop_of};
+ghost use Rattle.m11_cpu.specs.declared.abort.Vector.{Vector};
 ghost use Rattle.m11_cpu.specs.declared.machine.Machine.{Machine};
 ghost use Rattle.m11_cpu.specs.declared.stop.LastingStop.{LastingStop};
 ghost use Rattle.m11_cpu.specs.declared.stop.Turn.{Turn};
@@ -49,4 +51,15 @@ pub fn runs_are_joined()
 #[tactic(auto, using(crate::proofs::CallsBack::calls_back))]
 pub fn calls_return()
     ensures { (register : Register) (operand : Operand) (m : Machine) → CallsReturn register operand m }
+{}
+
+/// A trap comes back: where both its pushes go to memory and RTI stands behind them at the vector's program counter,
+/// the trap and one more step ask and send nothing, and leave the program counter, the processor status and the stack
+/// pointer as they were. For BPT, IOT, EMT, TRAP and a reserved code the program counter is then behind that
+/// instruction. T was clear before the trap; of T in the vector's status nothing is asked, since T decides as it is
+/// behind RTI. (PDP-11/40 Processor Handbook, "Processor traps", RTI.)
+#[tactic(auto, using(crate::proofs::TrapsBack::trap_back, crate::proofs::TrapsBack::trap_instructions_back))]
+pub fn traps_return()
+    ensures traps { (vector : Vector) (m : Machine) → IsRunning m → HasRoom m → TrapReturns vector m }
+    ensures instructions { (code : Insn) (vector : Vector) (m : Machine) → TrapInstructionsReturn code vector m }
 {}
