@@ -1,14 +1,14 @@
 -- Acts that come to their value with no exchange, since what they read and write lies in memory.
-use Rattle.std.proofs.Common.{◌≡◌, ℕ, ◌+◌, ◌%◌, ◌<◌, ◌==◌, Bool, true, false, cond, List, [], ◌++◌, length, Option, None, Result, Ok, Err, refl, sym, ◌∙◌, ap, subst, append-nil, arith, lt-ltb}
+use Rattle.std.proofs.Common.{◌≡◌, ℕ, ◌%◌, ◌<◌, ◌==◌, Bool, true, false, cond, List, [], length, Option, None, Result, Ok, refl, sym, ◌∙◌, ap, subst, append-nil, arith, lt-ltb}
 use Rattle.m11_base.specs.Instructions.{instruction_of}
 use Rattle.m11_base.specs.declared.instruction.Insn.{Insn}
 use Rattle.m11_base.specs.declared.operand.Register.TheVariants.{Sp, Pc}
 use Rattle.m11_cpu.specs.Access.{is_inside, is_odd, load_word, store_word}
 use Rattle.m11_cpu.specs.Acts.{Act, unless_aborted, ◌>>=◌}
 use Rattle.m11_cpu.specs.Dialogue.{after, Comes, Dialogue, Exchange, Leads}
-use Rattle.m11_cpu.specs.Execution.{execute, then_next}
+use Rattle.m11_cpu.specs.Execution.{execute}
 use Rattle.m11_cpu.specs.Jumps.{pop, push}
-use Rattle.m11_cpu.specs.Machine.{advanced, register_of, with_register}
+use Rattle.m11_cpu.specs.Machine.{advanced, register_of}
 use Rattle.m11_cpu.specs.Memory.{with_word, word_at}
 use Rattle.m11_cpu.specs.Places.{next_word}
 use Rattle.m11_cpu.specs.Returns.{IsAt, IsWordInside}
@@ -21,7 +21,6 @@ use Rattle.m11_cpu.specs.declared.execution.Ending.{Ending}
 use Rattle.m11_cpu.specs.declared.execution.Ending.TheVariants as ending
 use Rattle.m11_cpu.specs.declared.machine.Machine.{Machine}
 use Rattle.m11_cpu.specs.declared.stop.LastingStop.{LastingStop}
-use Rattle.m11_cpu.specs.declared.stop.Turn.{Turn}
 use Rattle.m11_cpu.specs.declared.stop.Turn.TheVariants.{Next}
 use Rattle.m11_cpu.proofs.Dialogues.{leads_after}
 

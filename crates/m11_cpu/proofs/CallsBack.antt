@@ -1,5 +1,5 @@
 -- A call comes back behind itself.
-use Rattle.std.proofs.Common.{◌≡◌, ◌≢◌, ℕ, ◌+◌, ◌*◌, ◌/◌, ◌%◌, ◌<◌, ◌==◌, Bool, true, false, ◌&&◌, List, [], length, Option, None, Result, Ok, Err, refl, sym, ◌∙◌, ap, subst, arith, eq-eqb, true≢false}
+use Rattle.std.proofs.Common.{◌≡◌, ◌≢◌, ℕ, ◌+◌, ◌%◌, ◌<◌, ◌==◌, Bool, true, false, ◌&&◌, List, length, None, Result, Ok, Err, refl, sym, ◌∙◌, ap, subst, arith, eq-eqb, true≢false}
 use Rattle.std.specs.Prelude.{⊤}
 use Rattle.m11_base.specs.Operands.{register_number}
 use Rattle.m11_base.specs.declared.instruction.Insn.TheVariants as insn
@@ -8,23 +8,20 @@ use Rattle.m11_base.specs.declared.operand.Mode.{Mode}
 use Rattle.m11_base.specs.declared.operand.Mode.TheVariants as mode
 use Rattle.m11_base.specs.declared.operand.Operand.{Operand}
 use Rattle.m11_base.specs.declared.operand.Register.{Register}
-use Rattle.m11_base.specs.declared.operand.Register.TheVariants.{R0, R1, R2, R3, R4, R5, Sp, Pc}
-use Rattle.m11_base.specs.declared.operand.Size.{Size}
+use Rattle.m11_base.specs.declared.operand.Register.TheVariants.{Sp, Pc}
 use Rattle.m11_base.specs.declared.operand.Size.TheVariants.{Word}
 use Rattle.m11_cpu.specs.Access.{load_word}
-use Rattle.m11_cpu.specs.Acts.{◌>>=◌}
-use Rattle.m11_cpu.specs.Dialogue.{after, Comes, Dialogue, Exchange, Leads}
-use Rattle.m11_cpu.specs.Execution.{execute, on_register, then_next}
+use Rattle.m11_cpu.specs.Dialogue.{Comes, Dialogue, Exchange, Leads}
+use Rattle.m11_cpu.specs.Execution.{execute, on_register}
 use Rattle.m11_cpu.specs.Jumps.{address_of, call, enter, pop, push, return_by, target}
 use Rattle.m11_cpu.specs.Machine.{advanced, register_of, with_register}
-use Rattle.m11_cpu.specs.Memory.{word_at, with_word}
+use Rattle.m11_cpu.specs.Memory.{word_at}
 use Rattle.m11_cpu.specs.Places.{deferred, indexed, next_word, place_by, place_of}
-use Rattle.m11_cpu.specs.Returns.{call_length, CallIsOver, CallReturns, CallsReturn, is_stepping, IsAt, IsCall, IsRunning, IsWordInside, length_by, over_back, over_forward, steps}
+use Rattle.m11_cpu.specs.Returns.{call_length, CallReturns, CallsReturn, IsAt, IsCall, IsRunning, IsWordInside, length_by, over_back, over_forward}
 use Rattle.m11_cpu.specs.Steps.{step, turned}
-use Rattle.m11_cpu.specs.Writes.{push_address, stack_deepened}
+use Rattle.m11_cpu.specs.Writes.{push_address}
 use Rattle.m11_cpu.specs.declared.abort.Abort.{Abort}
 use Rattle.m11_cpu.specs.declared.console.Receiver.{Receiver}
-use Rattle.m11_cpu.specs.declared.execution.Ending.{Ending}
 use Rattle.m11_cpu.specs.declared.execution.Ending.TheVariants as ending
 use Rattle.m11_cpu.specs.declared.machine.Machine.{Machine}
 use Rattle.m11_cpu.specs.declared.operands.Place.{Place}

@@ -5,7 +5,9 @@ pub mod CallsBack
 pub mod ConsoleExact
 pub mod DataPut
 pub mod Dialogues
+pub mod Following
 pub mod Loads
+pub mod MemoryKept
 pub mod Parts
 pub mod RegistersPut
 pub mod RunsDone
@@ -17,3 +19,4 @@ pub mod StopsStand
 pub mod TapePut
 pub mod TrapsBack
 pub mod WordsAsBytes
+pub mod WritesInside

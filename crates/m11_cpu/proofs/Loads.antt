@@ -1,6 +1,6 @@
 -- What the forming of an address leaves as it was: it asks the console, and steps the program counter and the registers
 -- of operands.
-use Rattle.std.proofs.Common.{◌≡◌, ℕ, Bool, true, refl, Option, Some, None, Ok, Err}
+use Rattle.std.proofs.Common.{◌≡◌, ℕ, true, refl, Option, Some, None}
 use Rattle.m11_base.specs.declared.operand.Mode.{Mode}
 use Rattle.m11_base.specs.declared.operand.Mode.TheVariants as mode
 use Rattle.m11_base.specs.declared.operand.Operand.{Operand}
@@ -11,7 +11,7 @@ use Rattle.m11_cpu.specs.Access.{is_inside, is_odd, load_byte, load_device, load
 use Rattle.m11_cpu.specs.Acts.{value, ◌>>=◌}
 use Rattle.m11_cpu.specs.Console.{device_at, is_waiting}
 use Rattle.m11_cpu.specs.Dialogue.{Reply, Gives, Ends, Fails}
-use Rattle.m11_cpu.specs.Jumps.{address_of, target}
+use Rattle.m11_cpu.specs.Jumps.{address_of}
 use Rattle.m11_cpu.specs.Machine.{register_of, with_register}
 use Rattle.m11_cpu.specs.Places.{deferred, indexed, next_word, place_by, place_of}
 use Rattle.m11_cpu.specs.Returns.{is_stepping}
@@ -21,7 +21,7 @@ use Rattle.m11_cpu.specs.declared.console.Receiver.{Receiver}
 use Rattle.m11_cpu.specs.declared.machine.Machine.{Machine}
 use Rattle.m11_cpu.specs.declared.operands.Place.{Place}
 use Rattle.m11_cpu.specs.declared.operands.Place.TheVariants.{InRegister, InMemory}
-use Rattle.m11_cpu.proofs.Parts.{Always, at_asks, at_comes, at_cond, Keeps, keeps_bind}
+use Rattle.m11_cpu.proofs.Parts.{at_asks, at_comes, at_cond, Keeps, keeps_bind}
 
 -- what the receiver may change without
 module _ (I : Machine → Type 0) (receives : (n : Machine) (r : Receiver) → I n → I (record n { receiver = r })) where

@@ -1,10 +1,9 @@
 -- What is common to every way through a dialogue, part by part.
-use Rattle.std.proofs.Common.{◌≡◌, Bool, true, false, cond, List, [], ◌∷◌, ◌++◌, refl, sym, ◌∙◌, subst, ap, append_assoc, append-nil, Result, Ok, Err, ℕ}
+use Rattle.std.proofs.Common.{Bool, true, false, cond, List, [], ◌∷◌, refl, sym, subst, ap, Result, Ok, Err, ℕ}
 use Rattle.m11_cpu.specs.declared.abort.Abort.{Abort}
 use Rattle.m11_cpu.specs.declared.machine.Machine.{Machine}
 use Rattle.m11_cpu.specs.Acts.{Act, unless_aborted, ◌>>=◌}
 use Rattle.m11_cpu.specs.Dialogue.{after, Asked, Asks, Comes, Dialogue, Exchange, Leads, Reply, Sends, Sent}
-use Rattle.m11_cpu.proofs.Dialogues.{leads_after}
 use Rattle.m11_cpu.proofs.StopsStand.{at_once}
 use Rattle.m11_cpu.specs.Exchanges.{ComesWithin}
 

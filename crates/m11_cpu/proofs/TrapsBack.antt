@@ -1,11 +1,9 @@
 -- A trap comes back where it came from.
-use Rattle.std.proofs.Common.{◌≡◌, ◌≢◌, ℕ, zero, suc, ◌+◌, ◌*◌, ◌/◌, ◌%◌, ◌<◌, ◌≤◌, ◌==◌, Bool, true, false, List, length, Option, Some, None, Result, Ok, Err, refl, sym, ◌∙◌, ap, subst, arith}
-use Rattle.m11_base.specs.declared.instruction.BareOp.{BareOp}
-use Rattle.m11_base.specs.declared.instruction.BareOp.TheVariants.{Halt, Wait, Rti, Bpt, Iot, Reset, Rtt}
+use Rattle.std.proofs.Common.{◌≡◌, ◌≢◌, ℕ, zero, suc, ◌+◌, ◌/◌, ◌%◌, ◌<◌, ◌≤◌, ◌==◌, Bool, true, false, length, Some, None, Result, Ok, Err, refl, sym, ◌∙◌, ap, subst, arith}
+use Rattle.m11_base.specs.declared.instruction.BareOp.TheVariants.{Rti, Bpt, Iot}
 use Rattle.m11_base.specs.declared.instruction.Insn.{Insn}
 use Rattle.m11_base.specs.declared.instruction.Insn.TheVariants as insn
-use Rattle.m11_base.specs.declared.instruction.NumberOp.{NumberOp}
-use Rattle.m11_base.specs.declared.instruction.NumberOp.TheVariants.{Mark, Emt, Trap}
+use Rattle.m11_base.specs.declared.instruction.NumberOp.TheVariants.{Emt, Trap}
 use Rattle.m11_base.specs.Operands.{register_number}
 use Rattle.m11_base.specs.declared.operand.Register.{Register}
 use Rattle.m11_base.specs.declared.operand.Register.TheVariants.{Sp, Pc}
@@ -13,9 +11,9 @@ use Rattle.m11_cpu.specs.Acts.{◌>>=◌}
 use Rattle.m11_cpu.specs.Dialogue.{after, Comes, Dialogue}
 use Rattle.m11_cpu.specs.Execution.{bare, execute, numbered, return_from_trap}
 use Rattle.m11_cpu.specs.Jumps.{pop, push}
-use Rattle.m11_cpu.specs.Machine.{advanced, psw_in, register_of, with_register}
-use Rattle.m11_cpu.specs.Memory.{with_word, word_at}
-use Rattle.m11_cpu.specs.Returns.{HasRoom, IsAt, IsRunning, IsWordInside, TrapInstructionReturns, TrapInstructionsReturn, TrapIsOver, TrapReturns, vector_of}
+use Rattle.m11_cpu.specs.Machine.{advanced, register_of, with_register}
+use Rattle.m11_cpu.specs.Memory.{word_at}
+use Rattle.m11_cpu.specs.Returns.{HasRoom, IsAt, IsRunning, IsWordInside, TrapInstructionsReturn, TrapIsOver, TrapReturns, vector_of}
 use Rattle.m11_cpu.specs.Status.{bit, psw_of, status_of}
 use Rattle.m11_cpu.specs.Steps.{step, turned}
 use Rattle.m11_cpu.specs.Traps.{push_state, trap, trap_pushed, vectored}
@@ -25,10 +23,8 @@ use Rattle.m11_cpu.specs.declared.abort.Abort.TheVariants.{Traps}
 use Rattle.m11_cpu.specs.declared.abort.Vector.{Vector}
 use Rattle.m11_cpu.specs.declared.abort.Vector.TheVariants as vector
 use Rattle.m11_cpu.specs.declared.execution.Ending.{Ending}
-use Rattle.m11_cpu.specs.declared.execution.Ending.TheVariants as ending
 use Rattle.m11_cpu.specs.declared.machine.Machine.{Machine}
 use Rattle.m11_cpu.specs.declared.status.ProcessorStatus.{ProcessorStatus}
-use Rattle.m11_cpu.specs.declared.stop.Turn.{Turn}
 use Rattle.m11_cpu.specs.declared.stop.Turn.TheVariants.{Next}
 use Rattle.m11_cpu.proofs.AtOnce.{bind_at, pop_inside, push_inside, pushed, step_at, step_by}
 use Rattle.m11_cpu.proofs.RegistersPut.{length_put, put_length, put_other, put_same, word_put, word_put_other}

@@ -26,7 +26,9 @@ mod stop;
 mod traps;
 
 pub use fault::{LoadFault, SimFault};
-pub use laws::{calls_return, console_is_exact, runs_are_joined, stops_stand, traps_return};
+pub use laws::{
+    calls_return, console_is_exact, memory_stays, runs_are_joined, stops_stand, traps_return,
+};
 pub use machine::Machine;
 pub use simulation::sim_run;
 pub use status::ProcessorStatus;
