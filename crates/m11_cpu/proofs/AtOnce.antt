@@ -99,7 +99,8 @@ pub step_at : (code : Insn) (m : Machine) → m.stopped ≡ None → IsAt code m
 unfolding step
 step_at code m e i =
     ap (λ (s : Option LastingStop). step_unless s m) e
-    ∙ ap (λ (d : Dialogue (Result Ending Abort × Machine)). after d (λ came. turned came.0 came.1)) (instruction_at code m i)
+    ∙ ap (λ (d : Dialogue (Result Ending Abort × Machine)). after d (λ came. turned came.0 came.1))
+    (instruction_at code m i)
 
 pub turned_next : (m : Machine) → m.status.trace ≡ false → turned (Ok ending.Next) m ≡ Comes (Next, m)
 unfolding turned ended

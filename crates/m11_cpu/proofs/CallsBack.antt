@@ -59,7 +59,8 @@ return_steps register called count runs untraced linked is_at inside =
     let count_n : length n.registers ≡ 8 = put_length Pc _ called count in
     let count_o : length o.registers ≡ 8 = put_length Pc _ n count_n in
     let count_p : length p.registers ≡ 8 = put_length Sp _ o count_o in
-    let same_stack : register_of Sp o ≡ register_of Sp called = put_other Sp Pc _ n apart ∙ put_other Sp Pc _ called apart in
+    let same_stack : register_of Sp o ≡ register_of Sp called = put_other Sp Pc _ n apart
+    ∙ put_other Sp Pc _ called apart in
     let P : ℕ → Type 0 = λ a. IsWordInside a o in
     let word = word_at o.memory (register_of Sp o) in
     let q = with_register register word p in
@@ -131,7 +132,8 @@ call_forms register operand m c =
     target_keeps (Formed register m) operand Word (advanced Pc 2 m)
     (place_keeps (Formed register m) (formed_receives register m)
     (λ n v f. formed_puts register Pc m n v not_counter apart f) operand Word (advanced Pc 2 m)
-    (λ s n v f. formed_puts register operand.register m n v (unstepped _ _ _ c.keeps_link s) (unstepped _ _ _ c.keeps_stack s) f)
+    (λ s n v f. formed_puts register operand.register m n v (unstepped _ _ _ c.keeps_link s)
+    (unstepped _ _ _ c.keeps_stack s) f)
     (formed_puts register Pc m m _ not_counter apart begun))
 
 -- where it leaves the program counter
@@ -160,7 +162,8 @@ behind p = (p + 2) % 0o200000
 stepped_on : (register : Register) (p : ℕ) (n : Machine) → CounterAt (behind p) n
     → CounterAt ((p + over_forward register) % 0o200000) (advanced register 2 n)
 stepped_on Pc p n c = record {
-  counter = let e = put_same Pc ((register_of Pc n + 2) % 0o200000) n c.count in let f = c.counter in omega (arith, e, f);
+  counter = let e = put_same Pc ((register_of Pc n + 2) % 0o200000) n c.count in let f = c.counter in omega
+      (arith, e, f);
   count = put_length Pc _ n c.count;
 }
 stepped_on register p n c = record {
@@ -169,9 +172,11 @@ stepped_on register p n c = record {
 }
 
 stepped_off : (register : Register) (p : ℕ) (n : Machine) → p < 0o200000 → CounterAt (behind p) n
-    → CounterAt ((p + over_back register) % 0o200000) (with_register register ((register_of register n + 0o177776) % 0o200000) n)
+    → CounterAt ((p + over_back register) % 0o200000)
+    (with_register register ((register_of register n + 0o177776) % 0o200000) n)
 stepped_off Pc p n fits c = record {
-  counter = let e = put_same Pc ((register_of Pc n + 0o177776) % 0o200000) n c.count in let f = c.counter in omega (arith, e, f);
+  counter = let e = put_same Pc ((register_of Pc n + 0o177776) % 0o200000) n c.count in let f = c.counter in omega
+      (arith, e, f);
   count = put_length Pc _ n c.count;
 }
 stepped_off register p n fits c = record {
@@ -236,7 +241,8 @@ abbrev entered : Register → ℕ → Machine → Machine
 entered register address n = with_register Pc address (with_register register (register_of Pc n) n)
 
 enters : (register : Register) (address : ℕ) (formed : Machine) → IsWordInside (push_address formed) formed
-    → enter register address formed ≡ Comes (Ok tt, entered register address (pushed (register_of register formed) formed))
+    → enter register address formed ≡ Comes
+    (Ok tt, entered register address (pushed (register_of register formed) formed))
 unfolding enter
 enters register address formed inside =
     bind_at (push (register_of register formed)) _ formed _ tt (push_inside (register_of register formed) formed inside)
@@ -244,7 +250,8 @@ enters register address formed inside =
 call_leads : (register : Register) (operand : Operand) (m formed called : Machine) (es : List Exchange) (address : ℕ)
     → m.stopped ≡ None → IsAt (insn.Register Jsr register operand) m
     → Leads (target operand (advanced Pc 2 m)) es (Ok address, formed)
-    → enter register address formed ≡ Comes (Ok tt, called) → called.status.trace ≡ false → Leads (step m) es (Next, called)
+    → enter register address formed ≡ Comes (Ok tt, called) → called.status.trace ≡ false
+    → Leads (step m) es (Next, called)
 unfolding execute on_register call
 call_leads register operand m formed called es address runs is_at h e untraced =
     let P : Dialogue (Turn × Machine) → Type 0 = λ d. Leads d es (Next, called) in
@@ -278,7 +285,8 @@ called_back register operand m formed es address c f k h =
     let Q : List ℕ → Type 0 = λ bytes. (push_address formed % 2 ≡ 0) × (push_address formed + 1 < length bytes) in
     let inside : IsWordInside (push_address formed) formed = subst Q (sym f.memory) (subst P (sym top) c.pushed) in
     let stack_at : register_of Sp called ≡ push_address formed =
-    put_other Sp Pc address q apart ∙ put_other Sp register _ p not_stack ∙ put_same Sp (push_address formed) formed f.count in
+    put_other Sp Pc address q apart ∙ put_other Sp register _ p not_stack ∙ put_same Sp
+    (push_address formed) formed f.count in
     let counter_is : register_of register called ≡ register_of Pc formed =
     put_other register Pc address q not_counter ∙ put_same register _ p count_p ∙ put_other Pc Sp _ formed apart' in
     let called_inside : IsWordInside (register_of Sp called) called = (

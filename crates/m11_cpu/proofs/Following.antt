@@ -1,10 +1,10 @@
 -- A dialogue that goes along with another one: by the same exchanges that one comes to its value at some point.
 use Rattle.std.proofs.Common.{◌≡◌, List, [], ◌++◌, refl, sym, ◌∙◌, ap, append_assoc, Result, Ok, Err}
-use Rattle.m11_cpu.specs.declared.abort.Abort.{Abort}
-use Rattle.m11_cpu.specs.declared.machine.Machine.{Machine}
 use Rattle.m11_cpu.specs.Acts.{Act, unless_aborted, ◌>>=◌}
 use Rattle.m11_cpu.specs.Dialogue.{after, Comes, Dialogue, Exchange, Leads}
 use Rattle.m11_cpu.specs.Exchanges.{ComesWithin}
+use Rattle.m11_cpu.specs.declared.abort.Abort.{Abort}
+use Rattle.m11_cpu.specs.declared.machine.Machine.{Machine}
 use Rattle.m11_cpu.proofs.Dialogues.{leads_after}
 use Rattle.m11_cpu.proofs.Parts.{Always, at_comes, Keeps, parts}
 
@@ -20,7 +20,8 @@ at_start : {B : Type 0} (z : B) (es : List Exchange) → ComesWithin (Comes z) e
 unfolding Leads
 at_start z es = record { first = []; rest = es; joined = refl; leads = refl }
 
-pub follows_now : {A B : Type 0} {d : Dialogue A} {z : B} {R : B → A → Type 0} → Always d (λ y. R z y) → Follows d (Comes z) R
+pub follows_now : {A B : Type 0} {d : Dialogue A} {z : B} {R : B → A → Type 0} → Always d (λ y. R z y)
+    → Follows d (Comes z) R
 follows_now {z = z} a = record { found = λ es y h. record { value = z; within = at_start z es; holds = a.each es y h } }
 
 within_after : {A B : Type 0} (d : Dialogue A) (next : A → Dialogue B) (es : List Exchange) (x : A) (z : B)
@@ -32,7 +33,8 @@ within_after d next es x z w v = record {
   leads = leads_after d w.first v.first x next z w.leads v.leads;
 }
 
-pub within_more : {B : Type 0} (p : Dialogue B) (es fs gs : List Exchange) (z : B) → es ≡ fs ++ gs → ComesWithin p fs z
+pub within_more : {B : Type 0} (p : Dialogue B) (es fs gs : List Exchange) (z : B) → es ≡ fs ++ gs
+    → ComesWithin p fs z
     → ComesWithin p es z
 within_more p es fs gs z e w = record {
   first = w.first;
@@ -67,7 +69,8 @@ bound_follows next next' I R err ok (Err e) n i = follows_now (at_comes (err e n
 pub follows_bind : {A B C : Type 0} (act : Act A) (next : A → Act B) (next' : A → Act C) (m : Machine)
     (I : Machine → Type 0) (R : Result C Abort × Machine → Result B Abort × Machine → Type 0) → Keeps I (act m)
     → ((e : Abort) (n : Machine) → I n → R (Err e, n) (Err e, n))
-    → ((x : A) (n : Machine) → I n → Follows (next x n) (next' x n) R) → Follows ((act >>= next) m) ((act >>= next') m) R
+    → ((x : A) (n : Machine) → I n → Follows (next x n) (next' x n) R)
+    → Follows ((act >>= next) m) ((act >>= next') m) R
 unfolding ◌>>=◌
 follows_bind act next next' m I R a err ok =
     follows_after (act m) (λ came. unless_aborted next came.0 came.1) (λ came. unless_aborted next' came.0 came.1)

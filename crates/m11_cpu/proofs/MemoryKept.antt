@@ -1,7 +1,7 @@
 -- Which bytes a write of memory leaves, and which acts write none.
 use Rattle.std.proofs.Common.{◌≡◌, ℕ, ◌+◌, ◌*◌, ◌/◌, ◌%◌, ◌==◌, Bool, true, false, cond, List, [], ◌∷◌, ◌++◌, length, ◌∙◌, ap}
-use Rattle.std.specs.Prelude.{ℤ}
 use Rattle.std.proofs.lemmas.List.{get_or-set_other, length-set}
+use Rattle.std.specs.Prelude.{ℤ}
 use Rattle.m11_base.specs.declared.instruction.BareOp.{BareOp}
 use Rattle.m11_base.specs.declared.instruction.BareOp.TheVariants.{Halt, Wait, Rti, Bpt, Iot, Reset, Rtt}
 use Rattle.m11_base.specs.declared.instruction.BranchOp.{BranchOp}
@@ -13,9 +13,9 @@ use Rattle.m11_base.specs.declared.operand.Operand.{Operand}
 use Rattle.m11_base.specs.declared.operand.Register.{Register}
 use Rattle.m11_base.specs.declared.operand.Register.TheVariants.{R5, Sp, Pc}
 use Rattle.m11_base.specs.declared.operand.Size.{Size}
-use Rattle.m11_base.specs.declared.operand.Size.TheVariants.{Word, Byte}
-use Rattle.m11_arithmetic.specs.Extended.{division_of}
+use Rattle.m11_base.specs.declared.operand.Size.TheVariants.{Word}
 use Rattle.m11_arithmetic.specs.Branches.{is_taken}
+use Rattle.m11_arithmetic.specs.Extended.{division_of}
 use Rattle.m11_arithmetic.specs.declared.results.Division.{Division}
 use Rattle.m11_arithmetic.specs.declared.results.Division.TheVariants.{Done, Refused}
 use Rattle.m11_cpu.specs.DoubleOperands.{compare}
@@ -24,13 +24,12 @@ use Rattle.m11_cpu.specs.Extended.{after_division, extended, extended_by, low_wo
 use Rattle.m11_cpu.specs.Jumps.{branched, counted_down, jump, mark, pop, return_by, target, words_on}
 use Rattle.m11_cpu.specs.Machine.{register_of, with_register}
 use Rattle.m11_cpu.specs.Memory.{byte_at, with_byte, with_word}
-use Rattle.m11_cpu.specs.Places.{back, fetch, fetch_operand, forward, next_word, place_of}
+use Rattle.m11_cpu.specs.Places.{back, fetch, fetch_operand, next_word, place_of}
 use Rattle.m11_cpu.specs.SingleOperands.{test}
 use Rattle.m11_cpu.specs.Writes.{IsNoneOf, word_bytes}
 use Rattle.m11_cpu.specs.declared.machine.Machine.{Machine}
 use Rattle.m11_cpu.specs.declared.operands.Place.{Place}
-use Rattle.m11_cpu.specs.declared.operands.Place.TheVariants.{InRegister, InMemory}
-use Rattle.m11_cpu.proofs.Loads.{byte_keeps, next_word_keeps, place_keeps, target_keeps, word_keeps}
+use Rattle.m11_cpu.proofs.Loads.{code_keeps, fetch_keeps, jump_target_keeps, operand_keeps, pop_keeps, source_keeps}
 use Rattle.m11_cpu.proofs.Parts.{at_comes, Keeps, keeps_bind}
 
 -- ---- memory
@@ -45,14 +44,16 @@ kept_same written old new e = record {
   bytes = λ address outside. ap (λ (bytes : List ℕ). byte_at bytes address) e;
 }
 
-pub kept_byte : (address v : ℕ) (old memory : List ℕ) → memory ≡ old → Kept (address ∷ []) old (with_byte address v memory)
+pub kept_byte : (address v : ℕ) (old memory : List ℕ) → memory ≡ old
+    → Kept (address ∷ []) old (with_byte address v memory)
 kept_byte address v old memory e = record {
   size = length-set memory address v ∙ ap length e;
   bytes = λ other outside.
       get_or-set_other memory address other v 0 outside.0 ∙ ap (λ (bytes : List ℕ). byte_at bytes other) e;
 }
 
-pub kept_word : (address v : ℕ) (old memory : List ℕ) → memory ≡ old → Kept (word_bytes address) old (with_word address v memory)
+pub kept_word : (address v : ℕ) (old memory : List ℕ) → memory ≡ old
+    → Kept (word_bytes address) old (with_word address v memory)
 kept_word address v old memory e = record {
   size = length-set (with_byte address (v % 256) memory) (address + 1) (v / 256) ∙ length-set memory address (v % 256)
       ∙ ap length e;
@@ -75,7 +76,8 @@ pub kept_more : (some others first second third : List ℕ) → Kept some first 
 kept_more some others first second third k l = record {
   size = l.size ∙ k.size;
   bytes = λ address outside.
-      l.bytes address (none_right address some others outside) ∙ k.bytes address (none_left address some others outside);
+      l.bytes address (none_right address some others outside) ∙ k.bytes address
+      (none_left address some others outside);
 }
 
 -- ---- acts that write no memory
@@ -84,32 +86,26 @@ abbrev pub Same : List ℕ → Machine → Type 0
 Same memory n = n.memory ≡ memory
 
 module _ (memory : List ℕ) where
-  pub word_quiet : (m : Machine) → Same memory m → Keeps (Same memory) (next_word m)
-  word_quiet m e = next_word_keeps (Same memory) (λ n r i. i) (λ n v i. i) m e
+  pub code_quiet : (m : Machine) → Same memory m → Keeps (Same memory) (next_word m)
+  code_quiet m e = code_keeps (Same memory) (λ n r i. i) (λ r n v i. i) m e
 
-  pub place_quiet : (operand : Operand) (size : Size) (m : Machine) → Same memory m → Keeps (Same memory) (place_of operand size m)
-  place_quiet operand size m e = place_keeps (Same memory) (λ n r i. i) (λ n v i. i) operand size m (λ s n v i. i) e
+  pub place_quiet : (operand : Operand) (size : Size) (m : Machine) → Same memory m
+      → Keeps (Same memory) (place_of operand size m)
+  place_quiet operand size m e = operand_keeps (Same memory) (λ n r i. i) (λ r n v i. i) operand size m e
 
   pub target_quiet : (operand : Operand) (m : Machine) → Same memory m → Keeps (Same memory) (target operand m)
-  unfolding target
-  target_quiet operand m e = target_keeps (Same memory) operand Word m (place_quiet operand Word m e)
+  target_quiet operand m e = jump_target_keeps (Same memory) (λ n r i. i) (λ r n v i. i) operand m e
 
-  pub fetch_quiet : (place : Place) (size : Size) (m : Machine) → Same memory m → Keeps (Same memory) (fetch place size m)
-  unfolding fetch
-  fetch_quiet (InRegister register) Word m e = at_comes e
-  fetch_quiet (InRegister register) Byte m e = at_comes e
-  fetch_quiet (InMemory address) Word m e = word_keeps (Same memory) (λ n r i. i) address m e
-  fetch_quiet (InMemory address) Byte m e = byte_keeps (Same memory) (λ n r i. i) address m e
+  pub fetch_quiet : (place : Place) (size : Size) (m : Machine) → Same memory m
+      → Keeps (Same memory) (fetch place size m)
+  fetch_quiet place size m e = fetch_keeps (Same memory) (λ n r i. i) (λ r n v i. i) place size m e
 
   pub source_quiet : (operand : Operand) (size : Size) (m : Machine) → Same memory m
       → Keeps (Same memory) (fetch_operand operand size m)
-  unfolding fetch_operand
-  source_quiet operand size m e =
-      keeps_bind (Same memory) (place_of operand size) _ m (place_quiet operand size m e) (λ place n i. fetch_quiet place size n i)
+  source_quiet operand size m e = source_keeps (Same memory) (λ n r i. i) (λ r n v i. i) operand size m e
 
   pop_quiet : (m : Machine) → Same memory m → Keeps (Same memory) (pop m)
-  unfolding pop
-  pop_quiet m e = word_keeps (Same memory) (λ n r i. i) (forward Sp 2 m).0 (forward Sp 2 m).1 e
+  pop_quiet m e = pop_keeps (Same memory) (λ n r i. i) (λ r n v i. i) m e
 
   pub compare_quiet : (operation : DoubleOp) (place : Place) (size : Size) (source : ℕ) (m : Machine) → Same memory m
       → Keeps (Same memory) (compare operation place size source m)
@@ -121,7 +117,8 @@ module _ (memory : List ℕ) where
       → Keeps (Same memory) (test operation size operand m)
   unfolding test
   test_quiet operation size operand m e =
-      keeps_bind (Same memory) (fetch_operand operand size) _ m (source_quiet operand size m e) (λ value n i. at_comes i)
+      keeps_bind (Same memory) (fetch_operand operand size) _ m (source_quiet operand size m e)
+      (λ value n i. at_comes i)
 
   division_quiet : (register : Register) (division : Division) (m : Machine) → Same memory m
       → Same memory (after_division register division m)
@@ -165,7 +162,8 @@ module _ (memory : List ℕ) where
   unfolding return_from_trap
   from_trap_quiet m e =
       keeps_bind (Same memory) pop _ m (pop_quiet m e)
-      (λ address n i. keeps_bind (Same memory) pop _ (with_register Pc address n) (pop_quiet (with_register Pc address n) i)
+      (λ address n i. keeps_bind (Same memory) pop _ (with_register Pc address n)
+      (pop_quiet (with_register Pc address n) i)
       (λ bits o j. at_comes j))
 
   pub bare_quiet : (operation : BareOp) (m : Machine) → Same memory m → Keeps (Same memory) (bare operation m)
@@ -183,10 +181,12 @@ module _ (memory : List ℕ) where
   either_same true a b e f = e
   either_same false a b e f = f
 
-  pub branched_same : (operation : BranchOp) (words : ℤ) (m : Machine) → Same memory m → Same memory (branched operation words m)
+  pub branched_same : (operation : BranchOp) (words : ℤ) (m : Machine) → Same memory m
+      → Same memory (branched operation words m)
   branched_same operation words m e =
       either_same (is_taken operation m.status.codes) (with_register Pc (words_on (register_of Pc m) words) m) m e e
 
-  pub counted_same : (register : Register) (words : ℕ) (m : Machine) → Same memory m → Same memory (counted_down register words m)
+  pub counted_same : (register : Register) (words : ℕ) (m : Machine) → Same memory m
+      → Same memory (counted_down register words m)
   counted_same register words m e =
       either_same ((back register 1 m).0 == 0) (back register 1 m).1 (back Pc (words * 2) (back register 1 m).1).1 e e

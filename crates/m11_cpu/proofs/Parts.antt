@@ -1,11 +1,11 @@
 -- What is common to every way through a dialogue, part by part.
 use Rattle.std.proofs.Common.{Bool, true, false, cond, List, [], ◌∷◌, refl, sym, subst, ap, Result, Ok, Err, ℕ}
-use Rattle.m11_cpu.specs.declared.abort.Abort.{Abort}
-use Rattle.m11_cpu.specs.declared.machine.Machine.{Machine}
 use Rattle.m11_cpu.specs.Acts.{Act, unless_aborted, ◌>>=◌}
 use Rattle.m11_cpu.specs.Dialogue.{after, Asked, Asks, Comes, Dialogue, Exchange, Leads, Reply, Sends, Sent}
-use Rattle.m11_cpu.proofs.StopsStand.{at_once}
 use Rattle.m11_cpu.specs.Exchanges.{ComesWithin}
+use Rattle.m11_cpu.specs.declared.abort.Abort.{Abort}
+use Rattle.m11_cpu.specs.declared.machine.Machine.{Machine}
+use Rattle.m11_cpu.proofs.StopsStand.{at_once}
 
 -- ---- a dialogue and the one behind it
 
@@ -15,7 +15,8 @@ pub record Parts {A B : Type 0} (d : Dialogue A) (next : A → Dialogue B) (es :
   pub goes_on : Leads (next value) within.rest y
 
 with_first : {A B : Type 0} (d d' : Dialogue A) (next : A → Dialogue B) (e : Exchange) (es : List Exchange) (y : B)
-    → ((xs : List Exchange) (x : A) → Leads d' xs x → Leads d (e ∷ xs) x) → Parts d' next es y → Parts d next (e ∷ es) y
+    → ((xs : List Exchange) (x : A) → Leads d' xs x → Leads d (e ∷ xs) x) → Parts d' next es y
+    → Parts d next (e ∷ es) y
 with_first d d' next e es y lead p = record {
   value = p.value;
   within = record {
@@ -39,7 +40,8 @@ parts (Asks by) next (Sent byte was_taken ∷ es) y h = absurd h
 parts (Sends byte by) next [] y h = absurd h
 parts (Sends byte by) next (Asked reply ∷ es) y h = absurd h
 parts (Sends byte by) next (Sent sent was_taken ∷ es) y h =
-    with_first (Sends byte by) (by was_taken) next (Sent sent was_taken) es y (λ xs x l. (h.0, l)) (parts (by was_taken) next es y h.1)
+    with_first (Sends byte by) (by was_taken) next (Sent sent was_taken) es y (λ xs x l. (h.0, l))
+    (parts (by was_taken) next es y h.1)
 
 -- ---- what holds of each value that a dialogue comes to
 
@@ -67,7 +69,8 @@ sent_each byte by P k [] y h = absurd h
 sent_each byte by P k (Asked reply ∷ es) y h = absurd h
 sent_each byte by P k (Sent sent was_taken ∷ es) y h = (k was_taken).each es y h.1
 
-pub at_sends : {A : Type 0} {byte : ℕ} {by : Bool → Dialogue A} {P : A → Type 0} → ((taken : Bool) → Always (by taken) P)
+pub at_sends : {A : Type 0} {byte : ℕ} {by : Bool → Dialogue A} {P : A → Type 0}
+    → ((taken : Bool) → Always (by taken) P)
     → Always (Sends byte by) P
 at_sends {byte = byte} {by = by} {P = P} k = record { each = sent_each byte by P k }
 
@@ -87,7 +90,8 @@ at_after d next P Q a k = record {
       (k p.value (a.each p.within.first p.value p.within.leads)).each p.within.rest y p.goes_on;
 }
 
-bound : {A B : Type 0} (next : A → Act B) (P : Result A Abort × Machine → Type 0) (Q : Result B Abort × Machine → Type 0)
+bound : {A B : Type 0} (next : A → Act B) (P : Result A Abort × Machine → Type 0)
+    (Q : Result B Abort × Machine → Type 0)
     → ((e : Abort) (n : Machine) → P (Err e, n) → Q (Err e, n))
     → ((x : A) (n : Machine) → P (Ok x, n) → Always (next x n) Q)
     → (r : Result A Abort) (n : Machine) → P (r, n) → Always (unless_aborted next r n) Q
@@ -107,6 +111,7 @@ at_bind act next m P Q a err ok =
 abbrev pub Keeps : {A : Type 0} → (Machine → Type 0) → Dialogue (Result A Abort × Machine) → Type 0
 Keeps {A = A} I d = Always {A = Result A Abort × Machine} d (λ y. I y.1)
 
-pub keeps_bind : {A B : Type 0} (I : Machine → Type 0) (act : Act A) (next : A → Act B) (m : Machine) → Keeps I (act m)
+pub keeps_bind : {A B : Type 0} (I : Machine → Type 0) (act : Act A) (next : A → Act B) (m : Machine)
+    → Keeps I (act m)
     → ((x : A) (n : Machine) → I n → Keeps I (next x n)) → Keeps I ((act >>= next) m)
 keeps_bind I act next m a ok = at_bind act next m (λ y. I y.1) (λ y. I y.1) a (λ e n i. i) ok

@@ -39,7 +39,8 @@ word_put memory a v inside =
     let below : a < length memory = omega arith in
     let behind : a + 1 < length (slice_set memory a (v % 256)) = omega (arith, length-set memory a (v % 256)) in
     let low : byte_at (with_word a v memory) a ≡ v % 256 =
-    get_or-set_other (slice_set memory a (v % 256)) (a + 1) a (v / 256) 0 apart ∙ get_or-set_same memory a (v % 256) 0 below in
+    get_or-set_other (slice_set memory a (v % 256)) (a + 1) a (v / 256) 0 apart ∙ get_or-set_same memory a
+    (v % 256) 0 below in
     let high : byte_at (with_word a v memory) (a + 1) ≡ v / 256 =
     get_or-set_same (slice_set memory a (v % 256)) (a + 1) (v / 256) 0 behind in
     omega (arith, low, high)
@@ -47,7 +48,8 @@ word_put memory a v inside =
 pub byte_put_other : (memory : List ℕ) (a v other : ℕ) → other ≢ a → other ≢ a + 1
     → byte_at (with_word a v memory) other ≡ byte_at memory other
 byte_put_other memory a v other low high =
-    get_or-set_other (slice_set memory a (v % 256)) (a + 1) other (v / 256) 0 high ∙ get_or-set_other memory a other (v % 256) 0 low
+    get_or-set_other (slice_set memory a (v % 256)) (a + 1) other (v / 256) 0 high ∙ get_or-set_other memory a other
+    (v % 256) 0 low
 
 pub word_put_other : (memory : List ℕ) (a v other : ℕ) → a % 2 ≡ 0 → other % 2 ≡ 0 → other ≢ a
     → word_at (with_word a v memory) other ≡ word_at memory other

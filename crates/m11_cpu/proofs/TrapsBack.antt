@@ -1,10 +1,10 @@
 -- A trap comes back where it came from.
 use Rattle.std.proofs.Common.{◌≡◌, ◌≢◌, ℕ, zero, suc, ◌+◌, ◌/◌, ◌%◌, ◌<◌, ◌≤◌, ◌==◌, Bool, true, false, length, Some, None, Result, Ok, Err, refl, sym, ◌∙◌, ap, subst, arith}
+use Rattle.m11_base.specs.Operands.{register_number}
 use Rattle.m11_base.specs.declared.instruction.BareOp.TheVariants.{Rti, Bpt, Iot}
 use Rattle.m11_base.specs.declared.instruction.Insn.{Insn}
 use Rattle.m11_base.specs.declared.instruction.Insn.TheVariants as insn
 use Rattle.m11_base.specs.declared.instruction.NumberOp.TheVariants.{Emt, Trap}
-use Rattle.m11_base.specs.Operands.{register_number}
 use Rattle.m11_base.specs.declared.operand.Register.{Register}
 use Rattle.m11_base.specs.declared.operand.Register.TheVariants.{Sp, Pc}
 use Rattle.m11_cpu.specs.Acts.{◌>>=◌}
@@ -88,7 +88,8 @@ rti_steps : (trapped : Machine) (lower upper counter_word status_word : ℕ) →
     → word_at trapped.memory lower ≡ counter_word → word_at trapped.memory upper ≡ status_word
     → (status_of status_word).trace ≡ false → Restored trapped counter_word status_word
 unfolding execute bare return_from_trap
-rti_steps trapped lower upper counter_word status_word count runs is_at stack_is next_is inside inside' first second untraced =
+rti_steps trapped lower upper counter_word status_word count runs is_at stack_is next_is inside inside' first second
+    untraced =
     let apart : register_number Sp ≢ register_number Pc = λ e. omega arith in
     let apart' : register_number Pc ≢ register_number Sp = λ e. omega arith in
     let a = advanced Pc 2 trapped in
@@ -112,7 +113,8 @@ rti_steps trapped lower upper counter_word status_word count runs is_at stack_is
     ∙ bind_at pop _ c d word' (pop_inside c (subst P (sym stack_c) inside')) in
     record {
       returned = returned;
-      in_one_step = step_by (insn.Bare Rti) trapped returned runs is_at (bind_at return_from_trap _ a returned tt popped)
+      in_one_step = step_by (insn.Bare Rti) trapped returned runs is_at
+          (bind_at return_from_trap _ a returned tt popped)
           (ap (λ (k : ℕ). (status_of k).trace) word_is' ∙ untraced);
       counter = put_other Pc Sp _ c apart' ∙ put_same Pc word b count_b ∙ word_is;
       status = ap status_of word_is';
@@ -186,7 +188,8 @@ trap_back v m running room =
       traps = trap_comes v m room;
       comes_back = λ is_at. over m trapped counter lower upper fits
           (rti_steps trapped lower upper counter s (put_length Pc _ q count_q) running.not_stopped is_at stack_t next_is
-          lower_inside upper_inside first second (untraced_again m.status running.not_traced)) counter_is stack_t next_is refl;
+          lower_inside upper_inside first second
+          (untraced_again m.status running.not_traced)) counter_is stack_t next_is refl;
     }
 
 -- ---- the instructions that trap
@@ -204,7 +207,8 @@ trapping (insn.Reserved word) v n e = let f : vector.Reserved ≡ v = cc in ap (
 trapping other v n e = absurd (cc)
 
 words_stay : (register : Register) (m : Machine) → IsRunning m → register_of register (advanced Pc 2 m) < 0o200000
-words_stay Pc m running = let e = put_same Pc ((register_of Pc m + 2) % 0o200000) m running.registers in omega (arith, e)
+words_stay Pc m running = let e = put_same Pc ((register_of Pc m + 2) % 0o200000) m running.registers in omega
+    (arith, e)
 words_stay register m running =
     let e = put_other register Pc ((register_of Pc m + 2) % 0o200000) m (λ e. omega arith) in
     let f = running.words register in
@@ -239,7 +243,8 @@ trap_instructions_back code v m running is_at e room =
     record {
       trapped = b.trapped;
       in_one_step = step_at code m running.not_stopped is_at
-          ∙ ap (λ (d : Dialogue (Result Ending Abort × Machine)). after d (λ came. turned came.0 came.1)) (trapping code v n e)
+          ∙ ap (λ (d : Dialogue (Result Ending Abort × Machine)). after d (λ came. turned came.0 came.1))
+          (trapping code v n e)
           ∙ b.traps;
       comes_back = λ i.
           let o = b.comes_back i in

@@ -22,13 +22,13 @@ use Rattle.m11_cpu.specs.declared.abort.Vector.{Vector}
 use Rattle.m11_cpu.specs.declared.abort.Vector.TheVariants as vector
 use Rattle.m11_cpu.specs.declared.machine.Machine.{Machine}
 use Rattle.m11_cpu.specs.declared.stop.Turn.TheVariants.{Next}
-use Rattle.m11_cpu.specs.Writes.{push_address, stack_deepened}
+use Rattle.m11_cpu.specs.Writes.{MakesSteps, push_address, stack_deepened}
 
 -- ---- machines that run a program
 
 -- the machine makes steps, T is clear, and its eight registers hold words
 pub record IsRunning (m : Machine) : Type 0 where
-  pub not_stopped : m.stopped ≡ None
+  pub not_stopped : MakesSteps m
   pub not_traced : m.status.trace ≡ false
   pub registers : length m.registers ≡ 8
   pub words : (register : Register) → register_of register m < 0o200000
@@ -99,7 +99,8 @@ pub record CallIsOver (register : Register) (operand : Operand) (m called : Mach
   pub stack : register_of Sp returned ≡ register_of Sp m
 
 -- the call goes to the address, and comes back where RTS by that register stands there behind the push
-pub record CallReturns (register : Register) (operand : Operand) (m : Machine) (exchanges : List Exchange) (address : ℕ) : Type 0 where
+pub record CallReturns (register : Register) (operand : Operand) (m : Machine) (exchanges : List Exchange)
+    (address : ℕ) : Type 0 where
   pub called : Machine
   pub in_one_step : Leads (step m) exchanges (Next, called)
   pub counter : register_of Pc called ≡ address
@@ -107,8 +108,9 @@ pub record CallReturns (register : Register) (operand : Operand) (m : Machine) (
 
 -- the address is the one that the operand means once the code is read
 abbrev pub CallsReturn : Register → Operand → Machine → Type 0
-CallsReturn register operand m = (exchanges : List Exchange) (address : ℕ) (formed : Machine) → IsCall register operand m
-    → Leads (target operand (advanced Pc 2 m)) exchanges (Ok address, formed) → CallReturns register operand m exchanges address
+CallsReturn register operand m = (exchanges : List Exchange) (address : ℕ) (formed : Machine)
+    → IsCall register operand m → Leads (target operand (advanced Pc 2 m)) exchanges (Ok address, formed)
+    → CallReturns register operand m exchanges address
 
 -- ---- traps
 

@@ -1,6 +1,6 @@
 -- Which bytes of memory an instruction and its traps may write; each other byte stays. (PDP-11/40 Processor Handbook,
 -- "Instruction set": the operation of each instruction; "Processor traps".)
-use Rattle.std.specs.Prelude.{◌≡◌, ◌≢◌, ℕ, ◌+◌, ◌%◌, Bool, true, false, if◌then◌else◌, List, [], ◌∷◌, ◌++◌, ⊤, Result, Ok, Err}
+use Rattle.std.specs.Prelude.{◌≡◌, ◌≢◌, ℕ, ◌+◌, ◌%◌, Bool, true, false, if◌then◌else◌, List, [], ◌∷◌, ◌++◌, ⊤, None, Result, Ok, Err}
 use Rattle.m11_base.specs.Instructions.{instruction_of}
 use Rattle.m11_base.specs.declared.instruction.DoubleOp.{DoubleOp}
 use Rattle.m11_base.specs.declared.instruction.DoubleOp.TheVariants.{Mov, Cmp, Bit, Bic, Bis, Add, Sub}
@@ -39,6 +39,16 @@ IsNoneOf address (other ∷ others) = (address ≢ other) × IsNoneOf address ot
 pub record StaysBut (written : List ℕ) (old new : Machine) : Type 0 where
   pub size : memory_size new ≡ memory_size old
   pub bytes : (address : ℕ) → IsNoneOf address written → byte_in address new ≡ byte_in address old
+
+-- of the machine only registers and the console have changed
+pub record IsElseAsBefore (old new : Machine) : Type 0 where
+  pub memory : new.memory ≡ old.memory
+  pub status : new.status ≡ old.status
+  pub stopped : new.stopped ≡ old.stopped
+
+-- no stop stands
+abbrev pub MakesSteps : Machine → Type 0
+MakesSteps m = m.stopped ≡ None
 
 -- ---- addresses of bytes
 
@@ -107,12 +117,14 @@ no_bytes m = Comes (Ok [], m)
 -- status and the console at most
 abbrev pub destination_bytes : Insn → Act (List ℕ)
 destination_bytes (insn.Double operation size source destination) =
-    if stores_double operation then (fetch_operand source size >>= λ value. operand_bytes destination size) else no_bytes
+    if stores_double operation then (fetch_operand source size >>= λ value. operand_bytes destination size)
+    else no_bytes
 destination_bytes (insn.Extended operation register source) = no_bytes
 destination_bytes (insn.Register Jsr register operand) = target operand >>= λ address m. Comes (Ok (one_pushed m), m)
 destination_bytes (insn.Register Xor register operand) = operand_bytes operand Word
 destination_bytes (insn.Sob register words) = no_bytes
-destination_bytes (insn.Single operation size operand) = if stores_single operation then operand_bytes operand size else no_bytes
+destination_bytes (insn.Single operation size operand) =
+    if stores_single operation then operand_bytes operand size else no_bytes
 destination_bytes (insn.Rts register) = no_bytes
 destination_bytes (insn.Number operation number) = no_bytes
 destination_bytes (insn.Bare operation) = no_bytes
@@ -141,6 +153,11 @@ pushed_behind (Ok ending.Waits) m = []
 pushed_behind (Err (Traps vector)) m = two_pushed m
 pushed_behind (Err (Stops stop)) m = []
 
+-- before an abort only registers and the console have changed
+abbrev pub AbortLeaves : {A : Type 0} → Result A Abort → Machine → Machine → Type 0
+AbortLeaves (Ok done) m n = ⊤
+AbortLeaves (Err abort) m n = IsElseAsBefore m n
+
 -- a step writes at most the destination of its instruction, and then the words that its trap pushes
 pub record StepWrites (m : Machine) (exchanges : List Exchange) (m' : Machine) : Type 0 where
   pub destination : Result (List ℕ) Abort × Machine
@@ -148,5 +165,6 @@ pub record StepWrites (m : Machine) (exchanges : List Exchange) (m' : Machine) :
   pub is_destination : ComesWithin (written_bytes m) exchanges destination
   pub is_executed : ComesWithin (instruction m) exchanges executed
   pub by_instruction : StaysBut (written_by executed.0 destination.0) m executed.1
+  pub by_abort : AbortLeaves executed.0 m executed.1
   pub by_trap : StaysBut (pushed_behind executed.0 executed.1) executed.1 m'
   pub by_step : StaysBut (written_by executed.0 destination.0 ++ pushed_behind executed.0 executed.1) m m'
