@@ -16,7 +16,7 @@ use Rattle.m11_cpu.specs.Memory.{word_at}
 use Rattle.m11_cpu.specs.Returns.{HasRoom, IsAt, IsRunning, IsWordInside, TrapInstructionsReturn, TrapIsOver, TrapReturns, vector_of}
 use Rattle.m11_cpu.specs.Status.{bit, psw_of, status_of}
 use Rattle.m11_cpu.specs.Steps.{step, turned}
-use Rattle.m11_cpu.specs.Traps.{push_state, trap, trap_pushed, vectored}
+use Rattle.m11_cpu.specs.Traps.{push_state, trap, trap_pushed, vector_address, vectored}
 use Rattle.m11_cpu.specs.Writes.{push_address, stack_deepened}
 use Rattle.m11_cpu.specs.declared.abort.Abort.{Abort}
 use Rattle.m11_cpu.specs.declared.abort.Abort.TheVariants.{Traps}
@@ -49,18 +49,19 @@ psw_small s =
     let c = bit_small s.codes.carry in
     omega arith
 
-word_of_status : (b : ℕ) → b < 256 → psw_of (status_of b) ≡ b
-word_of_status b below =
-    let t = bit_read (b / 16 % 2) (omega arith) in
-    let n = bit_read (b / 8 % 2) (omega arith) in
-    let z = bit_read (b / 4 % 2) (omega arith) in
-    let v = bit_read (b / 2 % 2) (omega arith) in
-    let c = bit_read (b % 2) (omega arith) in
+-- the lower eight bits count
+low_byte_of_status : (w : ℕ) → psw_of (status_of w) ≡ w % 256
+low_byte_of_status w =
+    let t = bit_read (w / 16 % 2) (omega arith) in
+    let n = bit_read (w / 8 % 2) (omega arith) in
+    let z = bit_read (w / 4 % 2) (omega arith) in
+    let v = bit_read (w / 2 % 2) (omega arith) in
+    let c = bit_read (w % 2) (omega arith) in
     omega arith
 
 -- the word of a status, read again
 status_again : (s : ProcessorStatus) → psw_of (status_of (psw_of s)) ≡ psw_of s
-status_again s = word_of_status (psw_of s) (psw_small s)
+status_again s = let e = low_byte_of_status (psw_of s) in let f = psw_small s in omega (arith, e, f)
 
 untraced_again : (s : ProcessorStatus) → s.trace ≡ false → (status_of (psw_of s)).trace ≡ false
 untraced_again s e =
@@ -186,6 +187,10 @@ trap_back v m running room =
     record {
       trapped = trapped;
       traps = trap_comes v m room;
+      by_vector = record {
+        counter = put_same Pc _ q count_q;
+        status = low_byte_of_status (word_at q.memory (vector_address v + 2));
+      };
       comes_back = λ is_at. over m trapped counter lower upper fits
           (rti_steps trapped lower upper counter s (put_length Pc _ q count_q) running.not_stopped is_at stack_t next_is
           lower_inside upper_inside first second
@@ -246,6 +251,7 @@ trap_instructions_back code v m running is_at e room =
           ∙ ap (λ (d : Dialogue (Result Ending Abort × Machine)). after d (λ came. turned came.0 came.1))
           (trapping code v n e)
           ∙ b.traps;
+      by_vector = b.by_vector;
       comes_back = λ i.
           let o = b.comes_back i in
           record {

@@ -17,7 +17,7 @@ use Rattle.m11_cpu.specs.Jumps.{target}
 use Rattle.m11_cpu.specs.Machine.{advanced, memory_size, psw_in, register_of}
 use Rattle.m11_cpu.specs.Memory.{word_at}
 use Rattle.m11_cpu.specs.Steps.{step}
-use Rattle.m11_cpu.specs.Traps.{trap}
+use Rattle.m11_cpu.specs.Traps.{trap, vector_address}
 use Rattle.m11_cpu.specs.declared.abort.Vector.{Vector}
 use Rattle.m11_cpu.specs.declared.abort.Vector.TheVariants as vector
 use Rattle.m11_cpu.specs.declared.machine.Machine.{Machine}
@@ -126,10 +126,16 @@ pub record TrapIsOver (counter_before : ℕ) (m trapped : Machine) : Type 0 wher
   pub status : psw_in returned ≡ psw_in m
   pub stack : register_of Sp returned ≡ register_of Sp m
 
+-- the program counter and the processor status are the words of the vector, of the second the lower eight bits
+pub record IsTrapped (vector : Vector) (trapped : Machine) : Type 0 where
+  pub counter : register_of Pc trapped ≡ word_at trapped.memory (vector_address vector)
+  pub status : psw_in trapped ≡ word_at trapped.memory (vector_address vector + 2) % 256
+
 -- a trap of any vector comes back, where RTI stands at the vector's program counter behind the pushes
 pub record TrapReturns (vector : Vector) (m : Machine) : Type 0 where
   pub trapped : Machine
   pub traps : trap vector m ≡ Comes (Next, trapped)
+  pub by_vector : IsTrapped vector trapped
   pub comes_back : IsAt (insn.Bare Rti) trapped → TrapIsOver (register_of Pc m) m trapped
 
 -- the instructions that trap, each by its vector
@@ -142,11 +148,12 @@ vector_of (insn.Reserved word) = Some vector.Reserved
 vector_of other = None
 
 -- a step of such an instruction comes back to the word behind it
-pub record TrapInstructionReturns (m : Machine) : Type 0 where
+pub record TrapInstructionReturns (vector : Vector) (m : Machine) : Type 0 where
   pub trapped : Machine
   pub in_one_step : step m ≡ Comes (Next, trapped)
+  pub by_vector : IsTrapped vector trapped
   pub comes_back : IsAt (insn.Bare Rti) trapped → TrapIsOver ((register_of Pc m + 2) % 0o200000) m trapped
 
 abbrev pub TrapInstructionsReturn : Insn → Vector → Machine → Type 0
 TrapInstructionsReturn code vector m = IsRunning m → IsAt code m → vector_of code ≡ Some vector → HasRoom m
-    → TrapInstructionReturns m
+    → TrapInstructionReturns vector m

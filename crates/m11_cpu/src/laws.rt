@@ -55,9 +55,9 @@ pub fn calls_return()
     ensures { (register : Register) (operand : Operand) (m : Machine) → CallsReturn register operand m }
 {}
 
-/// A trap comes back: where both its pushes go to memory and RTI stands behind them at the vector's program counter,
-/// the trap and one more step ask and send nothing, and leave the program counter, the processor status and the stack
-/// pointer as they were. For BPT, IOT, EMT, TRAP and a reserved code the program counter is then behind that
+/// A trap comes back: where both its pushes go to memory, it goes on by the program counter and the processor status
+/// that the vector then has. Where RTI stands at that program counter, one more step leads back, and program counter,
+/// processor status and stack pointer are as they were. Neither step asks or sends anything. For BPT, IOT, EMT, TRAP and a reserved code the program counter is then behind that
 /// instruction. T was clear before the trap; of T in the vector's status nothing is asked, since T decides as it is
 /// behind RTI. (PDP-11/40 Processor Handbook, "Processor traps", RTI.)
 #[tactic(auto, using(crate::proofs::TrapsBack::trap_back, crate::proofs::TrapsBack::trap_instructions_back))]
