@@ -158,7 +158,8 @@ abbrev pub AbortLeaves : {A : Type 0} → Result A Abort → Machine → Machine
 AbortLeaves (Ok done) m n = ⊤
 AbortLeaves (Err abort) m n = IsElseAsBefore m n
 
--- a step writes at most the destination of its instruction, and then the words that its trap pushes
+-- a step writes at most the destination of its instruction, and then the words that its trap pushes. Where the
+-- destination is, and what the instruction came to, the console's replies of this very step decide
 pub record StepWrites (m : Machine) (exchanges : List Exchange) (m' : Machine) : Type 0 where
   pub destination : Result (List ℕ) Abort × Machine
   pub executed : Result Ending Abort × Machine
