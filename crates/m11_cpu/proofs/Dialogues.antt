@@ -12,7 +12,7 @@ use Rattle.m11_cpu.specs.declared.operands.Place.{Place}
 use Rattle.m11_cpu.specs.DoubleOperands.{change_exclusive}
 use Rattle.m11_cpu.specs.Jumps.{push}
 use Rattle.m11_cpu.specs.Places.{put_result}
-use Rattle.m11_cpu.specs.Acts.{Act, value, change, ◌>>=◌}
+use Rattle.m11_cpu.specs.Acts.{Act, value, ◌>>=◌}
 use Rattle.m11_cpu.specs.Dialogue.{Reply, Dialogue, Comes, Asks, Sends, after, Exchange, Asked, Sent, Leads, Devices, Happened, Does, Replies, Takes, Input, Output}
 
 pub leads_after : {A B : Type 0} (d : Dialogue A) (es fs : List Exchange) (x : A) (next : A → Dialogue B) (y : B)
@@ -158,11 +158,6 @@ pub value_does : {A : Type 0} (d : Devices) (of : Machine → A) (x : A) (m : Ma
 unfolding value
 value_does d of x m e = comes_ok d (of m) x m m e refl
 
-pub change_does : (d : Devices) (by : Machine → Machine) (m m' : Machine) → m' ≡ by m
-    → Does (change by m) d d (Ok tt, m')
-unfolding change
-change_does d by m m' e = comes_ok d tt tt (by m) m' refl e
-
 pub bind_does : {A B : Type 0} (act : Act A) (next : A → Act B) (m m' : Machine) (old middle new : Devices) (x : A)
     (y : Result B Abort × Machine) → Does (act m) old middle (Ok x, m') → Does (next x m') middle new y
     → Does ((act >>= next) m) old new y
@@ -227,6 +222,6 @@ change_exclusive_at source source' place m old new y e h =
     let P : ℕ → Type 0 = λ x. Does (change_exclusive x place m) old new y in subst P e h
 
 -- for calls of one device, and for calls of both
-pub ruleset dialogues = (put_result_at, push_at, comes_ok, comes, comes_aborted, value_does, change_does, bind_does, bind_aborts, if_so, if_not, if_so_by, if_not_by)
+pub ruleset dialogues = (put_result_at, push_at, comes_ok, comes, comes_aborted, value_does, bind_does, bind_aborts, if_so, if_not, if_so_by, if_not_by)
 
 pub ruleset with_both = (dialogues, change_exclusive_at, bind_reads, bind_reads_aborts, bind_writes, bind_writes_aborts, reads_beside, writes_beside)

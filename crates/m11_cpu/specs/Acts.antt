@@ -8,15 +8,9 @@ use Rattle.m11_cpu.specs.Dialogue.{Dialogue, Comes, after}
 abbrev pub Act : Type 0 → Type 0
 Act A = Machine → Dialogue (Result A Abort × Machine)
 
--- a value that the machine has, and a change of the machine
+-- a value that the machine has
 unfoldable pub value : {A : Type 0} → (Machine → A) → Act A
 value of m = Comes (Ok (of m), m)
-
-unfoldable pub change : (Machine → Machine) → Act (Unit {0})
-change by m = Comes (Ok tt, by m)
-
-unfoldable pub aborts : {A : Type 0} → Abort → Act A
-aborts abort m = Comes (Err abort, m)
 
 -- one part after the other; an abort ends them
 abbrev pub unless_aborted : {A B : Type 0} → (A → Act B) → Result A Abort → Act B
