@@ -21,5 +21,6 @@ pub mod StepsDone
 pub mod StepsWrite
 pub mod StopsStand
 pub mod TapePut
+pub mod TargetsFormed
 pub mod TrapsBack
 pub mod WordsAsBytes

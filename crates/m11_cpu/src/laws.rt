@@ -46,20 +46,22 @@ pub fn runs_are_joined()
     ensures { (first second : ℕ) (m middle last : Machine) → AreJoined first second m middle last }
 {}
 
-/// A call comes back: JSR by one of the registers 0 to 5, whose operand steps neither that register nor the stack
-/// pointer and whose push goes to memory, leads to the address that the operand means. Where RTS by that register
-/// stands there behind the push, one more step leads behind the call, asks and sends nothing, and leaves that
-/// register and the stack pointer as they were. (PDP-11/40 Processor Handbook, JSR and RTS.)
+/// A call comes back. The machine makes steps, and T is clear; JSR is by one of the registers 0 to 5, its operand steps
+/// neither that register nor the stack pointer, and its push goes to memory. Then one step leads to the address that the
+/// operand means. Where RTS by that register stands there behind the push, one more step leads behind the call; it asks
+/// and sends nothing, and that register and the stack pointer are as they were. (PDP-11/40 Processor Handbook, JSR and
+/// RTS.)
 #[tactic(auto, using(crate::proofs::CallsBack::calls_back))]
 pub fn calls_return()
     ensures { (register : Register) (operand : Operand) (m : Machine) → CallsReturn register operand m }
 {}
 
-/// A trap comes back: where both its pushes go to memory, it goes on by the program counter and the processor status
-/// that the vector then has. Where RTI stands at that program counter, one more step leads back, and program counter,
-/// processor status and stack pointer are as they were. Neither step asks or sends anything. For BPT, IOT, EMT, TRAP and a reserved code the program counter is then behind that
-/// instruction. T was clear before the trap; of T in the vector's status nothing is asked, since T decides as it is
-/// behind RTI. (PDP-11/40 Processor Handbook, "Processor traps", RTI.)
+/// A trap comes back. The machine makes steps, T is clear, and both pushes of the trap go to memory. Then it goes on by
+/// the program counter and the processor status that the vector has behind the pushes. Where RTI stands at that program
+/// counter, one more step leads back, and program counter, processor status and stack pointer are as they were. Neither
+/// step asks or sends anything. Behind BPT, IOT, EMT, TRAP and a reserved code the program counter is then that of the
+/// word behind the instruction. Of T in the vector's status nothing is asked, since T decides as it is behind RTI.
+/// (PDP-11/40 Processor Handbook, "Processor traps", RTI.)
 #[tactic(auto, using(crate::proofs::TrapsBack::trap_back, crate::proofs::TrapsBack::trap_instructions_back))]
 pub fn traps_return()
     ensures traps { (vector : Vector) (m : Machine) → IsRunning m → HasRoom m → TrapReturns vector m }
