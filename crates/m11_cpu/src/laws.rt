@@ -47,10 +47,10 @@ pub fn runs_are_joined()
 {}
 
 /// A call comes back. The machine makes steps, and T is clear; JSR is by one of the registers 0 to 5, its operand steps
-/// neither that register nor the stack pointer, and its push goes to memory. Then one step leads to the address that the
-/// operand means. Where RTS by that register stands there behind the push, one more step leads behind the call; it asks
-/// and sends nothing, and that register and the stack pointer are as they were. (PDP-11/40 Processor Handbook, JSR and
-/// RTS.)
+/// neither that register nor the stack pointer, and its push goes to memory. Then one step leads to the address that
+/// the operand means. Where RTS by that register stands there behind the push, one more step leads behind the call; it
+/// asks and sends nothing, and that register and the stack pointer are as they were. (PDP-11/40 Processor Handbook, JSR
+/// and RTS.)
 #[tactic(auto, using(crate::proofs::CallsBack::calls_back))]
 pub fn calls_return()
     ensures { (register : Register) (operand : Operand) (m : Machine) → CallsReturn register operand m }
