@@ -1,0 +1,13 @@
+-- What the rules come to over whole lists of parts, in the words of the format. (This project's own.)
+use Rattle.std.specs.Prelude.{◌≡◌, List, [], ◌++◌, ⊤, Option, Some, None, Result, Ok, Err}
+use Rattle.m11_modules.specs.declared.fault.ModuleFault.{ModuleFault}
+use Rattle.m11_modules.specs.declared.fault.ModuleFault.TheVariants.{NoMemory}
+use Rattle.m11_modules.specs.Parts.{Part}
+use Rattle.m11_modules.specs.Places.{Known, known_of}
+use Rattle.m11_modules.specs.Rules.{first_fault}
+
+-- parts that come behind others are taken, and then stand behind them; or their first fault is answered
+abbrev pub TakesBehind : List Part → Known → List Part → Result (Unit {0}) ModuleFault → Type 0
+TakesBehind before new parts (Ok done) = (first_fault before parts ≡ None) × (new ≡ known_of (before ++ parts))
+TakesBehind before new parts (Err NoMemory) = ⊤
+TakesBehind before new parts (Err fault) = first_fault before parts ≡ Some fault

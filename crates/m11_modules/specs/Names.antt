@@ -1,0 +1,16 @@
+-- Names of sections and of globals. (MACRO-11 Language Reference Manual, ".PSECT directive", ".ASECT and .CSECT
+-- directives".)
+use Rattle.std.specs.Prelude.{ℕ, ◌==◌, ◌&&◌, Bool, List, []}
+use Rattle.std.specs.List.{list_any}
+use Rattle.indexmap.specs.IndexSet.{insert_key}
+
+-- two names are one where both of their words are
+abbrev pub is_name : ℕ × ℕ → ℕ × ℕ → Bool
+is_name one other = (one.0 == other.0) && (one.1 == other.1)
+
+abbrev pub is_among : List (ℕ × ℕ) → ℕ × ℕ → Bool
+is_among names name = list_any (is_name name) names
+
+-- the section that each module knows, entered or not: octal 127401, 007624
+abbrev pub absolute_name : ℕ × ℕ
+absolute_name = (44801, 3988)

@@ -1,0 +1,28 @@
+-- What stands in objects, part by part, in the order of the bytes. (RT-11 Volume and File Formats Manual, "Object
+-- file format".) That the directory of internal symbols counts for nothing wherever it stands is this project's own.
+use Rattle.std.specs.Prelude.{ℕ, List, [], ◌∷◌, map, Option, Some, None}
+use Rattle.m11_obj.specs.declared.gsd.GsdEntry.{GsdEntry}
+use Rattle.m11_obj.specs.declared.relocations.Relocation.{Relocation}
+use Rattle.m11_obj.specs.Records as records
+
+pub data Part : Type 0 where
+  -- a directory record begins; its entries follow
+  Directory : Part
+  Entry : GsdEntry → Part
+  EndOfDirectory : Part
+  -- a load address and bytes
+  Text : ℕ → List ℕ → Part
+  -- a relocation record begins; its relocations follow
+  Relocations : Part
+  Relocated : Relocation → Part
+  EndOfModule : Part
+  EndOfFile : Part
+
+-- the parts of a record
+abbrev pub parts_of : records.Content → List Part
+parts_of (records.Gsd entries) = Directory ∷ map (λ entry. Entry entry) entries
+parts_of records.EndOfGsd = EndOfDirectory ∷ []
+parts_of (records.Text address bytes) = Text address bytes ∷ []
+parts_of (records.Relocations relocations) = Relocations ∷ map (λ relocation. Relocated relocation) relocations
+parts_of records.InternalSymbols = []
+parts_of records.EndOfModule = EndOfModule ∷ []

@@ -1,0 +1,99 @@
+-- What is known behind a part, from what was known before it. (This project's own: how the rules are kept while records
+-- come. That it is what Places.antt says of all parts is proved.)
+use Rattle.std.specs.Prelude.{◌≡◌, ℕ, ◌+◌, List, [], ◌∷◌, length, ⊤, Option, Some, None, Result, Ok, Err}
+use Rattle.std.specs.Option.{option_or}
+use Rattle.indexmap.specs.IndexMap.{insert_entry}
+use Rattle.indexmap.specs.IndexSet.{insert_key}
+use Rattle.m11_obj.specs.declared.gsd.GsdEntry.{GsdEntry}
+use Rattle.m11_obj.specs.declared.gsd.GsdKind.{GsdKind}
+use Rattle.m11_obj.specs.declared.gsd.GsdKind.TheVariants.{ModuleName, ControlSection, InternalSymbol, TransferAddress, GlobalSymbol, ProgramSection, Identification}
+use Rattle.m11_obj.specs.declared.relocations.Target.{Target}
+use Rattle.m11_obj.specs.declared.relocations.Target.TheVariants as target
+use Rattle.m11_obj.specs.Reading.{content_of}
+use Rattle.m11_obj.specs.declared.fault.RecordFault.{RecordFault}
+use Rattle.m11_obj.specs.Records as records
+use Rattle.m11_modules.specs.declared.fault.ModuleFault.{ModuleFault}
+use Rattle.m11_modules.specs.declared.fault.ModuleFault.TheVariants.{NoMemory}
+use Rattle.m11_modules.specs.declared.stage.Stage.TheVariants.{Between, InDirectory, InBody}
+use Rattle.m11_modules.specs.Names.{is_name, absolute_name}
+use Rattle.m11_modules.specs.Parts.{Part, parts_of, Directory, Entry, EndOfDirectory, Text, Relocations, Relocated, EndOfModule, EndOfFile}
+use Rattle.m11_modules.specs.Places.{Known, selected_by, global_of}
+use Rattle.m11_modules.specs.Rules.{fault_known}
+
+abbrev pub with_section : GsdEntry → Known → Known
+with_section entry known = record known {
+  sections = insert_key is_name known.sections entry.name;
+  entered = insert_entry is_name known.entered entry.name entry.value;
+}
+
+abbrev pub with_global : ℕ × ℕ → Known → Known
+with_global name known = record known { globals = insert_key is_name known.globals name }
+
+abbrev pub with_entry : GsdKind → GsdEntry → Known → Known
+with_entry ControlSection entry known = with_section entry known
+with_entry ProgramSection entry known = with_section entry known
+with_entry GlobalSymbol entry known = with_global entry.name known
+with_entry kind entry known = known
+
+abbrev pub with_optional_global : Option (ℕ × ℕ) → Known → Known
+with_optional_global None known = known
+with_optional_global (Some name) known = with_global name known
+
+abbrev pub with_target : Target → Known → Known
+with_target target known =
+    with_optional_global (global_of target) (record known { section = selected_by known.section target })
+
+-- a module has ended
+abbrev pub with_end : Known → Known
+with_end known = record known {
+  stage = Between;
+  modules = known.modules + 1;
+  entered = [];
+  section = absolute_name;
+  text = None;
+}
+
+unfoldable pub known_behind : Known → Part → Known
+known_behind known Directory = record known { stage = InDirectory }
+known_behind known (Entry entry) = with_entry entry.kind entry known
+known_behind known EndOfDirectory = record known { stage = InBody }
+known_behind known (Text address bytes) = record known { text = Some (length bytes) }
+known_behind known Relocations = known
+known_behind known (Relocated relocation) = with_target relocation.target known
+known_behind known EndOfModule = with_end known
+known_behind known EndOfFile = known
+
+abbrev pub known_behind_all : Known → List Part → Known
+known_behind_all known [] = known
+known_behind_all known (part ∷ parts) = known_behind_all (known_behind known part) parts
+
+abbrev pub first_known_fault : Known → List Part → Option ModuleFault
+first_known_fault known [] = None
+first_known_fault known (part ∷ parts) =
+    option_or (fault_known known part) (first_known_fault (known_behind known part) parts)
+
+-- what a part tells was kept, or memory was refused
+abbrev pub Notes : {A : Type 0} → Known → Known → Result A ModuleFault → Type 0
+Notes new noted (Ok done) = new ≡ noted
+Notes new noted (Err NoMemory) = ⊤
+Notes new noted (Err fault) = ⊥
+
+-- a part was taken, or its fault was answered
+unfoldable pub TakesOne : Known → Known → Part → Result (Unit {0}) ModuleFault → Type 0
+TakesOne old new part (Ok done) = (fault_known old part ≡ None) × (new ≡ known_behind old part)
+TakesOne old new part (Err NoMemory) = ⊤
+TakesOne old new part (Err fault) = fault_known old part ≡ Some fault
+
+-- parts were taken, or their first fault was answered
+unfoldable pub Takes : Known → Known → List Part → Result (Unit {0}) ModuleFault → Type 0
+Takes old new parts (Ok done) = (first_known_fault old parts ≡ None) × (new ≡ known_behind_all old parts)
+Takes old new parts (Err NoMemory) = ⊤
+Takes old new parts (Err fault) = first_known_fault old parts ≡ Some fault
+
+-- the parts of a record's bytes
+abbrev pub parts_in : Result records.Content RecordFault → List Part
+parts_in (Ok content) = parts_of content
+parts_in (Err fault) = []
+
+abbrev pub record_parts : List ℕ → List Part
+record_parts bytes = parts_in (content_of bytes)

@@ -1,0 +1,13 @@
+//! Modules: which records, in which order, an object is made of, and the first that doesn't fit. (RT-11 Volume and
+//! File Formats Manual, "Object file format".)
+#![tactic(auto)]
+
+mod checks;
+mod fault;
+mod names;
+mod rules;
+mod stage;
+
+pub use fault::ModuleFault;
+pub use names::absolute_section;
+pub use rules::Rules;
