@@ -60,7 +60,7 @@ this_module_goes_on [] part e =
     let P : Bool → Type 0 = λ b. (if b || false then [] else part ∷ []) ≡ part ∷ [] in subst P (sym e) refl
 this_module_goes_on (first ∷ parts) part e =
     let P : Bool → Type 0 = λ b. (if b then this_module (parts ++ part ∷ []) else first ∷ (parts ++ part ∷ []))
-        ≡ (if list_any ends_module (first ∷ parts) then this_module parts else first ∷ parts) ++ part ∷ [] in
+    ≡ (if list_any ends_module (first ∷ parts) then this_module parts else first ∷ parts) ++ part ∷ [] in
     subst P (sym (same_ends (first ∷ parts) part e))
     (chosen (list_any ends_module (first ∷ parts)) (this_module parts) (this_module (parts ++ part ∷ [])) first parts part (this_module_goes_on parts part e))
 
@@ -198,8 +198,8 @@ enters known entry e = sym (insert_entry-absent is_name entry.name entry.value k
 
 entry_behind : (kind : GsdKind) (entry : GsdEntry) (known : Known) → entry_fault kind entry known.entered known.sections known.globals ≡ None
     → with_parts known known.stage (distinct_behind known.sections (keys_of (cons_option (section_by kind entry) [])))
-      (distinct_behind known.globals (cons_option (global_by kind entry) [])) known.section known.text
-      (known.modules + 0) (known.entered ++ cons_option (section_by kind entry) [])
+    (distinct_behind known.globals (cons_option (global_by kind entry) [])) known.section known.text
+    (known.modules + 0) (known.entered ++ cons_option (section_by kind entry) [])
     ≡ with_entry kind entry known
 entry_behind ControlSection entry known e = rw (enters known entry e, add_zero known.modules)
 entry_behind ProgramSection entry known e = rw (enters known entry e, add_zero known.modules)
@@ -212,7 +212,7 @@ entry_behind Identification entry known e = enters_none known known.stage known.
 
 target_behind : (global : Option (ℕ × ℕ)) (section : ℕ × ℕ) (known : Known)
     → with_parts known known.stage known.sections (distinct_behind known.globals (cons_option global [])) section known.text
-      (known.modules + 0) (known.entered ++ [])
+    (known.modules + 0) (known.entered ++ [])
     ≡ with_optional_global global (record known { section = section })
 target_behind None section known = enters_none known known.stage known.sections known.globals section known.text
 target_behind (Some name) section known =
@@ -262,13 +262,13 @@ head_fault : (fault : Option ModuleFault) (before : List Part) (part : Part) (pa
     ≡ option_or (fault_of before part) (first_known_fault (known_behind (known_of before) part) parts)
 head_fault (Some fault) before part parts e h =
     let P : Option ModuleFault → Type 0 = λ f. option_or f (first_fault (before ++ part ∷ []) parts)
-        ≡ option_or f (first_known_fault (known_behind (known_of before) part) parts) in
+    ≡ option_or f (first_known_fault (known_behind (known_of before) part) parts) in
     subst P (sym e) refl
 head_fault None before part parts e h =
     let P : Known → Type 0 = λ known. option_or (fault_of before part) (first_fault (before ++ part ∷ []) parts)
-        ≡ option_or (fault_of before part) (first_known_fault known parts) in
+    ≡ option_or (fault_of before part) (first_known_fault known parts) in
     let Q : Option ModuleFault → Type 0 = λ f. option_or (fault_of before part) (first_fault (before ++ part ∷ []) parts)
-        ≡ option_or (fault_of before part) f in
+    ≡ option_or (fault_of before part) f in
     subst P (known_behind_part before part e) (subst Q h refl)
 
 -- the first fault is found by what is known from part to part

@@ -4,7 +4,8 @@ use Rattle.std.specs.Prelude.{ℕ, List, [], ◌∷◌, ◌++◌, map}
 use Rattle.std.specs.List.{flat_map}
 use Rattle.m11_obj.specs.declared.gsd.GsdEntry.{GsdEntry}
 use Rattle.m11_obj.specs.declared.relocations.Relocation.{Relocation}
-use Rattle.m11_modules.specs.Parts.{Part, Directory, Entry, EndOfDirectory, Text, Relocations, Relocated, EndOfModule, EndOfFile}
+use Rattle.m11_obj.specs.Records as records
+use Rattle.m11_modules.specs.Parts.{Part, parts_of, Directory, Entry, EndOfDirectory, Text, Relocations, Relocated, EndOfModule, EndOfFile}
 
 -- a record behind the directory
 pub data BodyRecord : Type 0 where
@@ -32,3 +33,15 @@ file_parts modules = flat_map module_parts modules ++ EndOfFile ∷ []
 -- files one behind another, each a list of modules
 abbrev pub files_parts : List (List Module) → List Part
 files_parts files = flat_map file_parts files
+
+-- what is read one after another: a record by its content, or the end of a file
+pub data Item : Type 0 where
+  RecordOf : records.Content → Item
+  FileEnds : Item
+
+abbrev pub item_parts : Item → List Part
+item_parts (RecordOf content) = parts_of content
+item_parts FileEnds = EndOfFile ∷ []
+
+abbrev pub items_parts : List Item → List Part
+items_parts items = flat_map item_parts items

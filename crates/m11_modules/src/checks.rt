@@ -155,13 +155,7 @@ fn width_of(relocation: &Relocation) -> usize
 {
     match relocation.target {
         Target::ProgramLimits => 4,
-        _ => {
-            if relocation.is_byte {
-                1
-            } else {
-                2
-            }
-        }
+        _ => { if relocation.is_byte { 1 } else { 2 } }
     }
 }
 

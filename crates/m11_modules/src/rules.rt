@@ -31,19 +31,18 @@ pub struct Rules {
 
 impl Model for Rules {
     ghost use Rattle.m11_modules.specs.Places.{Known};
-
     ghost use Rattle.m11_modules.specs.Rules.{InLimits};
 
     ghost Value = { Known };
 
     ghost view = { λ r. record {
-        stage = r.stage;
-        modules = r.modules;
-        sections = r.sections.keys;
-        globals = r.globals.keys;
-        entered = r.entered.entries;
-        section = r.section;
-        text = r.text;
+      stage = r.stage;
+      modules = r.modules;
+      sections = r.sections.keys;
+      globals = r.globals.keys;
+      entered = r.entered.entries;
+      section = r.section;
+      text = r.text;
     } };
 
     ghost invariant = { λ r. InLimits r.stage r.modules };
