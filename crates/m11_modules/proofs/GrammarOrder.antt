@@ -1,5 +1,5 @@
 -- The order rule is the grammar of modules and files.
-use Rattle.std.proofs.Common.{◌≡◌, ℕ, Bool, true, false, List, [], ◌∷◌, ◌++◌, map, refl, sym, subst}
+use Rattle.std.proofs.Common.{◌≡◌, Bool, true, false, List, [], ◌∷◌, ◌++◌, map, refl, sym, subst}
 use Rattle.std.specs.List.{flat_map}
 use Rattle.std.proofs.lemmas.List.{append_assoc}
 use Rattle.m11_obj.specs.declared.gsd.GsdEntry.{GsdEntry}
@@ -7,7 +7,7 @@ use Rattle.m11_obj.specs.declared.relocations.Relocation.{Relocation}
 use Rattle.m11_obj.specs.Records as records
 use Rattle.m11_modules.specs.declared.stage.Stage.{Stage}
 use Rattle.m11_modules.specs.declared.stage.Stage.TheVariants.{Between, InDirectory, InBody}
-use Rattle.m11_modules.specs.Grammar.{BodyRecord, TextRecord, RelocationRecord, Module, directory_parts, body_parts, module_parts, file_parts, files_parts, Item, RecordOf, FileEnds, item_parts, items_parts}
+use Rattle.m11_modules.specs.Grammar.{BodyRecord, TextRecord, RelocationRecord, Module, directory_parts, body_parts, module_parts, file_parts, files_parts, Item, RecordOf, FileEnds, items_parts}
 use Rattle.m11_modules.specs.Laws.{AreFiles, AreInOrder}
 use Rattle.m11_modules.specs.Parts.{Part, Directory, Entry, EndOfDirectory, Text, Relocations, Relocated, EndOfModule, EndOfFile}
 use Rattle.m11_modules.specs.Places.{stage_from, stage_behind}

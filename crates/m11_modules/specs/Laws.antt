@@ -1,5 +1,5 @@
 -- What the rules come to over whole lists of parts, in the words of the format. (This project's own.)
-use Rattle.std.specs.Prelude.{◌≡◌, true, List, [], ◌∷◌, ◌++◌, ⊤, Option, Some, None, Result, Ok, Err}
+use Rattle.std.specs.Prelude.{◌≡◌, true, List, ◌∷◌, ◌++◌, ⊤, Some, None, Result, Ok, Err}
 use Rattle.m11_modules.specs.declared.fault.ModuleFault.{ModuleFault}
 use Rattle.m11_modules.specs.declared.fault.ModuleFault.TheVariants.{NoMemory}
 use Rattle.m11_modules.specs.Grammar.{Module, files_parts}

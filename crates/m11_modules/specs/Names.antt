@@ -1,8 +1,7 @@
 -- Names of sections and of globals. (MACRO-11 Language Reference Manual, ".PSECT directive", ".ASECT and .CSECT
 -- directives".)
-use Rattle.std.specs.Prelude.{ℕ, ◌==◌, ◌&&◌, Bool, List, []}
+use Rattle.std.specs.Prelude.{ℕ, ◌==◌, ◌&&◌, Bool, List}
 use Rattle.std.specs.List.{list_any}
-use Rattle.indexmap.specs.IndexSet.{insert_key}
 
 -- two names are one where both of their words are
 abbrev pub is_name : ℕ × ℕ → ℕ × ℕ → Bool

@@ -1,9 +1,11 @@
 -- What stands in objects, part by part, in the order of the bytes. (RT-11 Volume and File Formats Manual, "Object
 -- file format".) That the directory of internal symbols counts for nothing wherever it stands is this project's own.
-use Rattle.std.specs.Prelude.{ℕ, List, [], ◌∷◌, map, Option, Some, None}
+use Rattle.std.specs.Prelude.{ℕ, List, [], ◌∷◌, map, Result, Ok, Err}
 use Rattle.m11_obj.specs.declared.gsd.GsdEntry.{GsdEntry}
 use Rattle.m11_obj.specs.declared.relocations.Relocation.{Relocation}
+use Rattle.m11_obj.specs.Reading.{content_of}
 use Rattle.m11_obj.specs.Records as records
+use Rattle.m11_obj.specs.declared.fault.RecordFault.{RecordFault}
 
 pub data Part : Type 0 where
   -- a directory record begins; its entries follow
@@ -26,3 +28,11 @@ parts_of (records.Text address bytes) = Text address bytes ∷ []
 parts_of (records.Relocations relocations) = Relocations ∷ map (λ relocation. Relocated relocation) relocations
 parts_of records.InternalSymbols = []
 parts_of records.EndOfModule = EndOfModule ∷ []
+
+-- the parts of a record's bytes
+abbrev pub parts_in : Result records.Content RecordFault → List Part
+parts_in (Ok content) = parts_of content
+parts_in (Err fault) = []
+
+abbrev pub record_parts : List ℕ → List Part
+record_parts bytes = parts_in (content_of bytes)

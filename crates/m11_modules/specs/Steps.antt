@@ -6,17 +6,13 @@ use Rattle.indexmap.specs.IndexMap.{insert_entry}
 use Rattle.indexmap.specs.IndexSet.{insert_key}
 use Rattle.m11_obj.specs.declared.gsd.GsdEntry.{GsdEntry}
 use Rattle.m11_obj.specs.declared.gsd.GsdKind.{GsdKind}
-use Rattle.m11_obj.specs.declared.gsd.GsdKind.TheVariants.{ModuleName, ControlSection, InternalSymbol, TransferAddress, GlobalSymbol, ProgramSection, Identification}
+use Rattle.m11_obj.specs.declared.gsd.GsdKind.TheVariants.{ControlSection, GlobalSymbol, ProgramSection}
 use Rattle.m11_obj.specs.declared.relocations.Target.{Target}
-use Rattle.m11_obj.specs.declared.relocations.Target.TheVariants as target
-use Rattle.m11_obj.specs.Reading.{content_of}
-use Rattle.m11_obj.specs.declared.fault.RecordFault.{RecordFault}
-use Rattle.m11_obj.specs.Records as records
 use Rattle.m11_modules.specs.declared.fault.ModuleFault.{ModuleFault}
 use Rattle.m11_modules.specs.declared.fault.ModuleFault.TheVariants.{NoMemory}
 use Rattle.m11_modules.specs.declared.stage.Stage.TheVariants.{Between, InDirectory, InBody}
 use Rattle.m11_modules.specs.Names.{is_name, absolute_name}
-use Rattle.m11_modules.specs.Parts.{Part, parts_of, Directory, Entry, EndOfDirectory, Text, Relocations, Relocated, EndOfModule, EndOfFile}
+use Rattle.m11_modules.specs.Parts.{Part, Directory, Entry, EndOfDirectory, Text, Relocations, Relocated, EndOfModule, EndOfFile}
 use Rattle.m11_modules.specs.Places.{Known, selected_by, global_of}
 use Rattle.m11_modules.specs.Rules.{fault_known}
 
@@ -89,11 +85,3 @@ unfoldable pub Takes : Known → Known → List Part → Result (Unit {0}) Modul
 Takes old new parts (Ok done) = (first_known_fault old parts ≡ None) × (new ≡ known_behind_all old parts)
 Takes old new parts (Err NoMemory) = ⊤
 Takes old new parts (Err fault) = first_known_fault old parts ≡ Some fault
-
--- the parts of a record's bytes
-abbrev pub parts_in : Result records.Content RecordFault → List Part
-parts_in (Ok content) = parts_of content
-parts_in (Err fault) = []
-
-abbrev pub record_parts : List ℕ → List Part
-record_parts bytes = parts_in (content_of bytes)

@@ -3,9 +3,9 @@
 ghost use Rattle.std.specs.Prelude.{◌≡◌, ◌≤◌, ◌∷◌, [], ℕ, List, Result, Ok, Err, map, length};
 ghost use Rattle.m11_obj.specs.Reading.{record_entries, record_relocations};
 ghost use Rattle.m11_modules.specs.Laws.{TakesBehind};
-ghost use Rattle.m11_modules.specs.Parts.{Part, Directory, Entry, EndOfDirectory, Text, Relocations, Relocated, EndOfModule, EndOfFile};
+ghost use Rattle.m11_modules.specs.Parts.{Part, Directory, Entry, EndOfDirectory, Text, Relocations, Relocated, EndOfModule, EndOfFile, record_parts};
 ghost use Rattle.m11_modules.specs.Places.{known_of};
-ghost use Rattle.m11_modules.specs.Steps.{Notes, Takes, TakesOne, record_parts, with_section, with_global, with_entry, with_target};
+ghost use Rattle.m11_modules.specs.Steps.{Notes, Takes, TakesOne, with_section, with_global, with_entry, with_target};
 
 use crate::checks::{check_begin, check_entry, check_relocation, check_text, size_of};
 use crate::fault::ModuleFault;
