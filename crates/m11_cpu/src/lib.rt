@@ -33,6 +33,3 @@ pub use machine::Machine;
 pub use simulation::sim_run;
 pub use status::ProcessorStatus;
 pub use stop::{LastingStop, SimDone, Stop, Turn};
-
-#[cfg(test)]
-mod tests;

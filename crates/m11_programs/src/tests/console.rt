@@ -2,8 +2,8 @@
 
 use super::Fact::{Asked, In, Psw, Sent};
 use super::{Program, check};
-use crate::Stop::Halt;
 use m11_base::Register::{R0, R1, R2, R3};
+use m11_cpu::Stop::Halt;
 use std::test::Fail;
 
 #[test]

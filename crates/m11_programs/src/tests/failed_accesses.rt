@@ -2,8 +2,8 @@
 
 use super::Fact::{Asked, At, In, Psw, Sent};
 use super::{BUS_ERROR_HALTS, Program, check};
-use crate::Stop::{Halt, InputFault, OutputFault};
 use m11_base::Register::{Pc, R0, R1, Sp};
+use m11_cpu::Stop::{Halt, InputFault, OutputFault};
 use std::test::Fail;
 
 #[test]

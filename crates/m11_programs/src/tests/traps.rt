@@ -2,11 +2,11 @@
 
 use super::Fact::{At, In, Psw};
 use super::{Program, check, machine_of};
-use crate::Stop;
-use crate::Stop::{Halt, Wait};
-use crate::Turn::{Next, Stopped};
 use m11_base::Register::{Pc, R0, R1, R5, Sp};
 use m11_base::{MemoryFeed, MemorySink};
+use m11_cpu::Stop;
+use m11_cpu::Stop::{Halt, Wait};
+use m11_cpu::Turn::{Next, Stopped};
 use std::process::Abort;
 use std::test::Fail;
 

@@ -2,8 +2,8 @@
 
 use self::Messages::{Are, Begin};
 use super::{POLLS, Part, tape_of};
-use crate::{LoadFault, SimDone, SimFault, Stop, sim_run};
 use m11_base::{FuseFeed, FuseSink, MemoryFeed, WriterSink};
+use m11_cpu::{LoadFault, SimDone, SimFault, Stop, sim_run};
 use m11_obj::TapeFault;
 use std::process::Abort;
 use std::test::Fail;

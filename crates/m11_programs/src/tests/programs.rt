@@ -2,8 +2,8 @@
 
 use super::Fact::{Asked, At, In, Psw, Sent};
 use super::{BUS_ERROR_HALTS, POLLS, Part, Program, check};
-use crate::Stop::{Halt, InputFault, Limit, OutputFault, StackFault};
 use m11_base::Register::{Pc, R0, R1, R3, Sp};
+use m11_cpu::Stop::{Halt, InputFault, Limit, OutputFault, StackFault};
 use std::test::Fail;
 
 #[test]

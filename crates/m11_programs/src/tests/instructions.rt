@@ -1,27 +1,40 @@
 //! Each instruction once in each of its sizes, with results and codes as the handbook gives them.
 
 use super::{Program, machine_of};
-use crate::status::ProcessorStatus;
-use crate::{Machine, Turn};
 use m11_base::Register::{Pc, R0, R1};
 use m11_base::{MemoryFeed, MemorySink};
+use m11_cpu::{Machine, Stop, Turn};
 use std::process::Abort;
 use std::test::Fail;
 
 // R0, R1, and the bits of the processor status word: N 10, Z 4, V 2, C 1.
 type State = (u16, u16, u16);
 
-// A machine in this state, with these words at 1000 as its next ones.
+// A machine in this state, with these words at 1000 as its next ones. Three instructions in front of them brought it
+// there: `MOV #..,R0`, `MOV #..,R1` and `MOV #..,@#177776`.
 fn machine_before(
     rt: &(impl Abort + AllocGlobal),
     words: &[u16],
     before: State,
 ) -> Result<Machine, Fail> {
-    let parts = [(0o1000, words)];
-    let mut machine = machine_of(rt, Program::of(&parts))?;
-    machine.set_register(R0, before.0);
-    machine.set_register(R1, before.1);
-    machine.status = ProcessorStatus::of_bits(before.2);
+    let sets = [
+        0o012700, before.0, 0o012701, before.1, 0o012737, before.2, 0o177776,
+    ];
+    let parts = [(0o762, sets.as_slice()), (0o1000, words)];
+    let starts = Program {
+        start: 0o762,
+        ..Program::of(&parts)
+    };
+    let mut machine = machine_of(rt, starts)?;
+    let stop = machine.run(
+        3,
+        &mut MemoryFeed::new(b""),
+        &mut MemorySink::new(rt.alloc()),
+    );
+    assert_eq!(rt; stop, Stop::Limit);
+    let state = (machine.register(R0), machine.register(R1), machine.psw());
+    assert_eq!(rt; state, before);
+    assert_eq!(rt; machine.register(Pc), 0o1000);
     Ok(machine)
 }
 

@@ -2,8 +2,8 @@
 
 use super::Fact::{At, In};
 use super::{Fact, Program, check};
-use crate::Stop::{Halt, Limit};
 use m11_base::Register::{Pc, R1, R2, Sp};
+use m11_cpu::Stop::{Halt, Limit};
 use std::process::Abort;
 use std::test::Fail;
 

@@ -1,8 +1,9 @@
 //! What the tests of whole programs share: tapes of words, runs of them, and what is looked at behind a run.
 
-use crate::runs::Ran;
-use crate::{Machine, Stop};
-use m11_base::{DeviceFault, Feed, FuseFeed, FuseSink, MemoryFeed, Register, WriterSink};
+use m11_base::{
+    DeviceFault, Feed, FuseFeed, FuseSink, MemoryFeed, MemorySink, Register, WriterSink,
+};
+use m11_cpu::{Machine, Stop, Turn};
 use m11_obj::{tape_block, tape_transfer};
 use std::alloc::{AllocError, Global};
 use std::process::Abort;
@@ -165,6 +166,19 @@ impl Behind<'_> {
     }
 }
 
+// How many steps of a program are begun until one stops, or up to its limit.
+fn steps_of(rt: &(impl Abort + AllocGlobal), program: Program<'_>) -> Result<u32, Fail> {
+    let mut machine = machine_of(rt, program)?;
+    let mut input = FuseFeed::new(MemoryFeed::new(program.input), program.reads);
+    let mut output = FuseSink::new(MemorySink::new(rt.alloc()), program.writes, 1);
+    for done in 0..program.limit {
+        if machine.step(&mut input, &mut output) != Turn::Next {
+            return Ok(done + 1);
+        }
+    }
+    Ok(program.limit)
+}
+
 // Runs a program from its tape on: it stops so after so many steps, and then each of the facts holds.
 pub(crate) fn check(
     rt: &(impl Abort + AllocGlobal),
@@ -180,8 +194,9 @@ pub(crate) fn check(
     };
     let mut sent = Vec::new(rt.alloc());
     let mut output = FuseSink::new(WriterSink::new(&mut sent), program.writes, 1);
-    let ran = machine.run_counted(program.limit, &mut input, &mut output);
-    assert_eq!(rt; ran, Ran { stop, steps });
+    let ran = machine.run(program.limit, &mut input, &mut output);
+    assert_eq!(rt; ran, stop);
+    assert_eq!(rt; steps_of(rt, program)?, steps);
     let behind = Behind {
         machine: &machine,
         asked: input.given,
