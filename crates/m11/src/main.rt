@@ -1,16 +1,18 @@
 //! `m11`: the command line of the tool chain. All of its work is `m11_cli::command`.
 #![tactic(auto)]
 
+use m11_base::{ReaderFeed, WriterSink};
 use m11_cli::{command, command_without_words};
 use std::process::ExitCode;
 use std::{env, io};
 
 fn main(rt: HostRuntime) -> ExitCode {
-    let out = rt.stdout();
-    let err = rt.stderr();
+    let mut input = ReaderFeed::new(rt.stdin());
+    let mut out = WriterSink::new(rt.stdout());
+    let mut err = WriterSink::new(rt.stderr());
     let status = match words(&rt) {
-        Ok(words) => command(&rt, &mut rt.stdin(), &out, &err, words.as_slice()),
-        Err(error) => command_without_words(&error, &err),
+        Ok(words) => command(&rt, &mut input, &mut out, &mut err, words.as_slice()),
+        Err(error) => command_without_words(&error, &mut err),
     };
     ExitCode::from(status)
 }

@@ -1,4 +1,5 @@
 pub mod Commands
+pub mod Driver
 pub mod FaultLines
 pub mod Opened
 pub mod Outcomes

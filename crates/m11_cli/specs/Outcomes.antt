@@ -1,7 +1,7 @@
 -- What a command came to, and the status that it leaves. (This project's own: 0 done, 1 flagged
 -- lines or a stop other than HALT, 2 words that are refused, 3 a device, 4 a malformed tape or one
 -- that does not fit the memory, 5 no memory, 6 a limit.)
-use Rattle.std.specs.Prelude.{◌≡◌, List, ⊤, ℕ, Ok, Err, ◌==◌, if◌then◌else◌}
+use Rattle.std.specs.Prelude.{◌≡◌, ⊤, ℕ, Ok, Err, ◌==◌, if◌then◌else◌}
 use Rattle.m11_asm.specs.declared.fault.AsmFault.{AsmFault}
 use Rattle.m11_asm.specs.declared.fault.AsmFault.TheVariants as asm
 use Rattle.m11_cpu.specs.declared.fault.LoadFault.{LoadFault}
@@ -12,12 +12,8 @@ use Rattle.m11_cpu.specs.declared.stop.Stop.{Stop}
 use Rattle.m11_cpu.specs.declared.stop.Stop.TheVariants as stop
 use Rattle.m11_obj.specs.declared.tape_fault.TapeFault.{TapeFault}
 use Rattle.m11_obj.specs.declared.tape_fault.TapeFault.TheVariants as tape
-use Rattle.clap.specs.Words.{Text}
-use Rattle.m11_cli.specs.Tasks.{Plans}
 use Rattle.m11_cli.specs.declared.outcome.Outcome.{Outcome}
 use Rattle.m11_cli.specs.declared.outcome.Outcome.TheVariants.{Usage, Asm, Sim, NotOpened}
-use Rattle.m11_cli.specs.declared.tasks.Task.{Task}
-use Rattle.m11_cli.specs.declared.tasks.Task.TheVariants as task
 use Rattle.m11_cli.specs.declared.usage.UsageFault.{UsageFault}
 use Rattle.m11_cli.specs.declared.usage.UsageFault.TheVariants.{Help, Words, BadOctal, OddAddress, BadAddress, NoMemory}
 
@@ -78,20 +74,7 @@ status_of (Sim (Ok done)) = stop_status done.stop
 status_of (Sim (Err fault)) = sim_status fault
 status_of NotOpened = 3
 
--- the outcomes that a task may come to: its own run answered, or a file did not open
-abbrev pub ComesOf : Task → Outcome → Type 0
-ComesOf task NotOpened = ⊤
-ComesOf (task.Asm asm) (Asm answer) = ⊤
-ComesOf (task.Sim sim) (Sim answer) = ⊤
-ComesOf task outcome = ⊥
-
 -- what a command that runs no tape leaves of the console: all
 abbrev pub LeavesConsole : {I : Type 0} → Outcome → I → I → Type 0
 LeavesConsole (Sim answer) old new = ⊤
 LeavesConsole outcome old new = new ≡ old
-
--- the outcomes that words may come to: a refusal is one that they have, and what lies past it
--- comes of a task that they ask for
-abbrev pub MayComeTo : List Text → Outcome → Type 0
-MayComeTo words (Usage fault) = Plans words (Err fault)
-MayComeTo words outcome = (task : Task) × Plans words (Ok task) × ComesOf task outcome

@@ -32,9 +32,13 @@ pub fn fault_line<S: Sink>(outcome: &Outcome, sink: &mut S) -> Result<(), PutFau
 
 /// Puts the line for a file that could not be opened: `?M11 OPEN` and the path as it was given.
 ///
-/// `Device` where the sink fails. No memory is taken.
+/// `Device` where the sink fails; it has then taken a beginning of the line. No memory is taken.
 pub(crate) fn not_opened_line<S: Sink>(path: &str, sink: &mut S) -> Result<(), PutFault>
     ensures whole { OnOk result (Appends (S.text sink.old) (S.text sink.new) (open_line path.now)) }
+    ensures sound { OnOk result (S.faults sink.new ≡ S.faults sink.old) }
+    ensures beginning { OnErr result
+        (AppendsBeginning (S.text sink.old) (S.text sink.new) (open_line path.now)) }
+    ensures fault { OnErr result (Rises (S.faults sink.old) (S.faults sink.new)) }
 {
     put_all(sink, b"?M11 OPEN ")?;
     put_all(sink, path.as_bytes())?;

@@ -7,6 +7,7 @@ mod fault_lines;
 mod opened;
 mod outcome;
 mod tasks;
+mod texts;
 mod usage;
 
 pub use driver::{command, command_without_words};

@@ -32,12 +32,12 @@ impl<T: Drop> From<AllocFailed<T>> for OpenFault<'_> {
 /// A source or a tape, read through a buffer.
 pub(crate) type Source<F> = ReaderFeed<BufReader<F>>;
 
-/// The files of an assembly. Each source is open twice, since it is read twice.
+/// The sources and the object of an assembly. Each source is there twice, since it is read twice.
 #[derive(Drop)]
-pub(crate) struct AsmFiles<F> {
-    pub(crate) first: Vec<Source<F>>,
-    pub(crate) second: Vec<Source<F>>,
-    pub(crate) object: WriterSink<F>,
+pub(crate) struct AsmFiles<F, S> {
+    pub(crate) first: Vec<F>,
+    pub(crate) second: Vec<F>,
+    pub(crate) object: S,
 }
 
 /// Opens the sources, in order, each twice before the next, and then creates the object.
@@ -45,7 +45,7 @@ pub(crate) struct AsmFiles<F> {
 pub(crate) fn open_files<'a, R: Files + AllocGlobal>(
     rt: &R,
     task: &AsmTask<'a>,
-) -> Result<AsmFiles<R::File>, OpenFault<'a>>
+) -> Result<AsmFiles<Source<R::File>, WriterSink<R::File>>, OpenFault<'a>>
     ensures first { IfOk result (λ files. vec_len files.first ≡ vec_len task.now.sources) }
     ensures second { IfOk result (λ files. vec_len files.second ≡ vec_len task.now.sources) }
     ensures path { IfErr result (IsTaskPath task.now) }

@@ -1,65 +1,14 @@
 use crate::{Outcome, Task, UsageFault, command, command_without_words, fault_line, plan, status};
 use m11_asm::{AsmDone, AsmFault, AsmOutput};
-use m11_base::{MemorySink, OctalFault};
+use m11_base::{MemoryFeed, MemorySink, OctalFault};
 use m11_cpu::{LoadFault, SimDone, SimFault, Stop};
 use m11_obj::TapeFault;
 use std::alloc::AllocError;
-use std::cell::RefCell;
-use std::fmt::{Display, Write};
-use std::io::{ErrorKind, Print};
+use std::io::ErrorKind;
 use std::test::Fail;
 use std::{fs, io};
 
 mod sim;
-
-// Keeps what is printed to it.
-#[derive(Drop)]
-struct Kept {
-    text: RefCell<String>,
-}
-
-impl Kept {
-    fn new(rt: &HostRuntime) -> Kept {
-        Kept {
-            text: RefCell::new(String::new(rt.alloc())),
-        }
-    }
-
-    fn has(&self, expected: &str) -> bool {
-        match self.text.try_borrow() {
-            Ok(text) => text.as_str() == expected,
-            Err(_) => false,
-        }
-    }
-
-    fn is_told(&self, beginning: &str) -> bool {
-        match self.text.try_borrow() {
-            Ok(text) => text.as_str().starts_with(beginning),
-            Err(_) => false,
-        }
-    }
-}
-
-impl Print for Kept {
-    fn print<D: Display + Drop>(&self, value: D) -> io::Result<()> {
-        match self.text.try_borrow_mut() {
-            Ok(mut text) => Ok(write!(text, "{value}")?),
-            Err(_) => Err(io::Error::from(ErrorKind::Other)),
-        }
-    }
-
-    fn println<D: Display + Drop>(&self, value: D) -> io::Result<()> {
-        self.print(value)?;
-        self.print("\n")
-    }
-
-    fn write_all(&self, bytes: &[u8]) -> io::Result<()> {
-        match str::from_utf8(bytes) {
-            Ok(text) => self.print(text),
-            Err(_) => Err(io::Error::from(ErrorKind::InvalidData)),
-        }
-    }
-}
 
 #[test]
 fn asm_takes_an_object_and_sources(rt: HostRuntime) -> Result<(), Fail> {
@@ -263,19 +212,29 @@ fn each_fault_is_told_in_one_line(rt: HostRuntime) -> Result<(), Fail> {
 
 #[test]
 fn help_is_printed_and_refused_words_are_told(rt: HostRuntime) {
-    let out = Kept::new(&rt);
-    let err = Kept::new(&rt);
-    assert_eq!(rt;
-        command(&rt, &mut io::empty(), &out, &err, &["m11", "--help"]),
-        0
-    );
-    assert!(rt; out.is_told("A MACRO-11 assembler and a PDP-11/40 simulator\n") && err.has(""));
-    let out = Kept::new(&rt);
-    assert_eq!(rt;
-        command(&rt, &mut io::empty(), &out, &err, &["m11", "link"]),
-        2
-    );
-    assert!(rt; out.has("") && err.is_told("error: unrecognized subcommand 'link'\n"));
+    let texts: [(&[&str], u8, &[u8], &[u8]); 2] = [
+        (
+            &["m11", "--help"],
+            0,
+            b"A MACRO-11 assembler and a PDP-11/40 simulator\n",
+            b"",
+        ),
+        (
+            &["m11", "link"],
+            2,
+            b"",
+            b"error: unrecognized subcommand 'link'\n",
+        ),
+    ];
+    for (words, status, printed, told) in texts {
+        let mut out = MemorySink::new(rt.alloc());
+        let mut err = MemorySink::new(rt.alloc());
+        let answer = command(&rt, &mut MemoryFeed::new(b""), &mut out, &mut err, words);
+        assert_eq!(rt; answer, status);
+        assert_eq!(rt; out.bytes().is_empty(), printed.is_empty());
+        assert_eq!(rt; err.bytes().is_empty(), told.is_empty());
+        assert!(rt; out.bytes().starts_with(printed) && err.bytes().starts_with(told));
+    }
 }
 
 // The status of an assembly; `None` where it prints anything but `told` to the error stream.
@@ -285,12 +244,14 @@ fn assembled<'a>(
     sources: &[&'a str],
     told: &str,
 ) -> Result<Option<u8>, Fail> {
-    let out = Kept::new(rt);
-    let err = Kept::new(rt);
+    let mut out = MemorySink::new(rt.alloc());
+    let mut err = MemorySink::new(rt.alloc());
     let mut words = vec![in rt.alloc(); "m11", "asm", "-o", object]?;
     words.extend_from_slice(sources)?;
-    let status = command(rt, &mut io::empty(), &out, &err, words.as_slice());
-    Ok((out.has("") && err.has(told)).then_some(status))
+    let mut input = MemoryFeed::new(b"");
+    let status = command(rt, &mut input, &mut out, &mut err, words.as_slice());
+    let is_told = out.bytes().is_empty() && err.bytes() == told.as_bytes();
+    Ok(is_told.then_some(status))
 }
 
 // Removes what a test has written.
@@ -375,10 +336,12 @@ fn a_full_device_is_told_as_the_object(rt: HostRuntime) -> Result<(), Fail> {
 
 #[test]
 fn words_that_the_system_does_not_give_are_refused(rt: HostRuntime) {
-    let err = Kept::new(&rt);
+    let mut err = MemorySink::new(rt.alloc());
     let error = io::Error::from(ErrorKind::OutOfMemory);
-    assert_eq!(rt; command_without_words(&error, &err), 5);
-    assert!(rt; err.has("?M11 USAGE 90 NoMemory\n"));
+    assert_eq!(rt; command_without_words(&error, &mut err), 5);
+    assert_eq!(rt; err.bytes(), b"?M11 USAGE 90 NoMemory\n".as_slice());
+    let mut err = MemorySink::new(rt.alloc());
     let error = io::Error::from(ErrorKind::InvalidData);
-    assert_eq!(rt; command_without_words(&error, &err), 2);
+    assert_eq!(rt; command_without_words(&error, &mut err), 2);
+    assert!(rt; err.bytes().ends_with(b"\n"));
 }

@@ -1,9 +1,7 @@
-use super::Kept;
 use crate::{Task, UsageFault, command, plan};
-use std::fmt::Display;
-use std::io::{ErrorKind, Print, Read};
+use m11_base::{FuseFeed, FuseSink, MemoryFeed, MemorySink};
+use std::fs;
 use std::test::Fail;
-use std::{fs, io};
 
 // Words that ask for a run, with the start, the words of memory and the steps that they ask for.
 const RUNS: [(&[&str], Option<u16>, u16, u32); 6] = [
@@ -88,34 +86,6 @@ fn a_start_is_octal_then_even_then_at_most_157776(rt: HostRuntime) {
     }
 }
 
-// Takes nothing of what is printed.
-#[derive(Drop)]
-struct Broken;
-
-impl Print for Broken {
-    fn print<D: Display + Drop>(&self, _value: D) -> io::Result<()> {
-        Err(io::Error::from(ErrorKind::BrokenPipe))
-    }
-
-    fn println<D: Display + Drop>(&self, _value: D) -> io::Result<()> {
-        Err(io::Error::from(ErrorKind::BrokenPipe))
-    }
-
-    fn write_all(&self, _bytes: &[u8]) -> io::Result<()> {
-        Err(io::Error::from(ErrorKind::BrokenPipe))
-    }
-}
-
-// Gives nothing but failures.
-#[derive(Drop)]
-struct Unreadable;
-
-impl Read for Unreadable {
-    fn read(&mut self, _buffer: &mut [u8]) -> io::Result<usize> {
-        Err(io::Error::from(ErrorKind::BrokenPipe))
-    }
-}
-
 // A tape of `MOV #1,R0` and `HALT` at 1000, which is where it starts.
 const HALTS: [u8; 20] = [
     0o001, 0o000, 0o014, 0o000, 0o000, 0o002, 0o300, 0o025, 0o001, 0o000, 0o000, 0o000, 0o033,
@@ -154,11 +124,11 @@ const HALTED: &str = "HALT AFTER 2 STEPS\n\
 // The status of a command whose console gives `input`; `None` where it prints anything but
 // `printed`, or tells anything but `told`.
 fn ran(rt: &HostRuntime, words: &[&str], input: &[u8], printed: &str, told: &str) -> Option<u8> {
-    let out = Kept::new(rt);
-    let err = Kept::new(rt);
-    let mut input = input;
-    let status = command(rt, &mut input, &out, &err, words);
-    (out.has(printed) && err.has(told)).then_some(status)
+    let mut out = MemorySink::new(rt.alloc());
+    let mut err = MemorySink::new(rt.alloc());
+    let status = command(rt, &mut MemoryFeed::new(input), &mut out, &mut err, words);
+    let is_told = out.bytes() == printed.as_bytes() && err.bytes() == told.as_bytes();
+    is_told.then_some(status)
 }
 
 #[test]
@@ -209,44 +179,42 @@ fn a_program_reads_and_prints_by_the_console(rt: HostRuntime) -> Result<(), Fail
 fn a_failed_console_stops_the_program(rt: HostRuntime) -> Result<(), Fail> {
     fs::write(&rt, "CONSOLE.TAP", COPIES_A_BYTE.as_slice())?;
     let words = ["m11", "sim", "CONSOLE.TAP"];
-    let out = Kept::new(&rt);
-    let err = Kept::new(&rt);
+    let mut out = MemorySink::new(rt.alloc());
+    let mut err = MemorySink::new(rt.alloc());
+    let mut unreadable = FuseFeed::new(MemoryFeed::new(b"AB"), 0);
     assert_eq!(rt;
-        command(&rt, &mut Unreadable, &out, &err, words.as_slice()),
+        command(&rt, &mut unreadable, &mut out, &mut err, words.as_slice()),
         3
     );
-    assert!(rt; out.has(""));
-    assert!(rt;
-        err.has(
-            "INPUT FAULT AFTER 1 STEPS\n\
-        R0 000000 R1 000000 R2 000000 R3 000000 R4 000000 R5 000000 SP 000000 PC 001004 PSW 000000\n"
-        )
-    );
-    let err = Kept::new(&rt);
-    let mut input = b"AB".as_slice();
+    assert!(rt; out.bytes().is_empty());
+    let told = "INPUT FAULT AFTER 1 STEPS\n\
+        R0 000000 R1 000000 R2 000000 R3 000000 R4 000000 R5 000000 SP 000000 PC 001004 PSW 000000\n";
+    assert_eq!(rt; err.bytes(), told.as_bytes());
+    let mut broken = FuseSink::new(MemorySink::new(rt.alloc()), 0, 1);
+    let mut err = MemorySink::new(rt.alloc());
+    let mut input = MemoryFeed::new(b"AB");
     assert_eq!(rt;
-        command(&rt, &mut input, &Broken, &err, words.as_slice()),
+        command(&rt, &mut input, &mut broken, &mut err, words.as_slice()),
         3
     );
-    assert!(rt;
-        err.has(
-            "OUTPUT FAULT AFTER 4 STEPS\n\
-        R0 000101 R1 000000 R2 000000 R3 000000 R4 000000 R5 000000 SP 000000 PC 001016 PSW 000000\n"
-        )
-    );
+    let told = "OUTPUT FAULT AFTER 4 STEPS\n\
+        R0 000101 R1 000000 R2 000000 R3 000000 R4 000000 R5 000000 SP 000000 PC 001016 PSW 000000\n";
+    assert_eq!(rt; err.bytes(), told.as_bytes());
     Ok(fs::remove_file(&rt, "CONSOLE.TAP")?)
 }
 
 #[test]
 fn failed_messages_leave_the_status_of_a_device(rt: HostRuntime) -> Result<(), Fail> {
     fs::write(&rt, "MESSAGES.TAP", HALTS.as_slice())?;
-    let out = Kept::new(&rt);
+    let mut out = MemorySink::new(rt.alloc());
+    let mut broken = FuseSink::new(MemorySink::new(rt.alloc()), 0, 1);
     let words = ["m11", "sim", "MESSAGES.TAP"];
+    let mut input = MemoryFeed::new(b"");
     assert_eq!(rt;
-        command(&rt, &mut io::empty(), &out, &Broken, words.as_slice()),
+        command(&rt, &mut input, &mut out, &mut broken, words.as_slice()),
         3
     );
-    assert!(rt; out.has(""));
+    assert!(rt; out.bytes().is_empty());
     Ok(fs::remove_file(&rt, "MESSAGES.TAP")?)
 }
 

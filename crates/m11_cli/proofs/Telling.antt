@@ -1,0 +1,56 @@
+-- What is told, whole or in part, and what a task comes to.
+use Rattle.std.proofs.Common.{◌≡◌, ◌∙◌, ◌⊎◌, ◌++◌, List, ℕ, inl, inr, sym, ap, append_assoc, Option, Some, None, Result, Ok, Err}
+use Rattle.std.specs.Prelude.{OnErr, OnOk}
+use Rattle.std.specs.Io.KnownBytes.{Appends}
+use Rattle.m11_base.specs.Devices.{Rises}
+use Rattle.m11_base.specs.Sink.{AppendsBeginning}
+use Rattle.m11_cpu.specs.Dialogue.{Output}
+use Rattle.clap.specs.Words.{Text}
+use Rattle.m11_cli.specs.Driver.{Carries, ComesTo, Streams, Tells}
+use Rattle.m11_cli.specs.Tasks.{Plans}
+use Rattle.m11_cli.specs.declared.outcome.Outcome.{Outcome}
+use Rattle.m11_cli.specs.declared.outcome.Outcome.TheVariants.{Usage, Asm, Sim, NotOpened}
+use Rattle.m11_cli.specs.declared.tasks.Task.{Task}
+use Rattle.m11_cli.specs.declared.tasks.Task.TheVariants as task
+
+-- a put that told of its success or of its failure
+pub tells : {X E : Type 0} (r : Result X E) (text : List ℕ) (old new : Output)
+    → OnOk r (Appends old.text new.text text) → OnOk r (new.faults ≡ old.faults)
+    → OnErr r (AppendsBeginning old.text new.text text) → OnErr r (Rises old.faults new.faults)
+    → Tells text old new
+tells (Ok x) text old new whole sound beginning fault = inl (whole, sound)
+tells (Err e) text old new whole sound beginning fault = inr (beginning, fault)
+
+-- what holds is also so at an error, and what follows from what is so at an error is so there
+pub at_error : {X E : Type 0} (r : Result X E) (P : Type 0) → P → OnErr r P
+at_error (Ok x) P p = tt
+at_error (Err e) P p = p
+
+pub then_at_error : {X E : Type 0} (r : Result X E) (P Q : Type 0) → (P → Q) → OnErr r P → OnErr r Q
+then_at_error (Ok x) P Q f p = tt
+then_at_error (Err e) P Q f p = f p
+
+-- the outcome of a task that was carried out is one that the words come to
+pub carried : (words : List Text) (t : Task) (outcome : Outcome) (old new : Streams) → Plans words (Ok t)
+    → Carries t outcome old new → ComesTo words outcome old new
+carried words (task.Asm asm) (Usage fault) old new planned h = absurd h
+carried words (task.Sim sim) (Usage fault) old new planned h = absurd h
+carried words t (Asm answer) old new planned h = (t, planned, h)
+carried words t (Sim answer) old new planned h = (t, planned, h)
+carried words t NotOpened old new planned h = (t, planned, h)
+
+-- a beginning of a text is one of a longer text, also behind a text that went out whole
+pub begins : (old new : Option (List ℕ)) (text more : List ℕ) → AppendsBeginning old new text → AppendsBeginning old new (text ++ more)
+begins old new text more h = (h.0, h.1 ++ more, ap (λ t. t ++ more) h.2 ∙ append_assoc h.0 h.1 more, h.3)
+
+pub gains : (old middle new : Option (List ℕ)) (first second : List ℕ) → Appends old middle first → Appends middle new second
+    → Appends old new (first ++ second)
+gains None middle new first second a b = tt
+gains (Some x) None new first second a b = absurd a
+gains (Some x) (Some y) None first second a b = absurd b
+gains (Some x) (Some y) (Some z) first second a b = b ∙ ap (λ t. t ++ second) a ∙ append_assoc x first second
+
+pub begins_behind : (old middle new : Option (List ℕ)) (first text : List ℕ) → Appends old middle first
+    → AppendsBeginning middle new text → AppendsBeginning old new (first ++ text)
+begins_behind old middle new first text a h =
+    (first ++ h.0, h.1, ap (λ t. first ++ t) h.2 ∙ sym (append_assoc first h.0 h.1), gains old middle new first h.0 a h.3)
