@@ -24,8 +24,10 @@ left_exact number count fits below =
     let power : 2 ^ count < 2 ^ 32 = pow_below count 32 below in
     let wide : FitsSigned w64 number = widened number fits in
     let product : FitsSigned w64 (number *ℤ pos (2 ^ count)) =
-    fits_signed_mul w64 number (pos (2 ^ count)) (2 ^ 31) (2 ^ 32 - 1) (size_at_most number fits) (omega (arith, power)) (omega arith) in
-    let wrapped : to_z w64 (of_z w64 number * 2 ^ count % 2 ^ 64) ≡ int_wrap w64 (to_z w64 (of_z w64 number) *ℤ to_z w64 (2 ^ count)) =
+    fits_signed_mul w64 number (pos (2 ^ count)) (2 ^ 31) (2 ^ 32 - 1) (size_at_most number fits)
+    (omega (arith, power)) (omega arith) in
+    let wrapped : to_z w64 (of_z w64 number * 2 ^ count % 2 ^ 64)
+    ≡ int_wrap w64 (to_z w64 (of_z w64 number) *ℤ to_z w64 (2 ^ count)) =
     wrapping_mul-bits w64 (of_z w64 number) (2 ^ count) (bits_below number wide) (omega arith) in
     wrapped ∙ ap (λ z. int_wrap w64 (z *ℤ to_z w64 (2 ^ count))) (to_z-of_z w64 number wide)
     ∙ ap (λ z. int_wrap w64 (number *ℤ z)) (to_z_pos w64 (2 ^ count) (omega arith))

@@ -16,17 +16,20 @@ use Rattle.m11_arithmetic.specs.Laws.{AreCompared, CompareThenBranch}
 
 -- N and V differ exactly where the difference with signs is negative
 word_less : (first second : ℕ) → first < 2 ^ 16 → second < 2 ^ 16
-    → differ (int_lt (signed Word (modulo 0o200000 (pos first -ℤ pos second))) (pos 0)) (overflows Word (signed Word first -ℤ signed Word second))
+    → differ (int_lt (signed Word (modulo 0o200000 (pos first -ℤ pos second))) (pos 0))
+    (overflows Word (signed Word first -ℤ signed Word second))
     ≡ int_lt (signed Word first) (signed Word second)
 word_less first second first_below second_below = grind (arith, ints, nat_tests)
 
 byte_less : (first second : ℕ) → first < 2 ^ 8 → second < 2 ^ 8
-    → differ (int_lt (signed Byte (modulo 0o400 (pos first -ℤ pos second))) (pos 0)) (overflows Byte (signed Byte first -ℤ signed Byte second))
+    → differ (int_lt (signed Byte (modulo 0o400 (pos first -ℤ pos second))) (pos 0))
+    (overflows Byte (signed Byte first -ℤ signed Byte second))
     ≡ int_lt (signed Byte first) (signed Byte second)
 byte_less first second first_below second_below = grind (arith, ints, nat_tests)
 
 is_less : (size : Size) (first second : ℕ) → first < size_limit size → second < size_limit size
-    → differ (int_lt (signed size (modulo (size_limit size) (pos first -ℤ pos second))) (pos 0)) (overflows size (signed size first -ℤ signed size second))
+    → differ (int_lt (signed size (modulo (size_limit size) (pos first -ℤ pos second))) (pos 0))
+    (overflows size (signed size first -ℤ signed size second))
     ≡ int_lt (signed size first) (signed size second)
 is_less Word = word_less
 is_less Byte = byte_less
@@ -50,7 +53,8 @@ same_signed Byte first second first_below second_below same =
     sym (of_z-to_z w8 first first_below) ∙ ap (of_z w8) same ∙ of_z-to_z w8 second second_below
 
 -- what the tests of two numbers with signs tell
-module _ (first second : ℤ) (less same : Bool) (less_is : less ≡ int_lt first second) (same_is : (same ≡ true) ↔ (first ≡ second)) where
+module _ (first second : ℤ) (less same : Bool) (less_is : less ≡ int_lt first second)
+    (same_is : (same ≡ true) ↔ (first ≡ second)) where
   tells_less : IsTrue less ↔ (first <ℤ second)
   tells_less = grind (arith, ints)
 
@@ -63,8 +67,10 @@ module _ (first second : ℤ) (less same : Bool) (less_is : less ≡ int_lt firs
   tells_less_or_equal : IsTrue (same || less) ↔ (first ≤ℤ second)
   tells_less_or_equal = grind (arith, ints)
 
-relations : (size : Size) (first second : ℕ) (codes : ConditionCodes) → (signed size first ≡ signed size second → first ≡ second)
-    → differ codes.negative codes.overflow ≡ int_lt (signed size first) (signed size second) → codes.zero ≡ (first == second)
+relations : (size : Size) (first second : ℕ) (codes : ConditionCodes)
+    → (signed size first ≡ signed size second → first ≡ second)
+    → differ codes.negative codes.overflow ≡ int_lt (signed size first) (signed size second)
+    → codes.zero ≡ (first == second)
     → codes.carry ≡ nat_lt first second → AreCompared size first second codes
 unfolding is_taken
 relations size first second codes same less zero carry =
@@ -72,10 +78,14 @@ relations size first second codes same less zero carry =
     (λ e. ap (signed size) (eqb-true first second (sym zero ∙ e)), λ e. zero ∙ eq-eqb first second (same e)) in record {
       equal = grind (arith, nat_tests);
       not_equal = grind (arith, nat_tests);
-      less = tells_less (signed size first) (signed size second) (differ codes.negative codes.overflow) codes.zero less same_is;
-      greater_or_equal = tells_greater_or_equal (signed size first) (signed size second) (differ codes.negative codes.overflow) codes.zero less same_is;
-      greater = tells_greater (signed size first) (signed size second) (differ codes.negative codes.overflow) codes.zero less same_is;
-      less_or_equal = tells_less_or_equal (signed size first) (signed size second) (differ codes.negative codes.overflow) codes.zero less same_is;
+      less = tells_less (signed size first) (signed size second) (differ codes.negative codes.overflow) codes.zero less
+          same_is;
+      greater_or_equal = tells_greater_or_equal (signed size first) (signed size second)
+          (differ codes.negative codes.overflow) codes.zero less same_is;
+      greater = tells_greater (signed size first) (signed size second) (differ codes.negative codes.overflow)
+          codes.zero less same_is;
+      less_or_equal = tells_less_or_equal (signed size first) (signed size second)
+          (differ codes.negative codes.overflow) codes.zero less same_is;
       lower = grind (arith, nat_tests);
       higher_or_same = grind (arith, nat_tests);
       higher = grind (arith, nat_tests);
@@ -85,6 +95,7 @@ relations size first second codes same less zero carry =
 pub compared : (size : Size) → CompareThenBranch size
 unfolding double_result
 compared size first second codes first_below second_below =
-    relations size first second (double_result Cmp size first second codes).codes (same_signed size first second first_below second_below)
+    relations size first second (double_result Cmp size first second codes).codes
+    (same_signed size first second first_below second_below)
     (is_less size first second first_below second_below) (is_same size first second first_below second_below)
     (is_lower size first second first_below second_below)

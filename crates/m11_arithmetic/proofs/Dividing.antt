@@ -25,18 +25,21 @@ sign_below zero = inl refl
 sign_below (suc n) = inr refl
 
 -- the sign of a remainder
-sign_of_remainder : (dividend divisor : ℤ) → (int_rem dividend divisor ≡ pos 0) ⊎ (int_lt (int_rem dividend divisor) (pos 0) ≡ int_lt dividend (pos 0))
+sign_of_remainder : (dividend divisor : ℤ)
+    → (int_rem dividend divisor ≡ pos 0) ⊎ (int_lt (int_rem dividend divisor) (pos 0) ≡ int_lt dividend (pos 0))
 sign_of_remainder (pos a) divisor =
     inr (le-ltb (a % unsigned_abs divisor) 0 (omega arith) ∙ sym (le-ltb a 0 (omega arith)))
 sign_of_remainder (negsuc a) divisor = sign_below (suc a % unsigned_abs divisor)
 
-remainder_fits : (dividend divisor : ℤ) → FitsSigned w16 divisor → 0 < unsigned_abs divisor → FitsSigned w16 (int_rem dividend divisor)
+remainder_fits : (dividend divisor : ℤ) → FitsSigned w16 divisor → 0 < unsigned_abs divisor
+    → FitsSigned w16 (int_rem dividend divisor)
 remainder_fits dividend divisor divisor_fits nonzero =
     let below : unsigned_abs (int_rem dividend divisor) < unsigned_abs divisor = rem_below dividend divisor nonzero in
     let most : unsigned_abs divisor ≤ 2 ^ 15 = size_at_most divisor divisor_fits in
     fits_signed_from_abs w16 (int_rem dividend divisor) (omega arith)
 
-done_divides : (dividend divisor : ℤ) → FitsSigned w16 divisor → 0 < unsigned_abs divisor → overflows Word (int_div dividend divisor) ≡ false
+done_divides : (dividend divisor : ℤ) → FitsSigned w16 divisor → 0 < unsigned_abs divisor
+    → overflows Word (int_div dividend divisor) ≡ false
     → IsDivided dividend divisor (done (int_div dividend divisor) (int_rem dividend divisor))
 done_divides dividend divisor divisor_fits nonzero held_in =
     let quotient_again : signed Word (modulo 0o200000 (int_div dividend divisor)) ≡ int_div dividend divisor =
@@ -47,8 +50,10 @@ done_divides dividend divisor divisor_fits nonzero held_in =
       record {
         whole = sym (quot-rem dividend divisor)
             ∙ ap (λ q. (q *ℤ divisor) +ℤ int_rem dividend divisor) (sym quotient_again)
-            ∙ ap (λ r. (signed Word (modulo 0o200000 (int_div dividend divisor)) *ℤ divisor) +ℤ r) (sym remainder_again);
-        smaller = let P : ℤ → Type 0 = λ r. unsigned_abs r < unsigned_abs divisor in subst P (sym remainder_again) (rem_below dividend divisor nonzero);
+            ∙ ap (λ r. (signed Word (modulo 0o200000 (int_div dividend divisor)) *ℤ divisor) +ℤ r)
+            (sym remainder_again);
+        smaller = let P : ℤ → Type 0 = λ r. unsigned_abs r < unsigned_abs divisor in
+            subst P (sym remainder_again) (rem_below dividend divisor nonzero);
         sign = let P : ℤ → Type 0 = λ r. (r ≡ pos 0) ⊎ (int_lt r (pos 0) ≡ int_lt dividend (pos 0)) in
             subst P (sym remainder_again) (sign_of_remainder dividend divisor);
       },
@@ -73,7 +78,8 @@ is_none : (m : ℕ) → (pos m ≡ pos 0) ⊎ (ltb m 0 ≡ true) → m ≡ 0
 is_none m (inl e) = cc
 is_none m (inr e) = absurd (true≢false (sym e ∙ le-ltb m 0 (omega arith)))
 
-quotient_of : (dividend divisor quotient remainder : ℤ) → IsQuotient dividend divisor quotient remainder → quotient ≡ int_div dividend divisor
+quotient_of : (dividend divisor quotient remainder : ℤ) → IsQuotient dividend divisor quotient remainder
+    → quotient ≡ int_div dividend divisor
 quotient_of (pos n) divisor quotient (negsuc m) is = absurd (not_below n m is.sign)
 quotient_of (pos n) (pos e) (pos k) (pos m) is =
     let w : n ≡ k * e + m = omega (arith, ints) in
@@ -119,13 +125,18 @@ quotient_of (negsuc n) (negsuc e) (negsuc k) (negsuc m) is =
 
 no_quotient : (dividend divisor : ℤ) → overflows Word (int_div dividend divisor) ≡ true → HasNoQuotient dividend divisor
 no_quotient dividend divisor over quotient remainder quotient_below remainder_below is =
-    let same : signed Word quotient ≡ int_div dividend divisor = quotient_of dividend divisor (signed Word quotient) (signed Word remainder) is in
-    true≢false (sym over ∙ ap (overflows Word) (sym same) ∙ word_holds (signed Word quotient) (signed_fits Word quotient quotient_below))
+    let same : signed Word quotient ≡ int_div dividend divisor =
+    quotient_of dividend divisor (signed Word quotient) (signed Word remainder) is in
+    true≢false (sym over ∙ ap (overflows Word) (sym same)
+    ∙ word_holds (signed Word quotient) (signed_fits Word quotient quotient_below))
 
-divided_divides : (dividend divisor : ℤ) → FitsSigned w16 divisor → 0 < unsigned_abs divisor → IsDivided dividend divisor (divided dividend divisor)
+divided_divides : (dividend divisor : ℤ) → FitsSigned w16 divisor → 0 < unsigned_abs divisor
+    → IsDivided dividend divisor (divided dividend divisor)
 divided_divides dividend divisor divisor_fits nonzero =
     let quotient : ℤ = int_div dividend divisor in
-    let D : Bool → Type 0 = λ b. IsDivided dividend divisor (cond b (refused_quotient quotient) (done quotient (int_rem dividend divisor))) in
+    let D : Bool → Type 0 =
+    λ b. IsDivided dividend divisor
+    (cond b (refused_quotient quotient) (done quotient (int_rem dividend divisor))) in
     elim (cases_Bool (overflows Word quotient)) [
       | inl over ↦ subst D (sym over) (refl, inr (no_quotient dividend divisor over))
       | inr held_in ↦ subst D (sym held_in) (done_divides dividend divisor divisor_fits nonzero held_in)
@@ -143,9 +154,12 @@ pub division_divides : (high low divisor : ℕ) → high < 0o200000 → low < 0o
     → IsDivided (joined high low) (signed Word divisor) (division_of high low divisor)
 unfolding division_of
 division_divides high low divisor high_below low_below divisor_below =
-    let D : Bool → Type 0 = λ b. IsDivided (joined high low) (signed Word divisor) (cond b refused_by_zero (divided (joined high low) (signed Word divisor))) in
+    let D : Bool → Type 0 =
+    λ b. IsDivided (joined high low) (signed Word divisor)
+    (cond b refused_by_zero (divided (joined high low) (signed Word divisor))) in
     elim (cases_Bool (divisor == 0)) [
       | inl by_zero ↦ subst D (sym by_zero) (refl, inl (zero_word divisor (eqb-true divisor 0 by_zero)))
       | inr nonzero ↦ subst D (sym nonzero)
-          (divided_divides (joined high low) (signed Word divisor) (signed_fits Word divisor divisor_below) (nonzero_word divisor divisor_below nonzero))
+          (divided_divides (joined high low) (signed Word divisor) (signed_fits Word divisor divisor_below)
+          (nonzero_word divisor divisor_below nonzero))
     ]

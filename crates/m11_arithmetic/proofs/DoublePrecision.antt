@@ -7,13 +7,15 @@ use Rattle.m11_arithmetic.specs.Doubles.{double_result}
 use Rattle.m11_arithmetic.specs.Singles.{single_result}
 use Rattle.m11_arithmetic.specs.Laws.{Adds, Subtracts}
 
-pub added : (source_high source_low high low : ℕ) (codes : ConditionCodes) → source_high < 0o200000 → source_low < 0o200000
+pub added : (source_high source_low high low : ℕ) (codes : ConditionCodes) → source_high < 0o200000
+    → source_low < 0o200000
     → high < 0o200000 → low < 0o200000 → Adds source_high source_low high low codes
 unfolding double_result single_result
 added source_high source_low high low codes source_high_below source_low_below high_below low_below =
     record { value = grind (arith, ints, nat_tests); carry = grind (arith, ints, nat_tests) }
 
-pub subtracted : (source_high source_low high low : ℕ) (codes : ConditionCodes) → source_high < 0o200000 → source_low < 0o200000
+pub subtracted : (source_high source_low high low : ℕ) (codes : ConditionCodes) → source_high < 0o200000
+    → source_low < 0o200000
     → high < 0o200000 → low < 0o200000 → Subtracts source_high source_low high low codes
 unfolding double_result single_result
 subtracted source_high source_low high low codes source_high_below source_low_below high_below low_below =

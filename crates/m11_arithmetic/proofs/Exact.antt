@@ -58,8 +58,10 @@ module _ (size : Size) (first second : ℕ) (a b c d : ℤ) (r : Computed)
       sum_held a b (small_pos size first a first_below a_is) (small_pos size second b second_below b_is) in
       let signed_held : held (held c +ℤ held d) ≡ c +ℤ d =
       sum_held c d (small_signed size first c first_below c_is) (small_signed size second d second_below d_is) in
-      r_is ∙ ap (λ z. exact_result size z (held (held c +ℤ held d))) (unsigned_held ∙ ap (λ z. z +ℤ b) a_is ∙ ap (λ z. pos first +ℤ z) b_is)
-      ∙ ap (λ z. exact_result size (pos first +ℤ pos second) z) (signed_held ∙ ap (λ z. z +ℤ d) c_is ∙ ap (λ z. signed size first +ℤ z) d_is)
+      r_is ∙ ap (λ z. exact_result size z (held (held c +ℤ held d)))
+      (unsigned_held ∙ ap (λ z. z +ℤ b) a_is ∙ ap (λ z. pos first +ℤ z) b_is)
+      ∙ ap (λ z. exact_result size (pos first +ℤ pos second) z)
+      (signed_held ∙ ap (λ z. z +ℤ d) c_is ∙ ap (λ z. signed size first +ℤ z) d_is)
 
   pub difference_exact : r ≡ exact_result size (held (held a -ℤ held b)) (held (held c -ℤ held d))
       → r ≡ difference size first second
@@ -68,8 +70,10 @@ module _ (size : Size) (first second : ℕ) (a b c d : ℤ) (r : Computed)
       difference_held a b (small_pos size first a first_below a_is) (small_pos size second b second_below b_is) in
       let signed_held : held (held c -ℤ held d) ≡ c -ℤ d =
       difference_held c d (small_signed size first c first_below c_is) (small_signed size second d second_below d_is) in
-      r_is ∙ ap (λ z. exact_result size z (held (held c -ℤ held d))) (unsigned_held ∙ ap (λ z. z -ℤ b) a_is ∙ ap (λ z. pos first -ℤ z) b_is)
-      ∙ ap (λ z. exact_result size (pos first -ℤ pos second) z) (signed_held ∙ ap (λ z. z -ℤ d) c_is ∙ ap (λ z. signed size first -ℤ z) d_is)
+      r_is ∙ ap (λ z. exact_result size z (held (held c -ℤ held d)))
+      (unsigned_held ∙ ap (λ z. z -ℤ b) a_is ∙ ap (λ z. pos first -ℤ z) b_is)
+      ∙ ap (λ z. exact_result size (pos first -ℤ pos second) z)
+      (signed_held ∙ ap (λ z. z -ℤ d) c_is ∙ ap (λ z. signed size first -ℤ z) d_is)
 
 -- what is below 0 by as much as a small number is above
 negated_held : (a : ℤ) → Small a → held (pos 0 -ℤ held a) ≡ neg_ℤ a
@@ -77,7 +81,8 @@ negated_held a small_a = omega (arith, ints)
 
 module _ (size : Size) (value kept : ℕ) (a c : ℤ) (overflow : Bool) (r : Computed) (below : value < size_limit size)
     (a_is : a ≡ pos value) (c_is : c ≡ signed size value) where
-  pub negated_exact : kept ≡ modulo (size_limit size) (held (pos 0 -ℤ held a)) → overflow ≡ overflows size (held (pos 0 -ℤ held c))
+  pub negated_exact : kept ≡ modulo (size_limit size) (held (pos 0 -ℤ held a))
+      → overflow ≡ overflows size (held (pos 0 -ℤ held c))
       → r ≡ with_codes size kept overflow (not (kept == 0)) → r ≡ negated size value
   negated_exact kept_is overflow_is r_is =
       let unsigned_held : held (pos 0 -ℤ held a) ≡ neg_ℤ (pos value) =
@@ -85,7 +90,8 @@ module _ (size : Size) (value kept : ℕ) (a c : ℤ) (overflow : Bool) (r : Com
       let signed_held : held (pos 0 -ℤ held c) ≡ neg_ℤ (signed size value) =
       negated_held c (small_signed size value c below c_is) ∙ ap neg_ℤ c_is in
       r_is ∙ ap (λ n. with_codes size n overflow (not (n == 0))) (kept_is ∙ ap (modulo (size_limit size)) unsigned_held)
-      ∙ ap (λ v. with_codes size (modulo (size_limit size) (neg_ℤ (pos value))) v (not (modulo (size_limit size) (neg_ℤ (pos value)) == 0))) (overflow_is ∙ ap (overflows size) signed_held)
+      ∙ ap (λ v. with_codes size (modulo (size_limit size) (neg_ℤ (pos value))) v
+      (not (modulo (size_limit size) (neg_ℤ (pos value)) == 0))) (overflow_is ∙ ap (overflows size) signed_held)
 
 -- ---- products
 
@@ -101,12 +107,15 @@ pub bits_held : (number : ℤ) → FitsSigned w32 number → of_z w32 number ≡
 bits_held (pos n) fits = omega (arith, fits.sfits)
 bits_held (negsuc n) fits = omega (arith, fits.sfits)
 
-pub product_fits : (register source : ℕ) → register < 2 ^ 16 → source < 2 ^ 16 → FitsSigned w32 (signed Word register *ℤ signed Word source)
+pub product_fits : (register source : ℕ) → register < 2 ^ 16 → source < 2 ^ 16
+    → FitsSigned w32 (signed Word register *ℤ signed Word source)
 product_fits register source register_below source_below =
-    fits_signed_mul w32 (signed Word register) (signed Word source) (2 ^ 15) (2 ^ 15) (word_size register register_below)
+    fits_signed_mul w32 (signed Word register) (signed Word source) (2 ^ 15) (2 ^ 15)
+    (word_size register register_below)
     (word_size source source_below) (omega arith)
 
-module _ (register source bits : ℕ) (a b : ℤ) (overflow : Bool) (r : Pair) (register_below : register < 2 ^ 16) (source_below : source < 2 ^ 16)
+module _ (register source bits : ℕ) (a b : ℤ) (overflow : Bool) (r : Pair) (register_below : register < 2 ^ 16)
+    (source_below : source < 2 ^ 16)
     (a_is : a ≡ signed Word register) (b_is : b ≡ signed Word source) where
   product_held : held (held a *ℤ held b) ≡ signed Word register *ℤ signed Word source
   product_held =
@@ -115,31 +124,38 @@ module _ (register source bits : ℕ) (a b : ℤ) (overflow : Bool) (r : Pair) (
       let held_a : held a ≡ signed Word register = omega (arith, ints) in
       let held_b : held b ≡ signed Word source = omega (arith, ints) in
       ap (λ x. held (x *ℤ held b)) held_a ∙ ap (λ y. held (signed Word register *ℤ y)) held_b
-      ∙ to_z-of_z w32 (signed Word register *ℤ signed Word source) (product_fits register source register_below source_below)
+      ∙ to_z-of_z w32 (signed Word register *ℤ signed Word source)
+      (product_fits register source register_below source_below)
 
   pub product_exact : bits ≡ of_z w32 (held (held a *ℤ held b)) → overflow ≡ overflows Word (held (held a *ℤ held b))
       → r ≡ pair_of bits false overflow → r ≡ product_of register source
   unfolding product_of
   product_exact bits_is overflow_is r_is =
       let product : ℤ = signed Word register *ℤ signed Word source in
-      r_is ∙ ap (λ n. pair_of n false overflow) (bits_is ∙ ap (of_z w32) product_held ∙ bits_held product (product_fits register source register_below source_below))
+      r_is ∙ ap (λ n. pair_of n false overflow)
+      (bits_is ∙ ap (of_z w32) product_held
+      ∙ bits_held product (product_fits register source register_below source_below))
       ∙ ap (λ v. pair_of (modulo 0o40000000000 product) false v) (overflow_is ∙ ap (overflows Word) product_held)
 
 -- ---- quotients
 
 pub divided_done : (dividend divisor quotient remainder : ℤ) (r : Division) → overflows Word quotient ≡ false
-    → quotient ≡ int_div dividend divisor → remainder ≡ int_rem dividend divisor → r ≡ done quotient remainder → r ≡ divided dividend divisor
+    → quotient ≡ int_div dividend divisor → remainder ≡ int_rem dividend divisor → r ≡ done quotient remainder
+    → r ≡ divided dividend divisor
 divided_done dividend divisor quotient remainder r no_overflow quotient_is remainder_is r_is =
     r_is ∙ ap (λ m. done quotient m) remainder_is ∙ ap (λ q. done q (int_rem dividend divisor)) quotient_is
-    ∙ sym (ap (λ b. cond b (refused_quotient (int_div dividend divisor)) (done (int_div dividend divisor) (int_rem dividend divisor)))
+    ∙ sym (ap (λ b. cond b (refused_quotient (int_div dividend divisor))
+    (done (int_div dividend divisor) (int_rem dividend divisor)))
     (ap (overflows Word) (sym quotient_is) ∙ no_overflow))
 
 -- a number that both tests let through
-pub no_overflow : (quotient : ℤ) → FitsSigned w64 quotient → int_lt (to_z w64 (of_z w64 quotient)) (negsuc 32767) ≡ false
+pub no_overflow : (quotient : ℤ) → FitsSigned w64 quotient
+    → int_lt (to_z w64 (of_z w64 quotient)) (negsuc 32767) ≡ false
     → int_lt (pos 32767) (to_z w64 (of_z w64 quotient)) ≡ false → overflows Word quotient ≡ false
 no_overflow quotient fits from to =
     let same : to_z w64 (of_z w64 quotient) ≡ quotient = to_z-of_z w64 quotient fits in
-    ap (λ b. b || int_lt (pos 32767) quotient) (ap (λ q. int_lt q (negsuc 32767)) (sym same) ∙ from) ∙ (ap (λ q. int_lt (pos 32767) q) (sym same) ∙ to)
+    ap (λ b. b || int_lt (pos 32767) quotient) (ap (λ q. int_lt q (negsuc 32767)) (sym same) ∙ from)
+    ∙ (ap (λ q. int_lt (pos 32767) q) (sym same) ∙ to)
 
 or_false : (a b : Bool) → (a || b) ≡ false → a ≡ false
 or_false true b e = e
@@ -158,9 +174,11 @@ word_again (negsuc n) fits = grind (arith, ints, nat_tests)
 pub word_holds : (number : ℤ) → FitsSigned w16 number → overflows Word number ≡ false
 word_holds number fits = grind (arith, ints, nat_tests)
 
-module _ (dividend divisor quotient remainder : ℤ) (r : Division) (dividend_fits : FitsSigned w32 dividend) (divisor_fits : FitsSigned w32 divisor)
+module _ (dividend divisor quotient remainder : ℤ) (r : Division) (dividend_fits : FitsSigned w32 dividend)
+    (divisor_fits : FitsSigned w32 divisor)
     (quotient_fits : FitsSigned w64 quotient) (remainder_fits : FitsSigned w32 remainder) where
-  pub division_exact : overflows Word quotient ≡ false → quotient ≡ int_div (held dividend) (held divisor) → remainder ≡ int_rem (held dividend) (held divisor)
+  pub division_exact : overflows Word quotient ≡ false → quotient ≡ int_div (held dividend) (held divisor)
+      → remainder ≡ int_rem (held dividend) (held divisor)
       → r ≡ done (held (to_z w64 (of_z w64 quotient))) (held remainder) → r ≡ divided dividend divisor
   division_exact held_in quotient_is remainder_is r_is =
       let in_word : FitsSigned w16 quotient = held_in_word quotient held_in in

@@ -34,7 +34,8 @@ times_more : (number : ℤ) (n : ℕ) → times number (suc n) ≡ times number 
 times_more (pos a) n = ap pos (doubled a n)
 times_more (negsuc a) n = ap (λ m. neg_ℤ (pos m)) (doubled (suc a) n) ∙ doubled_below (suc a * 2 ^ n)
 
-modulo_more : (number : ℤ) → (modulo 0o200000 number + modulo 0o200000 number) % 0o200000 ≡ modulo 0o200000 (number +ℤ number)
+modulo_more : (number : ℤ)
+    → (modulo 0o200000 number + modulo 0o200000 number) % 0o200000 ≡ modulo 0o200000 (number +ℤ number)
 modulo_more (pos a) = omega arith
 modulo_more (negsuc a) = omega arith
 
@@ -58,7 +59,8 @@ steps_times value (suc n) below =
 steps_hold : (value n : ℕ) → value < 0o200000 → overflows Word (times (signed Word value) n) ≡ false
     → signed Word (steps_left n value) ≡ times (signed Word value) n
 steps_hold value n below held_in =
-    ap (signed Word) (steps_are value n below) ∙ word_again (times (signed Word value) n) (held_in_word (times (signed Word value) n) held_in)
+    ap (signed Word) (steps_are value n below)
+    ∙ word_again (times (signed Word value) n) (held_in_word (times (signed Word value) n) held_in)
 
 -- doubling keeps the sign
 sign_of_double : (number : ℤ) → int_lt (number +ℤ number) (pos 0) ≡ int_lt number (pos 0)
@@ -74,13 +76,15 @@ sign_of_times number (suc n) =
 held_half : (number : ℤ) → overflows Word (number +ℤ number) ≡ false → overflows Word number ≡ false
 held_half number held_in = grind (arith, ints, nat_tests)
 
-held_before : (number : ℤ) (n k : ℕ) → k ≤ n → overflows Word (times number n) ≡ false → overflows Word (times number k) ≡ false
+held_before : (number : ℤ) (n k : ℕ) → k ≤ n → overflows Word (times number n) ≡ false
+    → overflows Word (times number k) ≡ false
 held_before number zero k below held_in =
     let e : zero ≡ k = omega arith in
     let P : ℕ → Type 0 = λ m. overflows Word (times number m) ≡ false in subst P e held_in
 held_before number (suc n) k below held_in =
     elim (cases_lt k (suc n)) [
-      | inl less ↦ held_before number n k (omega arith) (held_half (times number n) (ap (overflows Word) (sym (times_more number n)) ∙ held_in))
+      | inl less ↦ held_before number n k (omega arith)
+          (held_half (times number n) (ap (overflows Word) (sym (times_more number n)) ∙ held_in))
       | inr same ↦ (let e : suc n ≡ k = omega arith in
           let P : ℕ → Type 0 = λ m. overflows Word (times number m) ≡ false in subst P e held_in)
     ]
@@ -95,7 +99,9 @@ changes_more value n (k, below, differs) = (k, omega arith, differs)
 
 changes : (value n : ℕ) → value < 0o200000 → overflows Word (times (signed Word value) n) ≡ true → SignChanges value n
 changes value zero below over =
-    absurd (false≢true (sym (ap (overflows Word) (times_none (signed Word value)) ∙ word_holds (signed Word value) (signed_fits Word value below)) ∙ over))
+    absurd (false≢true (sym
+    (ap (overflows Word) (times_none (signed Word value))
+    ∙ word_holds (signed Word value) (signed_fits Word value below)) ∙ over))
 changes value (suc n) below over =
     let number : ℤ = times (signed Word value) n in
     elim (cases_Bool (overflows Word number)) [
@@ -104,8 +110,10 @@ changes value (suc n) below over =
         suc n,
         omega arith,
         λ same.
-            turned number (held_in_word number held_in) (ap (overflows Word) (sym (times_more (signed Word value) n)) ∙ over)
-            (ap (λ m. int_lt (signed Word m) (pos 0)) (sym (steps_are value (suc n) below ∙ ap (modulo 0o200000) (times_more (signed Word value) n)))
+            turned number (held_in_word number held_in)
+            (ap (overflows Word) (sym (times_more (signed Word value) n)) ∙ over)
+            (ap (λ m. int_lt (signed Word m) (pos 0))
+            (sym (steps_are value (suc n) below ∙ ap (modulo 0o200000) (times_more (signed Word value) n)))
             ∙ same ∙ sym (sign_of_times (signed Word value) n)),
       )
     ]
@@ -113,12 +121,14 @@ changes value (suc n) below over =
 no_changes : (value n k : ℕ) → value < 0o200000 → k ≤ n → overflows Word (times (signed Word value) n) ≡ false
     → int_lt (signed Word (steps_left k value)) (pos 0) ≡ int_lt (signed Word value) (pos 0)
 no_changes value n k below k_below held_in =
-    ap (λ z. int_lt z (pos 0)) (steps_hold value k below (held_before (signed Word value) n k k_below held_in)) ∙ sign_of_times (signed Word value) k
+    ap (λ z. int_lt z (pos 0)) (steps_hold value k below (held_before (signed Word value) n k k_below held_in))
+    ∙ sign_of_times (signed Word value) k
 
 -- what ASH computes by a count of places
 abbrev pub result_by : ℕ → ℤ → Computed
 result_by value count =
-    with_codes Word (modulo (size_limit Word) (shifted (signed Word value) count)) (overflows Word (shifted (signed Word value) count))
+    with_codes Word (modulo (size_limit Word) (shifted (signed Word value) count))
+    (overflows Word (shifted (signed Word value) count))
     (last_bit 16 (signed Word value) count)
 
 -- the digit above the word of a double is the highest digit in the word
@@ -147,13 +157,16 @@ left_by value n below =
       carry = last_is value n below;
     }
 
-pub left : (value count n : ℕ) → value < 0o200000 → places count ≡ pos n → IsShiftedLeft value n (shift_result value count)
+pub left : (value count n : ℕ) → value < 0o200000 → places count ≡ pos n
+    → IsShiftedLeft value n (shift_result value count)
 unfolding shift_result
 left value count n below places_is =
-    let P : ℤ → Type 0 = λ p. IsShiftedLeft value n (result_by value p) in subst P (sym places_is) (left_by value n below)
+    let P : ℤ → Type 0 = λ p. IsShiftedLeft value n (result_by value p) in
+    subst P (sym places_is) (left_by value n below)
 
 -- a quotient rounded down
-quotient_below : (number : ℤ) (divisor : ℕ) → 0 < divisor → (int_div_euclid number (pos divisor) *ℤ pos divisor) ≤ℤ number
+quotient_below : (number : ℤ) (divisor : ℕ) → 0 < divisor
+    → (int_div_euclid number (pos divisor) *ℤ pos divisor) ≤ℤ number
 quotient_below (pos a) divisor positive =
     let split : a / divisor * divisor + a % divisor ≡ a = div-add-mod' a divisor in
     let e : a / divisor * divisor ≤ a = omega arith in
@@ -173,7 +186,8 @@ one_more (suc q) divisor =
     let e : negsuc (suc q) +ℤ pos 1 ≡ negsuc q = omega (arith, ints) in
     ap (λ z. z *ℤ pos divisor) e
 
-quotient_above : (number : ℤ) (divisor : ℕ) → 0 < divisor → number <ℤ ((int_div_euclid number (pos divisor) +ℤ pos 1) *ℤ pos divisor)
+quotient_above : (number : ℤ) (divisor : ℕ) → 0 < divisor
+    → number <ℤ ((int_div_euclid number (pos divisor) +ℤ pos 1) *ℤ pos divisor)
 quotient_above (pos a) divisor positive =
     let split : a / divisor * divisor + a % divisor ≡ a = div-add-mod' a divisor in
     let rest : a % divisor < divisor = mod_below a divisor positive in
@@ -186,28 +200,38 @@ quotient_above (negsuc a) divisor positive =
     let below : negsuc a <ℤ neg_ℤ (pos (a / divisor * divisor)) = omega (arith, ints) in
     let P : ℤ → Type 0 = λ z. negsuc a <ℤ z in subst P (sym (one_more (a / divisor) divisor)) below
 
-quotient_fits : (number : ℤ) (divisor : ℕ) → FitsSigned w16 number → FitsSigned w16 (int_div_euclid number (pos divisor))
+quotient_fits : (number : ℤ) (divisor : ℕ) → FitsSigned w16 number
+    → FitsSigned w16 (int_div_euclid number (pos divisor))
 quotient_fits (pos a) divisor fits = record { sfits = omega (arith, div-le_self a divisor, fits.sfits) }
 quotient_fits (negsuc a) divisor fits = record { sfits = omega (arith, div-le_self a divisor, fits.sfits) }
 
-floored : (value : ℕ) (divisor : ℕ) (quotient : ℤ) → value < 0o200000 → 0 < divisor → quotient ≡ int_div_euclid (signed Word value) (pos divisor)
+floored : (value : ℕ) (divisor : ℕ) (quotient : ℤ) → value < 0o200000 → 0 < divisor
+    → quotient ≡ int_div_euclid (signed Word value) (pos divisor)
     → ((signed Word (modulo 0o200000 quotient) *ℤ pos divisor) ≤ℤ signed Word value)
-    × (signed Word value <ℤ ((signed Word (modulo 0o200000 quotient) +ℤ pos 1) *ℤ pos divisor)) × (overflows Word quotient ≡ false)
+    × (signed Word value <ℤ ((signed Word (modulo 0o200000 quotient) +ℤ pos 1) *ℤ pos divisor))
+    × (overflows Word quotient ≡ false)
     × (signed Word (modulo 0o200000 quotient) ≡ quotient)
 floored value divisor quotient below positive quotient_is =
     let number : ℤ = signed Word value in
     let fits : FitsSigned w16 quotient =
-    (let P : ℤ → Type 0 = λ z. FitsSigned w16 z in subst P (sym quotient_is) (quotient_fits number divisor (signed_fits Word value below))) in
-    let again : int_div_euclid number (pos divisor) ≡ signed Word (modulo 0o200000 quotient) = sym quotient_is ∙ sym (word_again quotient fits) in
+    (let P : ℤ → Type 0 = λ z. FitsSigned w16 z in
+    subst P (sym quotient_is) (quotient_fits number divisor (signed_fits Word value below))) in
+    let again : int_div_euclid number (pos divisor) ≡ signed Word (modulo 0o200000 quotient) =
+    sym quotient_is ∙ sym (word_again quotient fits) in
     let From : ℤ → Type 0 = λ z. (z *ℤ pos divisor) ≤ℤ number in
-    let To : ℤ → Type 0 = λ z. number <ℤ ((z +ℤ pos 1) *ℤ pos divisor) in
-    (subst From again (quotient_below number divisor positive), subst To again (quotient_above number divisor positive), word_holds quotient fits, word_again quotient fits)
+    let To : ℤ → Type 0 = λ z. number <ℤ ((z +ℤ pos 1) *ℤ pos divisor) in (
+      subst From again (quotient_below number divisor positive),
+      subst To again (quotient_above number divisor positive),
+      word_holds quotient fits,
+      word_again quotient fits,
+    )
 
 by_one : (number : ℤ) → number ≡ int_div_euclid number (pos 1)
 by_one (pos a) = ap pos (omega arith)
 by_one (negsuc a) = ap negsuc (omega arith)
 
-halves : (number : ℤ) (n : ℕ) → int_div_euclid (int_div_euclid number (pos (2 ^ n))) (pos 2) ≡ int_div_euclid number (pos (2 ^ suc n))
+halves : (number : ℤ) (n : ℕ)
+    → int_div_euclid (int_div_euclid number (pos (2 ^ n))) (pos 2) ≡ int_div_euclid number (pos (2 ^ suc n))
 halves (pos a) n = ap pos (shr-shr a n 1 ∙ ap (λ k. a / 2 ^ k) (let e : n + 1 ≡ suc n = omega arith in e))
 halves (negsuc a) n = ap negsuc (shr-shr a n 1 ∙ ap (λ k. a / 2 ^ k) (let e : n + 1 ≡ suc n = omega arith in e))
 
@@ -218,7 +242,9 @@ steps_right_are number (suc n) = ap (λ z. int_div_euclid z (pos 2)) (steps_righ
 
 right_by : (value n : ℕ) → value < 0o200000 → IsShiftedRight value n (result_by value (neg_ℤ (pos n)))
 right_by value zero below =
-    let f = floored value 1 (times (signed Word value) 0) below (omega arith) (times_none (signed Word value) ∙ by_one (signed Word value)) in
+    let f =
+    floored value 1 (times (signed Word value) 0) below (omega arith)
+    (times_none (signed Word value) ∙ by_one (signed Word value)) in
     record { from = f.0; to = f.1; by_steps = f.3 ∙ times_none (signed Word value); sign_kept = f.2; carry = refl }
 right_by value (suc n) below =
     let number : ℤ = signed Word value in
@@ -231,7 +257,9 @@ right_by value (suc n) below =
       carry = ap (λ z. modulo 2 z == 1) (sym (steps_right_are number n));
     }
 
-pub right : (value count n : ℕ) → value < 0o200000 → places count ≡ neg_ℤ (pos n) → IsShiftedRight value n (shift_result value count)
+pub right : (value count n : ℕ) → value < 0o200000 → places count ≡ neg_ℤ (pos n)
+    → IsShiftedRight value n (shift_result value count)
 unfolding shift_result
 right value count n below places_is =
-    let P : ℤ → Type 0 = λ p. IsShiftedRight value n (result_by value p) in subst P (sym places_is) (right_by value n below)
+    let P : ℤ → Type 0 = λ p. IsShiftedRight value n (result_by value p) in
+    subst P (sym places_is) (right_by value n below)

@@ -34,7 +34,8 @@ pub record AreCompared (size : Size) (first second : ℕ) (codes : ConditionCode
   pub lower_or_same : IsTrue (is_taken Blos codes) ↔ (first ≤ second)
 
 abbrev pub CompareThenBranch : Size → Type 0
-CompareThenBranch size = (first second : ℕ) (codes : ConditionCodes) → first < size_limit size → second < size_limit size
+CompareThenBranch size = (first second : ℕ) (codes : ConditionCodes) → first < size_limit size
+    → second < size_limit size
     → AreCompared size first second (double_result Cmp size first second codes).codes
 
 -- ---- double precision
@@ -75,7 +76,8 @@ Subtracts source_high source_low high low codes =
 -- the two words of a product are the exact product of two words with signs
 abbrev pub IsProduct : ℕ → ℕ → Type 0
 IsProduct register source =
-    joined (product_of register source).high (product_of register source).low ≡ signed Word register *ℤ signed Word source
+    joined (product_of register source).high (product_of register source).low
+    ≡ signed Word register *ℤ signed Word source
 
 -- a quotient rounded towards 0, and its remainder, which is smaller than the divisor and 0 or of the
 -- dividend's sign
@@ -93,7 +95,8 @@ HasNoQuotient dividend divisor = (quotient remainder : ℕ) → quotient < 0o200
 abbrev pub IsDivided : ℤ → ℤ → Division → Type 0
 IsDivided dividend divisor (Done quotient remainder codes) =
     (codes.overflow ≡ false) × IsQuotient dividend divisor (signed Word quotient) (signed Word remainder)
-IsDivided dividend divisor (Refused codes) = (codes.overflow ≡ true) × ((divisor ≡ pos 0) ⊎ HasNoQuotient dividend divisor)
+IsDivided dividend divisor (Refused codes) =
+    (codes.overflow ≡ true) × ((divisor ≡ pos 0) ⊎ HasNoQuotient dividend divisor)
 
 -- ---- shifts
 
@@ -104,7 +107,8 @@ steps_left (suc n) value = (steps_left n value + steps_left n value) % 0o200000
 
 -- the sign differs from the first one behind some step
 abbrev pub SignChanges : ℕ → ℕ → Type 0
-SignChanges value n = (k : ℕ) × (k ≤ n) × (int_lt (signed Word (steps_left k value)) (pos 0) ≢ int_lt (signed Word value) (pos 0))
+SignChanges value n = (k : ℕ) × (k ≤ n)
+    × (int_lt (signed Word (steps_left k value)) (pos 0) ≢ int_lt (signed Word value) (pos 0))
 
 -- the bit that left at the last of so many steps to the left
 abbrev pub left_last : ℕ → ℕ → Bool

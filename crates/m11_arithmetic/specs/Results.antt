@@ -27,7 +27,8 @@ with_codes size value overflow carry = record {
 -- the size can't represent the second, C where the first is no value of the size
 abbrev pub exact_result : Size → ℤ → ℤ → Computed
 exact_result size unsigned_number signed_number =
-    with_codes size (modulo (size_limit size) unsigned_number) (overflows size signed_number) (is_outside size unsigned_number)
+    with_codes size (modulo (size_limit size) unsigned_number) (overflows size signed_number)
+    (is_outside size unsigned_number)
 
 -- 32 bits in two words; N where their highest bit is set, and Z where they are all 0
 abbrev pub pair_of : ℕ → Bool → Bool → Pair

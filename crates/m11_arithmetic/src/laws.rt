@@ -20,14 +20,16 @@ pub fn branches_after_compare()
 /// ADD of the low words, ADC to the high word and ADD of the high words add numbers of 32 bits: the sum
 /// modulo 2 to the 32, whose carry is C behind ADC or C behind the last ADD.
 pub fn double_precision_addition()
-    ensures { (source_high source_low high low : ℕ) (codes : ConditionCodes) → source_high < 0o200000 → source_low < 0o200000
+    ensures { (source_high source_low high low : ℕ) (codes : ConditionCodes) → source_high < 0o200000
+        → source_low < 0o200000
         → high < 0o200000 → low < 0o200000 → Adds source_high source_low high low codes }
 {}
 
 /// SUB of the low words, SBC from the high word and SUB of the high words subtract numbers of 32 bits:
 /// the difference modulo 2 to the 32, whose borrow is C behind SBC or C behind the last SUB.
 pub fn double_precision_subtraction()
-    ensures { (source_high source_low high low : ℕ) (codes : ConditionCodes) → source_high < 0o200000 → source_low < 0o200000
+    ensures { (source_high source_low high low : ℕ) (codes : ConditionCodes) → source_high < 0o200000
+        → source_low < 0o200000
         → high < 0o200000 → low < 0o200000 → Subtracts source_high source_low high low codes }
 {}
 

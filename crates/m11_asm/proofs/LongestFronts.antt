@@ -23,7 +23,8 @@ left_of : (a b : Bool) → (a && b) ≡ true → a ≡ true
 left_of true b e = refl
 left_of false b e = e
 
-stand_from-push : (place : ℕ) (xs : List Piece) (p : Piece) → stand_from place (xs ++ p ∷ []) ≡ (stand_from place xs && (p.place == place + 2 * length xs))
+stand_from-push : (place : ℕ) (xs : List Piece) (p : Piece)
+    → stand_from place (xs ++ p ∷ []) ≡ (stand_from place xs && (p.place == place + 2 * length xs))
 stand_from-push place [] p = and-true (p.place == place) ∙ ap (λ n. p.place == n) (omega arith)
 stand_from-push place (x ∷ xs) p =
     ap (λ b. (x.place == place) && b) (stand_from-push (place + 2) xs p)
@@ -46,12 +47,15 @@ takes_one_text h hs p one =
     let is_next : ℕ → Bool = λ n. p.place == h.place + n in
     let fits : ℕ → Bool = λ n. leb n 32 in
     ap (λ b. b && fits (2 * length (front ++ p ∷ []))) (stand_from-push h.place front p)
-    ∙ ap (λ b. (b && is_next (2 * length front)) && fits (2 * length (front ++ p ∷ []))) (left_of (stand_from h.place front) (fits (2 * length front)) one)
+    ∙ ap (λ b. (b && is_next (2 * length front)) && fits (2 * length (front ++ p ∷ [])))
+    (left_of (stand_from h.place front) (fits (2 * length front)) one)
     ∙ ap (λ n. is_next n && fits (2 * length (front ++ p ∷ []))) (sym (bytes-length front))
     ∙ ap (λ n. is_next (length (bytes_of front)) && fits n) (omega (arith, length-push front p, bytes-length front))
 
-text-push : (h : Piece) (hs : List Piece) (p : Piece) → with_piece (text_of_front (h ∷ hs)) p ≡ text_of_front ((h ∷ hs) ++ p ∷ [])
-text-push h hs p = ap (λ (b : List ℕ). record { place = h.place; bytes = b }) (sym (flat_map-append (λ (piece : Piece). word_bytes piece.word) (h ∷ hs) (p ∷ [])))
+text-push : (h : Piece) (hs : List Piece) (p : Piece)
+    → with_piece (text_of_front (h ∷ hs)) p ≡ text_of_front ((h ∷ hs) ++ p ∷ [])
+text-push h hs p = ap (λ (b : List ℕ). record { place = h.place; bytes = b })
+    (sym (flat_map-append (λ (piece : Piece). word_bytes piece.word) (h ∷ hs) (p ∷ [])))
 
 one_alone : (p : Piece) → are_one_text (p ∷ []) ≡ true
 one_alone p = rw (eq-eqb p.place p.place refl) refl
@@ -80,13 +84,17 @@ from_taken h hs p ps e f =
     record {
       more = p ∷ f.more;
       rest = f.rest;
-      pieces-are = sym (append_assoc (h ∷ hs) (p ∷ []) ps) ∙ f.pieces-are ∙ ap (λ (front : List Piece). flat_map (λ x. x) (front ∷ f.rest)) fronts;
-      texts-are = ap (λ (b : Bool). cond b (texts_from (with_piece (text_of_front (h ∷ hs)) p) ps) (text_of_front (h ∷ hs) ∷ texts_from (alone p) ps)) e
-          ∙ ap (λ (t : Placed). texts_from t ps) (text-push h hs p) ∙ f.texts-are ∙ ap (λ (front : List Piece). map text_of_front (front ∷ f.rest)) fronts;
+      pieces-are = sym (append_assoc (h ∷ hs) (p ∷ []) ps) ∙ f.pieces-are
+          ∙ ap (λ (front : List Piece). flat_map (λ x. x) (front ∷ f.rest)) fronts;
+      texts-are = ap (λ (b : Bool). cond b (texts_from (with_piece (text_of_front (h ∷ hs)) p) ps)
+          (text_of_front (h ∷ hs) ∷ texts_from (alone p) ps)) e
+          ∙ ap (λ (t : Placed). texts_from t ps) (text-push h hs p) ∙ f.texts-are
+          ∙ ap (λ (front : List Piece). map text_of_front (front ∷ f.rest)) fronts;
       longest = subst (λ (front : List Piece). AreLongest (front ∷ f.rest)) fronts f.longest;
     }
 
-from_closed : (h : Piece) (hs : List Piece) (p : Piece) (ps : List Piece) → are_one_text (h ∷ hs) ≡ true → takes_in (text_of_front (h ∷ hs)) p ≡ false
+from_closed : (h : Piece) (hs : List Piece) (p : Piece) (ps : List Piece) → are_one_text (h ∷ hs) ≡ true
+    → takes_in (text_of_front (h ∷ hs)) p ≡ false
     → From (p ∷ []) ps → From (h ∷ hs) (p ∷ ps)
 from_closed h hs p ps one e f =
     let whole : (h ∷ hs) ++ [] ≡ h ∷ hs = append-nil (h ∷ hs) in
@@ -95,7 +103,8 @@ from_closed h hs p ps one e f =
       rest = (p ∷ f.more) ∷ f.rest;
       pieces-are = ap (λ (t : List Piece). (h ∷ hs) ++ t) f.pieces-are
           ∙ ap (λ (front : List Piece). front ++ flat_map (λ x. x) ((p ∷ f.more) ∷ f.rest)) (sym whole);
-      texts-are = ap (λ (b : Bool). cond b (texts_from (with_piece (text_of_front (h ∷ hs)) p) ps) (text_of_front (h ∷ hs) ∷ texts_from (alone p) ps)) e
+      texts-are = ap (λ (b : Bool). cond b (texts_from (with_piece (text_of_front (h ∷ hs)) p) ps)
+          (text_of_front (h ∷ hs) ∷ texts_from (alone p) ps)) e
           ∙ ap (λ (t : List Placed). text_of_front (h ∷ hs) ∷ t) f.texts-are
           ∙ ap (λ (front : List Piece). text_of_front front ∷ map text_of_front ((p ∷ f.more) ∷ f.rest)) (sym whole);
       longest = (
@@ -107,7 +116,8 @@ from_closed h hs p ps one e f =
 
 from : (h : Piece) (hs ps : List Piece) → are_one_text (h ∷ hs) ≡ true → From (h ∷ hs) ps
 from h hs [] one = from_none h hs one
-from h hs (p ∷ ps) one = by_taking (takes_in (text_of_front (h ∷ hs)) p) refl (λ first others is_one. from first others ps is_one)
+from h hs (p ∷ ps) one =
+    by_taking (takes_in (text_of_front (h ∷ hs)) p) refl (λ first others is_one. from first others ps is_one)
   where
     by_taking : (b : Bool) → takes_in (text_of_front (h ∷ hs)) p ≡ b
         → ((first : Piece) (others : List Piece) → are_one_text (first ∷ others) ≡ true → From (first ∷ others) ps)
@@ -133,18 +143,24 @@ stand_from-front place (x ∷ xs) ys e = both_of (x.place == place) (stand_from 
 -- a beginning of what one text can hold is such, too
 one_text-front : (x : Piece) (xs ys : List Piece) → are_one_text ((x ∷ xs) ++ ys) ≡ true → are_one_text (x ∷ xs) ≡ true
 one_text-front x xs ys e =
-    let most : leb (2 * length ((x ∷ xs) ++ ys)) 32 ≡ true = right_of (stand_from x.place ((x ∷ xs) ++ ys)) (leb (2 * length ((x ∷ xs) ++ ys)) 32) e in
+    let most : leb (2 * length ((x ∷ xs) ++ ys)) 32 ≡ true =
+    right_of (stand_from x.place ((x ∷ xs) ++ ys)) (leb (2 * length ((x ∷ xs) ++ ys)) 32) e in
     both_of (stand_from x.place (x ∷ xs)) (leb (2 * length (x ∷ xs)) 32)
-    (stand_from-front x.place (x ∷ xs) ys (left_of (stand_from x.place ((x ∷ xs) ++ ys)) (leb (2 * length ((x ∷ xs) ++ ys)) 32) e))
-    (le-leb (2 * length (x ∷ xs)) 32 (omega (arith, length-append (x ∷ xs) ys, leb-true (2 * length ((x ∷ xs) ++ ys)) 32 most)))
+    (stand_from-front x.place (x ∷ xs) ys
+    (left_of (stand_from x.place ((x ∷ xs) ++ ys)) (leb (2 * length ((x ∷ xs) ++ ys)) 32) e))
+    (le-leb (2 * length (x ∷ xs)) 32
+    (omega (arith, length-append (x ∷ xs) ys, leb-true (2 * length ((x ∷ xs) ++ ys)) 32 most)))
 
 -- what one text can't hold, it can't with more behind
-no_text-more : (x : Piece) (xs : List Piece) (p : Piece) (ps : List Piece) → are_one_text ((x ∷ xs) ++ p ∷ []) ≡ false → are_one_text ((x ∷ xs) ++ p ∷ ps) ≡ false
+no_text-more : (x : Piece) (xs : List Piece) (p : Piece) (ps : List Piece) → are_one_text ((x ∷ xs) ++ p ∷ []) ≡ false
+    → are_one_text ((x ∷ xs) ++ p ∷ ps) ≡ false
 no_text-more x xs p ps e = by_test (are_one_text ((x ∷ xs) ++ p ∷ ps)) refl
   where
     by_test : (b : Bool) → are_one_text ((x ∷ xs) ++ p ∷ ps) ≡ b → b ≡ false
     by_test false f = refl
-    by_test true f = absurd (true≢false (sym (one_text-front x (xs ++ p ∷ []) ps (ap are_one_text (append_assoc (x ∷ xs) (p ∷ []) ps) ∙ f)) ∙ e))
+    by_test true f = absurd
+        (true≢false (sym (one_text-front x (xs ++ p ∷ []) ps (ap are_one_text (append_assoc (x ∷ xs) (p ∷ []) ps) ∙ f))
+        ∙ e))
 
 z+-suc : (n : ℕ) → 0 + suc n ≡ suc n
 z+-suc n = omega arith
@@ -158,29 +174,37 @@ none_more n = omega arith
 one_fewer : (m n : ℕ) → m + suc n ≡ suc m + n
 one_fewer m n = omega arith
 
-take_behind : (xs : List Piece) (p : Piece) (ps : List Piece) (n : ℕ) → take (length xs + suc n) (xs ++ p ∷ ps) ≡ xs ++ p ∷ take n ps
+take_behind : (xs : List Piece) (p : Piece) (ps : List Piece) (n : ℕ)
+    → take (length xs + suc n) (xs ++ p ∷ ps) ≡ xs ++ p ∷ take n ps
 take_behind [] p ps n = ap (λ (m : ℕ). take m (p ∷ ps)) (z+-suc n)
-take_behind (x ∷ xs) p ps n = ap (λ (m : ℕ). take m (x ∷ (xs ++ p ∷ ps))) (shifted (length xs) (suc n)) ∙ ap (λ (t : List Piece). x ∷ t) (take_behind xs p ps n)
+take_behind (x ∷ xs) p ps n = ap (λ (m : ℕ). take m (x ∷ (xs ++ p ∷ ps))) (shifted (length xs) (suc n))
+    ∙ ap (λ (t : List Piece). x ∷ t) (take_behind xs p ps n)
 
 -- the longest front of so many pieces more than it has
-longest_front-end : (x : Piece) (xs : List Piece) → are_one_text (x ∷ xs) ≡ true → longest_front (length (x ∷ xs)) (x ∷ xs) ≡ x ∷ xs
+longest_front-end : (x : Piece) (xs : List Piece) → are_one_text (x ∷ xs) ≡ true
+    → longest_front (length (x ∷ xs)) (x ∷ xs) ≡ x ∷ xs
 longest_front-end x xs one =
-    ap (λ (t : List Piece). cond (are_one_text t) t (longest_front (length xs) (x ∷ xs))) (take_all (length (x ∷ xs)) (x ∷ xs) (omega arith))
+    ap (λ (t : List Piece). cond (are_one_text t) t (longest_front (length xs) (x ∷ xs)))
+    (take_all (length (x ∷ xs)) (x ∷ xs) (omega arith))
     ∙ ap (λ (b : Bool). cond b (x ∷ xs) (longest_front (length xs) (x ∷ xs))) one
 
-longest_front-more : (x : Piece) (xs : List Piece) (p : Piece) (ps : List Piece) → are_one_text (x ∷ xs) ≡ true → are_one_text ((x ∷ xs) ++ p ∷ []) ≡ false
+longest_front-more : (x : Piece) (xs : List Piece) (p : Piece) (ps : List Piece) → are_one_text (x ∷ xs) ≡ true
+    → are_one_text ((x ∷ xs) ++ p ∷ []) ≡ false
     → (n : ℕ) → longest_front (length (x ∷ xs) + n) ((x ∷ xs) ++ p ∷ ps) ≡ x ∷ xs
 longest_front-more x xs p ps one none zero =
     let whole = (x ∷ xs) ++ p ∷ ps in
     ap (λ (n : ℕ). longest_front n whole) (none_more (length (x ∷ xs)))
-    ∙ ap (λ (t : List Piece). cond (are_one_text t) t (longest_front (length xs) whole)) (take-append_seam (x ∷ xs) (p ∷ ps))
+    ∙ ap (λ (t : List Piece). cond (are_one_text t) t (longest_front (length xs) whole))
+    (take-append_seam (x ∷ xs) (p ∷ ps))
     ∙ ap (λ (b : Bool). cond b (x ∷ xs) (longest_front (length xs) whole)) one
 longest_front-more x xs p ps one none (suc n) =
     let whole = (x ∷ xs) ++ p ∷ ps in
     let fewer : ℕ = length xs + suc n in
     ap (λ (m : ℕ). longest_front m whole) (shifted (length xs) (suc n))
-    ∙ ap (λ (t : List Piece). cond (are_one_text t) t (longest_front fewer whole)) (ap (λ (m : ℕ). take m whole) (sym (shifted (length xs) (suc n))) ∙ take_behind (x ∷ xs) p ps n)
-    ∙ ap (λ (b : Bool). cond b ((x ∷ xs) ++ p ∷ take n ps) (longest_front fewer whole)) (no_text-more x xs p (take n ps) none)
+    ∙ ap (λ (t : List Piece). cond (are_one_text t) t (longest_front fewer whole))
+    (ap (λ (m : ℕ). take m whole) (sym (shifted (length xs) (suc n))) ∙ take_behind (x ∷ xs) p ps n)
+    ∙ ap (λ (b : Bool). cond b ((x ∷ xs) ++ p ∷ take n ps) (longest_front fewer whole))
+    (no_text-more x xs p (take n ps) none)
     ∙ ap (λ (m : ℕ). longest_front m whole) (one_fewer (length xs) n)
     ∙ longest_front-more x xs p ps one none n
 
@@ -192,7 +216,8 @@ first_is_longest : (x : Piece) (xs : List Piece) (fronts : List (List Piece)) �
 first_is_longest x xs [] longest =
     ap (λ (t : List Piece). longest_front (length t) t) (append-nil (x ∷ xs)) ∙ longest_front-end x xs longest
 first_is_longest x xs ((p ∷ ps) ∷ fronts) longest =
-    ap (λ (n : ℕ). longest_front n (whole_of ((x ∷ xs) ∷ (p ∷ ps) ∷ fronts))) (length-append (x ∷ xs) (whole_of ((p ∷ ps) ∷ fronts)))
+    ap (λ (n : ℕ). longest_front n (whole_of ((x ∷ xs) ∷ (p ∷ ps) ∷ fronts)))
+    (length-append (x ∷ xs) (whole_of ((p ∷ ps) ∷ fronts)))
     ∙ longest_front-more x xs p (ps ++ whole_of fronts) longest.0 longest.1 (length (whole_of ((p ∷ ps) ∷ fronts)))
 first_is_longest x xs ([] ∷ []) longest = absurd (false≢true longest.2)
 first_is_longest x xs ([] ∷ next ∷ fronts) longest = absurd (false≢true longest.2.0)
@@ -201,21 +226,25 @@ tail_longest : (front : List Piece) (fronts : List (List Piece)) → AreLongest 
 tail_longest front [] longest = tt
 tail_longest front (next ∷ fronts) longest = longest.2
 
-texts_are : (most : ℕ) (fronts : List (List Piece)) → AreLongest fronts → length (whole_of fronts) ≤ most → texts_by most (whole_of fronts) ≡ map text_of_front fronts
+texts_are : (most : ℕ) (fronts : List (List Piece)) → AreLongest fronts → length (whole_of fronts) ≤ most
+    → texts_by most (whole_of fronts) ≡ map text_of_front fronts
 texts_are zero [] longest h = refl
 texts_are (suc most) [] longest h = refl
 texts_are zero ((x ∷ xs) ∷ fronts) longest h = absurd (omega arith)
 texts_are (suc most) ((x ∷ xs) ∷ fronts) longest h =
     let whole = whole_of ((x ∷ xs) ∷ fronts) in
-    ap (λ (front : List Piece). text_of_front front ∷ texts_by most (drop (length front) whole)) (first_is_longest x xs fronts longest)
+    ap (λ (front : List Piece). text_of_front front ∷ texts_by most (drop (length front) whole))
+    (first_is_longest x xs fronts longest)
     ∙ ap (λ (t : List Piece). text_of_front (x ∷ xs) ∷ texts_by most t) (drop-append_seam (x ∷ xs) (whole_of fronts))
     ∙ ap (λ (t : List Placed). text_of_front (x ∷ xs) ∷ t)
-    (texts_are most fronts (tail_longest (x ∷ xs) fronts longest) (omega (arith, length-append (x ∷ xs) (whole_of fronts))))
+    (texts_are most fronts (tail_longest (x ∷ xs) fronts longest)
+    (omega (arith, length-append (x ∷ xs) (whole_of fronts))))
 texts_are most ([] ∷ []) longest h = absurd (false≢true longest)
 texts_are most ([] ∷ next ∷ fronts) longest h = absurd (false≢true longest.0)
 
 -- a first piece opens a text, and what follows makes the texts of the definition
-pub texts_are_longest : (piece : Piece) (pieces : List Piece) → texts_of (piece ∷ pieces) ≡ texts_from (alone piece) pieces
+pub texts_are_longest : (piece : Piece) (pieces : List Piece)
+    → texts_of (piece ∷ pieces) ≡ texts_from (alone piece) pieces
 texts_are_longest piece pieces =
     let f = from piece [] pieces (one_alone piece) in
     let fronts = (piece ∷ f.more) ∷ f.rest in

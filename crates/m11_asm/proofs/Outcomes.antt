@@ -33,10 +33,12 @@ nothing_held = record {
   program = record { lines-is = refl; words-is = refl; size-is = refl };
 }
 
-pub at_first : (held : Held) → held ≡ record { line = []; bytes = 0; lines = 0; words = []; size = 0 } → Holds [] [] held
+pub at_first : (held : Held) → held ≡ record { line = []; bytes = 0; lines = 0; words = []; size = 0 }
+    → Holds [] [] held
 at_first held e = let P : Held → Type 0 = λ h. Holds [] [] h in subst P (sym e) nothing_held
 
-behind_nothing : (bytes : List ℕ) → behind bytes (record { lines = []; unclosed = [] }) ≡ record { lines = []; unclosed = bytes }
+behind_nothing : (bytes : List ℕ)
+    → behind bytes (record { lines = []; unclosed = [] }) ≡ record { lines = []; unclosed = bytes }
 behind_nothing [] = refl
 behind_nothing (byte ∷ bytes) = ap (λ (c : Cut). in_front byte c.lines c.unclosed) (behind_nothing bytes)
 
@@ -45,26 +47,40 @@ not_begun : (bytes : List ℕ) → length bytes ≡ 0 → is_empty bytes ≡ tru
 not_begun [] h = refl
 not_begun (byte ∷ bytes) h = absurd (omega arith)
 
-no_turn : (before : List RawLine) (unclosed : List ℕ) (held : Held) → Holds before unclosed held → reading.unclosed_turn before unclosed ≡ reading.GoesOn
+no_turn : (before : List RawLine) (unclosed : List ℕ) (held : Held) → Holds before unclosed held
+    → reading.unclosed_turn before unclosed ≡ reading.GoesOn
 no_turn before unclosed held holds =
     elim (cases_lt 0 (length (cleaned unclosed))) [
-      | inl some ↦ let room : reading.lines_in before + 1 ≤ most_lines = omega (arith, holds.program.lines-is, holds.room_for_line some) in
-          rw (le-ltb most_bytes (reading.bytes_in before + length unclosed) (omega (arith, holds.bytes-is, holds.few_bytes)), le-ltb most_lines (reading.lines_in before + 1) room) (both (not (is_empty (cleaned unclosed))))
+      | inl some ↦ let room : reading.lines_in before + 1
+          ≤ most_lines = omega (arith, holds.program.lines-is, holds.room_for_line some) in
+          rw (
+            le-ltb most_bytes (reading.bytes_in before + length unclosed)
+                (omega (arith, holds.bytes-is, holds.few_bytes)),
+            le-ltb most_lines (reading.lines_in before + 1) room,
+          )
+          (both (not (is_empty (cleaned unclosed))))
       | inr none ↦ let empty : is_empty (cleaned unclosed) ≡ true = not_begun (cleaned unclosed) (omega arith) in
-          rw (le-ltb most_bytes (reading.bytes_in before + length unclosed) (omega (arith, holds.bytes-is, holds.few_bytes)), empty) refl
+          rw (
+            le-ltb most_bytes (reading.bytes_in before + length unclosed)
+                (omega (arith, holds.bytes-is, holds.few_bytes)),
+            empty,
+          ) refl
     ]
   where
     both : (b : Bool) → cond (b && false) (reading.Refuses TooMuchSource) reading.GoesOn ≡ reading.GoesOn
     both true = refl
     both false = refl
 
-stands : (before : List RawLine) (unclosed : List ℕ) (held : Held) → Holds before unclosed held → reading_at before unclosed [] ≡ reading.Unended before
+stands : (before : List RawLine) (unclosed : List ℕ) (held : Held) → Holds before unclosed held
+    → reading_at before unclosed [] ≡ reading.Unended before
 stands before unclosed held holds =
-    let whole : cut (map (λ byte. Some byte) unclosed ++ []) ≡ record { lines = []; unclosed = unclosed } = cut_behind unclosed [] holds.in_line ∙ behind_nothing unclosed in
+    let whole : cut (map (λ byte. Some byte) unclosed ++ []) ≡ record { lines = []; unclosed = unclosed } =
+    cut_behind unclosed [] holds.in_line ∙ behind_nothing unclosed in
     ap (λ (c : Cut). reading.reading_from before c.lines c.unclosed) whole
     ∙ ap (λ (t : reading.Turn). reading.read_on t before (reading.Unended before)) (no_turn before unclosed held holds)
 
-pub undecided : (input : List (Option ℕ)) (before : List RawLine) (unclosed : List ℕ) (held : Held) → Leads [] [] input before unclosed → Holds before unclosed held
+pub undecided : (input : List (Option ℕ)) (before : List RawLine) (unclosed : List ℕ) (held : Held)
+    → Leads [] [] input before unclosed → Holds before unclosed held
     → reading.reading_of input ≡ reading.Unended before
 undecided input before unclosed held leads holds =
     ap reading.reading_of (sym (append-nil input)) ∙ leads [] ∙ stands before unclosed held holds
@@ -75,38 +91,57 @@ decided input r h = ap reading.reading_of (sym (append-nil input)) ∙ h []
 -- ---- a program that was read
 pub program_of : (sources : List (List ℕ)) (held : Held) (p : Progress) → GoesTo [] [] (input_of sources) held p
     → (lines : List RawLine) × IsProgram lines held
-    × (outcome_of sources ≡ outcome.Writes (writes_of lines (flagged_lines p (reading.lines_in lines))) (length (flagged_lines p (reading.lines_in lines))))
-program_of sources held progress.GoesOn h = (h.0, h.3.program, ap outcome_of_reading (undecided (input_of sources) h.0 h.1 held h.2 h.3))
-program_of sources held progress.Ended h = (h.0, h.2, ap outcome_of_reading (decided (input_of sources) (reading.Ended h.0) h.1))
+    × (outcome_of sources
+    ≡ outcome.Writes (writes_of lines (flagged_lines p (reading.lines_in lines)))
+    (length (flagged_lines p (reading.lines_in lines))))
+program_of sources held progress.GoesOn h =
+    (h.0, h.3.program, ap outcome_of_reading (undecided (input_of sources) h.0 h.1 held h.2 h.3))
+program_of sources held progress.Ended h =
+    (h.0, h.2, ap outcome_of_reading (decided (input_of sources) (reading.Ended h.0) h.1))
 
-module _ {F : Type 0} (text : F → Option Text) (faults : F → ℕ) (feeds feeds' : List F) (old new : AsmOutput → Option (List ℕ)) where
+module _ {F : Type 0} (text : F → Option Text) (faults : F → ℕ) (feeds feeds' : List F)
+    (old new : AsmOutput → Option (List ℕ)) where
   -- all that is written follows from what was read
-  runs_by : (lines : List RawLine) (flagged : List (List ℕ)) (sources : List (List ℕ)) → NoneFailed faults feeds feeds' → GiveAll text feeds sources
-      → outcome_of sources ≡ outcome.Writes (writes_of lines flagged) (length flagged) → (result : Result AsmDone AsmFault)
-      → MatchResult result (λ done. (done.flagged ≡ length flagged) × Gains old new (writes_of lines flagged)) (StopsWriting old new (writes_of lines flagged))
+  runs_by : (lines : List RawLine) (flagged : List (List ℕ)) (sources : List (List ℕ)) → NoneFailed faults feeds feeds'
+      → GiveAll text feeds sources
+      → outcome_of sources ≡ outcome.Writes (writes_of lines flagged) (length flagged)
+      → (result : Result AsmDone AsmFault)
+      → MatchResult result (λ done. (done.flagged ≡ length flagged) × Gains old new (writes_of lines flagged))
+      (StopsWriting old new (writes_of lines flagged))
       → Runs text faults feeds feeds' old new result
-  runs_by lines flagged sources none given is (Ok done) h = (none, sources, given, writes_of lines flagged, length flagged, is, h)
-  runs_by lines flagged sources none given is (Err (Write output)) h = (none, sources, given, writes_of lines flagged, length flagged, is, h)
-  runs_by lines flagged sources none given is (Err NoMemory) h = inr (none, sources, given, writes_of lines flagged, length flagged, is, h)
+  runs_by lines flagged sources none given is (Ok done) h =
+      (none, sources, given, writes_of lines flagged, length flagged, is, h)
+  runs_by lines flagged sources none given is (Err (Write output)) h =
+      (none, sources, given, writes_of lines flagged, length flagged, is, h)
+  runs_by lines flagged sources none given is (Err NoMemory) h =
+      inr (none, sources, given, writes_of lines flagged, length flagged, is, h)
   runs_by lines flagged sources none given is (Err Read) h = absurd h
   runs_by lines flagged sources none given is (Err TooMuchSource) h = absurd h
   runs_by lines flagged sources none given is (Err NotYet) h = absurd h
 
-  pub runs_of : (sources : List (List ℕ)) (held : Held) (p : Progress) → NoneFailed faults feeds feeds' → GiveAll text feeds sources → GoesTo [] [] (input_of sources) held p
-      → (result : Result AsmDone AsmFault) → WritesProgram old new held p result → Runs text faults feeds feeds' old new result
+  pub runs_of : (sources : List (List ℕ)) (held : Held) (p : Progress) → NoneFailed faults feeds feeds'
+      → GiveAll text feeds sources → GoesTo [] [] (input_of sources) held p
+      → (result : Result AsmDone AsmFault) → WritesProgram old new held p result
+      → Runs text faults feeds feeds' old new result
   runs_of sources held p none given goes result h =
       let program = program_of sources held p goes in
-      runs_by program.0 (flagged_lines p (reading.lines_in program.0)) sources none given program.2 result (h program.0 program.1)
+      runs_by program.0 (flagged_lines p (reading.lines_in program.0)) sources none given program.2 result
+      (h program.0 program.1)
 
   -- what stopped the reading
-  pub refused_of : (held : Held) (fault : AsmFault) → FailAt text faults feeds feeds' [] [] held fault → Gains old new [] → Runs text faults feeds feeds' old new (Err fault)
-  refused_of held Read h nothing = ((h.0, h.1, h.2, h.3, undecided (input_of h.0 ++ map (λ byte. Some byte) h.1) h.3 h.4 held h.5 h.6), nothing)
+  pub refused_of : (held : Held) (fault : AsmFault) → FailAt text faults feeds feeds' [] [] held fault
+      → Gains old new [] → Runs text faults feeds feeds' old new (Err fault)
+  refused_of held Read h nothing =
+      ((h.0, h.1, h.2, h.3, undecided (input_of h.0 ++ map (λ byte. Some byte) h.1) h.3 h.4 held h.5 h.6), nothing)
   refused_of held NoMemory h nothing = inl (h.0, nothing)
-  refused_of held TooMuchSource h nothing = ((h.0, h.1, h.2, ap outcome_of_reading (decided (input_of h.1) (reading.Refused TooMuchSource) h.3)), nothing)
-  refused_of held NotYet h nothing = ((h.0, h.1, h.2, ap outcome_of_reading (decided (input_of h.1) (reading.Refused NotYet) h.3)), nothing)
+  refused_of held TooMuchSource h nothing =
+      ((h.0, h.1, h.2, ap outcome_of_reading (decided (input_of h.1) (reading.Refused TooMuchSource) h.3)), nothing)
+  refused_of held NotYet h nothing =
+      ((h.0, h.1, h.2, ap outcome_of_reading (decided (input_of h.1) (reading.Refused NotYet) h.3)), nothing)
   refused_of held (Write output) h nothing = absurd h.3
 
-  pub refusal_counted : (held : Held) (f g : ℕ) (fault : AsmFault) → FailAt text faults feeds feeds' [] [] held fault → Counted f f g g (Err fault)
+  pub refusal_counted : (held : Held) (f g : ℕ) (fault : AsmFault) → FailAt text faults feeds feeds' [] [] held fault
+      → Counted f f g g (Err fault)
   refusal_counted held f g Read h = (refl, refl)
   refusal_counted held f g NoMemory h = (refl, refl)
   refusal_counted held f g TooMuchSource h = (refl, refl)

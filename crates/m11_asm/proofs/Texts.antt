@@ -15,7 +15,8 @@ use Rattle.std.proofs.Math.Bool.{and-false}
 module _ (p : ℕ → Bool) (xs : List ℕ) where
   pub found : (n : ℕ) → position p xs ≡ Some n → (position_or_len p xs ≡ n) × (n < length xs)
   found n e = elim (cases_lt (position_or_len p xs) (length xs)) [
-    | inl lt ↦ let same : Some (position_or_len p xs) ≡ Some n = rw (lt-ltb _ _ lt) at e in let is : position_or_len p xs ≡ n = cc in (is, omega arith)
+    | inl lt ↦ let same : Some (position_or_len p xs) ≡ Some n = rw (lt-ltb _ _ lt) at e in
+        let is : position_or_len p xs ≡ n = cc in (is, omega arith)
     | inr le ↦ let none : None ≡ Some n = rw (le-ltb _ _ le) at e in absurd cc
   ]
 
@@ -26,11 +27,13 @@ module _ (p : ℕ → Bool) (xs : List ℕ) where
   ]
 
 -- the place, or the length where there is none
-unwrapped' : (p : ℕ → Bool) (xs : List ℕ) (place : Option ℕ) → place ≡ position p xs → unwrap_or place (length xs) ≡ position_or_len p xs
+unwrapped' : (p : ℕ → Bool) (xs : List ℕ) (place : Option ℕ) → place ≡ position p xs
+    → unwrap_or place (length xs) ≡ position_or_len p xs
 unwrapped' p xs None e = sym (not_found p xs (sym e))
 unwrapped' p xs (Some n) e = sym (found p xs n (sym e)).0
 
-pub unwrapped : (p : ℕ → Bool) (xs : List ℕ) (place : Option ℕ) → place ≡ position p xs → (n : ℕ) → n ≡ unwrap_or place (length xs) → n ≡ position_or_len p xs
+pub unwrapped : (p : ℕ → Bool) (xs : List ℕ) (place : Option ℕ) → place ≡ position p xs → (n : ℕ)
+    → n ≡ unwrap_or place (length xs) → n ≡ position_or_len p xs
 unwrapped p xs place e n is = is ∙ unwrapped' p xs place e
 
 -- a test is true or false
@@ -39,30 +42,39 @@ either true = inl refl
 either false = inr refl
 
 -- the elements of a text with a comma, and of one without
-place_at_comma : (byte : ℕ) (text : List ℕ) → (byte == 44) ≡ true → position_or_len (λ byte'. byte' == 44) (byte ∷ text) ≡ 0
+place_at_comma : (byte : ℕ) (text : List ℕ) → (byte == 44) ≡ true
+    → position_or_len (λ byte'. byte' == 44) (byte ∷ text) ≡ 0
 place_at_comma byte text e = rw e refl
 
-place_behind : (byte : ℕ) (text : List ℕ) → (byte == 44) ≡ false → position_or_len (λ byte'. byte' == 44) (byte ∷ text) ≡ suc (position_or_len (λ byte'. byte' == 44) text)
+place_behind : (byte : ℕ) (text : List ℕ) → (byte == 44) ≡ false
+    → position_or_len (λ byte'. byte' == 44) (byte ∷ text) ≡ suc (position_or_len (λ byte'. byte' == 44) text)
 place_behind byte text e = rw e (omega arith)
 
 elements-comma : (byte : ℕ) (text : List ℕ) → (byte == 44) ≡ true → elements_of (byte ∷ text) ≡ [] ∷ elements_of text
 elements-comma byte text e = rw e refl
 
-elements-other : (byte : ℕ) (text : List ℕ) → (byte == 44) ≡ false → elements_of (byte ∷ text) ≡ onto_first byte (elements_of text)
+elements-other : (byte : ℕ) (text : List ℕ) → (byte == 44) ≡ false
+    → elements_of (byte ∷ text) ≡ onto_first byte (elements_of text)
 elements-other byte text e = rw e refl
 
-elements_at : (text : List ℕ) (n : ℕ) → position_or_len (λ byte. byte == 44) text ≡ n → n < length text → elements_of text ≡ take n text ∷ elements_of (drop (suc n) text)
+elements_at : (text : List ℕ) (n : ℕ) → position_or_len (λ byte. byte == 44) text ≡ n → n < length text
+    → elements_of text ≡ take n text ∷ elements_of (drop (suc n) text)
 elements_at [] n e h = absurd (omega arith)
 elements_at (byte ∷ text) n e h = elim (either (byte == 44)) [
-  | inl comma ↦ let start : 0 ≡ n = sym (place_at_comma byte text comma) ∙ e in rw (← start) (elements-comma byte text comma)
-  | inr other ↦ let next : suc (position_or_len (λ byte'. byte' == 44) text) ≡ n = sym (place_behind byte text other) ∙ e in
-      rw (← next) (elements-other byte text other ∙ ap (onto_first byte) (elements_at text (position_or_len (λ byte'. byte' == 44) text) refl (omega arith)))
+  | inl comma ↦ let start : 0 ≡ n = sym (place_at_comma byte text comma) ∙ e in
+      rw (← start) (elements-comma byte text comma)
+  | inr other ↦ let next : suc (position_or_len (λ byte'. byte' == 44) text) ≡ n = sym (place_behind byte text other)
+      ∙ e in
+      rw (← next) (elements-other byte text other
+      ∙ ap (onto_first byte) (elements_at text (position_or_len (λ byte'. byte' == 44) text) refl (omega arith)))
 ]
 
-pub elements_with : (text : List ℕ) (n : ℕ) → Some n ≡ position (λ byte. byte == 44) text → elements_of text ≡ take n text ∷ elements_of (drop (suc n) text)
+pub elements_with : (text : List ℕ) (n : ℕ) → Some n ≡ position (λ byte. byte == 44) text
+    → elements_of text ≡ take n text ∷ elements_of (drop (suc n) text)
 elements_with text n e = let f = found (λ byte. byte == 44) text n (sym e) in elements_at text n f.0 f.1
 
-elements_alone : (text : List ℕ) → position_or_len (λ byte. byte == 44) text ≡ length text → elements_of text ≡ text ∷ []
+elements_alone : (text : List ℕ) → position_or_len (λ byte. byte == 44) text ≡ length text
+    → elements_of text ≡ text ∷ []
 elements_alone [] e = refl
 elements_alone (byte ∷ text) e = elim (either (byte == 44)) [
   | inl comma ↦ let start = place_at_comma byte text comma in absurd (omega arith)
@@ -73,12 +85,15 @@ elements_alone (byte ∷ text) e = elim (either (byte == 44)) [
 pub elements_without : (text : List ℕ) → None ≡ position (λ byte. byte == 44) text → elements_of text ≡ text ∷ []
 elements_without text e = elements_alone text (not_found (λ byte. byte == 44) text (sym e))
 
-pub elements_split : (text front back behind : List ℕ) (n : ℕ) → Some n ≡ position (λ byte. byte == 44) text → front ≡ take n text → back ≡ drop n text → behind ≡ drop 1 back
+pub elements_split : (text front back behind : List ℕ) (n : ℕ) → Some n ≡ position (λ byte. byte == 44) text
+    → front ≡ take n text → back ≡ drop n text → behind ≡ drop 1 back
     → (elements_of text ≡ front ∷ elements_of behind) × (length behind < length text)
 elements_split text front back behind n e f b h =
     let place = found (λ byte. byte == 44) text n (sym e) in
-    let behind-is : behind ≡ drop (suc n) text = h ∙ ap (drop 1) b ∙ drop-drop 1 n text ∙ ap (λ k. drop k text) (add-one n) in (
-      elements_with text n e ∙ ap (λ (t : List ℕ). t ∷ elements_of (drop (suc n) text)) (sym f) ∙ ap (λ (t : List ℕ). front ∷ elements_of t) (sym behind-is),
+    let behind-is : behind ≡ drop (suc n) text =
+    h ∙ ap (drop 1) b ∙ drop-drop 1 n text ∙ ap (λ k. drop k text) (add-one n) in (
+      elements_with text n e ∙ ap (λ (t : List ℕ). t ∷ elements_of (drop (suc n) text)) (sym f)
+          ∙ ap (λ (t : List ℕ). front ∷ elements_of t) (sym behind-is),
       rw behind-is (omega (arith, length-drop (suc n) text, place.1)),
     )
 
@@ -87,7 +102,8 @@ and-true : (b : Bool) → (b && true) ≡ b
 and-true true = refl
 and-true false = refl
 
-all_with_blank : (text : List ℕ) (last : ℕ) → is_blank last ≡ true → list_all is_blank (text ++ last ∷ []) ≡ list_all is_blank text
+all_with_blank : (text : List ℕ) (last : ℕ) → is_blank last ≡ true
+    → list_all is_blank (text ++ last ∷ []) ≡ list_all is_blank text
 all_with_blank [] last e = and-true (is_blank last) ∙ e
 all_with_blank (byte ∷ text) last e = ap (λ b. is_blank byte && b) (all_with_blank text last e)
 
@@ -95,26 +111,33 @@ not_all : (text : List ℕ) (last : ℕ) → is_blank last ≡ false → list_al
 not_all [] last e = and-true (is_blank last) ∙ e
 not_all (byte ∷ text) last e = ap (λ b. is_blank byte && b) (not_all text last e) ∙ and-false (is_blank byte)
 
-pub blank_behind : (head : List ℕ) (last : ℕ) → is_blank last ≡ true → without_blanks_behind (head ++ last ∷ []) ≡ without_blanks_behind head
+pub blank_behind : (head : List ℕ) (last : ℕ) → is_blank last ≡ true
+    → without_blanks_behind (head ++ last ∷ []) ≡ without_blanks_behind head
 blank_behind [] last e = ap (λ b. cond b [] (last ∷ [])) (and-true (is_blank last) ∙ e)
 blank_behind (byte ∷ head) last e =
-    ap (λ b. cond (is_blank byte && b) [] (byte ∷ without_blanks_behind (head ++ last ∷ []))) (all_with_blank head last e)
+    ap (λ b. cond (is_blank byte && b) [] (byte ∷ without_blanks_behind (head ++ last ∷ [])))
+    (all_with_blank head last e)
     ∙ ap (λ (t : List ℕ). cond (is_blank byte && list_all is_blank head) [] (byte ∷ t)) (blank_behind head last e)
 
-pub other_behind : (head : List ℕ) (last : ℕ) → is_blank last ≡ false → without_blanks_behind (head ++ last ∷ []) ≡ head ++ last ∷ []
+pub other_behind : (head : List ℕ) (last : ℕ) → is_blank last ≡ false
+    → without_blanks_behind (head ++ last ∷ []) ≡ head ++ last ∷ []
 other_behind [] last e = ap (λ b. cond b [] (last ∷ [])) (and-true (is_blank last) ∙ e)
 other_behind (byte ∷ head) last e =
     ap (λ b. cond b [] (byte ∷ without_blanks_behind (head ++ last ∷ []))) (not_all (byte ∷ head) last e)
     ∙ ap (λ (t : List ℕ). byte ∷ t) (other_behind head last e)
 
 -- a text that isn't empty begins with an operator
-pub statement_with : (text : List ℕ) → 0 < length text → (n : ℕ) → n ≡ position_or_len (λ byte. not (is_name_character byte)) text
+pub statement_with : (text : List ℕ) → 0 < length text → (n : ℕ)
+    → n ≡ position_or_len (λ byte. not (is_name_character byte)) text
     → statement_in text ≡ directive_of (map folded (take n text)) (drop n text)
 statement_with [] h n e = absurd (omega arith)
 statement_with (byte ∷ text) h n e =
-    rw e (ap (λ k. directive_of (map folded (take (position_or_len (λ b. not (is_name_character b)) (byte ∷ text)) (byte ∷ text))) (drop k (byte ∷ text))) (length-prefix_len (λ b. not (not (is_name_character b))) (byte ∷ text)))
+    rw e (ap (λ k. directive_of
+    (map folded (take (position_or_len (λ b. not (is_name_character b)) (byte ∷ text)) (byte ∷ text)))
+    (drop k (byte ∷ text))) (length-prefix_len (λ b. not (not (is_name_character b))) (byte ∷ text)))
 
-module _ (text front head : List ℕ) (last : ℕ) (parts : front ≡ head ++ last ∷ []) (so_far : without_blanks_behind front ≡ without_blanks_behind text) where
+module _ (text front head : List ℕ) (last : ℕ) (parts : front ≡ head ++ last ∷ [])
+    (so_far : without_blanks_behind front ≡ without_blanks_behind text) where
   pub front_is_all : is_blank last ≡ false → front ≡ without_blanks_behind text
   front_is_all e = parts ∙ sym (other_behind head last e) ∙ ap without_blanks_behind (sym parts) ∙ so_far
 
@@ -128,9 +151,11 @@ nonempty_push (y ∷ xs) x = refl
 
 return_behind : (front : List ℕ) (last : ℕ) → (last == 13) ≡ true → without_return (front ++ last ∷ []) ≡ front
 return_behind [] last e = rw e refl
-return_behind (byte ∷ front) last e = rw (nonempty_push front last) (ap (λ (t : List ℕ). byte ∷ t) (return_behind front last e))
+return_behind (byte ∷ front) last e =
+    rw (nonempty_push front last) (ap (λ (t : List ℕ). byte ∷ t) (return_behind front last e))
 
-other_end : (front : List ℕ) (last : ℕ) → (last == 13) ≡ false → without_return (front ++ last ∷ []) ≡ front ++ last ∷ []
+other_end : (front : List ℕ) (last : ℕ) → (last == 13) ≡ false
+    → without_return (front ++ last ∷ []) ≡ front ++ last ∷ []
 other_end [] last e = rw e refl
 other_end (byte ∷ front) last e = rw (nonempty_push front last) (ap (λ (t : List ℕ). byte ∷ t) (other_end front last e))
 
@@ -142,10 +167,12 @@ take_front : (front : List ℕ) (last : ℕ) → take (length front) (front ++ l
 take_front [] last = refl
 take_front (x ∷ front) last = ap (λ (t : List ℕ). x ∷ t) (take_front front last)
 
-pub without_last : (line front : List ℕ) (last : ℕ) → line ≡ front ++ last ∷ [] → (last == 13) ≡ true → take (length front) line ≡ without_return line
+pub without_last : (line front : List ℕ) (last : ℕ) → line ≡ front ++ last ∷ [] → (last == 13) ≡ true
+    → take (length front) line ≡ without_return line
 without_last line front last e r = rw e (take_front front last ∙ sym (return_behind front last r))
 
-pub with_last : (line front : List ℕ) (last : ℕ) → line ≡ front ++ last ∷ [] → (last == 13) ≡ false → take (length line) line ≡ without_return line
+pub with_last : (line front : List ℕ) (last : ℕ) → line ≡ front ++ last ∷ [] → (last == 13) ≡ false
+    → take (length line) line ≡ without_return line
 with_last line front last e r = rw e (take_whole (front ++ last ∷ []) ∙ sym (other_end front last r))
 
 pub nothing_in : (xs : List ℕ) → length xs ≡ 0 → xs ≡ []

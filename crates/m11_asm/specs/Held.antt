@@ -79,7 +79,8 @@ symbols source = map (λ byte. Some byte) source ++ None ∷ []
 
 -- what the reading of a source came to, of a feed with this text and this count of failures
 abbrev pub FailsAt : Option Text → ℕ → ℕ → List RawLine → List ℕ → Held → AsmFault → Type 0
-FailsAt text faults faults' before unclosed held Read = (beginning : List ℕ) × BeginsWith text beginning × Rises faults faults'
+FailsAt text faults faults' before unclosed held Read =
+    (beginning : List ℕ) × BeginsWith text beginning × Rises faults faults'
     × (before' : List RawLine) × (unclosed' : List ℕ)
     × Leads before unclosed (map (λ byte. Some byte) beginning) before' unclosed' × Holds before' unclosed' held
 FailsAt text faults faults' before unclosed held fault = (faults' ≡ faults)
@@ -88,28 +89,40 @@ FailsAt text faults faults' before unclosed held fault = (faults' ≡ faults)
 abbrev pub ReadsSource : Option Text → ℕ → ℕ → Held → Held → Result Progress AsmFault → Type 0
 ReadsSource text faults faults' old new result = (before : List RawLine) (unclosed : List ℕ) → Holds before unclosed old
     → MatchResult result
-    (λ progress. (faults' ≡ faults) × (source : List ℕ) × HasBytes text source × GoesTo before unclosed (symbols source) new progress)
+    (λ progress. (faults' ≡ faults) × (source : List ℕ) × HasBytes text source
+    × GoesTo before unclosed (symbols source) new progress)
     (FailsAt text faults faults' before unclosed new)
 
 -- the same of several sources
-abbrev pub FailAt : {F : Type 0} → (F → Option Text) → (F → ℕ) → List F → List F → List RawLine → List ℕ → Held → AsmFault → Type 0
+abbrev pub FailAt : {F : Type 0} → (F → Option Text) → (F → ℕ) → List F → List F → List RawLine → List ℕ → Held
+    → AsmFault → Type 0
 FailAt text faults old new before unclosed held Read = (sources : List (List ℕ)) × (beginning : List ℕ)
     × OneFailed text faults old new sources beginning × (before' : List RawLine) × (unclosed' : List ℕ)
-    × Leads before unclosed (input_of sources ++ map (λ byte. Some byte) beginning) before' unclosed' × Holds before' unclosed' held
+    × Leads before unclosed (input_of sources ++ map (λ byte. Some byte) beginning) before' unclosed'
+    × Holds before' unclosed' held
 FailAt text faults old new before unclosed held fault = NoneFailed faults old new
     × (sources : List (List ℕ)) × GiveAll text old sources × StopsAt before unclosed (input_of sources) fault
 
-abbrev pub ReadsSources : {F : Type 0} → (F → Option Text) → (F → ℕ) → List F → List F → Held → Held → Result Progress AsmFault → Type 0
-ReadsSources text faults feeds feeds' old new result = (before : List RawLine) (unclosed : List ℕ) → Holds before unclosed old
+abbrev pub ReadsSources : {F : Type 0} → (F → Option Text) → (F → ℕ) → List F → List F → Held → Held
+    → Result Progress AsmFault → Type 0
+ReadsSources text faults feeds feeds' old new result =
+    (before : List RawLine) (unclosed : List ℕ) → Holds before unclosed old
     → MatchResult result
-    (λ progress. NoneFailed faults feeds feeds' × (sources : List (List ℕ)) × GiveAll text feeds sources × GoesTo before unclosed (input_of sources) new progress)
+    (λ progress. NoneFailed faults feeds feeds' × (sources : List (List ℕ)) × GiveAll text feeds sources
+    × GoesTo before unclosed (input_of sources) new progress)
     (FailAt text faults feeds feeds' before unclosed new)
 
 -- what is held behind one more line, the held one, and what the line is
 abbrev pub with_line : Held → Held
 with_line held =
     let words = held.words ++ words_of (statement_of held.line) in
-    record { line = []; bytes = held.bytes; lines = held.lines + 1; words = words; size = max held.size (2 * (length words % 32768)) }
+    record {
+      line = [];
+      bytes = held.bytes;
+      lines = held.lines + 1;
+      words = words;
+      size = max held.size (2 * (length words % 32768));
+    }
 
 abbrev pub TakesLine : Held → Held → Result Progress AsmFault → Type 0
 TakesLine old new (Ok GoesOn) = (reading.line_turn old.line ≡ reading.GoesOn) × (new ≡ with_line old)

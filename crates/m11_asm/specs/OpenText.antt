@@ -33,7 +33,8 @@ abbrev pub placed_of : OpenText → Placed
 placed_of t = record { place = t.place; bytes = t.bytes.items }
 
 -- a word was added to the open text, or to a new one behind it
-abbrev pub AddsWord : Option (List ℕ) → Option (List ℕ) → ℕ → ℕ → Placed → Placed → Bool → Piece → Result Bool AsmFault → Type 0
+abbrev pub AddsWord : Option (List ℕ) → Option (List ℕ) → ℕ → ℕ → Placed → Placed → Bool → Piece → Result Bool AsmFault
+    → Type 0
 AddsWord old new faults faults' text text' is_first piece (Ok is_first') = (faults' ≡ faults) × (more : List Placed)
     × Appends old new (joined (map content_block (text_contents is_first more)))
     × ((pieces : List Piece) → texts_from text (piece ∷ pieces) ≡ more ++ texts_from text' pieces)
@@ -57,9 +58,11 @@ PutsTexts old new faults faults' texts (Err fault) =
 -- the directory was put to the object, and all texts but the last
 abbrev pub PutsFront : Option (List ℕ) → Option (List ℕ) → ℕ → ℕ → ℕ → List Placed → Result LastText AsmFault → Type 0
 PutsFront old new faults faults' size texts (Ok text) = (faults' ≡ faults) × IsLast texts text
-    × Appends old new (joined (map content_block (head size) ++ map content_block (text_contents true (without_last texts))))
+    × Appends old new
+    (joined (map content_block (head size) ++ map content_block (text_contents true (without_last texts))))
 PutsFront old new faults faults' size texts (Err fault) =
-    StopsPutting Object old new faults faults' (map content_block (head size) ++ map content_block (text_contents true (without_last texts))) fault
+    StopsPutting Object old new faults faults'
+    (map content_block (head size) ++ map content_block (text_contents true (without_last texts))) fault
 
 -- the records of a last text
 abbrev pub last_contents : LastText → List Content

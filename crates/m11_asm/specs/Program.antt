@@ -18,12 +18,14 @@ abbrev pub flagged_lines : Progress → ℕ → List (List ℕ)
 flagged_lines GoesOn lines = flagged_line (codes "E") lines [] ∷ []
 flagged_lines Ended lines = []
 
-abbrev pub StopsWriting : (AsmOutput → Option (List ℕ)) → (AsmOutput → Option (List ℕ)) → List writes.Write → AsmFault → Type 0
+abbrev pub StopsWriting : (AsmOutput → Option (List ℕ)) → (AsmOutput → Option (List ℕ)) → List writes.Write → AsmFault
+    → Type 0
 StopsWriting old new all (Write output) = writes.StopsIn output old new all
 StopsWriting old new all NoMemory = writes.StopsBetween old new all
 StopsWriting old new all _ = ⊥
 
-abbrev pub WritesProgram : (AsmOutput → Option (List ℕ)) → (AsmOutput → Option (List ℕ)) → Held → Progress → Result AsmDone AsmFault → Type 0
+abbrev pub WritesProgram : (AsmOutput → Option (List ℕ)) → (AsmOutput → Option (List ℕ)) → Held → Progress
+    → Result AsmDone AsmFault → Type 0
 WritesProgram old new held progress result = (lines : List RawLine) → IsProgram lines held
     → MatchResult result
     (λ done. (done.flagged ≡ length (flagged_lines progress (reading.lines_in lines)))

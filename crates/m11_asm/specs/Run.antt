@@ -13,7 +13,8 @@ use Rattle.m11_asm.specs.Outcome as outcome
 use Rattle.m11_asm.specs.Writes as writes
 
 -- the outputs gained all that the outcome of the feeds' texts writes, or stopped in it
-abbrev pub Finishes : {F : Type 0} → (F → Option Text) → (F → ℕ) → List F → List F → (List writes.Write → ℕ → Type 0) → Type 0
+abbrev pub Finishes : {F : Type 0} → (F → Option Text) → (F → ℕ) → List F → List F → (List writes.Write → ℕ → Type 0)
+    → Type 0
 Finishes text faults feeds feeds' Written = NoneFailed faults feeds feeds'
     × (sources : List (List ℕ)) × GiveAll text feeds sources × (all : List writes.Write) × (flagged : ℕ)
     × (outcome.outcome_of sources ≡ outcome.Writes all flagged) × Written all flagged

@@ -64,7 +64,8 @@ StopsPutting output old new faults faults' pieces NoMemory = (faults' ≡ faults
     × (done : List (List ℕ)) × (more : List (List ℕ)) × (pieces ≡ done ++ more) × Appends old new (joined done)
 StopsPutting output old new faults faults' pieces _ = ⊥
 
-abbrev pub Puts : {A : Type 0} → AsmOutput → Option (List ℕ) → Option (List ℕ) → ℕ → ℕ → List (List ℕ) → Result A AsmFault → Type 0
+abbrev pub Puts : {A : Type 0} → AsmOutput → Option (List ℕ) → Option (List ℕ) → ℕ → ℕ → List (List ℕ)
+    → Result A AsmFault → Type 0
 Puts output old new faults faults' pieces (Ok done) = (faults' ≡ faults) × Appends old new (joined pieces)
 Puts output old new faults faults' pieces (Err stopped) = StopsPutting output old new faults faults' pieces stopped
 

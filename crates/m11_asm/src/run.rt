@@ -81,8 +81,8 @@ fn put_flagged<U: Sink>(
     lines: u32,
     progress: Progress,
 ) -> Result<u32, AsmFault>
-    ensures puts { Puts Messages (U.text messages.old) (U.text messages.new) (U.faults messages.old) (U.faults messages.new)
-        (flagged_lines progress lines) result }
+    ensures puts { Puts Messages (U.text messages.old) (U.text messages.new)
+        (U.faults messages.old) (U.faults messages.new) (flagged_lines progress lines) result }
     ensures count { IfOk result (λ n. n ≡ length (flagged_lines progress lines)) }
 {
     if progress == Progress::Ended {

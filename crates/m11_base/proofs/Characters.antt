@@ -48,16 +48,20 @@ some_from_cond false o k e = e
 pub character_again : (c k : ℕ) → code_of c ≡ Some k → (k < 40) × (character_of k ≡ c)
 unfolding alphabet code_of character_of
 character_again c k e =
-    let found = position-Some (λ x. eqb x c) alphabet k 0 (some_from_cond (eqb c 37) (position (λ x. eqb x c) alphabet) k e) in
+    let found =
+    position-Some (λ x. eqb x c) alphabet k 0 (some_from_cond (eqb c 37) (position (λ x. eqb x c) alphabet) k e) in
     (found.0, eqb-true _ _ found.1)
 
 -- ---- words
 
 -- the three digits of a word in base 40
-digits_again : (x y z : ℕ) → x < 40 → y < 40 → z < 40 → ((x * 1600 + y * 40 + z) / 1600 ≡ x) × ((x * 1600 + y * 40 + z) / 40 % 40 ≡ y) × ((x * 1600 + y * 40 + z) % 40 ≡ z)
+digits_again : (x y z : ℕ) → x < 40 → y < 40 → z < 40
+    → ((x * 1600 + y * 40 + z) / 1600 ≡ x) × ((x * 1600 + y * 40 + z) / 40 % 40 ≡ y)
+    × ((x * 1600 + y * 40 + z) % 40 ≡ z)
 digits_again x y z x-fits y-fits z-fits = (omega arith, omega arith, omega arith)
 
-three_items : (text : List ℕ) → length text ≡ 3 → text ≡ slice_index text 0 ∷ slice_index text 1 ∷ slice_index text 2 ∷ []
+three_items : (text : List ℕ) → length text ≡ 3
+    → text ≡ slice_index text 0 ∷ slice_index text 1 ∷ slice_index text 2 ∷ []
 three_items [] e = absurd (omega arith)
 three_items (a ∷ []) e = absurd (omega arith)
 three_items (a ∷ b ∷ []) e = absurd (omega arith)
@@ -65,7 +69,9 @@ three_items (a ∷ b ∷ c ∷ []) e = refl
 three_items (a ∷ b ∷ c ∷ d ∷ rest) e = absurd (omega arith)
 
 -- a packed word has the characters that it was packed from
-pub unpacked_again : (text : List ℕ) (x y z : ℕ) → length text ≡ 3 → code_of (slice_index text 0) ≡ Some x → code_of (slice_index text 1) ≡ Some y → code_of (slice_index text 2) ≡ Some z → unpacked (x * 1600 + y * 40 + z) ≡ Some text
+pub unpacked_again : (text : List ℕ) (x y z : ℕ) → length text ≡ 3 → code_of (slice_index text 0) ≡ Some x
+    → code_of (slice_index text 1) ≡ Some y → code_of (slice_index text 2) ≡ Some z
+    → unpacked (x * 1600 + y * 40 + z) ≡ Some text
 unpacked_again text x y z len first second third =
     let a = character_again (slice_index text 0) x first in
     let b = character_again (slice_index text 1) y second in
@@ -74,7 +80,8 @@ unpacked_again text x y z len first second third =
     let below : ltb (x * 1600 + y * 40 + z) 64000 ≡ true = lt-ltb _ _ (omega arith) in
     rw (below, d.0, d.1, d.2, a.1, b.1, c.1) (ap (λ (t : List ℕ). Some t) (sym (three_items text len)))
 
-packed_same : (word : ℕ) → word < word_limit → HasNoPercent (characters_of word) → packed_at (characters_of word) 0 ≡ Some word
+packed_same : (word : ℕ) → word < word_limit → HasNoPercent (characters_of word)
+    → packed_at (characters_of word) 0 ≡ Some word
 packed_same word lt plain =
     let a = code_again (word / 1600) (omega arith) (plain 0 0 (omega arith)) in
     let b = code_again (word / 40 % 40) (omega arith) (plain 1 0 (omega arith)) in
@@ -83,7 +90,9 @@ packed_same word lt plain =
     rw (a, b, c) (ap (λ (w : ℕ). Some w) sum)
 
 -- the codes of a word's characters have that word
-pub packed_again : (word a b c : ℕ) → word < word_limit → a ≡ character_of (word / 1600) → b ≡ character_of (word / 40 % 40) → c ≡ character_of (word % 40) → HasNoPercent (a ∷ b ∷ c ∷ []) → packed_at (a ∷ b ∷ c ∷ []) 0 ≡ Some word
+pub packed_again : (word a b c : ℕ) → word < word_limit → a ≡ character_of (word / 1600)
+    → b ≡ character_of (word / 40 % 40) → c ≡ character_of (word % 40) → HasNoPercent (a ∷ b ∷ c ∷ [])
+    → packed_at (a ∷ b ∷ c ∷ []) 0 ≡ Some word
 packed_again word a b c lt first second third plain =
     let same : a ∷ b ∷ c ∷ [] ≡ characters_of word = cc in
     let P : List ℕ → Type 0 = λ text. HasNoPercent text → packed_at text 0 ≡ Some word in

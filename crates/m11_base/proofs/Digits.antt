@@ -6,17 +6,20 @@ use Rattle.std.proofs.Math.Nat.{le-mul_of_pos_right}
 use Rattle.std.specs.List.{list_all, list_any}
 use Rattle.m11_base.specs.Octal.{octal_value, is_octal_digit}
 
-regroup : (digit places moved front back : ℕ) → digit * (places * moved) + (front * moved + back) ≡ (digit * places + front) * moved + back
+regroup : (digit places moved front back : ℕ)
+    → digit * (places * moved) + (front * moved + back) ≡ (digit * places + front) * moved + back
 regroup digit places moved front back = omega arith
 
-pub octal_value-append : (front back : List ℕ) → octal_value (front ++ back) ≡ octal_value front * 8 ^ length back + octal_value back
+pub octal_value-append : (front back : List ℕ)
+    → octal_value (front ++ back) ≡ octal_value front * 8 ^ length back + octal_value back
 octal_value-append [] back = omega arith
 octal_value-append (digit ∷ front) back =
     rw (length-append front back, pow-add 8 (length front) (length back), octal_value-append front back)
     (regroup (digit - 48) (8 ^ length front) (8 ^ length back) (octal_value front) (octal_value back))
 
 -- one more digit behind
-pub octal_value-push : (digits : List ℕ) (i : ℕ) → i < length digits → octal_value (take (i + 1) digits) ≡ octal_value (take i digits) * 8 + (get_or digits i 0 - 48)
+pub octal_value-push : (digits : List ℕ) (i : ℕ) → i < length digits
+    → octal_value (take (i + 1) digits) ≡ octal_value (take i digits) * 8 + (get_or digits i 0 - 48)
 octal_value-push digits i lt =
     rw (take_more digits i 0 lt, octal_value-append (take i digits) (get_or digits i 0 ∷ [])) (omega arith)
 
@@ -34,10 +37,13 @@ octal_value-take digits i =
 pub ruleset steps = (octal_value-push, octal_value-take)
 
 -- some character is no digit exactly where not all are
-pub bad_digit_among : (text : List ℕ) → list_any (λ character. not (is_octal_digit character)) text ≡ not (list_all is_octal_digit text)
+pub bad_digit_among : (text : List ℕ)
+    → list_any (λ character. not (is_octal_digit character)) text ≡ not (list_all is_octal_digit text)
 bad_digit_among [] = refl
 bad_digit_among (x ∷ xs) =
-    elim (is_octal_digit x) as (λ v. (not v || list_any (λ character. not (is_octal_digit character)) xs) ≡ not (v && list_all is_octal_digit xs)) [
+    elim (is_octal_digit x) as
+    (λ v. (not v || list_any (λ character. not (is_octal_digit character)) xs)
+    ≡ not (v && list_all is_octal_digit xs)) [
       | true ↦ bad_digit_among xs
       | false ↦ refl
     ]

@@ -8,28 +8,41 @@ use Rattle.m11_base.specs.Feed.{Text, Ending, Ends, Fails, MayFail, Gives, Gives
 abbrev text : List ℕ → Ending → Text
 text bytes ending = record { bytes = bytes; ending = ending }
 
-whole_text : (calls : ℕ) (bytes : List ℕ) (blown whole : Ending) → length bytes ≤ calls → bytes_through_fuse calls bytes blown whole ≡ text bytes whole
+whole_text : (calls : ℕ) (bytes : List ℕ) (blown whole : Ending) → length bytes ≤ calls
+    → bytes_through_fuse calls bytes blown whole ≡ text bytes whole
 whole_text calls bytes blown whole h = rw (le-ltb calls (length bytes) h) refl
 
-cut_text : (calls : ℕ) (bytes : List ℕ) (blown whole : Ending) → calls < length bytes → bytes_through_fuse calls bytes blown whole ≡ text (take calls bytes) blown
+cut_text : (calls : ℕ) (bytes : List ℕ) (blown whole : Ending) → calls < length bytes
+    → bytes_through_fuse calls bytes blown whole ≡ text (take calls bytes) blown
 cut_text calls bytes blown whole h = rw (lt-ltb calls (length bytes) h) refl
 
-byte_between : (x y : Text) (byte : ℕ) (rest : List ℕ) (ending : Ending) → x ≡ text (byte ∷ rest) ending → y ≡ text rest ending → GivesByte (Some x) (Some y) byte
-byte_between x y byte rest ending e f =
-    (rest, ap (λ (t : Text). t.bytes) e, ap (λ (t : Text). Some t) (f ∙ ap (λ (d : Ending). text rest d) (sym (ap (λ (t : Text). t.ending) e))))
+byte_between : (x y : Text) (byte : ℕ) (rest : List ℕ) (ending : Ending) → x ≡ text (byte ∷ rest) ending
+    → y ≡ text rest ending → GivesByte (Some x) (Some y) byte
+byte_between x y byte rest ending e f = (
+  rest,
+  ap (λ (t : Text). t.bytes) e,
+  ap (λ (t : Text). Some t) (f ∙ ap (λ (d : Ending). text rest d) (sym (ap (λ (t : Text). t.ending) e))),
+)
 
-byte_through : (calls byte : ℕ) (rest : List ℕ) (blown whole : Ending) → GivesByte (Some (bytes_through_fuse (suc calls) (byte ∷ rest) blown whole)) (Some (bytes_through_fuse calls rest blown whole)) byte
+byte_through : (calls byte : ℕ) (rest : List ℕ) (blown whole : Ending)
+    → GivesByte (Some (bytes_through_fuse (suc calls) (byte ∷ rest) blown whole))
+    (Some (bytes_through_fuse calls rest blown whole)) byte
 byte_through calls byte rest blown whole =
     elim (cases_lt calls (length rest)) [
-      | inl lt ↦ byte_between _ _ byte (take calls rest) blown (cut_text (suc calls) (byte ∷ rest) blown whole (omega arith)) (cut_text calls rest blown whole lt)
-      | inr le ↦ byte_between _ _ byte rest whole (whole_text (suc calls) (byte ∷ rest) blown whole (omega arith)) (whole_text calls rest blown whole le)
+      | inl lt ↦ byte_between _ _ byte (take calls rest) blown
+          (cut_text (suc calls) (byte ∷ rest) blown whole (omega arith)) (cut_text calls rest blown whole lt)
+      | inr le ↦ byte_between _ _ byte rest whole (whole_text (suc calls) (byte ∷ rest) blown whole (omega arith))
+          (whole_text calls rest blown whole le)
     ]
 
-end_through : (calls : ℕ) (blown whole : Ending) → whole ≢ Fails → GivesEnd (Some (bytes_through_fuse (suc calls) [] blown whole)) (Some (bytes_through_fuse calls [] blown whole))
+end_through : (calls : ℕ) (blown whole : Ending) → whole ≢ Fails
+    → GivesEnd (Some (bytes_through_fuse (suc calls) [] blown whole)) (Some (bytes_through_fuse calls [] blown whole))
 end_through calls blown whole h =
     let e = whole_text (suc calls) [] blown whole (omega arith) in
-    let f = whole_text calls [] blown whole (omega arith) in
-    ((ap (λ (t : Text). t.bytes) e, λ bad. h (sym (ap (λ (t : Text). t.ending) e) ∙ bad)), ap (λ (t : Text). Some t) (f ∙ sym e))
+    let f = whole_text calls [] blown whole (omega arith) in (
+      (ap (λ (t : Text). t.bytes) e, λ bad. h (sym (ap (λ (t : Text). t.ending) e) ∙ bad)),
+      ap (λ (t : Text). Some t) (f ∙ sym e),
+    )
 
 MayFail≢Fails : MayFail ≢ Fails
 MayFail≢Fails e = cc
@@ -37,18 +50,26 @@ MayFail≢Fails e = cc
 Ends≢Fails : Ends ≢ Fails
 Ends≢Fails e = cc
 
-byte_of : (calls byte : ℕ) (bytes rest : List ℕ) (blown whole : Ending) → bytes ≡ byte ∷ rest → GivesByte (Some (bytes_through_fuse (suc calls) bytes blown whole)) (Some (bytes_through_fuse calls rest blown whole)) byte
+byte_of : (calls byte : ℕ) (bytes rest : List ℕ) (blown whole : Ending) → bytes ≡ byte ∷ rest
+    → GivesByte (Some (bytes_through_fuse (suc calls) bytes blown whole))
+    (Some (bytes_through_fuse calls rest blown whole)) byte
 byte_of calls byte bytes rest blown whole front = rw front (byte_through calls byte rest blown whole)
 
-end_of : (calls : ℕ) (bytes : List ℕ) (blown whole : Ending) → whole ≢ Fails → bytes ≡ [] → GivesEnd (Some (bytes_through_fuse (suc calls) bytes blown whole)) (Some (bytes_through_fuse calls bytes blown whole))
+end_of : (calls : ℕ) (bytes : List ℕ) (blown whole : Ending) → whole ≢ Fails → bytes ≡ []
+    → GivesEnd (Some (bytes_through_fuse (suc calls) bytes blown whole))
+    (Some (bytes_through_fuse calls bytes blown whole))
 end_of calls bytes blown whole h none = rw none (end_through calls blown whole h)
 
-failure_between : (count : ℕ) (x y : Text) → x ≡ text [] Fails → y ≡ text [] Fails → GivesFailure (Some x) (Some y) count
+failure_between : (count : ℕ) (x y : Text) → x ≡ text [] Fails → y ≡ text [] Fails
+    → GivesFailure (Some x) (Some y) count
 failure_between count x y e f = rw (e, f) (inl refl, refl)
 
-failure_of : (count calls : ℕ) (bytes : List ℕ) → bytes ≡ [] → GivesFailure (Some (bytes_through_fuse (suc calls) bytes Fails Fails)) (Some (bytes_through_fuse calls bytes Fails Fails)) count
+failure_of : (count calls : ℕ) (bytes : List ℕ) → bytes ≡ []
+    → GivesFailure (Some (bytes_through_fuse (suc calls) bytes Fails Fails))
+    (Some (bytes_through_fuse calls bytes Fails Fails)) count
 failure_of count calls bytes none =
-    rw none (failure_between count _ _ (whole_text (suc calls) [] Fails Fails (omega arith)) (whole_text calls [] Fails Fails (omega arith)))
+    rw none (failure_between count _ _ (whole_text (suc calls) [] Fails Fails (omega arith))
+    (whole_text calls [] Fails Fails (omega arith)))
 
 -- a call that the fuse passes on
 module _ (count inner : ℕ) (unfailed : inner ≢ last_count) where
@@ -57,7 +78,8 @@ module _ (count inner : ℕ) (unfailed : inner ≢ last_count) where
   unknown_gives new (Ok (Some byte)) = tt
   unknown_gives new (Err e) = tt
 
-  known_through : (calls : ℕ) (bytes : List ℕ) (ending : Ending) (new : Option Text) (answer : Result (Option ℕ) DeviceFault)
+  known_through : (calls : ℕ) (bytes : List ℕ) (ending : Ending) (new : Option Text)
+      (answer : Result (Option ℕ) DeviceFault)
       → Gives (Some (text bytes ending)) new inner answer
       → Gives (text_through_fuse (suc calls) (Some (text bytes ending))) (text_through_fuse calls new) count answer
   known_through calls bytes MayFail new answer h = unknown_gives (text_through_fuse calls new) answer
@@ -66,14 +88,17 @@ module _ (count inner : ℕ) (unfailed : inner ≢ last_count) where
   known_through calls bytes Ends new (Err e) h = elim h.0 [ inl bad ↦ absurd bad | inr last ↦ absurd (unfailed last) ]
   known_through calls bytes Fails new (Ok None) h = absurd (h.0.1 refl)
   known_through calls bytes Fails new (Ok (Some byte)) h = rw h.2 (byte_of calls byte bytes h.0 Fails Fails h.1)
-  known_through calls bytes Fails new (Err e) h = elim h.0 [ inl none ↦ rw h.1 (failure_of count calls bytes none) | inr last ↦ absurd (unfailed last) ]
+  known_through calls bytes Fails new (Err e) h =
+      elim h.0 [ inl none ↦ rw h.1 (failure_of count calls bytes none) | inr last ↦ absurd (unfailed last) ]
 
   gives_through : (calls : ℕ) (old new : Option Text) (answer : Result (Option ℕ) DeviceFault)
-      → Gives old new inner answer → Gives (text_through_fuse (suc calls) old) (text_through_fuse calls new) count answer
+      → Gives old new inner answer
+      → Gives (text_through_fuse (suc calls) old) (text_through_fuse calls new) count answer
   gives_through calls None new answer h = unknown_gives (text_through_fuse calls new) answer
   gives_through calls (Some t) new answer h = known_through calls t.bytes t.ending new answer h
 
   pub gives_through_fuse : (calls : ℕ) (old new : Option Text) (answer : Result (Option ℕ) DeviceFault)
-      → 0 < calls → Gives old new inner answer → Gives (text_through_fuse calls old) (text_through_fuse (calls - 1) new) count answer
+      → 0 < calls → Gives old new inner answer
+      → Gives (text_through_fuse calls old) (text_through_fuse (calls - 1) new) count answer
   gives_through_fuse zero old new answer some h = absurd (omega arith)
   gives_through_fuse (suc calls) old new answer some h = rw sub-one (gives_through calls old new answer h)

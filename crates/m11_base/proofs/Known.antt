@@ -22,18 +22,25 @@ Keeps-Appends (Some x) None c bs h k = absurd h
 Keeps-Appends (Some x) (Some y) None bs h k = absurd k
 Keeps-Appends (Some x) (Some y) (Some z) bs h k = k ∙ ap (λ (t : List ℕ). t ++ bs) h
 
-pub Appends-Appends : (a b c : Option (List ℕ)) (bs cs : List ℕ) → Appends a b bs → Appends b c cs → Appends a c (bs ++ cs)
+pub Appends-Appends : (a b c : Option (List ℕ)) (bs cs : List ℕ) → Appends a b bs → Appends b c cs
+    → Appends a c (bs ++ cs)
 Appends-Appends None b c bs cs h k = tt
 Appends-Appends (Some x) None c bs cs h k = absurd h
 Appends-Appends (Some x) (Some y) None bs cs h k = absurd k
 Appends-Appends (Some x) (Some y) (Some z) bs cs h k = k ∙ ap (λ (t : List ℕ). t ++ cs) h ∙ append_assoc x bs cs
 
 -- a beginning of the bytes is taken, and then more of them from the front of those that are left
-pub takes_more : (a b c : Option (List ℕ)) (bytes done rest left : List ℕ) (count : ℕ) → bytes ≡ done ++ rest → left ≡ drop count rest
+pub takes_more : (a b c : Option (List ℕ)) (bytes done rest left : List ℕ) (count : ℕ) → bytes ≡ done ++ rest
+    → left ≡ drop count rest
     → Appends a b done → Appends b c (take count rest) → (x : List ℕ) × (bytes ≡ x ++ left) × Appends a c x
 takes_more a b c bytes done rest left count whole left-is first second =
-    let parts = whole ∙ ap (λ (t : List ℕ). done ++ t) (sym (take-append-drop count rest)) ∙ sym (append_assoc done (take count rest) (drop count rest)) in
-    (done ++ take count rest, parts ∙ ap (λ (t : List ℕ). (done ++ take count rest) ++ t) (sym left-is), Appends-Appends a b c done (take count rest) first second)
+    let parts =
+    whole ∙ ap (λ (t : List ℕ). done ++ t) (sym (take-append-drop count rest))
+    ∙ sym (append_assoc done (take count rest) (drop count rest)) in (
+      done ++ take count rest,
+      parts ∙ ap (λ (t : List ℕ). (done ++ take count rest) ++ t) (sym left-is),
+      Appends-Appends a b c done (take count rest) first second,
+    )
 
 -- a put that took something isn't counted
 pub taken_uncounted : (old new taken most : ℕ) → (taken ≡ 0 → ⊥) → CountsAt old new taken most → new ≡ old

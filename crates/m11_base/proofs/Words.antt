@@ -26,7 +26,8 @@ fields_sound op.Rts word = tt
 fields_sound (op.Number o) word = tt
 fields_sound (op.Bare o) word = tt
 fields_sound (op.Condition o) word = tt
-fields_sound (op.Branch o) word = sfits_to_z {w = w8} {n = word % 256} (Fits-of_lt {w = w8} {n = word % 256} (below word))
+fields_sound (op.Branch o) word =
+    sfits_to_z {w = w8} {n = word % 256} (Fits-of_lt {w = w8} {n = word % 256} (below word))
   where
     below : (word : ℕ) → word % 256 < 256
     below word = omega arith
@@ -38,7 +39,8 @@ fields_sound (op.Codes o codes) word = tt
 pub tables_meaning : (word : ℕ) → word < 65536 → meaning (operation_by_tables word) word ≡ instruction_of word
 tables_meaning word h = by_row (row_of word) (row_checked word h)
   where
-    by_row : (row : Option Row) → IsChecked row word → meaning (operation_by_tables word) word ≡ meaning (operation_in row) word
+    by_row : (row : Option Row) → IsChecked row word
+        → meaning (operation_by_tables word) word ≡ meaning (operation_in row) word
     by_row None e = ap (λ (t : Option Op). meaning t word) e
     by_row (Some row) e =
         let i = with_fields row.operation word in
@@ -69,16 +71,31 @@ reserved_again word h = by_row (row_of word) h
 
 pub instruction_again : (i : Insn) → fits i ≡ true → IsHeld i → instruction_of (code_of i) ≡ i
 instruction_again (insn.Reserved word) h k = reserved_again word h
-instruction_again (insn.Double o s a b) h k = sym (tables_meaning (code_of (insn.Double o s a b)) (code_below (insn.Double o s a b) h k)) ∙ again (insn.Double o s a b) h k
-instruction_again (insn.Extended o r a) h k = sym (tables_meaning (code_of (insn.Extended o r a)) (code_below (insn.Extended o r a) h k)) ∙ again (insn.Extended o r a) h k
-instruction_again (insn.Register o r a) h k = sym (tables_meaning (code_of (insn.Register o r a)) (code_below (insn.Register o r a) h k)) ∙ again (insn.Register o r a) h k
-instruction_again (insn.Sob r n) h k = sym (tables_meaning (code_of (insn.Sob r n)) (code_below (insn.Sob r n) h k)) ∙ again (insn.Sob r n) h k
-instruction_again (insn.Single o s a) h k = sym (tables_meaning (code_of (insn.Single o s a)) (code_below (insn.Single o s a) h k)) ∙ again (insn.Single o s a) h k
-instruction_again (insn.Rts r) h k = sym (tables_meaning (code_of (insn.Rts r)) (code_below (insn.Rts r) h k)) ∙ again (insn.Rts r) h k
-instruction_again (insn.Number o n) h k = sym (tables_meaning (code_of (insn.Number o n)) (code_below (insn.Number o n) h k)) ∙ again (insn.Number o n) h k
-instruction_again (insn.Bare o) h k = sym (tables_meaning (code_of (insn.Bare o)) (code_below (insn.Bare o) h k)) ∙ again (insn.Bare o) h k
-instruction_again (insn.Condition o c) h k = sym (tables_meaning (code_of (insn.Condition o c)) (code_below (insn.Condition o c) h k)) ∙ again (insn.Condition o c) h k
-instruction_again (insn.Branch o z) h k = sym (tables_meaning (code_of (insn.Branch o z)) (code_below (insn.Branch o z) h k)) ∙ again (insn.Branch o z) h k
+instruction_again (insn.Double o s a b) h k =
+    sym (tables_meaning (code_of (insn.Double o s a b)) (code_below (insn.Double o s a b) h k))
+    ∙ again (insn.Double o s a b) h k
+instruction_again (insn.Extended o r a) h k =
+    sym (tables_meaning (code_of (insn.Extended o r a)) (code_below (insn.Extended o r a) h k))
+    ∙ again (insn.Extended o r a) h k
+instruction_again (insn.Register o r a) h k =
+    sym (tables_meaning (code_of (insn.Register o r a)) (code_below (insn.Register o r a) h k))
+    ∙ again (insn.Register o r a) h k
+instruction_again (insn.Sob r n) h k =
+    sym (tables_meaning (code_of (insn.Sob r n)) (code_below (insn.Sob r n) h k)) ∙ again (insn.Sob r n) h k
+instruction_again (insn.Single o s a) h k =
+    sym (tables_meaning (code_of (insn.Single o s a)) (code_below (insn.Single o s a) h k))
+    ∙ again (insn.Single o s a) h k
+instruction_again (insn.Rts r) h k =
+    sym (tables_meaning (code_of (insn.Rts r)) (code_below (insn.Rts r) h k)) ∙ again (insn.Rts r) h k
+instruction_again (insn.Number o n) h k =
+    sym (tables_meaning (code_of (insn.Number o n)) (code_below (insn.Number o n) h k)) ∙ again (insn.Number o n) h k
+instruction_again (insn.Bare o) h k =
+    sym (tables_meaning (code_of (insn.Bare o)) (code_below (insn.Bare o) h k)) ∙ again (insn.Bare o) h k
+instruction_again (insn.Condition o c) h k =
+    sym (tables_meaning (code_of (insn.Condition o c)) (code_below (insn.Condition o c) h k))
+    ∙ again (insn.Condition o c) h k
+instruction_again (insn.Branch o z) h k =
+    sym (tables_meaning (code_of (insn.Branch o z)) (code_below (insn.Branch o z) h k)) ∙ again (insn.Branch o z) h k
 
 pub fits_exactly : (i : Insn) (b : Bool) → b ≡ fits i → IsHeld i → IsTrue b ↔ HasCode i
 fits_exactly i b e held = (

@@ -29,7 +29,8 @@ word_of_codes None second third = None
 -- the word of the three characters from a place of a text on, if each has a code
 abbrev pub packed_at : List ℕ → ℕ → Option ℕ
 packed_at text place =
-    word_of_codes (code_of (slice_index text place)) (code_of (slice_index text (place + 1))) (code_of (slice_index text (place + 2)))
+    word_of_codes (code_of (slice_index text place)) (code_of (slice_index text (place + 1)))
+    (code_of (slice_index text (place + 2)))
 
 -- the three characters of a word: those of its digits in base 40
 abbrev pub characters_of : ℕ → List ℕ

@@ -39,11 +39,16 @@ module _ {E : Type 0} (G : List ℕ → Result ℕ E → Type 0) (other least mo
       absurd (false≢true (sym f ∙ kept))
   was_read t n false true e f digits is =
       let parts = both _ _ f in
-      let inside = Accepts-accepts false (Unsigned least most) t
-      (digits, omega (arith, is, leb-true _ _ parts.1, fits), rw (← is) (leb-true _ _ parts.0), rw (← is) (leb-true _ _ parts.1)) in
+      let inside = Accepts-accepts false (Unsigned least most) t (
+        digits,
+        omega (arith, is, leb-true _ _ parts.1, fits),
+        rw (← is) (leb-true _ _ parts.0),
+        rw (← is) (leb-true _ _ parts.1),
+      ) in
       absurd (false≢true (sym e ∙ inside))
 
-  read_number : (t : Text) (r : Option ℕ) → ReadsOne G t r → within_or other least most r ≡ number_or other least most (Some t)
+  read_number : (t : Text) (r : Option ℕ) → ReadsOne G t r
+      → within_or other least most r ≡ number_or other least most (Some t)
   read_number t None h = not_read t (is_unsigned_in least most t) refl (parses t (Err h.0) h.1)
   read_number t (Some n) h =
       let parsed = parses t (Ok n) h in
@@ -54,7 +59,8 @@ module _ {E : Type 0} (G : List ℕ → Result ℕ E → Type 0) (other least mo
     number_is : within_or other least most r ≡ number_or other least most (one_of id (rows_of f))
     number_is = go (one_text f id) refl ∙ ap (number_or other least most) (one_text-rows f id)
       where
-        go : (o : Option Text) → one_text f id ≡ o → within_or other least most r ≡ number_or other least most (one_text f id)
+        go : (o : Option Text) → one_text f id ≡ o
+            → within_or other least most r ≡ number_or other least most (one_text f id)
         go None e = rw (e, none e) refl
         go (Some t) e = rw e (read_number t r (some t e))
 

@@ -1,5 +1,5 @@
 -- What an assembly says of its feeds it says of their texts and counts of failures.
-use Rattle.std.proofs.Common.{◌≡◌, ◌⊎◌, ℕ, suc, List, [], ◌∷◌, map, length, inl, inr, refl, ap, Option, Result, Ok, Err}
+use Rattle.std.proofs.Common.{◌≡◌, ℕ, suc, List, [], ◌∷◌, map, length, inl, inr, refl, ap, Option, Result, Ok, Err}
 use Rattle.m11_base.specs.Feed.{Text, GiveAll, NoneFailed, OneFailed}
 use Rattle.m11_asm.specs.Run.{Finishes, Runs}
 use Rattle.m11_asm.specs.Writes.{Write}

@@ -36,12 +36,14 @@ fault_in (Ok start) = NoMemory
 fault_in (Err fault) = fault
 
 of_word : (odd past : Bool) (word : ℕ) (fault : UsageFault)
-    → start_at (if odd then Err OddAddress else if past then Err BadAddress else Ok word) ≡ Err fault → IsStartFault fault
+    → start_at (if odd then Err OddAddress else if past then Err BadAddress else Ok word) ≡ Err fault
+    → IsStartFault fault
 of_word true past word fault e = subst IsStartFault (ap fault_in e) tt
 of_word false true word fault e = subst IsStartFault (ap fault_in e) tt
 of_word false false word fault e = cc
 
-of_octal : (r : Result ℕ OctalFault) (fault : UsageFault) → start_at (address_of_octal r) ≡ Err fault → IsStartFault fault
+of_octal : (r : Result ℕ OctalFault) (fault : UsageFault) → start_at (address_of_octal r) ≡ Err fault
+    → IsStartFault fault
 of_octal (Ok word) fault e = of_word (word % 2 == 1) (nat_lt 0o157776 word) word fault e
 of_octal (Err octal) fault e = subst IsStartFault (ap fault_in e) tt
 
@@ -49,7 +51,8 @@ of_start : (o : Option Text) (fault : UsageFault) → start_of o ≡ Err fault �
 of_start None fault e = cc
 of_start (Some text) fault e = of_octal (octal_of text) fault e
 
-has_fault : (words : List Text) (rows : List Row) (fault : UsageFault) → Some (codes "sim", rows) ≡ subcommand_of application words
+has_fault : (words : List Text) (rows : List Row) (fault : UsageFault)
+    → Some (codes "sim", rows) ≡ subcommand_of application words
     → start_of (first_of (codes "start") rows) ≡ Err fault → HasStartFault (subcommand_of application words) fault
 has_fault words rows fault entered e = subst (λ o. HasStartFault o fault) entered (refl, e)
 
@@ -58,7 +61,8 @@ pub plans_refused : (words : List Text) (rows : List Row) (fault : UsageFault) �
     → Some (codes "sim", rows) ≡ subcommand_of application words
     → start_of (first_of (codes "start") rows) ≡ Err fault → Plans words (Err fault)
 plans_refused words rows (Help error) free entered e = absurd (of_start (first_of (codes "start") rows) (Help error) e)
-plans_refused words rows (Words error) free entered e = absurd (of_start (first_of (codes "start") rows) (Words error) e)
+plans_refused words rows (Words error) free entered e =
+    absurd (of_start (first_of (codes "start") rows) (Words error) e)
 plans_refused words rows BadOctal free entered e = (free, has_fault words rows BadOctal entered e)
 plans_refused words rows OddAddress free entered e = (free, has_fault words rows OddAddress entered e)
 plans_refused words rows BadAddress free entered e = (free, has_fault words rows BadAddress entered e)

@@ -1,5 +1,5 @@
 -- What is told, whole or in part, and what a task comes to.
-use Rattle.std.proofs.Common.{◌≡◌, ◌∙◌, ◌⊎◌, ◌++◌, List, ℕ, inl, inr, sym, ap, append_assoc, Option, Some, None, Result, Ok, Err}
+use Rattle.std.proofs.Common.{◌≡◌, ◌∙◌, ◌++◌, List, ℕ, inl, inr, sym, ap, append_assoc, Option, Some, None, Result, Ok, Err}
 use Rattle.std.specs.Prelude.{OnErr, OnOk}
 use Rattle.std.specs.Io.KnownBytes.{Appends}
 use Rattle.m11_base.specs.Devices.{Rises}
@@ -40,10 +40,12 @@ carried words t (Sim answer) old new planned h = (t, planned, h)
 carried words t NotOpened old new planned h = (t, planned, h)
 
 -- a beginning of a text is one of a longer text, also behind a text that went out whole
-pub begins : (old new : Option (List ℕ)) (text more : List ℕ) → AppendsBeginning old new text → AppendsBeginning old new (text ++ more)
+pub begins : (old new : Option (List ℕ)) (text more : List ℕ) → AppendsBeginning old new text
+    → AppendsBeginning old new (text ++ more)
 begins old new text more h = (h.0, h.1 ++ more, ap (λ t. t ++ more) h.2 ∙ append_assoc h.0 h.1 more, h.3)
 
-pub gains : (old middle new : Option (List ℕ)) (first second : List ℕ) → Appends old middle first → Appends middle new second
+gains : (old middle new : Option (List ℕ)) (first second : List ℕ) → Appends old middle first
+    → Appends middle new second
     → Appends old new (first ++ second)
 gains None middle new first second a b = tt
 gains (Some x) None new first second a b = absurd a
@@ -52,5 +54,9 @@ gains (Some x) (Some y) (Some z) first second a b = b ∙ ap (λ t. t ++ second)
 
 pub begins_behind : (old middle new : Option (List ℕ)) (first text : List ℕ) → Appends old middle first
     → AppendsBeginning middle new text → AppendsBeginning old new (first ++ text)
-begins_behind old middle new first text a h =
-    (first ++ h.0, h.1, ap (λ t. first ++ t) h.2 ∙ sym (append_assoc first h.0 h.1), gains old middle new first h.0 a h.3)
+begins_behind old middle new first text a h = (
+  first ++ h.0,
+  h.1,
+  ap (λ t. first ++ t) h.2 ∙ sym (append_assoc first h.0 h.1),
+  gains old middle new first h.0 a h.3,
+)

@@ -16,7 +16,6 @@ use Rattle.m11_cli.specs.FaultLines.{line_of, open_line}
 use Rattle.m11_cli.specs.Tasks.{Plans}
 use Rattle.m11_cli.specs.declared.outcome.Outcome.{Outcome}
 use Rattle.m11_cli.specs.declared.outcome.Outcome.TheVariants.{Usage, Asm, Sim, NotOpened}
-use Rattle.m11_cli.specs.declared.tasks.AsmTask.{AsmTask}
 use Rattle.m11_cli.specs.declared.tasks.Task.{Task}
 use Rattle.m11_cli.specs.declared.tasks.Task.TheVariants as task
 use Rattle.m11_cli.specs.declared.usage.UsageFault.{UsageFault}
@@ -67,8 +66,8 @@ abbrev pub MayAssemble : ℕ → Output → Output → Result AsmDone AsmFault �
 MayAssemble count told told' answer =
     Assembles count told told' answer ⊎ ((answer ≡ Err asm.NoMemory) × (told' ≡ told))
 
--- what becomes of a task: one of its files does not open, and is told; or it is an assembly of its sources; or it is a run
--- of a tape by what the task says, which has the console
+-- what becomes of a task: one of its files does not open, and is told; or it is an assembly of its sources; or it is a
+-- run of a tape by what the task says, which has the console
 abbrev pub Carries : Task → Outcome → Streams → Streams → Type 0
 Carries task NotOpened old new = (new.input ≡ old.input) × (new.printed ≡ old.printed)
     × (path : List ℕ) × IsPathOf task path × Tells (open_line path) old.told new.told
@@ -89,4 +88,5 @@ ComesTo words outcome old new = (task : Task) × Plans words (Ok task) × Carrie
 -- a command line comes to its outcome, and behind that the line of the outcome's fault is told
 abbrev pub Obeys : List Text → Outcome → Streams → Streams → Type 0
 Obeys words outcome old new =
-    (behind : Output) × ComesTo words outcome old (record new { told = behind }) × Tells (line_of outcome) behind new.told
+    (behind : Output) × ComesTo words outcome old (record new { told = behind })
+    × Tells (line_of outcome) behind new.told

@@ -37,15 +37,22 @@ behind_more read (block ∷ blocks) address content =
     behind_more (next_part (total_of block.0 block.1)) blocks address content
 
 pub hold_more : (read : Reader) (blocks : List (ℕ × List ℕ)) (address : ℕ) (given header content : List ℕ)
-    → Hold read blocks given → ((rest : List ℕ) → part_behind read blocks (header ++ rest) ≡ Ok (Data address (length content), rest))
+    → Hold read blocks given
+    → ((rest : List ℕ) → part_behind read blocks (header ++ rest) ≡ Ok (Data address (length content), rest))
     → Hold read (blocks ++ (address, content) ∷ []) (given ++ (header ++ content))
-hold_more read [] address given header content none is =
-    (header, [], ap (λ (l : List ℕ). l ++ (header ++ content)) none ∙ ap (λ (l : List ℕ). header ++ l) (sym (append-nil content)), is, refl)
+hold_more read [] address given header content none is = (
+  header,
+  [],
+  ap (λ (l : List ℕ). l ++ (header ++ content)) none ∙ ap (λ (l : List ℕ). header ++ l) (sym (append-nil content)),
+  is,
+  refl,
+)
 hold_more read (block ∷ blocks) address given header content held is =
     let more : List ℕ = header ++ content in (
       held.0,
       held.1 ++ more,
-      ap (λ (l : List ℕ). l ++ more) held.2 ∙ append_assoc held.0 (block.1 ++ held.1) more ∙ ap (λ (l : List ℕ). held.0 ++ l) (append_assoc block.1 held.1 more),
+      ap (λ (l : List ℕ). l ++ more) held.2 ∙ append_assoc held.0 (block.1 ++ held.1) more
+          ∙ ap (λ (l : List ℕ). held.0 ++ l) (append_assoc block.1 held.1 more),
       held.3,
       hold_more (next_part (total_of block.0 block.1)) blocks address held.1 header content held.4 is,
     )
@@ -60,15 +67,18 @@ are_read read [] start given last none is =
 are_read read (block ∷ blocks) start given last held is =
     let behind : List ℕ = held.1 ++ last in (
       behind,
-      ap read (ap (λ (l : List ℕ). l ++ last) held.2 ∙ append_assoc held.0 (block.1 ++ held.1) last ∙ ap (λ (l : List ℕ). held.0 ++ l) (append_assoc block.1 held.1 last))
+      ap read (ap (λ (l : List ℕ). l ++ last) held.2 ∙ append_assoc held.0 (block.1 ++ held.1) last
+          ∙ ap (λ (l : List ℕ). held.0 ++ l) (append_assoc block.1 held.1 last))
           ∙ held.3 (block.1 ++ behind),
       are_read (next_part (total_of block.0 block.1)) blocks start held.1 last held.4 is,
     )
 
-pub is_tape : (blocks : List (ℕ × List ℕ)) (start : ℕ) (a b c : Place) (given : List ℕ) → Took a b given → Hold first_part blocks given
+pub is_tape : (blocks : List (ℕ × List ℕ)) (start : ℕ) (a b c : Place) (given : List ℕ) → Took a b given
+    → Hold first_part blocks given
     → (last : Reads (part_behind first_part blocks) b c (Start start)) → IsTape blocks start (given ++ last.given)
 is_tape blocks start a b c given took held last =
-    tape_framed blocks start (given ++ last.given) (bytes_then given last.given took.bytes last.took.bytes) (are_read first_part blocks start given last.given held last.is)
+    tape_framed blocks start (given ++ last.given) (bytes_then given last.given took.bytes last.took.bytes)
+    (are_read first_part blocks start given last.given held last.is)
 
 -- ---- where a reader stands
 
@@ -79,8 +89,10 @@ StandsBefore (InBlock left total) read = (left ≡ 0) × (read ≡ next_part tot
 StandsBefore (AtEnd address) read = ⊥
 StandsBefore AfterFault read = ⊥
 
-pub next_is : (stage : TapeStage) (read : Reader) (old new : Place) (after : TapeStage) (answer : Result TapePart TapeFault)
-    → StandsBefore stage read → ReadsNext stage old new after answer → ReadsPart (λ part. part) read old new answer × (after ≡ stage_after answer)
+pub next_is : (stage : TapeStage) (read : Reader) (old new : Place) (after : TapeStage)
+    (answer : Result TapePart TapeFault)
+    → StandsBefore stage read → ReadsNext stage old new after answer
+    → ReadsPart (λ part. part) read old new answer × (after ≡ stage_after answer)
 next_is BeforeBlock read old new after answer stands r = rw stands r
 next_is (InBlock left total) read old new after answer stands r = rw stands.1 r
 next_is (AtEnd address) read old new after answer stands r = absurd stands

@@ -15,15 +15,18 @@ none_put address memory =
 
 -- one byte more
 pub one_put : (address byte : ℕ) (bytes memory : List ℕ) → address + length bytes < length memory
-    → with_byte (address + length bytes) byte (with_bytes address bytes memory) ≡ with_bytes address (bytes ++ byte ∷ []) memory
+    → with_byte (address + length bytes) byte (with_bytes address bytes memory)
+    ≡ with_bytes address (bytes ++ byte ∷ []) memory
 one_put address byte bytes memory inside =
     let place : ℕ = address + length bytes in
     let front : List ℕ = take address memory ++ bytes in
     let rest : List ℕ = drop (suc place) memory in
-    let long : length front ≡ place = omega (arith, length-append (take address memory) bytes, length-take-le address memory (omega arith)) in
+    let long : length front ≡ place =
+    omega (arith, length-append (take address memory) bytes, length-take-le address memory (omega arith)) in
     let next : suc place ≡ address + length (bytes ++ byte ∷ []) = omega (arith, length-append bytes (byte ∷ [])) in
     ap (λ (l : List ℕ). set l place byte)
-    (sym (append_assoc (take address memory) bytes (drop place memory)) ∙ ap (λ (l : List ℕ). front ++ l) (drop-cons memory place 0 inside))
+    (sym (append_assoc (take address memory) bytes (drop place memory))
+    ∙ ap (λ (l : List ℕ). front ++ l) (drop-cons memory place 0 inside))
     ∙ ap (λ (k : ℕ). set (front ++ (get_or memory place 0 ∷ rest)) k byte) (sym long)
     ∙ set-append_seam front (get_or memory place 0) rest byte
     ∙ append_assoc (take address memory) bytes (byte ∷ rest)
@@ -33,7 +36,8 @@ one_put address byte bytes memory inside =
 pub none_inside : (size address : ℕ) → AreInside size address []
 none_inside size address index none = absurd (omega arith)
 
-pub one_inside : (size address byte : ℕ) (bytes : List ℕ) → AreInside size address bytes → address + length bytes < size → AreInside size address (bytes ++ byte ∷ [])
+pub one_inside : (size address byte : ℕ) (bytes : List ℕ) → AreInside size address bytes
+    → address + length bytes < size → AreInside size address (bytes ++ byte ∷ [])
 one_inside size address byte bytes inside last index lt =
     let long = length-append bytes (byte ∷ []) in
     elim (cases_lt index (length bytes)) [
@@ -42,7 +46,8 @@ one_inside size address byte bytes inside last index lt =
     ]
 
 -- one block more
-pub block_put : (blocks : List (ℕ × List ℕ)) (address : ℕ) (bytes memory : List ℕ) → stored (blocks ++ (address, bytes) ∷ []) memory ≡ with_bytes address bytes (stored blocks memory)
+pub block_put : (blocks : List (ℕ × List ℕ)) (address : ℕ) (bytes memory : List ℕ)
+    → stored (blocks ++ (address, bytes) ∷ []) memory ≡ with_bytes address bytes (stored blocks memory)
 block_put [] address bytes memory = refl
 block_put (block ∷ blocks) address bytes memory =
     block_put blocks address bytes (with_bytes block.0 block.1 memory)

@@ -43,7 +43,8 @@ gave_more (Some a) None c xs ys g h = absurd g
 gave_more (Some a) (Some b) None xs ys g h = absurd h
 gave_more (Some a) (Some b) (Some c) xs ys g h = gave_then a.text b.text c.text xs ys g h
 
-asked_gives : (i i' : Option Input) (reply : Reply) → Did (λ x y. Replies x y reply) i i' → GaveJust i i' (given (Asked reply ∷ []))
+asked_gives : (i i' : Option Input) (reply : Reply) → Did (λ x y. Replies x y reply) i i'
+    → GaveJust i i' (given (Asked reply ∷ []))
 asked_gives None i' reply h = absurd h
 asked_gives (Some i) None reply h = absurd h
 asked_gives (Some i) (Some i') (Gives byte) h = gives_one i.text i'.text byte h.0
@@ -60,13 +61,15 @@ input_of_one : (old new : Devices) (e : Exchange) → Happens old new e → Gave
 input_of_one old new (Asked reply) h = asked_gives old.input new.input reply h.0
 input_of_one old new (Sent byte taken) h = same_input old.input new.input h.1
 
-pub input_exact : (old new : Devices) (es : List Exchange) → Happened old new es → GaveJust old.input new.input (given es)
+pub input_exact : (old new : Devices) (es : List Exchange) → Happened old new es
+    → GaveJust old.input new.input (given es)
 unfolding Happened
 input_exact old new [] h = same_input old.input new.input (ap (λ (d : Devices). d.input) h)
 input_exact old new (e ∷ es) h =
     let P : List ℕ → Type 0 = λ bytes. GaveJust old.input new.input bytes in
     subst P (sym (given_one_more e es))
-    (gave_more old.input h.0.input new.input (given (e ∷ [])) (given es) (input_of_one old h.0 e h.1) (input_exact h.0 new es h.2))
+    (gave_more old.input h.0.input new.input (given (e ∷ [])) (given es) (input_of_one old h.0 e h.1)
+    (input_exact h.0 new es h.2))
 
 same_output : (o o' : Option Output) → o' ≡ o → GainedJust o o' []
 same_output None None e = refl
@@ -75,7 +78,8 @@ same_output (Some o) None e = cc
 same_output (Some o) (Some o') e =
     let P : Option Output → Type 0 = λ x. GainedJust (Some o) x [] in subst P (sym e) (Appends-nil o.text)
 
-gained_more : (a b c : Option Output) (xs ys : List ℕ) → GainedJust a b xs → GainedJust b c ys → GainedJust a c (xs ++ ys)
+gained_more : (a b c : Option Output) (xs ys : List ℕ) → GainedJust a b xs → GainedJust b c ys
+    → GainedJust a c (xs ++ ys)
 gained_more None None None xs ys g h = cc
 gained_more None None (Some c) xs ys g h = absurd h
 gained_more None (Some b) c xs ys g h = absurd g
@@ -95,14 +99,17 @@ taken_one_more (Asked reply) es = refl
 taken_one_more (Sent byte true) es = refl
 taken_one_more (Sent byte false) es = refl
 
-output_of_one : (old new : Devices) (e : Exchange) → Happens old new e → GainedJust old.output new.output (taken (e ∷ []))
+output_of_one : (old new : Devices) (e : Exchange) → Happens old new e
+    → GainedJust old.output new.output (taken (e ∷ []))
 output_of_one old new (Asked reply) h = same_output old.output new.output h.1
 output_of_one old new (Sent byte was_taken) h = sent_gained old.output new.output byte was_taken h.0
 
-pub output_exact : (old new : Devices) (es : List Exchange) → Happened old new es → GainedJust old.output new.output (taken es)
+pub output_exact : (old new : Devices) (es : List Exchange) → Happened old new es
+    → GainedJust old.output new.output (taken es)
 unfolding Happened
 output_exact old new [] h = same_output old.output new.output (ap (λ (d : Devices). d.output) h)
 output_exact old new (e ∷ es) h =
     let P : List ℕ → Type 0 = λ bytes. GainedJust old.output new.output bytes in
     subst P (sym (taken_one_more e es))
-    (gained_more old.output h.0.output new.output (taken (e ∷ [])) (taken es) (output_of_one old h.0 e h.1) (output_exact h.0 new es h.2))
+    (gained_more old.output h.0.output new.output (taken (e ∷ [])) (taken es) (output_of_one old h.0 e h.1)
+    (output_exact h.0 new es h.2))

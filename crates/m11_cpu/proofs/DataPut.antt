@@ -14,7 +14,8 @@ use Rattle.m11_cpu.proofs.BytesPut.{none_put, one_put, none_inside, one_inside}
 use Rattle.m11_cpu.proofs.BlocksRead.{byte_took}
 
 -- so many bytes of the open block were given and put
-pub record Taking (old here : Place) (before now : List ℕ) (address count index : ℕ) (stage : TapeStage) (taken : List ℕ) : Type 0 where
+pub record Taking (old here : Place) (before now : List ℕ) (address count index : ℕ) (stage : TapeStage)
+    (taken : List ℕ) : Type 0 where
   pub long : length taken ≡ index
   pub took : Took old here taken
   pub stands : stage ≡ opened address count taken
@@ -22,7 +23,9 @@ pub record Taking (old here : Place) (before now : List ℕ) (address count inde
   pub memory : now ≡ with_bytes address taken before
   pub size : length now ≡ length before
 
-pub none_taken : (old : Place) (before : List ℕ) (address count : ℕ) (stage : TapeStage) → stage ≡ InBlock count (sum (tape_header address count) % 256) → Taking old old before before address count 0 stage []
+pub none_taken : (old : Place) (before : List ℕ) (address count : ℕ) (stage : TapeStage)
+    → stage ≡ InBlock count (sum (tape_header address count) % 256)
+    → Taking old old before before address count 0 stage []
 none_taken old before address count stage begun =
     let all : count ≡ count - 0 = omega arith in record {
       long = refl;
@@ -33,32 +36,38 @@ none_taken old before address count stage begun =
       size = refl;
     }
 
-module _ (old here : Place) (before now : List ℕ) (address count index : ℕ) (stage : TapeStage) (taken : List ℕ) (t : Taking old here before now address count index stage taken) where
+module _ (old here : Place) (before now : List ℕ) (address count index : ℕ) (stage : TapeStage) (taken : List ℕ)
+    (t : Taking old here before now address count index stage taken) where
   some_left : index < count → left_of (opened address count taken) ≡ 0 → stage ≡ AfterFault
   some_left more none = absurd (omega (arith, t.long))
 
   pub is_open : index < count → left_of stage ≡ 0 → stage ≡ AfterFault
   is_open more none = some_left more (ap left_of (sym t.stands) ∙ none)
 
-  pub byte_read : (new : Place) (after : TapeStage) (answer : Result ℕ TapeFault) → ReadsByte stage here new after answer
-      → ReadsPart (λ byte. byte) data_byte here new answer × (after ≡ stage_within (count - length taken) (sum (tape_header address count ++ taken) % 256) answer)
+  pub byte_read : (new : Place) (after : TapeStage) (answer : Result ℕ TapeFault)
+      → ReadsByte stage here new after answer
+      → ReadsPart (λ byte. byte) data_byte here new answer
+      × (after ≡ stage_within (count - length taken) (sum (tape_header address count ++ taken) % 256) answer)
   byte_read new after answer r = rw t.stands at r
 
   pub some_put : index < count → PutSome old here before now address count taken
   some_put more = record { took = t.took; some = omega (arith, t.long); inside = t.inside; memory = t.memory }
 
-  pub data_stops : index < count → (new : Place) (after : TapeStage) (fault : TapeFault) → ReadsByte stage here new after (Err fault)
+  pub data_stops : index < count → (new : Place) (after : TapeStage) (fault : TapeFault)
+      → ReadsByte stage here new after (Err fault)
       → (middle : Place) × PutSome old middle before now address count taken × Stops data_byte middle new (why_of fault)
   data_stops more new after fault r = (here, some_put more, (byte_read new after (Err fault) r).0)
 
-  module _ (more : index < count) (new : Place) (after : TapeStage) (byte : ℕ) (r : ReadsByte stage here new after (Ok byte)) where
+  module _ (more : index < count) (new : Place) (after : TapeStage) (byte : ℕ)
+      (r : ReadsByte stage here new after (Ok byte)) where
     given : Took here new (byte ∷ [])
     given = byte_took here new byte (byte_read new after (Ok byte) r).0
 
     pub byte_outside : length now ≤ address + index → GivesOutside here new (length before) (address + length taken)
     byte_outside outside = (byte, given, omega (arith, t.long, t.size))
 
-    pub one_taken : (place : ℕ) (memory : List ℕ) → place ≡ address + index → place < length now → memory ≡ with_byte place byte now → length memory ≡ length now
+    pub one_taken : (place : ℕ) (memory : List ℕ) → place ≡ address + index → place < length now
+        → memory ≡ with_byte place byte now → length memory ≡ length now
         → Taking old new before memory address count (index + 1) after (taken ++ byte ∷ [])
     one_taken place memory place_is inside memory_is size =
         let there : place ≡ address + length taken = omega (arith, t.long) in
@@ -74,7 +83,8 @@ module _ (old here : Place) (before now : List ℕ) (address count index : ℕ) 
         }
 
   pub all_taken : count ≤ index → index ≤ count
-      → ((length taken ≡ count) × Took old here taken × AreInside (length before) address taken × (now ≡ with_bytes address taken before)) × (stage ≡ InBlock 0 (total_of address taken))
+      → ((length taken ≡ count) × Took old here taken × AreInside (length before) address taken
+      × (now ≡ with_bytes address taken before)) × (stage ≡ InBlock 0 (total_of address taken))
   all_taken all most =
       let long : count ≡ length taken = omega (arith, t.long) in (
         (sym long, t.took, t.inside, t.memory),

@@ -95,7 +95,8 @@ sends byte by o o' new y taken t k = record {
 
 -- a byte that is sent, where a call has answered whether it was taken
 pub sends_at_once : {A : Type 0} (byte : ℕ) (by : Bool → Dialogue A) (o o' : Output) (y : A) (taken : Bool)
-    → Takes o o' byte taken → Does (by taken) (record { input = None; output = Some o' }) (record { input = None; output = Some o' }) y
+    → Takes o o' byte taken
+    → Does (by taken) (record { input = None; output = Some o' }) (record { input = None; output = Some o' }) y
     → Does (Sends byte by) (record { input = None; output = Some o }) (record { input = None; output = Some o' }) y
 sends_at_once byte by o o' y taken t k = sends byte by o o' _ y taken t k
 
@@ -112,10 +113,15 @@ happened_beside_output : (old new : Option Input) (o : Option Output) (es : List
     → Happened (record { input = old; output = None }) (record { input = new; output = None }) es
     → Happened (record { input = old; output = o }) (record { input = new; output = o }) es
 unfolding Happened
-happened_beside_output old new o [] h = ap (λ (d : Devices). let e : Devices = record { input = d.input; output = o } in e) h
+happened_beside_output old new o [] h =
+    ap (λ (d : Devices). let e : Devices = record { input = d.input; output = o } in e) h
 happened_beside_output old new o (Asked reply ∷ es) h =
-    let P : Option Output → Type 0 = λ x. Happened (record { input = h.0.input; output = x }) (record { input = new; output = None }) es in
-    (record { input = h.0.input; output = o }, (h.1.0, refl), happened_beside_output h.0.input new o es (subst P h.1.1 h.2))
+    let P : Option Output → Type 0 =
+    λ x. Happened (record { input = h.0.input; output = x }) (record { input = new; output = None }) es in (
+      record { input = h.0.input; output = o },
+      (h.1.0, refl),
+      happened_beside_output h.0.input new o es (subst P h.1.1 h.2),
+    )
 happened_beside_output old new o (Sent byte taken ∷ es) h = absurd h.1.0
 
 pub reads_beside : {A : Type 0} (d : Dialogue A) (i i' : Option Input) (o : Option Output) (y : A)
@@ -131,10 +137,15 @@ happened_beside_input : (i : Option Input) (old new : Option Output) (es : List 
     → Happened (record { input = None; output = old }) (record { input = None; output = new }) es
     → Happened (record { input = i; output = old }) (record { input = i; output = new }) es
 unfolding Happened
-happened_beside_input i old new [] h = ap (λ (d : Devices). let e : Devices = record { input = i; output = d.output } in e) h
+happened_beside_input i old new [] h =
+    ap (λ (d : Devices). let e : Devices = record { input = i; output = d.output } in e) h
 happened_beside_input i old new (Sent byte taken ∷ es) h =
-    let P : Option Input → Type 0 = λ x. Happened (record { input = x; output = h.0.output }) (record { input = None; output = new }) es in
-    (record { input = i; output = h.0.output }, (h.1.0, refl), happened_beside_input i h.0.output new es (subst P h.1.1 h.2))
+    let P : Option Input → Type 0 =
+    λ x. Happened (record { input = x; output = h.0.output }) (record { input = None; output = new }) es in (
+      record { input = i; output = h.0.output },
+      (h.1.0, refl),
+      happened_beside_input i h.0.output new es (subst P h.1.1 h.2),
+    )
 happened_beside_input i old new (Asked reply ∷ es) h = absurd h.1.0
 
 pub writes_beside : {A : Type 0} (d : Dialogue A) (i : Option Input) (o o' : Option Output) (y : A)
@@ -222,6 +233,28 @@ change_exclusive_at source source' place m old new y e h =
     let P : ℕ → Type 0 = λ x. Does (change_exclusive x place m) old new y in subst P e h
 
 -- for calls of one device, and for calls of both
-pub ruleset dialogues = (put_result_at, push_at, comes_ok, comes, comes_aborted, value_does, bind_does, bind_aborts, if_so, if_not, if_so_by, if_not_by)
+pub ruleset dialogues = (
+  put_result_at,
+  push_at,
+  comes_ok,
+  comes,
+  comes_aborted,
+  value_does,
+  bind_does,
+  bind_aborts,
+  if_so,
+  if_not,
+  if_so_by,
+  if_not_by,
+)
 
-pub ruleset with_both = (dialogues, change_exclusive_at, bind_reads, bind_reads_aborts, bind_writes, bind_writes_aborts, reads_beside, writes_beside)
+pub ruleset with_both = (
+  dialogues,
+  change_exclusive_at,
+  bind_reads,
+  bind_reads_aborts,
+  bind_writes,
+  bind_writes_aborts,
+  reads_beside,
+  writes_beside,
+)

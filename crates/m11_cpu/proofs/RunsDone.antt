@@ -50,7 +50,9 @@ pub goes_on : (limit done : ℕ) (m m' m'' : Machine) (old middle later : Device
 goes_on limit done m m' m'' old middle later lt i h stop steps new n k =
     let e : limit - done ≡ suc (limit - (done + 1)) = omega arith in
     let P : ℕ → Type 0 = λ left. Does (run_counted left m') middle new (ran stop (steps + 1), n) in
-    let whole = i stop (steps + 1) new n (subst P (sym e) (run_next (limit - (done + 1)) m' m'' n middle later new stop steps h k)) in
+    let whole =
+    i stop (steps + 1) new n
+    (subst P (sym e) (run_next (limit - (done + 1)) m' m'' n middle later new stop steps h k)) in
     let Q : ℕ → Type 0 = λ all. Does (run_counted limit m) old new (ran stop all, n) in
     let f : done + (steps + 1) ≡ done + 1 + steps = omega arith in
     subst Q f whole

@@ -45,7 +45,8 @@ parts (Asks by) next (Sent byte was_taken ∷ es) y h = absurd h
 parts (Sends byte by) next [] y h = absurd h
 parts (Sends byte by) next (Asked reply ∷ es) y h = absurd h
 parts (Sends byte by) next (Sent sent was_taken ∷ es) y h =
-    with_first (Sends byte by) (by was_taken) next (Sent sent was_taken) es y (λ xs x l. (h.0, l)) (parts (by was_taken) next es y h.1)
+    with_first (Sends byte by) (by was_taken) next (Sent sent was_taken) es y (λ xs x l. (h.0, l))
+    (parts (by was_taken) next es y h.1)
 
 abbrev ran : Stop → ℕ → Ran
 ran stop steps = record { stop = stop; steps = steps }
@@ -64,14 +65,20 @@ step_first : (left : ℕ) (m m1 m2 : Machine) (es fs : List Exchange) (r : Ran) 
     → Leads (run_counted left m1) fs (r, m2) → Leads (run_counted (suc left) m) (es ++ fs) (one_more r, m2)
 unfolding run_counted
 step_first left m m1 m2 es fs r h k =
-    let told = leads_after (run_counted left m1) fs [] (r, m2) (λ x. Comes (one_more x.0, x.1)) (one_more r, m2) k (leads_none _ _ refl) in
-    let P : List Exchange → Type 0 = λ xs. Leads {A = Ran × Machine} (after (run_counted left m1) (λ x. Comes (one_more x.0, x.1))) xs (one_more r, m2) in
-    leads_after (step m) es fs (Next, m1) (λ came. behind (run_counted left) came.0 came.1) (one_more r, m2) h (subst P (append-nil fs) told)
+    let told =
+    leads_after (run_counted left m1) fs [] (r, m2) (λ x. Comes (one_more x.0, x.1)) (one_more r, m2) k
+    (leads_none _ _ refl) in
+    let P : List Exchange → Type 0 =
+    λ xs. Leads {A = Ran × Machine} (after (run_counted left m1) (λ x. Comes (one_more x.0, x.1))) xs
+    (one_more r, m2) in
+    leads_after (step m) es fs (Next, m1) (λ came. behind (run_counted left) came.0 came.1) (one_more r, m2) h
+    (subst P (append-nil fs) told)
 
 -- what is behind a first step that goes on
 joined_next : (left second : ℕ) (m m1 m' m'' : Machine) (es1 es2 fs : List Exchange) (steps : ℕ) (r : Ran)
     → ((es fs : List Exchange) (steps : ℕ) (r : Ran) → Leads (run_counted left m1) es (ran Limit steps, m')
-    → Leads (run_counted second m') fs (r, m'') → Leads (run_counted (left + second) m1) (es ++ fs) (ran r.stop (left + r.steps), m''))
+    → Leads (run_counted second m') fs (r, m'')
+    → Leads (run_counted (left + second) m1) (es ++ fs) (ran r.stop (left + r.steps), m''))
     → Leads (step m) es1 (Next, m1) → Leads (behind (run_counted left) Next m1) es2 (ran Limit steps, m')
     → Leads (run_counted second m') fs (r, m'')
     → Leads (run_counted (suc (left + second)) m) (es1 ++ (es2 ++ fs)) (ran r.stop (left + r.steps + 1), m'')
@@ -85,13 +92,17 @@ joined_next left second m m1 m' m'' es1 es2 fs steps r rest h k l =
     (let to : Stop → Machine → Ran × Machine = λ s n. (ran s p.value.0.steps, n) in ap₂ to same_stop same_machine) in
     let whole = step_first (left + second) m m1 m'' es1 (p.first ++ fs) (ran r.stop (left + r.steps)) h
     (rest p.first fs p.value.0.steps r (subst P value_is p.leads) l) in
-    let Q : List Exchange → Type 0 = λ xs. Leads (run_counted (suc (left + second)) m) (es1 ++ (xs ++ fs)) (ran r.stop (left + r.steps + 1), m'') in
-    subst Q (sym (p.joined ∙ ap (λ (xs : List Exchange). p.first ++ xs) (none_left _ _ p.second p.goes_on) ∙ append-nil p.first)) whole
+    let Q : List Exchange → Type 0 =
+    λ xs. Leads (run_counted (suc (left + second)) m) (es1 ++ (xs ++ fs)) (ran r.stop (left + r.steps + 1), m'') in
+    subst Q (sym (p.joined ∙ ap (λ (xs : List Exchange). p.first ++ xs) (none_left _ _ p.second p.goes_on)
+    ∙ append-nil p.first)) whole
 
 -- a step never stops for a limit
-joined_cases : (left second : ℕ) (turn : Turn) (m m1 m' m'' : Machine) (es1 es2 fs : List Exchange) (steps : ℕ) (r : Ran)
+joined_cases : (left second : ℕ) (turn : Turn) (m m1 m' m'' : Machine) (es1 es2 fs : List Exchange) (steps : ℕ)
+    (r : Ran)
     → ((es fs : List Exchange) (steps : ℕ) (r : Ran) → Leads (run_counted left m1) es (ran Limit steps, m')
-    → Leads (run_counted second m') fs (r, m'') → Leads (run_counted (left + second) m1) (es ++ fs) (ran r.stop (left + r.steps), m''))
+    → Leads (run_counted second m') fs (r, m'')
+    → Leads (run_counted (left + second) m1) (es ++ fs) (ran r.stop (left + r.steps), m''))
     → Leads (step m) es1 (turn, m1) → Leads (behind (run_counted left) turn m1) es2 (ran Limit steps, m')
     → Leads (run_counted second m') fs (r, m'')
     → Leads (run_counted (suc (left + second)) m) (es1 ++ (es2 ++ fs)) (ran r.stop (left + r.steps + 1), m'')
@@ -106,7 +117,8 @@ joined_cases left second (Stopped stop) m m1 m' m'' es1 es2 fs steps r rest h k 
 pub runs_joined : (first second : ℕ) (m m' m'' : Machine) → AreJoined first second m m' m''
 unfolding run_counted
 runs_joined zero second m m' m'' es fs steps r h k =
-    let P : List Exchange → Type 0 = λ xs. Leads (run_counted (0 + second) m) (xs ++ fs) (ran r.stop (0 + r.steps), m'') in
+    let P : List Exchange → Type 0 =
+    λ xs. Leads (run_counted (0 + second) m) (xs ++ fs) (ran r.stop (0 + r.steps), m'') in
     let Q : Machine → Type 0 = λ n. Leads (run_counted second n) fs (r, m'') in
     let R : ℕ → Type 0 = λ n. Leads (run_counted n m) fs (ran r.stop (0 + r.steps), m'') in
     let S : ℕ → Type 0 = λ n. Leads (run_counted second m) fs (ran r.stop n, m'') in
@@ -118,9 +130,13 @@ runs_joined (suc left) second m m' m'' es fs steps r h k =
     let p = parts (step m) (λ came. behind (run_counted left) came.0 came.1) es (ran Limit steps, m') h in
     let whole = joined_cases left second p.value.0 m p.value.1 m' m'' p.first p.second fs steps r
     (runs_joined left second p.value.1 m' m'') p.leads p.goes_on k in
-    let P : List Exchange → Type 0 = λ xs. Leads (run_counted (suc left + second) m) xs (ran r.stop (suc left + r.steps), m'') in
-    let Q : ℕ → Type 0 = λ n. Leads (run_counted n m) (p.first ++ (p.second ++ fs)) (ran r.stop (suc left + r.steps), m'') in
-    let R : ℕ → Type 0 = λ n. Leads (run_counted (suc (left + second)) m) (p.first ++ (p.second ++ fs)) (ran r.stop n, m'') in
+    let P : List Exchange → Type 0 =
+    λ xs. Leads (run_counted (suc left + second) m) xs (ran r.stop (suc left + r.steps), m'') in
+    let Q : ℕ → Type 0 =
+    λ n. Leads (run_counted n m) (p.first ++ (p.second ++ fs)) (ran r.stop (suc left + r.steps), m'') in
+    let R : ℕ → Type 0 =
+    λ n. Leads (run_counted (suc (left + second)) m) (p.first ++ (p.second ++ fs)) (ran r.stop n, m'') in
     let e : suc (left + second) ≡ suc left + second = omega arith in
     let f : left + r.steps + 1 ≡ suc left + r.steps = omega arith in
-    subst P (sym (append_assoc p.first p.second fs) ∙ ap (λ (xs : List Exchange). xs ++ fs) (sym p.joined)) (subst Q e (subst R f whole))
+    subst P (sym (append_assoc p.first p.second fs) ∙ ap (λ (xs : List Exchange). xs ++ fs) (sym p.joined))
+    (subst Q e (subst R f whole))

@@ -10,7 +10,8 @@ use Rattle.m11_base.specs.Octal.{octal_text}
 last_digit : (k n : ℕ) (acc : List ℕ) → n < 8 → digits_onto (suc k) 8 false n acc ≡ (48 + n % 8) ∷ acc
 last_digit k n acc small = grind (arith, common_steps)
 
-one_more : (k n : ℕ) (acc : List ℕ) → 8 ≤ n → digits_onto (suc k) 8 false n acc ≡ digits_onto k 8 false (n / 8) ((48 + n % 8) ∷ acc)
+one_more : (k n : ℕ) (acc : List ℕ) → 8 ≤ n
+    → digits_onto (suc k) 8 false n acc ≡ digits_onto k 8 false (n / 8) ((48 + n % 8) ∷ acc)
 one_more k n acc large = grind (arith, common_steps)
 
 -- ---- the digits, by how many there are
@@ -26,14 +27,16 @@ two_digits n large small =
     one_more 63 n [] (omega arith)
     ∙ last_digit 62 (n / 8) ((48 + n % 8) ∷ []) (omega arith)
 
-three_digits : (n : ℕ) → 64 ≤ n → n < 512 → digits 8 false n ≡ (48 + n / 8 / 8 % 8) ∷ (48 + n / 8 % 8) ∷ (48 + n % 8) ∷ []
+three_digits : (n : ℕ) → 64 ≤ n → n < 512
+    → digits 8 false n ≡ (48 + n / 8 / 8 % 8) ∷ (48 + n / 8 % 8) ∷ (48 + n % 8) ∷ []
 unfolding digits
 three_digits n large small =
     one_more 63 n [] (omega arith)
     ∙ one_more 62 (n / 8) ((48 + n % 8) ∷ []) (omega arith)
     ∙ last_digit 61 (n / 8 / 8) ((48 + n / 8 % 8) ∷ (48 + n % 8) ∷ []) (omega arith)
 
-four_digits : (n : ℕ) → 512 ≤ n → n < 4096 → digits 8 false n ≡ (48 + n / 8 / 8 / 8 % 8) ∷ (48 + n / 8 / 8 % 8) ∷ (48 + n / 8 % 8) ∷ (48 + n % 8) ∷ []
+four_digits : (n : ℕ) → 512 ≤ n → n < 4096
+    → digits 8 false n ≡ (48 + n / 8 / 8 / 8 % 8) ∷ (48 + n / 8 / 8 % 8) ∷ (48 + n / 8 % 8) ∷ (48 + n % 8) ∷ []
 unfolding digits
 four_digits n large small =
     one_more 63 n [] (omega arith)
@@ -41,24 +44,32 @@ four_digits n large small =
     ∙ one_more 61 (n / 8 / 8) ((48 + n / 8 % 8) ∷ (48 + n % 8) ∷ []) (omega arith)
     ∙ last_digit 60 (n / 8 / 8 / 8) ((48 + n / 8 / 8 % 8) ∷ (48 + n / 8 % 8) ∷ (48 + n % 8) ∷ []) (omega arith)
 
-five_digits : (n : ℕ) → 4096 ≤ n → n < 32768 → digits 8 false n ≡ (48 + n / 8 / 8 / 8 / 8 % 8) ∷ (48 + n / 8 / 8 / 8 % 8) ∷ (48 + n / 8 / 8 % 8) ∷ (48 + n / 8 % 8) ∷ (48 + n % 8) ∷ []
+five_digits : (n : ℕ) → 4096 ≤ n → n < 32768
+    → digits 8 false n ≡ (48 + n / 8 / 8 / 8 / 8 % 8) ∷ (48 + n / 8 / 8 / 8 % 8) ∷ (48 + n / 8 / 8 % 8)
+    ∷ (48 + n / 8 % 8) ∷ (48 + n % 8) ∷ []
 unfolding digits
 five_digits n large small =
     one_more 63 n [] (omega arith)
     ∙ one_more 62 (n / 8) ((48 + n % 8) ∷ []) (omega arith)
     ∙ one_more 61 (n / 8 / 8) ((48 + n / 8 % 8) ∷ (48 + n % 8) ∷ []) (omega arith)
     ∙ one_more 60 (n / 8 / 8 / 8) ((48 + n / 8 / 8 % 8) ∷ (48 + n / 8 % 8) ∷ (48 + n % 8) ∷ []) (omega arith)
-    ∙ last_digit 59 (n / 8 / 8 / 8 / 8) ((48 + n / 8 / 8 / 8 % 8) ∷ (48 + n / 8 / 8 % 8) ∷ (48 + n / 8 % 8) ∷ (48 + n % 8) ∷ []) (omega arith)
+    ∙ last_digit 59 (n / 8 / 8 / 8 / 8)
+    ((48 + n / 8 / 8 / 8 % 8) ∷ (48 + n / 8 / 8 % 8) ∷ (48 + n / 8 % 8) ∷ (48 + n % 8) ∷ []) (omega arith)
 
-six_digits : (n : ℕ) → 32768 ≤ n → n < 65536 → digits 8 false n ≡ (48 + n / 8 / 8 / 8 / 8 / 8 % 8) ∷ (48 + n / 8 / 8 / 8 / 8 % 8) ∷ (48 + n / 8 / 8 / 8 % 8) ∷ (48 + n / 8 / 8 % 8) ∷ (48 + n / 8 % 8) ∷ (48 + n % 8) ∷ []
+six_digits : (n : ℕ) → 32768 ≤ n → n < 65536
+    → digits 8 false n ≡ (48 + n / 8 / 8 / 8 / 8 / 8 % 8) ∷ (48 + n / 8 / 8 / 8 / 8 % 8) ∷ (48 + n / 8 / 8 / 8 % 8)
+    ∷ (48 + n / 8 / 8 % 8) ∷ (48 + n / 8 % 8) ∷ (48 + n % 8) ∷ []
 unfolding digits
 six_digits n large small =
     one_more 63 n [] (omega arith)
     ∙ one_more 62 (n / 8) ((48 + n % 8) ∷ []) (omega arith)
     ∙ one_more 61 (n / 8 / 8) ((48 + n / 8 % 8) ∷ (48 + n % 8) ∷ []) (omega arith)
     ∙ one_more 60 (n / 8 / 8 / 8) ((48 + n / 8 / 8 % 8) ∷ (48 + n / 8 % 8) ∷ (48 + n % 8) ∷ []) (omega arith)
-    ∙ one_more 59 (n / 8 / 8 / 8 / 8) ((48 + n / 8 / 8 / 8 % 8) ∷ (48 + n / 8 / 8 % 8) ∷ (48 + n / 8 % 8) ∷ (48 + n % 8) ∷ []) (omega arith)
-    ∙ last_digit 58 (n / 8 / 8 / 8 / 8 / 8) ((48 + n / 8 / 8 / 8 / 8 % 8) ∷ (48 + n / 8 / 8 / 8 % 8) ∷ (48 + n / 8 / 8 % 8) ∷ (48 + n / 8 % 8) ∷ (48 + n % 8) ∷ []) (omega arith)
+    ∙ one_more 59 (n / 8 / 8 / 8 / 8)
+    ((48 + n / 8 / 8 / 8 % 8) ∷ (48 + n / 8 / 8 % 8) ∷ (48 + n / 8 % 8) ∷ (48 + n % 8) ∷ []) (omega arith)
+    ∙ last_digit 58 (n / 8 / 8 / 8 / 8 / 8)
+    ((48 + n / 8 / 8 / 8 / 8 % 8) ∷ (48 + n / 8 / 8 / 8 % 8) ∷ (48 + n / 8 / 8 % 8) ∷ (48 + n / 8 % 8)
+    ∷ (48 + n % 8) ∷ []) (omega arith)
 
 -- ---- with zeros before them
 
@@ -132,5 +143,24 @@ printed_six n large small =
     let d0 : 48 + n % 8 ≡ 48 + n / 1 % 8 = omega arith in
     rw (six_digits n large small) cc
 
-pub printed_in_octal : (n : ℕ) → n < 65536 → padded_integral (format_spec 32 0 4 6 (2 ^ 64 - 1)) false [] (digits 8 false n) ≡ octal_text n
-printed_in_octal n small = elim (cases_lt n 8) [ inl b1 ↦ printed_one n b1 | inr h1 ↦ elim (cases_lt n 64) [ inl b2 ↦ printed_two n h1 b2 | inr h2 ↦ elim (cases_lt n 512) [ inl b3 ↦ printed_three n h2 b3 | inr h3 ↦ elim (cases_lt n 4096) [ inl b4 ↦ printed_four n h3 b4 | inr h4 ↦ elim (cases_lt n 32768) [ inl b5 ↦ printed_five n h4 b5 | inr h5 ↦ printed_six n h5 small ] ] ] ] ]
+pub printed_in_octal : (n : ℕ) → n < 65536
+    → padded_integral (format_spec 32 0 4 6 (2 ^ 64 - 1)) false [] (digits 8 false n) ≡ octal_text n
+printed_in_octal n small =
+    elim (cases_lt n 8) [
+      | inl b1 ↦ printed_one n b1
+      | inr h1 ↦
+          elim (cases_lt n 64) [
+            | inl b2 ↦ printed_two n h1 b2
+            | inr h2 ↦
+                elim (cases_lt n 512) [
+                  | inl b3 ↦ printed_three n h2 b3
+                  | inr h3 ↦
+                      elim (cases_lt n 4096) [
+                        | inl b4 ↦ printed_four n h3 b4
+                        | inr h4 ↦
+                            elim (cases_lt n 32768)
+                            [ inl b5 ↦ printed_five n h4 b5 | inr h5 ↦ printed_six n h5 small ]
+                      ]
+                ]
+          ]
+    ]

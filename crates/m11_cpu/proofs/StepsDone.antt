@@ -26,7 +26,8 @@ trap_done vector m m' m'' old new h e =
     then_does (push_state m) _ old new new (Ok tt, m') _ h (comes new _ _ (ap to e))
 
 pub trap_fails : (vector other : Vector) (m m' : Machine) (old new : Devices) (y : Turn × Machine)
-    → Does (push_state m) old new (Err (Traps other), m') → y ≡ stopped_by StackFault m' → Does (trap vector m) old new y
+    → Does (push_state m) old new (Err (Traps other), m') → y ≡ stopped_by StackFault m'
+    → Does (trap vector m) old new y
 unfolding trap
 trap_fails vector other m m' old new y h e =
     then_does (push_state m) _ old new new (Err (Traps other), m') _ h (comes new _ _ e)

@@ -43,7 +43,8 @@ stopped_stands StackFault m e = e
 stopped_stands InputFault m e = e
 stopped_stands OutputFault m e = e
 
-pushed_stands : (vector : Vector) (pushed : Result (Unit {0}) Abort) (m : Machine) (es : List Exchange) (y : Turn × Machine)
+pushed_stands : (vector : Vector) (pushed : Result (Unit {0}) Abort) (m : Machine) (es : List Exchange)
+    (y : Turn × Machine)
     → Leads (trap_pushed vector pushed m) es y → StandsAt y
 pushed_stands vector (Ok done) m es y h = subst StandsAt (sym (at_once _ y es h)) tt
 pushed_stands vector (Err (Traps other)) m es y h =
@@ -51,7 +52,8 @@ pushed_stands vector (Err (Traps other)) m es y h =
 pushed_stands vector (Err (Stops stop)) m es y h =
     subst StandsAt (sym (at_once _ y es h)) (stopped_stands stop (stopped_by stop m).1 refl)
 
-trap_stands : (vector : Vector) (m : Machine) (es : List Exchange) (y : Turn × Machine) → Leads (trap vector m) es y → StandsAt y
+trap_stands : (vector : Vector) (m : Machine) (es : List Exchange) (y : Turn × Machine) → Leads (trap vector m) es y
+    → StandsAt y
 unfolding trap
 trap_stands vector m es y h =
     let b = behind_it (push_state m) (λ pushed. trap_pushed vector pushed.0 pushed.1) es y h in
@@ -73,7 +75,8 @@ turned_stands (Err (Traps vector)) m es y h = trap_stands vector m es y h
 turned_stands (Err (Stops stop)) m es y h =
     subst StandsAt (sym (at_once _ y es h)) (stopped_stands stop (stopped_by stop m).1 refl)
 
-unless_stands : (stands : Option LastingStop) (m : Machine) (es : List Exchange) (y : Turn × Machine) → m.stopped ≡ stands
+unless_stands : (stands : Option LastingStop) (m : Machine) (es : List Exchange) (y : Turn × Machine)
+    → m.stopped ≡ stands
     → Leads (step_unless stands m) es y → StandsAt y
 unless_stands (Some stop) m es y e h = subst StandsAt (sym (at_once _ y es h)) (stopped_stands stop m e)
 unless_stands None m es y e h =
@@ -88,4 +91,5 @@ step_stands m es y h = unless_stands m.stopped m es y refl h
 pub step_again : (m : Machine) (stop : LastingStop) → m.stopped ≡ Some stop → step m ≡ Comes (Stopped (stop_of stop), m)
 unfolding step
 step_again m stop e =
-    let P : Option LastingStop → Type 0 = λ x. step_unless x m ≡ Comes (Stopped (stop_of stop), m) in subst P (sym e) refl
+    let P : Option LastingStop → Type 0 = λ x. step_unless x m ≡ Comes (Stopped (stop_of stop), m) in
+    subst P (sym e) refl

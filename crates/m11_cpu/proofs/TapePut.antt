@@ -17,7 +17,8 @@ use Rattle.m11_cpu.proofs.BytesPut.{block_put, block_inside}
 use Rattle.m11_cpu.proofs.BlocksRead.{behind_more, hold_more, is_tape, StandsBefore, next_is}
 
 -- these blocks were given and put, and the reader stands before the part behind them
-pub record Loading (old here : Place) (before now : List ℕ) (stage : TapeStage) (blocks : List (ℕ × List ℕ)) : Type 0 where
+pub record Loading (old here : Place) (before now : List ℕ) (stage : TapeStage) (blocks : List (ℕ × List ℕ)) : Type
+    0 where
   pub put : PutBlocks old here before now blocks
   pub stands : StandsBefore stage (part_behind first_part blocks)
   pub size : length now ≡ length before
@@ -29,25 +30,31 @@ none_loaded old before = record {
   size = refl;
 }
 
-none_left : (stage : TapeStage) (blocks : List (ℕ × List ℕ)) → StandsBefore stage (part_behind first_part blocks) → left_of stage ≡ 0
+none_left : (stage : TapeStage) (blocks : List (ℕ × List ℕ)) → StandsBefore stage (part_behind first_part blocks)
+    → left_of stage ≡ 0
 none_left BeforeBlock blocks stands = refl
 none_left (InBlock left total) blocks stands = stands.0
 none_left (AtEnd address) blocks stands = refl
 none_left AfterFault blocks stands = refl
 
-module _ (old here : Place) (before now : List ℕ) (stage : TapeStage) (blocks : List (ℕ × List ℕ)) (l : Loading old here before now stage blocks) where
+module _ (old here : Place) (before now : List ℕ) (stage : TapeStage) (blocks : List (ℕ × List ℕ))
+    (l : Loading old here before now stage blocks) where
   pub block_ended : left_of stage ≡ 0
   block_ended = none_left stage blocks l.stands
 
-  module _ (new : Place) (after : TapeStage) (answer : Result TapePart TapeFault) (r : ReadsNext stage here new after answer) where
+  module _ (new : Place) (after : TapeStage) (answer : Result TapePart TapeFault)
+      (r : ReadsNext stage here new after answer) where
     part_read : ReadsPart (λ part. part) (part_behind first_part blocks) here new answer × (after ≡ stage_after answer)
     part_read = next_is stage (part_behind first_part blocks) here new after answer l.stands r
 
     pub stage_is : after ≡ stage_after answer
     stage_is = part_read.1
 
-    part_as : (same : Result TapePart TapeFault) → answer ≡ same → ReadsPart (λ part. part) (part_behind first_part blocks) here new same
-    part_as same is = subst (λ (a : Result TapePart TapeFault). ReadsPart (λ part. part) (part_behind first_part blocks) here new a) is part_read.0
+    part_as : (same : Result TapePart TapeFault) → answer ≡ same
+        → ReadsPart (λ part. part) (part_behind first_part blocks) here new same
+    part_as same is = subst
+        (λ (a : Result TapePart TapeFault). ReadsPart (λ part. part) (part_behind first_part blocks) here new a) is
+        part_read.0
 
     pub part_stops : (fault : TapeFault) → answer ≡ Err fault → Loads old new before now (Err (Tape fault))
     part_stops fault is = inl (record { blocks = blocks; behind = here; put = l.put; stops = part_as (Err fault) is })
@@ -55,7 +62,13 @@ module _ (old here : Place) (before now : List ℕ) (stage : TapeStage) (blocks 
     pub tape_ends : (start : ℕ) → answer ≡ Ok (Start start) → LoadsTape old new before now start
     tape_ends start is =
         let last : Reads (part_behind first_part blocks) here new (Start start) = part_as (Ok (Start start)) is in
-        record { blocks = blocks; behind = here; put = l.put; last = last; tape = is_tape blocks start old here new l.put.given l.put.took l.put.hold last }
+        record {
+          blocks = blocks;
+          behind = here;
+          put = l.put;
+          last = last;
+          tape = is_tape blocks start old here new l.put.given l.put.took l.put.hold last;
+        }
 
     module _ (address count : ℕ) (is : answer ≡ Ok (Data address count)) where
       header : Reads (part_behind first_part blocks) here new (Data address count)
@@ -65,29 +78,46 @@ module _ (old here : Place) (before now : List ℕ) (stage : TapeStage) (blocks 
         pub room_falls : 0 < count → length content ≡ count → Took new end content → end.room < here.room
         room_falls some long took = omega (arith, header.took.room, took.room)
 
-        pub block_loaded : (stage' : TapeStage) → length content ≡ count → Took new end content → AreInside (length now) address content → memory ≡ with_bytes address content now
+        pub block_loaded : (stage' : TapeStage) → length content ≡ count → Took new end content
+            → AreInside (length now) address content → memory ≡ with_bytes address content now
             → stage' ≡ InBlock 0 (total_of address content) → length memory ≡ length now
             → Loading old end before memory stage' (blocks ++ (address, content) ∷ [])
         block_loaded stage' long took inside memory_is stage_is size =
             let given : List ℕ = header.given in
-            let header_is : (rest : List ℕ) → part_behind first_part blocks (given ++ rest) ≡ Ok (Data address (length content), rest)
+            let header_is : (rest : List ℕ)
+            → part_behind first_part blocks (given ++ rest) ≡ Ok (Data address (length content), rest)
             = λ rest. header.is rest ∙ ap (λ (n : ℕ). Ok (Data address n, rest)) (sym long) in
             record {
               put = record {
                 given = l.put.given ++ (given ++ content);
-                took = took_then old here end l.put.given (given ++ content) l.put.took (took_then here new end given content header.took took);
+                took = took_then old here end l.put.given (given ++ content) l.put.took
+                    (took_then here new end given content header.took took);
                 hold = hold_more first_part blocks address l.put.given given content l.put.hold header_is;
                 inside = block_inside (length before) blocks address content l.put.inside (rw l.size at inside);
-                memory = memory_is ∙ ap (λ (m : List ℕ). with_bytes address content m) l.put.memory ∙ sym (block_put blocks address content before);
+                memory = memory_is ∙ ap (λ (m : List ℕ). with_bytes address content m) l.put.memory
+                    ∙ sym (block_put blocks address content before);
               };
               stands = rw stage_is (refl, behind_more first_part blocks address content);
               size = size ∙ l.size;
             }
 
-        inside_block : (middle : Place) → PutSome new middle now memory address count content → InsideData old middle before memory address content
-        inside_block middle part = record { blocks = blocks; behind = here; held = now; put = l.put; count = count; opened = new; header = header; part = part }
+        inside_block : (middle : Place) → PutSome new middle now memory address count content
+            → InsideData old middle before memory address content
+        inside_block middle part =
+            record {
+              blocks = blocks;
+              behind = here;
+              held = now;
+              put = l.put;
+              count = count;
+              opened = new;
+              header = header;
+              part = part;
+            }
 
-        pub block_fails : (A : Type 0) (fault : LoadFault) → PutsData {A = A} new end now memory address count content (Err fault) → Loads old end before memory (Err fault)
+        pub block_fails : (A : Type 0) (fault : LoadFault)
+            → PutsData {A = A} new end now memory address count content (Err fault)
+            → Loads old end before memory (Err fault)
         block_fails A (Tape fault) p = inr (address, content, p.0, inside_block p.0 p.1, p.2)
         block_fails A OutsideMemory p =
             (address, content, p.0, inside_block p.0 p.1, (p.2.0, p.2.1, omega (arith, l.size, p.2.2)))
@@ -95,7 +125,8 @@ module _ (old here : Place) (before now : List ℕ) (stage : TapeStage) (blocks 
 -- ---- failures of the feed
 
 -- a part or byte that is not read
-stop_counts : {A : Type 0} (read : List ℕ → Read TapeFault A) (a b : Place) (fault : TapeFault) → Stops read a b (why_of fault) → CountsFailure a.faults b.faults (Err (Tape fault))
+stop_counts : {A : Type 0} (read : List ℕ → Read TapeFault A) (a b : Place) (fault : TapeFault)
+    → Stops read a b (why_of fault) → CountsFailure a.faults b.faults (Err (Tape fault))
 stop_counts read a b fault.Device s = rw (sym s.1.1.faults) s.1.2.1
 stop_counts read a b fault.Truncated s = s.1.2.1 ∙ s.1.1.faults
 stop_counts read a b fault.BadSum s = s.1.faults
@@ -105,21 +136,26 @@ stop_counts read a b fault.Failed s = absurd s
 stop_counts read a b fault.NoTransfer s = s.1.2.1 ∙ s.1.1.faults
 stop_counts read a b fault.TooMuch s = s.1.2.2 ∙ s.1.1.faults
 
-counts_behind : (first here : ℕ) (new : ℕ) (answer : Result ℕ LoadFault) → here ≡ first → CountsFailure here new answer → CountsFailure first new answer
+counts_behind : (first here : ℕ) (new : ℕ) (answer : Result ℕ LoadFault) → here ≡ first → CountsFailure here new answer
+    → CountsFailure first new answer
 counts_behind first here new answer same counts =
     subst (λ (n : ℕ). CountsFailure n new answer) same counts
 
-load_counts : (old new : Place) (before after : List ℕ) (answer : Result ℕ LoadFault) → Loads old new before after answer → CountsFailure old.faults new.faults answer
+load_counts : (old new : Place) (before after : List ℕ) (answer : Result ℕ LoadFault)
+    → Loads old new before after answer → CountsFailure old.faults new.faults answer
 load_counts old new before after (Ok start) l = l.last.took.faults ∙ l.put.took.faults
 load_counts old new before after (Err (Tape fault)) (inl s) =
-    counts_behind old.faults s.behind.faults new.faults (Err (Tape fault)) s.put.took.faults (stop_counts (part_behind first_part s.blocks) s.behind new fault s.stops)
+    counts_behind old.faults s.behind.faults new.faults (Err (Tape fault)) s.put.took.faults
+    (stop_counts (part_behind first_part s.blocks) s.behind new fault s.stops)
 load_counts old new before after (Err (Tape fault)) (inr s) =
     let part = s.3 in
-    counts_behind old.faults s.2.faults new.faults (Err (Tape fault)) (part.part.took.faults ∙ part.header.took.faults ∙ part.put.took.faults)
+    counts_behind old.faults s.2.faults new.faults (Err (Tape fault))
+    (part.part.took.faults ∙ part.header.took.faults ∙ part.put.took.faults)
     (stop_counts data_byte s.2 new fault s.4)
 load_counts old new before after (Err OutsideMemory) s =
     let part = s.3 in s.4.1.faults ∙ part.part.took.faults ∙ part.header.took.faults ∙ part.put.took.faults
 
-pub counts_from : (text text' : Option Text) (faults faults' : ℕ) (before after : List ℕ) (answer : Result ℕ LoadFault) → LoadsFrom text text' faults faults' before after answer → CountsFailure faults faults' answer
+pub counts_from : (text text' : Option Text) (faults faults' : ℕ) (before after : List ℕ) (answer : Result ℕ LoadFault)
+    → LoadsFrom text text' faults faults' before after answer → CountsFailure faults faults' answer
 counts_from text text' faults faults' before after answer l =
     load_counts (place text faults most_bytes) (place text' faults' l.0) before after answer l.1

@@ -19,7 +19,8 @@ low_byte [] i = refl
 low_byte (w ∷ ws) zero = refl
 low_byte (w ∷ ws) (suc i) = let e : 2 * suc i ≡ suc (suc (2 * i)) = omega arith in rw e (low_byte ws i)
 
-pub high_byte : (words : List ℕ) (i : ℕ) → slice_index_or (bytes_of words) (2 * i + 1) 0 ≡ slice_index_or words i 0 / 256
+pub high_byte : (words : List ℕ) (i : ℕ)
+    → slice_index_or (bytes_of words) (2 * i + 1) 0 ≡ slice_index_or words i 0 / 256
 high_byte [] i = refl
 high_byte (w ∷ ws) zero = refl
 high_byte (w ∷ ws) (suc i) = let e : 2 * suc i + 1 ≡ suc (suc (2 * i + 1)) = omega arith in rw e (high_byte ws i)
@@ -36,10 +37,12 @@ word_set (w ∷ ws) (suc i) v =
 
 -- an even address is that of a low byte, an odd one that of a high byte
 pub even_byte : (words : List ℕ) (a : ℕ) → a % 2 ≡ 0 → byte_at (bytes_of words) a ≡ slice_index_or words (a / 2) 0 % 256
-even_byte words a even = let e : a ≡ 2 * (a / 2) = omega arith in ap (byte_at (bytes_of words)) e ∙ low_byte words (a / 2)
+even_byte words a even =
+    let e : a ≡ 2 * (a / 2) = omega arith in ap (byte_at (bytes_of words)) e ∙ low_byte words (a / 2)
 
 pub odd_byte : (words : List ℕ) (a : ℕ) → 0 < a % 2 → byte_at (bytes_of words) a ≡ slice_index_or words (a / 2) 0 / 256
-odd_byte words a odd = let e : a ≡ 2 * (a / 2) + 1 = omega arith in ap (byte_at (bytes_of words)) e ∙ high_byte words (a / 2)
+odd_byte words a odd =
+    let e : a ≡ 2 * (a / 2) + 1 = omega arith in ap (byte_at (bytes_of words)) e ∙ high_byte words (a / 2)
 
 pub whole_word : (words : List ℕ) (a : ℕ) → a % 2 ≡ 0 → word_at (bytes_of words) a ≡ slice_index_or words (a / 2) 0
 whole_word words a even =
@@ -48,7 +51,8 @@ whole_word words a even =
     let high = ap (byte_at (bytes_of words)) e ∙ high_byte words (a / 2) in
     omega (arith, low, high)
 
-pub put_word : (words : List ℕ) (a v : ℕ) → a % 2 ≡ 0 → bytes_of (slice_set words (a / 2) v) ≡ with_word a v (bytes_of words)
+pub put_word : (words : List ℕ) (a v : ℕ) → a % 2 ≡ 0
+    → bytes_of (slice_set words (a / 2) v) ≡ with_word a v (bytes_of words)
 put_word words a v even =
     let e : 2 * (a / 2) ≡ a = omega arith in
     word_set words (a / 2) v ∙ ap (λ (k : ℕ). slice_set (slice_set (bytes_of words) k (v % 256)) (k + 1) (v / 256)) e
@@ -76,7 +80,8 @@ high_set (w ∷ ws) (suc i) v =
     let e : 2 * suc i + 1 ≡ suc (suc (2 * i + 1)) = omega arith in
     rw e (ap (λ (bs : List ℕ). w % 256 ∷ w / 256 ∷ bs) (high_set ws i v))
 
-pub put_low : (words : List ℕ) (a i w v : ℕ) → a % 2 ≡ 0 → i ≡ a / 2 → i < length words → w ≡ slice_index_or words i w → v < 256
+pub put_low : (words : List ℕ) (a i w v : ℕ) → a % 2 ≡ 0 → i ≡ a / 2 → i < length words → w ≡ slice_index_or words i w
+    → v < 256
     → bytes_of (slice_set words i (w / 256 * 256 + v)) ≡ with_byte a v (bytes_of words)
 put_low words a i w v even place inside word fits =
     let e : 2 * i ≡ a = omega arith in

@@ -31,7 +31,8 @@ low_word_of Pc = Pc
 abbrev pub multiplied : Register → ℕ → Machine → Machine
 multiplied register source m =
     let product = product_of (register_of register m) source in
-    with_condition_codes product.codes (with_register (low_word_of register) product.low (with_register register product.high m))
+    with_condition_codes product.codes
+    (with_register (low_word_of register) product.low (with_register register product.high m))
 
 -- the quotient is put first, and then the remainder; a division that is refused keeps both
 abbrev pub after_division : Register → Division → Machine → Machine

@@ -1,5 +1,6 @@
--- Branches, jumps and subroutines. (PDP-11/40 Processor Handbook, "Instruction set": program control. That a pop steps the
--- stack pointer before it reads, and the order of what is loaded, is this project's own where the handbook is silent.)
+-- Branches, jumps and subroutines. (PDP-11/40 Processor Handbook, "Instruction set": program control. That a pop steps
+-- the stack pointer before it reads, and the order of what is loaded, is this project's own where the handbook is
+-- silent.)
 use Rattle.std.specs.Prelude.{ℕ, ◌+◌, ◌*◌, ◌%◌, ◌==◌, if◌then◌else◌, ℤ, pos, ◌+ℤ◌, Ok, Err}
 use Rattle.m11_arithmetic.specs.Branches.{is_taken}
 use Rattle.m11_arithmetic.specs.Sizes.{modulo}

@@ -96,13 +96,16 @@ abbrev pub Loads : Place → Place → List ℕ → List ℕ → Result ℕ Load
 Loads old new before after (Ok start) = LoadsTape old new before after start
 Loads old new before after (Err (Tape fault)) =
     StopsAtPart old new before after fault
-    ⊎ ((address : ℕ) × (taken : List ℕ) × (here : Place) × InsideData old here before after address taken × Stops data_byte here new (why_of fault))
+    ⊎ ((address : ℕ) × (taken : List ℕ) × (here : Place) × InsideData old here before after address taken
+    × Stops data_byte here new (why_of fault))
 Loads old new before after (Err OutsideMemory) =
-    (address : ℕ) × (taken : List ℕ) × (here : Place) × InsideData old here before after address taken × GivesOutside here new (length before) (address + length taken)
+    (address : ℕ) × (taken : List ℕ) × (here : Place) × InsideData old here before after address taken
+    × GivesOutside here new (length before) (address + length taken)
 
 -- the same of a feed, of which at most so many bytes as a tape may have are read
 abbrev pub LoadsFrom : Option Text → Option Text → ℕ → ℕ → List ℕ → List ℕ → Result ℕ LoadFault → Type 0
-LoadsFrom text text' faults faults' before after answer = (room : ℕ) × Loads (place text faults most_bytes) (place text' faults' room) before after answer
+LoadsFrom text text' faults faults' before after answer =
+    (room : ℕ) × Loads (place text faults most_bytes) (place text' faults' room) before after answer
 
 -- the feed's count of failures tells of one where the load does, and stays where it does not
 abbrev pub CountsFailure : ℕ → ℕ → Result ℕ LoadFault → Type 0
@@ -120,8 +123,10 @@ LoadsInto text text' faults faults' before after answer =
 -- what the putting of a block's data comes to, the header of which was given
 abbrev pub PutsData : {A : Type 0} → Place → Place → List ℕ → List ℕ → ℕ → ℕ → List ℕ → Result A LoadFault → Type 0
 PutsData old new before after address count content (Ok done) =
-    (length content ≡ count) × Took old new content × AreInside (length before) address content × (after ≡ with_bytes address content before)
+    (length content ≡ count) × Took old new content × AreInside (length before) address content
+    × (after ≡ with_bytes address content before)
 PutsData old new before after address count content (Err (Tape fault)) =
     (here : Place) × PutSome old here before after address count content × Stops data_byte here new (why_of fault)
 PutsData old new before after address count content (Err OutsideMemory) =
-    (here : Place) × PutSome old here before after address count content × GivesOutside here new (length before) (address + length content)
+    (here : Place) × PutSome old here before after address count content
+    × GivesOutside here new (length before) (address + length content)

@@ -38,9 +38,10 @@ pub record HasRun (start : Option ℕ) (words limit : ℕ) (tape tape' : Input) 
 abbrev pub text_at_stop : Ran → Machine → List ℕ
 text_at_stop ran m = messages_of ran.stop ran.steps m.registers (psw_in m)
 
--- what a whole run comes to: its stop, which the messages tell; or the tape was not loaded, and nothing was run or told;
--- or the messages were told in part; or memory was refused, at first or when the program had stopped
-abbrev pub Simulates : Option ℕ → ℕ → ℕ → Input → Input → Devices → Devices → Output → Output → Result SimDone SimFault → Type 0
+-- what a whole run comes to: its stop, which the messages tell; or the tape was not loaded, and nothing was run or
+-- told; or the messages were told in part; or memory was refused, at first or when the program had stopped
+abbrev pub Simulates : Option ℕ → ℕ → ℕ → Input → Input → Devices → Devices → Output → Output → Result SimDone SimFault
+    → Type 0
 Simulates start words limit tape tape' console console' told told' (Ok done) =
     (ran : Ran) × (m : Machine) × HasRun start words limit tape tape' console console' ran m × (done.stop ≡ ran.stop)
     × Appends told.text told'.text (text_at_stop ran m) × (told'.faults ≡ told.faults)

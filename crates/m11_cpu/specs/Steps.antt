@@ -1,5 +1,5 @@
--- Steps: one instruction each, with its traps. (PDP-11/40 Processor Handbook, "Processor traps", "Trace trap". That T as it
--- is behind the instruction decides, and not before it, is this project's own.)
+-- Steps: one instruction each, with its traps. (PDP-11/40 Processor Handbook, "Processor traps", "Trace trap". That T
+-- as it is behind the instruction decides, and not before it, is this project's own.)
 use Rattle.std.specs.Prelude.{Option, Some, None, Result, Ok, Err, if◌then◌else◌}
 use Rattle.m11_base.specs.Instructions.{instruction_of}
 use Rattle.m11_cpu.specs.Acts.{Act, ◌>>=◌}

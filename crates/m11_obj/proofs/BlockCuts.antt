@@ -49,10 +49,12 @@ header_and : (content tail : List ℕ) → length content ≤ content_limit → 
     → first_block (1 ∷ 0 ∷ low_of content ∷ high_of content ∷ tail) ≡ Err Inside
 unfolding first_block
 header_and content tail fits le =
-    ap (λ (r : Read BlockFault ℕ). r >>= behind_count) (count_again (length content) tail fits) ∙ short_content (length content) tail le
+    ap (λ (r : Read BlockFault ℕ). r >>= behind_count) (count_again (length content) tail fits)
+    ∙ short_content (length content) tail le
 
 cut_inside : (content part missing : List ℕ) → length content ≤ content_limit → 0 < length part → 0 < length missing
-    → 1 ∷ 0 ∷ low_of content ∷ high_of content ∷ (content ++ last_of content ∷ []) ≡ part ++ missing → first_block part ≡ Err Inside
+    → 1 ∷ 0 ∷ low_of content ∷ high_of content ∷ (content ++ last_of content ∷ []) ≡ part ++ missing
+    → first_block part ≡ Err Inside
 cut_inside content [] missing fits some cut e = absurd (omega arith)
 cut_inside content (a ∷ []) missing fits some cut e =
     let first : a ≡ 1 = cc in rw first one_byte
@@ -92,12 +94,14 @@ second_inside (byte ∷ bytes) e =
 
 count_of_inside : (length : ℕ) (bytes : List ℕ) → count_of length bytes ≡ Err Inside → ⊥
 count_of_inside length bytes e =
-    elim (chosen (ltb length 4) (Err (Refused fault.TooShort bytes)) (cond (ltb 516 length) (Err (Refused fault.TooLong bytes)) (done (length - 4) bytes)) (Err Inside) e) [
+    elim (chosen (ltb length 4) (Err (Refused fault.TooShort bytes))
+    (cond (ltb 516 length) (Err (Refused fault.TooLong bytes)) (done (length - 4) bytes)) (Err Inside) e) [
       | inl short ↦ (let bad = short.1 in cc)
-      | inr enough ↦ elim (chosen (ltb 516 length) (Err (Refused fault.TooLong bytes)) (done (length - 4) bytes) (Err Inside) enough.1) [
-        | inl long ↦ (let bad = long.1 in cc)
-        | inr fits ↦ (let bad = fits.1 in cc)
-      ]
+      | inr enough ↦ elim (chosen (ltb 516 length) (Err (Refused fault.TooLong bytes)) (done (length - 4) bytes)
+          (Err Inside) enough.1) [
+            | inl long ↦ (let bad = long.1 in cc)
+            | inr fits ↦ (let bad = fits.1 in cc)
+          ]
     ]
 
 count_inside : (bytes : List ℕ) → count bytes ≡ Err Inside → (bytes ≡ []) ⊎ ((low : ℕ) × (bytes ≡ low ∷ []))
@@ -156,28 +160,34 @@ cut_low low small =
     let content : List ℕ = replicate n.0 0 in
     let long : length content ≡ n.0 = length-replicate n.0 0 in
     let first : low_of content ≡ low = ap (λ (m : ℕ). (m + 4) % 256) long ∙ n.2 in
-    cut_by content (1 ∷ 0 ∷ low ∷ []) (high_of content ∷ (content ++ last_of content ∷ [])) (omega (arith, n.1, long)) (omega arith) (omega arith)
+    cut_by content (1 ∷ 0 ∷ low ∷ []) (high_of content ∷ (content ++ last_of content ∷ [])) (omega (arith, n.1, long))
+    (omega arith) (omega arith)
     (ap (λ (b : ℕ). 1 ∷ 0 ∷ b ∷ high_of content ∷ (content ++ last_of content ∷ [])) first)
 
-cut_content : (n : ℕ) (tail : List ℕ) → length tail < n → n ≤ content_limit → IsCut (1 ∷ 0 ∷ (word_bytes (n + 4) ++ tail))
+cut_content : (n : ℕ) (tail : List ℕ) → length tail < n → n ≤ content_limit
+    → IsCut (1 ∷ 0 ∷ (word_bytes (n + 4) ++ tail))
 cut_content n tail short fits =
     let more : List ℕ = replicate (n - length tail) 0 in
     let content : List ℕ = tail ++ more in
-    let long : length content ≡ n = omega (arith, length-append tail more, length-replicate {A = ℕ} (n - length tail) 0) in
-    cut_tail n content tail (more ++ last_of content ∷ []) long fits (omega (arith, length-append more (last_of content ∷ []))) (append_assoc tail more (last_of content ∷ []))
+    let long : length content ≡ n =
+    omega (arith, length-append tail more, length-replicate {A = ℕ} (n - length tail) 0) in
+    cut_tail n content tail (more ++ last_of content ∷ []) long fits
+    (omega (arith, length-append more (last_of content ∷ []))) (append_assoc tail more (last_of content ∷ []))
 
 cut_behind : (bytes : List ℕ) → Bytes bytes → behind_start (tt, bytes) ≡ Err Inside → IsCut (1 ∷ bytes)
 cut_behind bytes small e =
     let P : List ℕ → Type 0 = λ xs. IsCut (1 ∷ xs) in
     elim (bind_err (second bytes) behind_second Inside e) [
-      | inl early ↦ subst P (sym (second_inside bytes early)) (cut_by [] (1 ∷ []) (0 ∷ 4 ∷ 0 ∷ 251 ∷ []) (omega arith) (omega arith) (omega arith) refl)
+      | inl early ↦ subst P (sym (second_inside bytes early))
+          (cut_by [] (1 ∷ []) (0 ∷ 4 ∷ 0 ∷ 251 ∷ []) (omega arith) (omega arith) (omega arith) refl)
       | inr s ↦
           let second_is : bytes ≡ 0 ∷ s.0.1 = second_takes bytes s.0.1 s.1 in
           let small' : Bytes (0 ∷ s.0.1) = subst Bytes second_is small in
           subst P (sym second_is) (behind_count_byte s.0.1 small'.1 s.2)
     ]
   where
-    behind_header : (n : ℕ) (tail : List ℕ) → n ≤ content_limit → behind_count (n, tail) ≡ Err Inside → IsCut (1 ∷ 0 ∷ (word_bytes (n + 4) ++ tail))
+    behind_header : (n : ℕ) (tail : List ℕ) → n ≤ content_limit → behind_count (n, tail) ≡ Err Inside
+        → IsCut (1 ∷ 0 ∷ (word_bytes (n + 4) ++ tail))
     behind_header n tail fits h =
         elim (bind_err (content_of n tail) behind_content Inside h) [
           | inl early ↦ cut_content n tail (content_inside n tail early) fits
@@ -185,7 +195,8 @@ cut_behind bytes small e =
               let t = content_takes n tail xs.0.0 xs.0.1 xs.1 in
               let none : xs.0.1 ≡ [] = summed_inside xs.0.0 xs.0.1 xs.2 in
               let whole : tail ≡ xs.0.0 = t.1 ∙ ap (λ (rest : List ℕ). xs.0.0 ++ rest) none ∙ append-nil xs.0.0 in
-              cut_tail n xs.0.0 tail (last_of xs.0.0 ∷ []) t.0 fits (omega arith) (ap (λ (ys : List ℕ). ys ++ last_of xs.0.0 ∷ []) (sym whole))
+              cut_tail n xs.0.0 tail (last_of xs.0.0 ∷ []) t.0 fits (omega arith)
+              (ap (λ (ys : List ℕ). ys ++ last_of xs.0.0 ∷ []) (sym whole))
         ]
 
     behind_count_byte : (rest : List ℕ) → Bytes rest → behind_second (tt, rest) ≡ Err Inside → IsCut (1 ∷ 0 ∷ rest)
@@ -193,7 +204,8 @@ cut_behind bytes small e =
         let Q : List ℕ → Type 0 = λ xs. IsCut (1 ∷ 0 ∷ xs) in
         elim (bind_err (count rest) behind_count Inside h) [
           | inl early ↦ elim (count_inside rest early) [
-            | inl none ↦ subst Q (sym none) (cut_by [] (1 ∷ 0 ∷ []) (4 ∷ 0 ∷ 251 ∷ []) (omega arith) (omega arith) (omega arith) refl)
+            | inl none ↦ subst Q (sym none)
+                (cut_by [] (1 ∷ 0 ∷ []) (4 ∷ 0 ∷ 251 ∷ []) (omega arith) (omega arith) (omega arith) refl)
             | inr one ↦
                 let small' : Bytes (one.0 ∷ []) = subst Bytes one.1 small in
                 subst Q (sym one.1) (cut_low one.0 small'.0)

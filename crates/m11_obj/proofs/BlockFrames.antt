@@ -37,21 +37,25 @@ summed_again : (xs rest : List ℕ) → summed xs (sum_byte (header (length xs) 
 summed_again xs rest = rw (same_eqb (sum_byte (header (length xs) ++ xs))) refl
 
 parts_again : (xs rest : List ℕ) → length xs ≤ content_limit
-    → first_block (1 ∷ 0 ∷ (word_bytes (length xs + 4) ++ (xs ++ sum_byte (header (length xs) ++ xs) ∷ rest))) ≡ Ok (xs, rest)
+    → first_block (1 ∷ 0 ∷ (word_bytes (length xs + 4) ++ (xs ++ sum_byte (header (length xs) ++ xs) ∷ rest)))
+    ≡ Ok (xs, rest)
 unfolding first_block
 parts_again xs rest fits =
     let behind : List ℕ = xs ++ sum_byte (header (length xs) ++ xs) ∷ rest in
     ap (λ (r : Read BlockFault ℕ). r >>= behind_count) (count_again (length xs) behind fits)
-    ∙ ap (λ (r : Read BlockFault (List ℕ)). r >>= behind_content) (content_again xs (sum_byte (header (length xs) ++ xs) ∷ rest))
+    ∙ ap (λ (r : Read BlockFault (List ℕ)). r >>= behind_content)
+    (content_again xs (sum_byte (header (length xs) ++ xs) ∷ rest))
     ∙ summed_again xs rest
 
-pub block_parts : (xs rest : List ℕ) → block xs ++ rest ≡ 1 ∷ 0 ∷ (word_bytes (length xs + 4) ++ (xs ++ sum_byte (header (length xs) ++ xs) ∷ rest))
+pub block_parts : (xs rest : List ℕ)
+    → block xs ++ rest ≡ 1 ∷ 0 ∷ (word_bytes (length xs + 4) ++ (xs ++ sum_byte (header (length xs) ++ xs) ∷ rest))
 unfolding block
 block_parts xs rest =
     let last : List ℕ = sum_byte (header (length xs) ++ xs) ∷ [] in
     append_assoc (header (length xs) ++ xs) last rest ∙ append_assoc (header (length xs)) xs (last ++ rest)
 
-pub block_again : (content rest : List ℕ) → length content ≤ content_limit → first_block (block content ++ rest) ≡ Ok (content, rest)
+pub block_again : (content rest : List ℕ) → length content ≤ content_limit
+    → first_block (block content ++ rest) ≡ Ok (content, rest)
 block_again content rest fits = ap first_block (block_parts content rest) ∙ parts_again content rest fits
 
 -- ---- what is read is a block
@@ -64,21 +68,25 @@ second_takes (byte ∷ bytes) rest e =
       | inr miss ↦ absurd (let bad = miss.1 in cc)
     ]
 
-count_of_takes : (length n : ℕ) (bytes rest : List ℕ) → count_of length bytes ≡ Ok (n, rest) → (n ≤ content_limit) × (length ≡ n + 4) × (bytes ≡ rest)
+count_of_takes : (length n : ℕ) (bytes rest : List ℕ) → count_of length bytes ≡ Ok (n, rest)
+    → (n ≤ content_limit) × (length ≡ n + 4) × (bytes ≡ rest)
 count_of_takes length n bytes rest e =
-    elim (chosen (ltb length 4) (Err (Refused fault.TooShort bytes)) (cond (ltb 516 length) (Err (Refused fault.TooLong bytes)) (done (length - 4) bytes)) (Ok (n, rest)) e) [
+    elim (chosen (ltb length 4) (Err (Refused fault.TooShort bytes))
+    (cond (ltb 516 length) (Err (Refused fault.TooLong bytes)) (done (length - 4) bytes)) (Ok (n, rest)) e) [
       | inl short ↦ absurd (let bad = short.1 in cc)
-      | inr enough ↦ elim (chosen (ltb 516 length) (Err (Refused fault.TooLong bytes)) (done (length - 4) bytes) (Ok (n, rest)) enough.1) [
-        | inl long ↦ absurd (let bad = long.1 in cc)
-        | inr fits ↦
-            let least = ltb-false length 4 enough.0 in
-            let most = ltb-false 516 length fits.0 in
-            let is : length - 4 ≡ n = value_is (length - 4) n bytes rest fits.1 in
-            (omega arith, omega arith, rest_is (length - 4) n bytes rest fits.1)
-      ]
+      | inr enough ↦ elim (chosen (ltb 516 length) (Err (Refused fault.TooLong bytes)) (done (length - 4) bytes)
+          (Ok (n, rest)) enough.1) [
+            | inl long ↦ absurd (let bad = long.1 in cc)
+            | inr fits ↦
+                let least = ltb-false length 4 enough.0 in
+                let most = ltb-false 516 length fits.0 in
+                let is : length - 4 ≡ n = value_is (length - 4) n bytes rest fits.1 in
+                (omega arith, omega arith, rest_is (length - 4) n bytes rest fits.1)
+          ]
     ]
 
-pub count_takes : (n : ℕ) (bytes rest : List ℕ) → Bytes bytes → count bytes ≡ Ok (n, rest) → (n ≤ content_limit) × (bytes ≡ word_bytes (n + 4) ++ rest)
+pub count_takes : (n : ℕ) (bytes rest : List ℕ) → Bytes bytes → count bytes ≡ Ok (n, rest)
+    → (n ≤ content_limit) × (bytes ≡ word_bytes (n + 4) ++ rest)
 count_takes n [] rest small e = absurd cc
 count_takes n (low ∷ []) rest small e = absurd cc
 count_takes n (low ∷ high ∷ bytes) rest small e =
@@ -87,18 +95,22 @@ count_takes n (low ∷ high ∷ bytes) rest small e =
     let high_is : high ≡ (n + 4) / 256 % 256 = omega (arith, t.1, small.0, small.1.0) in
     (t.0, rw (← low_is, ← high_is, t.2) refl)
 
-pub content_takes : (n : ℕ) (bytes xs rest : List ℕ) → content_of n bytes ≡ Ok (xs, rest) → (length xs ≡ n) × (bytes ≡ xs ++ rest)
+pub content_takes : (n : ℕ) (bytes xs rest : List ℕ) → content_of n bytes ≡ Ok (xs, rest)
+    → (length xs ≡ n) × (bytes ≡ xs ++ rest)
 content_takes n bytes xs rest e =
     elim (chosen (ltb (length bytes) n) (Err Inside) (done (take n bytes) (drop n bytes)) (Ok (xs, rest)) e) [
       | inl short ↦ absurd (let bad = short.1 in cc)
       | inr enough ↦
           let le = ltb-false (length bytes) n enough.0 in
           let front : take n bytes ≡ xs = value_is (take n bytes) xs (drop n bytes) rest enough.1 in
-          let back : drop n bytes ≡ rest = rest_is (take n bytes) xs (drop n bytes) rest enough.1 in
-          (ap length (sym front) ∙ length-take-le n bytes (omega arith), sym (take-append-drop n bytes) ∙ rw (front, back) refl)
+          let back : drop n bytes ≡ rest = rest_is (take n bytes) xs (drop n bytes) rest enough.1 in (
+            ap length (sym front) ∙ length-take-le n bytes (omega arith),
+            sym (take-append-drop n bytes) ∙ rw (front, back) refl,
+          )
     ]
 
-summed_takes : (xs ys bytes rest : List ℕ) → summed xs bytes ≡ Ok (ys, rest) → (xs ≡ ys) × (bytes ≡ sum_byte (header (length xs) ++ xs) ∷ rest)
+summed_takes : (xs ys bytes rest : List ℕ) → summed xs bytes ≡ Ok (ys, rest)
+    → (xs ≡ ys) × (bytes ≡ sum_byte (header (length xs) ++ xs) ∷ rest)
 summed_takes xs ys [] rest e = absurd cc
 summed_takes xs ys (byte ∷ bytes) rest e =
     let s : ℕ = sum_byte (header (length xs) ++ xs) in
@@ -109,7 +121,8 @@ summed_takes xs ys (byte ∷ bytes) rest e =
     ]
 
 -- behind the 001 of a block
-block_behind : (bytes content rest : List ℕ) → Bytes bytes → behind_start (tt, bytes) ≡ Ok (content, rest) → (length content ≤ content_limit) × (1 ∷ bytes ≡ block content ++ rest)
+block_behind : (bytes content rest : List ℕ) → Bytes bytes → behind_start (tt, bytes) ≡ Ok (content, rest)
+    → (length content ≤ content_limit) × (1 ∷ bytes ≡ block content ++ rest)
 block_behind bytes content rest small e =
     let s = bind_ok (second bytes) behind_second (content, rest) e in
     let n = bind_ok (count s.0.1) behind_count (content, rest) s.2 in
@@ -121,7 +134,8 @@ block_behind bytes content rest small e =
     let sum_is = summed_takes xs.0.0 content xs.0.1 rest xs.2 in
     let same : xs.0.0 ≡ content = sum_is.0 in
     let long : length content ≡ n.0.0 = ap length (sym same) ∙ content_is.0 in
-    let tail : n.0.1 ≡ content ++ sum_byte (header (length content) ++ content) ∷ rest = content_is.1 ∙ rw (sum_is.1, same) refl in (
+    let tail : n.0.1 ≡ content ++ sum_byte (header (length content) ++ content) ∷ rest =
+    content_is.1 ∙ rw (sum_is.1, same) refl in (
       omega (arith, count_is.0, long),
       rw (second_is, count_is.1, tail, ← long) (sym (block_parts content rest)),
     )
@@ -168,14 +182,18 @@ framed [] content rest small e = absurd (let bad = sym nothing_read ∙ e in cc)
 framed (byte ∷ bytes) content rest small e =
     elim (begun byte bytes) [
       | inl zero_is ↦
-          let others = framed bytes content rest small.1 (sym zero_is.1 ∙ e) in
-          (others.0, λ contents h. let P : ℕ → Type 0 = λ first. AreBlocks (content ∷ contents) (first ∷ bytes) in subst P (sym zero_is.0) (Zero (others.1 contents h)))
+          let others = framed bytes content rest small.1 (sym zero_is.1 ∙ e) in (
+            others.0,
+            λ contents h. let P : ℕ → Type 0 = λ first. AreBlocks (content ∷ contents) (first ∷ bytes) in
+                subst P (sym zero_is.0) (Zero (others.1 contents h)),
+          )
       | inr other ↦ elim other [
         | inl one_is ↦
             let found = block_behind bytes content rest small.1 (sym one_is.1 ∙ e) in
             let is : byte ∷ bytes ≡ block content ++ rest = ap (λ (first : ℕ). first ∷ bytes) one_is.0 ∙ found.1 in (
               bytes_behind (block content) rest (subst Bytes is small),
-              λ contents h. let P : List ℕ → Type 0 = λ xs. AreBlocks (content ∷ contents) xs in subst P (sym is) (Block content found.0 h),
+              λ contents h. let P : List ℕ → Type 0 = λ xs. AreBlocks (content ∷ contents) xs in
+                  subst P (sym is) (Block content found.0 h),
             )
         | inr refused ↦ absurd (let bad = sym refused ∙ e in cc)
       ]
@@ -193,12 +211,14 @@ second_within (byte ∷ bytes) e =
 
 count_of_within : (length : ℕ) (bytes : List ℕ) → count_of length bytes ≡ Err Between → ⊥
 count_of_within length bytes e =
-    elim (chosen (ltb length 4) (Err (Refused fault.TooShort bytes)) (cond (ltb 516 length) (Err (Refused fault.TooLong bytes)) (done (length - 4) bytes)) (Err Between) e) [
+    elim (chosen (ltb length 4) (Err (Refused fault.TooShort bytes))
+    (cond (ltb 516 length) (Err (Refused fault.TooLong bytes)) (done (length - 4) bytes)) (Err Between) e) [
       | inl short ↦ (let bad = short.1 in cc)
-      | inr enough ↦ elim (chosen (ltb 516 length) (Err (Refused fault.TooLong bytes)) (done (length - 4) bytes) (Err Between) enough.1) [
-        | inl long ↦ (let bad = long.1 in cc)
-        | inr fits ↦ (let bad = fits.1 in cc)
-      ]
+      | inr enough ↦ elim (chosen (ltb 516 length) (Err (Refused fault.TooLong bytes)) (done (length - 4) bytes)
+          (Err Between) enough.1) [
+            | inl long ↦ (let bad = long.1 in cc)
+            | inr fits ↦ (let bad = fits.1 in cc)
+          ]
     ]
 
 count_within : (bytes : List ℕ) → count bytes ≡ Err Between → ⊥
@@ -216,7 +236,8 @@ content_within n bytes e =
 summed_within : (xs bytes : List ℕ) → summed xs bytes ≡ Err Between → ⊥
 summed_within xs [] e = cc
 summed_within xs (byte ∷ bytes) e =
-    elim (chosen (eqb byte (sum_byte (header (length xs) ++ xs))) (done xs bytes) (Err (Refused fault.BadSum bytes)) (Err Between) e) [
+    elim (chosen (eqb byte (sum_byte (header (length xs) ++ xs))) (done xs bytes) (Err (Refused fault.BadSum bytes))
+    (Err Between) e) [
       | inl hit ↦ (let bad = hit.1 in cc)
       | inr miss ↦ (let bad = miss.1 in cc)
     ]
@@ -248,7 +269,8 @@ nothing_framed (byte ∷ bytes) e =
     ]
 
 -- what is read is blocks
-pub blocks_framed : (contents : List (List ℕ)) (bytes : List ℕ) → Bytes bytes → AreRead contents bytes → AreBlocks contents bytes
+pub blocks_framed : (contents : List (List ℕ)) (bytes : List ℕ) → Bytes bytes → AreRead contents bytes
+    → AreBlocks contents bytes
 blocks_framed [] bytes small e = nothing_framed bytes e
 blocks_framed (content ∷ contents) bytes small h =
     let first = framed bytes content h.0 small h.1 in

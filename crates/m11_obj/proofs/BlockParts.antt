@@ -10,14 +10,16 @@ use Rattle.m11_obj.specs.Blocks.{start, second, count, content_of, summed, first
 use Rattle.m11_obj.proofs.Limits.{took_nothing, took_then, reads_behind, stops_behind, first_stops, then_reads, then_stops}
 
 -- a byte is missing inside a block
-pub missing_stops : {A : Type 0} (read : List ℕ → Read BlockFault A) (a b : Place) (given : List ℕ) (why : Lack) → TookThenLacks a b given why → read given ≡ Err Inside → Stops read a b (why_of (missing why))
+pub missing_stops : {A : Type 0} (read : List ℕ → Read BlockFault A) (a b : Place) (given : List ℕ) (why : Lack)
+    → TookThenLacks a b given why → read given ≡ Err Inside → Stops read a b (why_of (missing why))
 missing_stops {A} read a b given lack.Device lacks e =
     (given, lacks, rw e tt)
 missing_stops read a b given lack.End lacks e = (given, lacks, e)
 missing_stops read a b given lack.TooMuch lacks e = (given, lacks, rw e tt)
 
 -- its first byte is
-pub first_missing : {A : Type 0} (read : List ℕ → Read BlockFault A) (a b : Place) (why : Lack) → Lacks a b why → read [] ≡ Err Inside → Stops read a b (why_of (missing why))
+pub first_missing : {A : Type 0} (read : List ℕ → Read BlockFault A) (a b : Place) (why : Lack) → Lacks a b why
+    → read [] ≡ Err Inside → Stops read a b (why_of (missing why))
 first_missing read a b why lacks e = missing_stops read a b [] why (a, took_nothing a, lacks) e
 
 -- ---- zeros and the start of a block
@@ -31,27 +33,36 @@ one_front byte rest e = rw e refl
 other_front : (byte : ℕ) (rest : List ℕ) → byte ≢ 0 → byte ≢ 1 → start (byte ∷ rest) ≡ Err (Refused fault.BadStart rest)
 other_front byte rest not_zero not_one = rw (ne_eqb byte 0 not_zero, ne_eqb byte 1 not_one) refl
 
-module _ (a b c : Place) (zeros : List ℕ) (took : Took a b zeros) (leads : (rest : List ℕ) → start (zeros ++ rest) ≡ start rest) where
-  pub zero_skipped : (byte : ℕ) → byte ≡ 0 → Took b c (byte ∷ []) → (more : List ℕ) × Took a c more × ((rest : List ℕ) → start (more ++ rest) ≡ start rest)
-  zero_skipped byte e next =
-      (zeros ++ byte ∷ [], took_then a b c zeros (byte ∷ []) took next, λ rest. ap start (append_assoc zeros (byte ∷ []) rest) ∙ leads (byte ∷ rest) ∙ zero_front byte rest e)
+module _ (a b c : Place) (zeros : List ℕ) (took : Took a b zeros)
+    (leads : (rest : List ℕ) → start (zeros ++ rest) ≡ start rest) where
+  pub zero_skipped : (byte : ℕ) → byte ≡ 0 → Took b c (byte ∷ [])
+      → (more : List ℕ) × Took a c more × ((rest : List ℕ) → start (more ++ rest) ≡ start rest)
+  zero_skipped byte e next = (
+    zeros ++ byte ∷ [],
+    took_then a b c zeros (byte ∷ []) took next,
+    λ rest. ap start (append_assoc zeros (byte ∷ []) rest) ∙ leads (byte ∷ rest) ∙ zero_front byte rest e,
+  )
 
   pub start_read : (byte : ℕ) → byte ≡ 1 → Took b c (byte ∷ []) → Reads start a c tt
   start_read byte e next =
-      reads_behind start start a b c zeros took leads tt (record { given = byte ∷ []; took = next; is = λ rest. one_front byte rest e })
+      reads_behind start start a b c zeros took leads tt
+      (record { given = byte ∷ []; took = next; is = λ rest. one_front byte rest e })
 
   pub start_refused : (byte : ℕ) → byte ≢ 0 → byte ≢ 1 → Took b c (byte ∷ []) → Stops start a c (why_of fault.BadStart)
   start_refused byte not_zero not_one next =
-      stops_behind start start a b c zeros took leads (why_of fault.BadStart) (byte ∷ [], next, λ rest. other_front byte rest not_zero not_one)
+      stops_behind start start a b c zeros took leads (why_of fault.BadStart)
+      (byte ∷ [], next, λ rest. other_front byte rest not_zero not_one)
 
   pub start_ends : Lacks b c lack.End → Stops start a c EndsBetween
   start_ends lacks = stops_behind start start a b c zeros took leads EndsBetween ([], (b, took_nothing b, lacks), refl)
 
   pub start_fails : Lacks b c lack.Device → Stops start a c (why_of fault.Device)
-  start_fails lacks = stops_behind start start a b c zeros took leads (why_of fault.Device) ([], (b, took_nothing b, lacks), tt)
+  start_fails lacks =
+      stops_behind start start a b c zeros took leads (why_of fault.Device) ([], (b, took_nothing b, lacks), tt)
 
   pub start_passes : Lacks b c lack.TooMuch → Stops start a c (why_of fault.TooMuch)
-  start_passes lacks = stops_behind start start a b c zeros took leads (why_of fault.TooMuch) ([], (b, took_nothing b, lacks), tt)
+  start_passes lacks =
+      stops_behind start start a b c zeros took leads (why_of fault.TooMuch) ([], (b, took_nothing b, lacks), tt)
 
 -- ---- the parts of a block
 
@@ -95,10 +106,12 @@ module _ (a b : Place) where
           unfolding first_block
           sum_stops why s = then_stops start behind_start a b f tt started why
               (then_stops second behind_second b c f tt begun why
-              (then_stops count behind_count c d f n counted why (then_stops (content_of n) behind_content d e f xs held why s)))
+              (then_stops count behind_count c d f n counted why
+              (then_stops (content_of n) behind_content d e f xs held why s)))
 
           pub block_read : Reads (summed xs) e f xs → Reads first_block a f xs
           unfolding first_block
           block_read r = then_reads start behind_start a b f tt started xs
               (then_reads second behind_second b c f tt begun xs
-              (then_reads count behind_count c d f n counted xs (then_reads (content_of n) behind_content d e f xs held xs r)))
+              (then_reads count behind_count c d f n counted xs
+              (then_reads (content_of n) behind_content d e f xs held xs r)))

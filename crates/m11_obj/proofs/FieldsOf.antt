@@ -14,7 +14,8 @@ use Rattle.m11_obj.specs.Reading.{◌>>=◌, first_byte, first_word, first_name_
 
 -- ---- steps that did not fail
 
-pub bind_ok : {A B : Type 0} (r : Result A RecordFault) (f : A → Result B RecordFault) (y : B) → (r >>= f) ≡ Ok y → (x : A) × (r ≡ Ok x) × (f x ≡ Ok y)
+pub bind_ok : {A B : Type 0} (r : Result A RecordFault) (f : A → Result B RecordFault) (y : B) → (r >>= f) ≡ Ok y
+    → (x : A) × (r ≡ Ok x) × (f x ≡ Ok y)
 bind_ok (Ok x) f y e = (x, refl, e)
 bind_ok (Err fault) f y e = absurd cc
 
@@ -34,7 +35,8 @@ pub record Takes (count : ℕ) (bytes rest : List ℕ) : Type 0 where
   pub behind : rest ≡ drop count bytes
 
 -- what was read is made of these parts
-takes_same : {A : Type 0} (count : ℕ) (bytes : List ℕ) (made x : A × List ℕ) → done made ≡ done x → Takes count bytes made.1 → Takes count bytes x.1
+takes_same : {A : Type 0} (count : ℕ) (bytes : List ℕ) (made x : A × List ℕ) → done made ≡ done x
+    → Takes count bytes made.1 → Takes count bytes x.1
 takes_same {A} count bytes made x e takes =
     let same : made ≡ x = ok_is made x e in
     let behind : x.1 ≡ drop count bytes = sym (ap (λ (p : A × List ℕ). p.1) same) ∙ takes.behind in
@@ -70,7 +72,9 @@ name_word_takes bytes x e =
 pub name_takes : (bytes : List ℕ) (x : (ℕ × ℕ) × List ℕ) → first_name bytes ≡ Ok x → Takes 4 bytes x.1
 unfolding first_name
 name_takes bytes x e =
-    let a = bind_ok (first_name_word bytes) (λ first. first_name_word first.1 >>= λ second. Ok ((first.0, second.0), second.1)) x e in
+    let a =
+    bind_ok (first_name_word bytes)
+    (λ first. first_name_word first.1 >>= λ second. Ok ((first.0, second.0), second.1)) x e in
     let b = bind_ok (first_name_word a.0.1) (λ second. Ok ((a.0.0, second.0), second.1)) x a.2 in
     let both = Takes-then 2 2 bytes a.0.1 b.0.1 (name_word_takes bytes a.0 a.1) (name_word_takes a.0.1 b.0 b.1) in
     let made : (ℕ × ℕ) × List ℕ = ((a.0.0, b.0.0), b.0.1) in
@@ -83,12 +87,27 @@ entry_of name flags kind value = record { name = name; flags = flags; kind = kin
 pub entry_takes : (bytes : List ℕ) (x : GsdEntry × List ℕ) → first_entry bytes ≡ Ok x → Takes 8 bytes x.1
 unfolding first_entry
 entry_takes bytes x e =
-    let name = bind_ok (first_name bytes) (λ name. first_byte name.1 >>= λ flags. first_byte flags.1 >>= λ code. kind_of code.0 >>= λ kind. first_word code.1 >>= λ value. Ok (entry_of name.0 flags.0 kind value.0, value.1)) x e in
-    let flags = bind_ok (first_byte name.0.1) (λ flags. first_byte flags.1 >>= λ code. kind_of code.0 >>= λ kind. first_word code.1 >>= λ value. Ok (entry_of name.0.0 flags.0 kind value.0, value.1)) x name.2 in
-    let code = bind_ok (first_byte flags.0.1) (λ code. kind_of code.0 >>= λ kind. first_word code.1 >>= λ value. Ok (entry_of name.0.0 flags.0.0 kind value.0, value.1)) x flags.2 in
-    let kind = bind_ok (kind_of code.0.0) (λ kind. first_word code.0.1 >>= λ value. Ok (entry_of name.0.0 flags.0.0 kind value.0, value.1)) x code.2 in
-    let value = bind_ok (first_word code.0.1) (λ value. Ok (entry_of name.0.0 flags.0.0 kind.0 value.0, value.1)) x kind.2 in
-    let t5 = Takes-then 4 1 bytes name.0.1 flags.0.1 (name_takes bytes name.0 name.1) (byte_takes name.0.1 flags.0 flags.1) in
+    let name =
+    bind_ok (first_name bytes)
+    (λ name. first_byte name.1 >>= λ flags. first_byte flags.1 >>= λ code. kind_of code.0 >>=
+    λ kind. first_word code.1 >>= λ value. Ok (entry_of name.0 flags.0 kind value.0, value.1)) x e in
+    let flags =
+    bind_ok (first_byte name.0.1)
+    (λ flags. first_byte flags.1 >>= λ code. kind_of code.0 >>= λ kind. first_word code.1 >>= λ value. Ok
+    (entry_of name.0.0 flags.0 kind value.0, value.1)) x name.2 in
+    let code =
+    bind_ok (first_byte flags.0.1)
+    (λ code. kind_of code.0 >>= λ kind. first_word code.1 >>= λ value. Ok
+    (entry_of name.0.0 flags.0.0 kind value.0, value.1)) x flags.2 in
+    let kind =
+    bind_ok (kind_of code.0.0)
+    (λ kind. first_word code.0.1 >>= λ value. Ok (entry_of name.0.0 flags.0.0 kind value.0, value.1)) x
+    code.2 in
+    let value =
+    bind_ok (first_word code.0.1) (λ value. Ok (entry_of name.0.0 flags.0.0 kind.0 value.0, value.1)) x kind.2 in
+    let t5 =
+    Takes-then 4 1 bytes name.0.1 flags.0.1 (name_takes bytes name.0 name.1)
+    (byte_takes name.0.1 flags.0 flags.1) in
     let t6 = Takes-then 5 1 bytes flags.0.1 code.0.1 t5 (byte_takes flags.0.1 code.0 code.1) in
     let t8 = Takes-then 6 2 bytes code.0.1 value.0.1 t6 (word_takes code.0.1 value.0 value.1) in
     let made : GsdEntry × List ℕ = (entry_of name.0.0 flags.0.0 kind.0 value.0.0, value.0.1) in
@@ -97,15 +116,20 @@ entry_takes bytes x e =
 -- ---- entries
 
 -- the others, where the first was read
-others_of : (n byte : ℕ) (bytes : List ℕ) (entries : List GsdEntry) → items_within first_entry (suc n) (byte ∷ bytes) ≡ Ok entries
-    → (first : GsdEntry × List ℕ) × (others : List GsdEntry) × (first_entry (byte ∷ bytes) ≡ Ok first) × (items_within first_entry n first.1 ≡ Ok others) × (first.0 ∷ others ≡ entries)
+others_of : (n byte : ℕ) (bytes : List ℕ) (entries : List GsdEntry)
+    → items_within first_entry (suc n) (byte ∷ bytes) ≡ Ok entries
+    → (first : GsdEntry × List ℕ) × (others : List GsdEntry) × (first_entry (byte ∷ bytes) ≡ Ok first)
+    × (items_within first_entry n first.1 ≡ Ok others) × (first.0 ∷ others ≡ entries)
 unfolding items_within
 others_of n byte bytes entries e =
-    let a = bind_ok (first_entry (byte ∷ bytes)) (λ first. items_within first_entry n first.1 >>= λ others. Ok (first.0 ∷ others)) entries e in
+    let a =
+    bind_ok (first_entry (byte ∷ bytes))
+    (λ first. items_within first_entry n first.1 >>= λ others. Ok (first.0 ∷ others)) entries e in
     let b = bind_ok (items_within first_entry n a.0.1) (λ others. Ok (a.0.0 ∷ others)) entries a.2 in
     (a.0, b.0, a.1, b.1, ok_is (a.0.0 ∷ b.0) entries b.2)
 
-pub entries_length : (n : ℕ) (bytes : List ℕ) (entries : List GsdEntry) → length bytes ≤ n → items_within first_entry n bytes ≡ Ok entries → length bytes ≡ 8 * length entries
+pub entries_length : (n : ℕ) (bytes : List ℕ) (entries : List GsdEntry) → length bytes ≤ n
+    → items_within first_entry n bytes ≡ Ok entries → length bytes ≡ 8 * length entries
 unfolding items_within
 entries_length zero [] entries le e = let none = ok_is [] entries e in omega (arith, ap length none)
 entries_length zero (byte ∷ bytes) entries le e = absurd (omega arith)
@@ -117,7 +141,9 @@ entries_length (suc n) (byte ∷ bytes) entries le e =
     let others = entries_length n o.0.1 o.1 (omega (arith, t.enough)) o.3 in
     omega (arith, t.enough, ap length o.4)
 
-pub entry_place : (n i : ℕ) (bytes : List ℕ) (entries : List GsdEntry) (d : GsdEntry) → items_within first_entry n bytes ≡ Ok entries → i < length entries → (rest : List ℕ) × (first_entry (drop (8 * i) bytes) ≡ Ok (get_or entries i d, rest))
+pub entry_place : (n i : ℕ) (bytes : List ℕ) (entries : List GsdEntry) (d : GsdEntry)
+    → items_within first_entry n bytes ≡ Ok entries → i < length entries
+    → (rest : List ℕ) × (first_entry (drop (8 * i) bytes) ≡ Ok (get_or entries i d, rest))
 unfolding items_within
 entry_place zero i bytes entries d e lt = let none = ok_is [] entries e in absurd (omega (arith, ap length none))
 entry_place (suc n) i [] entries d e lt = let none = ok_is [] entries e in absurd (omega (arith, ap length none))
@@ -128,7 +154,9 @@ entry_place (suc n) (suc i) (byte ∷ bytes) entries d e lt =
     let o = others_of n byte bytes entries e in
     let t = entry_takes (byte ∷ bytes) o.0 o.2 in
     let found = entry_place n i o.0.1 o.1 d o.3 (omega (arith, ap length o.4)) in
-    let place : drop (8 * i) o.0.1 ≡ drop (8 * suc i) (byte ∷ bytes) = ap (drop (8 * i)) t.behind ∙ drop-drop (8 * i) 8 (byte ∷ bytes) ∙ ap (λ (k : ℕ). drop k (byte ∷ bytes)) (omega arith) in
+    let place : drop (8 * i) o.0.1 ≡ drop (8 * suc i) (byte ∷ bytes) =
+    ap (drop (8 * i)) t.behind ∙ drop-drop (8 * i) 8 (byte ∷ bytes)
+    ∙ ap (λ (k : ℕ). drop k (byte ∷ bytes)) (omega arith) in
     (found.0, ap first_entry (sym place) ∙ found.1 ∙ ap (λ (es : List GsdEntry). Ok (get_or es (suc i) d, found.0)) o.4)
 
 -- ---- records
@@ -146,7 +174,8 @@ type_takes bytes x e =
     takes_same 2 bytes made x b.2 (word_takes bytes a.0 a.1)
 
 -- a record's type is the one that its type word tells
-kind_is : (type : RecordKind) (bytes : List ℕ) (content : Content) → content_behind type bytes ≡ Ok content → kind_in content ≡ type
+kind_is : (type : RecordKind) (bytes : List ℕ) (content : Content) → content_behind type bytes ≡ Ok content
+    → kind_in content ≡ type
 unfolding content_behind
 kind_is kind.Gsd bytes content e =
     let a = bind_ok (entries_of bytes) (λ entries. Ok (Gsd entries)) content e in
@@ -174,4 +203,11 @@ pub parts_of : (bytes : List ℕ) (content : Content) → content_of bytes ≡ O
 unfolding content_of
 parts_of bytes content e =
     let a = bind_ok (first_type bytes) (λ type. content_behind type.0 type.1) content e in
-    record { type = a.0.0; rest = a.0.1; typed = a.1; takes = type_takes bytes a.0 a.1; says = a.2; same = kind_is a.0.0 a.0.1 content a.2 }
+    record {
+      type = a.0.0;
+      rest = a.0.1;
+      typed = a.1;
+      takes = type_takes bytes a.0 a.1;
+      says = a.2;
+      same = kind_is a.0.0 a.0.1 content a.2;
+    }

@@ -3,7 +3,8 @@ use Rattle.std.proofs.Common.{◌≡◌, ℕ, zero, suc, ◌<◌, ◌≤◌, Lis
 use Rattle.m11_obj.specs.declared.fault.RecordFault.{RecordFault}
 use Rattle.m11_obj.specs.Reading.{◌>>=◌, items_within, items_of, checked}
 
-bind_same : {A B : Type 0} (r : Result A RecordFault) (f g : A → Result B RecordFault) → ((x : A) → r ≡ Ok x → f x ≡ g x) → (r >>= f) ≡ (r >>= g)
+bind_same : {A B : Type 0} (r : Result A RecordFault) (f g : A → Result B RecordFault)
+    → ((x : A) → r ≡ Ok x → f x ≡ g x) → (r >>= f) ≡ (r >>= g)
 bind_same (Ok x) f g e = e x refl
 bind_same (Err fault) f g e = refl
 
@@ -13,7 +14,8 @@ pub record Shrinks {A : Type 0} (first : List ℕ → Result (A × List ℕ) Rec
 
 module _ {A : Type 0} (first : List ℕ → Result (A × List ℕ) RecordFault) where
   -- a number of items that is large enough tells nothing
-  within_enough : (m n : ℕ) (bytes : List ℕ) → Shrinks first → length bytes ≤ m → length bytes ≤ n → items_within first m bytes ≡ items_within first n bytes
+  within_enough : (m n : ℕ) (bytes : List ℕ) → Shrinks first → length bytes ≤ m → length bytes ≤ n
+      → items_within first m bytes ≡ items_within first n bytes
   unfolding items_within
   within_enough zero zero [] shrinks le below = refl
   within_enough zero (suc n) [] shrinks le below = refl
@@ -24,18 +26,22 @@ module _ {A : Type 0} (first : List ℕ → Result (A × List ℕ) RecordFault) 
   within_enough (suc m) (suc n) (byte ∷ bytes) shrinks le below =
       bind_same (first (byte ∷ bytes)) _ _ (λ x is.
       let less = shrinks.shorter (byte ∷ bytes) x is in
-      ap (λ (r : Result (List A) RecordFault). r >>= λ others. Ok (x.0 ∷ others)) (within_enough m n x.1 shrinks (omega arith) (omega arith)))
+      ap (λ (r : Result (List A) RecordFault). r >>= λ others. Ok (x.0 ∷ others))
+      (within_enough m n x.1 shrinks (omega arith) (omega arith)))
 
   -- one item, and those behind it
-  pub items_step : (bytes : List ℕ) (x : A × List ℕ) → Shrinks first → first bytes ≡ Ok x → items_of first bytes ≡ (items_of first x.1 >>= λ others. Ok (x.0 ∷ others))
+  pub items_step : (bytes : List ℕ) (x : A × List ℕ) → Shrinks first → first bytes ≡ Ok x
+      → items_of first bytes ≡ (items_of first x.1 >>= λ others. Ok (x.0 ∷ others))
   unfolding items_of items_within
   items_step [] x shrinks is = absurd (omega (arith, shrinks.shorter [] x is))
   items_step (byte ∷ bytes) x shrinks is =
       let less = shrinks.shorter (byte ∷ bytes) x is in
-      rw is (ap (λ (r : Result (List A) RecordFault). r >>= λ others. Ok (x.0 ∷ others)) (within_enough (length bytes) (length x.1) x.1 shrinks (omega arith) (omega arith)))
+      rw is (ap (λ (r : Result (List A) RecordFault). r >>= λ others. Ok (x.0 ∷ others))
+      (within_enough (length bytes) (length x.1) x.1 shrinks (omega arith) (omega arith)))
 
   -- the first fault
-  pub items_stop : (bytes : List ℕ) (fault : RecordFault) → 0 < length bytes → first bytes ≡ Err fault → items_of first bytes ≡ Err fault
+  pub items_stop : (bytes : List ℕ) (fault : RecordFault) → 0 < length bytes → first bytes ≡ Err fault
+      → items_of first bytes ≡ Err fault
   unfolding items_of items_within
   items_stop [] fault lt is = absurd (omega arith)
   items_stop (byte ∷ bytes) fault lt is = rw is refl
@@ -50,6 +56,8 @@ module _ {A : Type 0} (first : List ℕ → Result (A × List ℕ) RecordFault) 
   checked_more (Err fault) item = refl
 
   -- whether there are items is told by those behind the first
-  pub checked_step : (bytes : List ℕ) (x : A × List ℕ) → Shrinks first → first bytes ≡ Ok x → checked (items_of first bytes) ≡ checked (items_of first x.1)
+  pub checked_step : (bytes : List ℕ) (x : A × List ℕ) → Shrinks first → first bytes ≡ Ok x
+      → checked (items_of first bytes) ≡ checked (items_of first x.1)
   checked_step bytes x shrinks is =
-      ap (λ (r : Result (List A) RecordFault). checked r) (items_step bytes x shrinks is) ∙ checked_more (items_of first x.1) x.0
+      ap (λ (r : Result (List A) RecordFault). checked r) (items_step bytes x shrinks is)
+      ∙ checked_more (items_of first x.1) x.0

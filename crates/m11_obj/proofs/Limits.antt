@@ -29,12 +29,14 @@ took_then a b c xs ys first second = record {
   bytes = bytes_then xs ys first.bytes second.bytes;
 }
 
-pub lacks_then : (a b c : Place) (xs ys : List ℕ) (lack : Lack) → Took a b xs → TookThenLacks b c ys lack → TookThenLacks a c (xs ++ ys) lack
+pub lacks_then : (a b c : Place) (xs ys : List ℕ) (lack : Lack) → Took a b xs → TookThenLacks b c ys lack
+    → TookThenLacks a c (xs ++ ys) lack
 lacks_then a b c xs ys lack first second = (second.0, took_then a b second.0 xs ys first second.1, second.2)
 
 -- ---- reading goes on behind what was given
 
-module _ {Fault A : Type 0} (read read' : List ℕ → Read Fault A) (a b c : Place) (front : List ℕ) (took : Took a b front) (leads : (rest : List ℕ) → read (front ++ rest) ≡ read' rest) where
+module _ {Fault A : Type 0} (read read' : List ℕ → Read Fault A) (a b c : Place) (front : List ℕ)
+    (took : Took a b front) (leads : (rest : List ℕ) → read (front ++ rest) ≡ read' rest) where
   pub reads_behind : (x : A) → Reads read' b c x → Reads read a c x
   reads_behind x r = record {
     given = front ++ r.given;
@@ -52,8 +54,11 @@ module _ {Fault A : Type 0} (read read' : List ℕ → Read Fault A) (a b c : Pl
   stops_behind EndsBetween s = (front ++ s.0, lacks_then a b c front s.0 lack.End took s.1, leads s.0 ∙ s.2)
   stops_behind EndsInside s = (front ++ s.0, lacks_then a b c front s.0 lack.End took s.1, leads s.0 ∙ s.2)
   stops_behind Passes s = (front ++ s.0, lacks_then a b c front s.0 lack.TooMuch took s.1, short_behind s.0 s.2)
-  stops_behind (Refuses fault) s =
-      (front ++ s.0, took_then a b c front s.0 took s.1, λ rest. ap read (append_assoc front s.0 rest) ∙ leads (s.0 ++ rest) ∙ s.2 rest)
+  stops_behind (Refuses fault) s = (
+    front ++ s.0,
+    took_then a b c front s.0 took s.1,
+    λ rest. ap read (append_assoc front s.0 rest) ∙ leads (s.0 ++ rest) ∙ s.2 rest,
+  )
   stops_behind Never s = s
 
 -- ---- one part after another

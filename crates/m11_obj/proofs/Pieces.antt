@@ -7,26 +7,34 @@ use Rattle.std.proofs.lemmas.List.Elements.{All-more}
 
 module _ {X : Type 0} where
   -- one more piece
-  pub pieces_more : (f : X → List ℕ) (head : List ℕ) (xs : List X) (i : ℕ) (x : X) (bytes next : List ℕ) → i < length xs → x ≡ get_or xs i x → bytes ≡ head ++ flat_map f (take i xs) → next ≡ bytes ++ f x → next ≡ head ++ flat_map f (take (i + 1) xs)
+  pub pieces_more : (f : X → List ℕ) (head : List ℕ) (xs : List X) (i : ℕ) (x : X) (bytes next : List ℕ)
+      → i < length xs → x ≡ get_or xs i x → bytes ≡ head ++ flat_map f (take i xs) → next ≡ bytes ++ f x
+      → next ≡ head ++ flat_map f (take (i + 1) xs)
   pieces_more f head xs i x bytes next lt is so_far added =
       let here : bytes ++ f x ≡ (head ++ flat_map f (take i xs)) ++ f (get_or xs i x) = cc in
-      let longer : head ++ flat_map f (take (i + 1) xs) ≡ head ++ flat_map f (take i xs ++ get_or xs i x ∷ []) = rw (take_more xs i x lt) in
+      let longer : head ++ flat_map f (take (i + 1) xs) ≡ head ++ flat_map f (take i xs ++ get_or xs i x ∷ []) =
+      rw (take_more xs i x lt) in
       added ∙ here ∙ flat_map_more f head (take i xs) (get_or xs i x) ∙ sym longer
 
   -- the pieces so far leave room for the next one
-  pub piece_has_room : (f : X → List ℕ) (xs : List X) (i : ℕ) (x : X) (bytes : List ℕ) (head : List ℕ) (limit : ℕ) → i < length xs → x ≡ get_or xs i x → bytes ≡ head ++ flat_map f (take i xs) → length (flat_map f xs) + length head ≤ limit → length bytes + length (f x) ≤ limit
+  pub piece_has_room : (f : X → List ℕ) (xs : List X) (i : ℕ) (x : X) (bytes : List ℕ) (head : List ℕ) (limit : ℕ)
+      → i < length xs → x ≡ get_or xs i x → bytes ≡ head ++ flat_map f (take i xs)
+      → length (flat_map f xs) + length head ≤ limit → length bytes + length (f x) ≤ limit
   piece_has_room f xs i x bytes head limit lt is so_far fits =
       let most = length-flat_map-take f xs i x lt in
       let here : length (f x) ≡ length (f (get_or xs i x)) = ap (λ (y : X). length (f y)) is in
-      let front : length bytes ≡ length head + length (flat_map f (take i xs)) = ap length so_far ∙ length-append head (flat_map f (take i xs)) in
+      let front : length bytes ≡ length head + length (flat_map f (take i xs)) =
+      ap length so_far ∙ length-append head (flat_map f (take i xs)) in
       omega arith
 
   -- what holds of the items so far and of the next one
-  pub fact_more : (P : X → Type 0) (xs : List X) (i : ℕ) (x : X) → i < length xs → x ≡ get_or xs i x → All P (take i xs) → P x → All P (take (i + 1) xs)
+  pub fact_more : (P : X → Type 0) (xs : List X) (i : ℕ) (x : X) → i < length xs → x ≡ get_or xs i x
+      → All P (take i xs) → P x → All P (take (i + 1) xs)
   fact_more P xs i x lt is before here = All-more P xs i x lt before (subst P is here)
 
   -- all pieces, and what holds of all items
-  pub pieces_all : (f : X → List ℕ) (head : List ℕ) (xs : List X) (i : ℕ) (bytes : List ℕ) → length xs ≤ i → bytes ≡ head ++ flat_map f (take i xs) → bytes ≡ head ++ flat_map f xs
+  pub pieces_all : (f : X → List ℕ) (head : List ℕ) (xs : List X) (i : ℕ) (bytes : List ℕ) → length xs ≤ i
+      → bytes ≡ head ++ flat_map f (take i xs) → bytes ≡ head ++ flat_map f xs
   pieces_all f head xs i bytes le is = is ∙ rw (take_all i xs le)
 
   pub fact_all : (P : X → Type 0) (xs : List X) (i : ℕ) → length xs ≤ i → All P (take i xs) → All P xs

@@ -19,7 +19,8 @@ word_again word rest lt =
     let sum : word % 256 + 256 * (word / 256 % 256) ≡ word = omega arith in
     ap (λ (w : ℕ). Ok (w, rest)) sum
 
-name_word_again : (word : ℕ) (rest : List ℕ) → word < word_limit → first_name_word (word_bytes word ++ rest) ≡ Ok (word, rest)
+name_word_again : (word : ℕ) (rest : List ℕ) → word < word_limit
+    → first_name_word (word_bytes word ++ rest) ≡ Ok (word, rest)
 unfolding first_name_word
 name_word_again word rest lt =
     let below : ltb word 64000 ≡ true = lt-ltb _ _ lt in
@@ -28,8 +29,12 @@ name_word_again word rest lt =
 pub name_again : (name : ℕ × ℕ) (rest : List ℕ) → IsName name → first_name (name_bytes name ++ rest) ≡ Ok (name, rest)
 unfolding first_name
 name_again name rest is =
-    let split : name_bytes name ++ rest ≡ word_bytes name.0 ++ (word_bytes name.1 ++ rest) = append_assoc (word_bytes name.0) (word_bytes name.1) rest in
-    ap first_name split ∙ rw (name_word_again name.0 (word_bytes name.1 ++ rest) is.0, name_word_again name.1 rest is.1) refl
+    let split : name_bytes name ++ rest ≡ word_bytes name.0 ++ (word_bytes name.1 ++ rest) =
+    append_assoc (word_bytes name.0) (word_bytes name.1) rest in
+    ap first_name split ∙ rw (
+      name_word_again name.0 (word_bytes name.1 ++ rest) is.0,
+      name_word_again name.1 rest is.1,
+    ) refl
 
 -- ---- entries
 
@@ -43,12 +48,16 @@ kind_again GlobalSymbol = refl
 kind_again ProgramSection = refl
 kind_again Identification = refl
 
-pub entry_again : (entry : GsdEntry) (rest : List ℕ) → EntryFits entry → first_entry (entry_bytes entry ++ rest) ≡ Ok (entry, rest)
+pub entry_again : (entry : GsdEntry) (rest : List ℕ) → EntryFits entry
+    → first_entry (entry_bytes entry ++ rest) ≡ Ok (entry, rest)
 unfolding first_entry
 entry_again entry rest fits =
     let behind : List ℕ = entry.flags ∷ kind_code entry.kind ∷ (word_bytes entry.value ++ rest) in
-    let split : entry_bytes entry ++ rest ≡ name_bytes entry.name ++ behind = append_assoc (name_bytes entry.name) (entry.flags ∷ kind_code entry.kind ∷ word_bytes entry.value) rest in
-    ap first_entry split ∙ rw (name_again entry.name behind fits.name, kind_again entry.kind, word_again entry.value rest fits.value) refl
+    let split : entry_bytes entry ++ rest ≡ name_bytes entry.name ++ behind =
+    append_assoc (name_bytes entry.name) (entry.flags ∷ kind_code entry.kind ∷ word_bytes entry.value) rest in
+    ap first_entry split
+    ∙ rw (name_again entry.name behind fits.name, kind_again entry.kind, word_again entry.value rest fits.value)
+    refl
 
 -- the bytes of entries are at least as many as the entries
 entries_count : (entries : List GsdEntry) → length entries ≤ length (entries_bytes entries)
@@ -57,7 +66,8 @@ entries_count (entry ∷ entries) =
     let others = entries_count entries in
     omega (arith, length-append (entry_bytes entry) (entries_bytes entries))
 
-entries_within_again : (n : ℕ) (entries : List GsdEntry) → length entries ≤ n → AllByRecursion EntryFits entries → items_within first_entry n (entries_bytes entries) ≡ Ok entries
+entries_within_again : (n : ℕ) (entries : List GsdEntry) → length entries ≤ n → AllByRecursion EntryFits entries
+    → items_within first_entry n (entries_bytes entries) ≡ Ok entries
 unfolding items_within
 entries_within_again zero [] le fits = refl
 entries_within_again (suc n) [] le fits = refl
@@ -68,4 +78,5 @@ entries_within_again (suc n) (entry ∷ entries) le fits =
 pub entries_again : (entries : List GsdEntry) → EntriesFit entries → entries_of (entries_bytes entries) ≡ Ok entries
 unfolding entries_of items_of
 entries_again entries fits =
-    entries_within_again (length (entries_bytes entries)) entries (entries_count entries) (recursion_from_All EntryFits entries fits)
+    entries_within_again (length (entries_bytes entries)) entries (entries_count entries)
+    (recursion_from_All EntryFits entries fits)

@@ -29,7 +29,8 @@ pub record Begins (bytes written rest : List ℕ) : Type 0 where
   pub is : bytes ≡ written ++ rest
   pub behind : Bytes rest
 
-begins_then : (bytes first middle second rest : List ℕ) → Begins bytes first middle → Begins middle second rest → Begins bytes (first ++ second) rest
+begins_then : (bytes first middle second rest : List ℕ) → Begins bytes first middle → Begins middle second rest
+    → Begins bytes (first ++ second) rest
 begins_then bytes first middle second rest one two = record {
   is = one.is ∙ ap (λ (xs : List ℕ). first ++ xs) two.is ∙ sym (append_assoc first second rest);
   behind = two.behind;
@@ -61,13 +62,15 @@ byte_reads (byte ∷ rest) x are e =
     let here : ByteReads (byte ∷ rest) made = record { begins = record { is = refl; behind = are.1 }; fits = are.0 } in
     subst (λ (p : ℕ × List ℕ). ByteReads (byte ∷ rest) p) (ok_is made x e) here
 
-word_made : (low high : ℕ) (rest : List ℕ) → low < 256 → high < 256 → Bytes rest → WordReads (low ∷ high ∷ rest) (low + 256 * high, rest)
+word_made : (low high : ℕ) (rest : List ℕ) → low < 256 → high < 256 → Bytes rest
+    → WordReads (low ∷ high ∷ rest) (low + 256 * high, rest)
 word_made low high rest l h are =
     let first : (low + 256 * high) % 256 ≡ low = omega arith in
     let second : (low + 256 * high) / 256 % 256 ≡ high = omega arith in
     record {
       begins = record {
-        is = ap (λ (n : ℕ). n ∷ high ∷ rest) (sym first) ∙ ap (λ (n : ℕ). ((low + 256 * high) % 256) ∷ n ∷ rest) (sym second);
+        is = ap (λ (n : ℕ). n ∷ high ∷ rest) (sym first)
+            ∙ ap (λ (n : ℕ). ((low + 256 * high) % 256) ∷ n ∷ rest) (sym second);
         behind = are;
       };
       fits = omega arith;
@@ -79,7 +82,8 @@ word_reads [] x are e = absurd cc
 word_reads (low ∷ []) x are e = absurd cc
 word_reads (low ∷ high ∷ rest) x are e =
     let made : ℕ × List ℕ = (low + 256 * high, rest) in
-    subst (λ (p : ℕ × List ℕ). WordReads (low ∷ high ∷ rest) p) (ok_is made x e) (word_made low high rest are.0 are.1.0 are.1.1)
+    subst (λ (p : ℕ × List ℕ). WordReads (low ∷ high ∷ rest) p) (ok_is made x e)
+    (word_made low high rest are.0 are.1.0 are.1.1)
 
 guard_true : {A : Type 0} (b : Bool) (x y : A) (fault : RecordFault) → cond b (Ok x) (Err fault) ≡ Ok y → b ≡ true
 guard_true true x y fault e = refl
@@ -98,7 +102,9 @@ name_word_reads bytes x are e =
 name_reads : (bytes : List ℕ) (x : (ℕ × ℕ) × List ℕ) → Bytes bytes → first_name bytes ≡ Ok x → NameReads bytes x
 unfolding first_name
 name_reads bytes x are e =
-    let a = bind_ok (first_name_word bytes) (λ first. first_name_word first.1 >>= λ second. Ok ((first.0, second.0), second.1)) x e in
+    let a =
+    bind_ok (first_name_word bytes)
+    (λ first. first_name_word first.1 >>= λ second. Ok ((first.0, second.0), second.1)) x e in
     let b = bind_ok (first_name_word a.0.1) (λ second. Ok ((a.0.0, second.0), second.1)) x a.2 in
     let first = name_word_reads bytes a.0 are a.1 in
     let second = name_word_reads a.0.1 b.0 first.begins.behind b.1 in
@@ -126,14 +132,19 @@ kind_is_code (suc (suc (suc (suc (suc (suc (suc (suc code)))))))) kind e = absur
 abbrev pub EntryReads : List ℕ → GsdEntry × List ℕ → Type 0
 EntryReads bytes x = Reads entry_bytes EntryFits bytes x
 
-entry_made : (bytes : List ℕ) (name : (ℕ × ℕ) × List ℕ) (flags code value : ℕ × List ℕ) (kind : GsdKind) (x : GsdEntry × List ℕ) → NameReads bytes name → ByteReads name.1 flags → ByteReads flags.1 code → WordReads code.1 value → kind_of code.0 ≡ Ok kind → done (entry_of name.0 flags.0 kind value.0, value.1) ≡ done x → EntryReads bytes x
+entry_made : (bytes : List ℕ) (name : (ℕ × ℕ) × List ℕ) (flags code value : ℕ × List ℕ) (kind : GsdKind)
+    (x : GsdEntry × List ℕ) → NameReads bytes name → ByteReads name.1 flags → ByteReads flags.1 code
+    → WordReads code.1 value → kind_of code.0 ≡ Ok kind
+    → done (entry_of name.0 flags.0 kind value.0, value.1) ≡ done x → EntryReads bytes x
 entry_made bytes name flags code value kind x n f c v is e =
     let last = begins_then flags.1 (code.0 ∷ []) code.1 (word_bytes value.0) value.1 c.begins v.begins in
     let others = begins_then name.1 (flags.0 ∷ []) flags.1 (code.0 ∷ word_bytes value.0) value.1 f.begins last in
-    let whole = begins_then bytes (name_bytes name.0) name.1 (flags.0 ∷ code.0 ∷ word_bytes value.0) value.1 n.begins others in
+    let whole =
+    begins_then bytes (name_bytes name.0) name.1 (flags.0 ∷ code.0 ∷ word_bytes value.0) value.1 n.begins others in
     let made : GsdEntry × List ℕ = (entry_of name.0 flags.0 kind value.0, value.1) in
     let here : EntryReads bytes made = record {
-      begins = subst (λ (k : ℕ). Begins bytes (name_bytes name.0 ++ flags.0 ∷ k ∷ word_bytes value.0) value.1) (kind_is_code code.0 kind is) whole;
+      begins = subst (λ (k : ℕ). Begins bytes (name_bytes name.0 ++ flags.0 ∷ k ∷ word_bytes value.0) value.1)
+          (kind_is_code code.0 kind is) whole;
       fits = record { name = n.fits; flags = f.fits; value = v.fits };
     } in
     subst (λ (p : GsdEntry × List ℕ). EntryReads bytes p) (ok_is made x e) here
@@ -141,11 +152,24 @@ entry_made bytes name flags code value kind x n f c v is e =
 pub entry_reads : (bytes : List ℕ) (x : GsdEntry × List ℕ) → Bytes bytes → first_entry bytes ≡ Ok x → EntryReads bytes x
 unfolding first_entry
 entry_reads bytes x are e =
-    let name = bind_ok (first_name bytes) (λ name. first_byte name.1 >>= λ flags. first_byte flags.1 >>= λ code. kind_of code.0 >>= λ kind. first_word code.1 >>= λ value. Ok (entry_of name.0 flags.0 kind value.0, value.1)) x e in
-    let flags = bind_ok (first_byte name.0.1) (λ flags. first_byte flags.1 >>= λ code. kind_of code.0 >>= λ kind. first_word code.1 >>= λ value. Ok (entry_of name.0.0 flags.0 kind value.0, value.1)) x name.2 in
-    let code = bind_ok (first_byte flags.0.1) (λ code. kind_of code.0 >>= λ kind. first_word code.1 >>= λ value. Ok (entry_of name.0.0 flags.0.0 kind value.0, value.1)) x flags.2 in
-    let kind = bind_ok (kind_of code.0.0) (λ kind. first_word code.0.1 >>= λ value. Ok (entry_of name.0.0 flags.0.0 kind value.0, value.1)) x code.2 in
-    let value = bind_ok (first_word code.0.1) (λ value. Ok (entry_of name.0.0 flags.0.0 kind.0 value.0, value.1)) x kind.2 in
+    let name =
+    bind_ok (first_name bytes)
+    (λ name. first_byte name.1 >>= λ flags. first_byte flags.1 >>= λ code. kind_of code.0 >>=
+    λ kind. first_word code.1 >>= λ value. Ok (entry_of name.0 flags.0 kind value.0, value.1)) x e in
+    let flags =
+    bind_ok (first_byte name.0.1)
+    (λ flags. first_byte flags.1 >>= λ code. kind_of code.0 >>= λ kind. first_word code.1 >>= λ value. Ok
+    (entry_of name.0.0 flags.0 kind value.0, value.1)) x name.2 in
+    let code =
+    bind_ok (first_byte flags.0.1)
+    (λ code. kind_of code.0 >>= λ kind. first_word code.1 >>= λ value. Ok
+    (entry_of name.0.0 flags.0.0 kind value.0, value.1)) x flags.2 in
+    let kind =
+    bind_ok (kind_of code.0.0)
+    (λ kind. first_word code.0.1 >>= λ value. Ok (entry_of name.0.0 flags.0.0 kind value.0, value.1)) x
+    code.2 in
+    let value =
+    bind_ok (first_word code.0.1) (λ value. Ok (entry_of name.0.0 flags.0.0 kind.0 value.0, value.1)) x kind.2 in
     let n = name_reads bytes name.0 are name.1 in
     let f = byte_reads name.0.1 flags.0 n.begins.behind flags.1 in
     let c = byte_reads flags.0.1 code.0 f.begins.behind code.1 in
@@ -171,28 +195,61 @@ Tells code (NameAndConstant target) =
 row_tells : (code : ℕ) (form : Form) → row_of code ≡ Ok form → Tells code form
 unfolding row_of
 row_tells zero form e = absurd cc
-row_tells (suc zero) form e = subst (λ (f : Form). Tells 1 f) (ok_is (Constant (λ constant. Internal constant)) form e) (λ constant. record { command_is = refl; name_is = refl; constant_is = refl })
-row_tells (suc (suc zero)) form e = subst (λ (f : Form). Tells 2 f) (ok_is (Name (λ name. Global name)) form e) (λ name. record { command_is = refl; name_is = refl; constant_is = refl })
-row_tells (suc (suc (suc zero))) form e = subst (λ (f : Form). Tells 3 f) (ok_is (Constant (λ constant. InternalDisplaced constant)) form e) (λ constant. record { command_is = refl; name_is = refl; constant_is = refl })
-row_tells (suc (suc (suc (suc zero)))) form e = subst (λ (f : Form). Tells 4 f) (ok_is (Name (λ name. GlobalDisplaced name)) form e) (λ name. record { command_is = refl; name_is = refl; constant_is = refl })
-row_tells (suc (suc (suc (suc (suc zero))))) form e = subst (λ (f : Form). Tells 5 f) (ok_is (NameAndConstant (λ name constant. GlobalAdditive name constant)) form e) (λ name constant. record { command_is = refl; name_is = refl; constant_is = refl })
-row_tells (suc (suc (suc (suc (suc (suc zero)))))) form e = subst (λ (f : Form). Tells 6 f) (ok_is (NameAndConstant (λ name constant. GlobalAdditiveDisplaced name constant)) form e) (λ name constant. record { command_is = refl; name_is = refl; constant_is = refl })
-row_tells (suc (suc (suc (suc (suc (suc (suc zero))))))) form e = subst (λ (f : Form). Tells 7 f) (ok_is (NameAndConstant (λ name constant. LocationCounterDefinition name constant)) form e) (λ name constant. record { command_is = refl; name_is = refl; constant_is = refl })
-row_tells (suc (suc (suc (suc (suc (suc (suc (suc zero)))))))) form e = subst (λ (f : Form). Tells 8 f) (ok_is (Constant (λ constant. LocationCounterModification constant)) form e) (λ constant. record { command_is = refl; name_is = refl; constant_is = refl })
-row_tells (suc (suc (suc (suc (suc (suc (suc (suc (suc zero))))))))) form e = subst (λ (f : Form). Tells 9 f) (ok_is (Nothing ProgramLimits) form e) (record { command_is = refl; name_is = refl; constant_is = refl })
-row_tells (suc (suc (suc (suc (suc (suc (suc (suc (suc (suc zero)))))))))) form e = subst (λ (f : Form). Tells 10 f) (ok_is (Name (λ name. Section name)) form e) (λ name. record { command_is = refl; name_is = refl; constant_is = refl })
+row_tells (suc zero) form e =
+    subst (λ (f : Form). Tells 1 f) (ok_is (Constant (λ constant. Internal constant)) form e)
+    (λ constant. record { command_is = refl; name_is = refl; constant_is = refl })
+row_tells (suc (suc zero)) form e =
+    subst (λ (f : Form). Tells 2 f) (ok_is (Name (λ name. Global name)) form e)
+    (λ name. record { command_is = refl; name_is = refl; constant_is = refl })
+row_tells (suc (suc (suc zero))) form e =
+    subst (λ (f : Form). Tells 3 f) (ok_is (Constant (λ constant. InternalDisplaced constant)) form e)
+    (λ constant. record { command_is = refl; name_is = refl; constant_is = refl })
+row_tells (suc (suc (suc (suc zero)))) form e =
+    subst (λ (f : Form). Tells 4 f) (ok_is (Name (λ name. GlobalDisplaced name)) form e)
+    (λ name. record { command_is = refl; name_is = refl; constant_is = refl })
+row_tells (suc (suc (suc (suc (suc zero))))) form e =
+    subst (λ (f : Form). Tells 5 f) (ok_is (NameAndConstant (λ name constant. GlobalAdditive name constant)) form e)
+    (λ name constant. record { command_is = refl; name_is = refl; constant_is = refl })
+row_tells (suc (suc (suc (suc (suc (suc zero)))))) form e =
+    subst (λ (f : Form). Tells 6 f)
+    (ok_is (NameAndConstant (λ name constant. GlobalAdditiveDisplaced name constant)) form e)
+    (λ name constant. record { command_is = refl; name_is = refl; constant_is = refl })
+row_tells (suc (suc (suc (suc (suc (suc (suc zero))))))) form e =
+    subst (λ (f : Form). Tells 7 f)
+    (ok_is (NameAndConstant (λ name constant. LocationCounterDefinition name constant)) form e)
+    (λ name constant. record { command_is = refl; name_is = refl; constant_is = refl })
+row_tells (suc (suc (suc (suc (suc (suc (suc (suc zero)))))))) form e =
+    subst (λ (f : Form). Tells 8 f) (ok_is (Constant (λ constant. LocationCounterModification constant)) form e)
+    (λ constant. record { command_is = refl; name_is = refl; constant_is = refl })
+row_tells (suc (suc (suc (suc (suc (suc (suc (suc (suc zero))))))))) form e =
+    subst (λ (f : Form). Tells 9 f) (ok_is (Nothing ProgramLimits) form e)
+    (record { command_is = refl; name_is = refl; constant_is = refl })
+row_tells (suc (suc (suc (suc (suc (suc (suc (suc (suc (suc zero)))))))))) form e =
+    subst (λ (f : Form). Tells 10 f) (ok_is (Name (λ name. Section name)) form e)
+    (λ name. record { command_is = refl; name_is = refl; constant_is = refl })
 row_tells (suc (suc (suc (suc (suc (suc (suc (suc (suc (suc (suc zero))))))))))) form e = absurd cc
-row_tells (suc (suc (suc (suc (suc (suc (suc (suc (suc (suc (suc (suc zero)))))))))))) form e = subst (λ (f : Form). Tells 12 f) (ok_is (Name (λ name. SectionDisplaced name)) form e) (λ name. record { command_is = refl; name_is = refl; constant_is = refl })
-row_tells (suc (suc (suc (suc (suc (suc (suc (suc (suc (suc (suc (suc (suc zero))))))))))))) form e = subst (λ (f : Form). Tells 13 f) (ok_is (NameAndConstant (λ name constant. SectionAdditive name constant)) form e) (λ name constant. record { command_is = refl; name_is = refl; constant_is = refl })
-row_tells (suc (suc (suc (suc (suc (suc (suc (suc (suc (suc (suc (suc (suc (suc zero)))))))))))))) form e = subst (λ (f : Form). Tells 14 f) (ok_is (NameAndConstant (λ name constant. SectionAdditiveDisplaced name constant)) form e) (λ name constant. record { command_is = refl; name_is = refl; constant_is = refl })
-row_tells (suc (suc (suc (suc (suc (suc (suc (suc (suc (suc (suc (suc (suc (suc (suc zero))))))))))))))) form e = absurd cc
-row_tells (suc (suc (suc (suc (suc (suc (suc (suc (suc (suc (suc (suc (suc (suc (suc (suc code)))))))))))))))) form e = absurd cc
+row_tells (suc (suc (suc (suc (suc (suc (suc (suc (suc (suc (suc (suc zero)))))))))))) form e =
+    subst (λ (f : Form). Tells 12 f) (ok_is (Name (λ name. SectionDisplaced name)) form e)
+    (λ name. record { command_is = refl; name_is = refl; constant_is = refl })
+row_tells (suc (suc (suc (suc (suc (suc (suc (suc (suc (suc (suc (suc (suc zero))))))))))))) form e =
+    subst (λ (f : Form). Tells 13 f) (ok_is (NameAndConstant (λ name constant. SectionAdditive name constant)) form e)
+    (λ name constant. record { command_is = refl; name_is = refl; constant_is = refl })
+row_tells (suc (suc (suc (suc (suc (suc (suc (suc (suc (suc (suc (suc (suc (suc zero)))))))))))))) form e =
+    subst (λ (f : Form). Tells 14 f)
+    (ok_is (NameAndConstant (λ name constant. SectionAdditiveDisplaced name constant)) form e)
+    (λ name constant. record { command_is = refl; name_is = refl; constant_is = refl })
+row_tells (suc (suc (suc (suc (suc (suc (suc (suc (suc (suc (suc (suc (suc (suc (suc zero))))))))))))))) form e =
+    absurd cc
+row_tells (suc (suc (suc (suc (suc (suc (suc (suc (suc (suc (suc (suc (suc (suc (suc (suc code)))))))))))))))) form e =
+    absurd cc
 
-form_parts : (b : Bool) (row : Result Form RecordFault) (form : Form) → cond b (Err UnknownRelocation) row ≡ Ok form → (row ≡ Ok form) × (b ≡ false)
+form_parts : (b : Bool) (row : Result Form RecordFault) (form : Form) → cond b (Err UnknownRelocation) row ≡ Ok form
+    → (row ≡ Ok form) × (b ≡ false)
 form_parts true row form e = absurd cc
 form_parts false row form e = (e, refl)
 
-form_exists : (is_byte : Bool) (target : Target) → (is_byte && is_without_byte_form (command target)) ≡ false → FormExists is_byte target
+form_exists : (is_byte : Bool) (target : Target) → (is_byte && is_without_byte_form (command target)) ≡ false
+    → FormExists is_byte target
 form_exists false target e = tt
 form_exists true (Internal constant) e = tt
 form_exists true (Global name) e = tt
@@ -215,10 +272,14 @@ record TargetStands (code : ℕ) (bytes : List ℕ) (x : Target × List ℕ) : T
   name : IfSome (target_name x.0) IsName
   constant : IfSome (target_constant x.0) (λ word. word < 2 ^ 16)
 
-stands : (code : ℕ) (bytes : List ℕ) (target : Target) (rest : List ℕ) (x : Target × List ℕ) (name : Option (ℕ × ℕ)) (constant : Option ℕ) → TargetIs code target name constant → Begins bytes (optional_name name ++ optional_word constant) rest → IfSome name IsName → IfSome constant (λ word. word < 2 ^ 16) → done (target, rest) ≡ done x → TargetStands code bytes x
+stands : (code : ℕ) (bytes : List ℕ) (target : Target) (rest : List ℕ) (x : Target × List ℕ) (name : Option (ℕ × ℕ))
+    (constant : Option ℕ) → TargetIs code target name constant
+    → Begins bytes (optional_name name ++ optional_word constant) rest → IfSome name IsName
+    → IfSome constant (λ word. word < 2 ^ 16) → done (target, rest) ≡ done x → TargetStands code bytes x
 stands code bytes target rest x name constant tells begins is_name fits e =
     let made : Target × List ℕ = (target, rest) in
-    let N : Option (ℕ × ℕ) → Type 0 = λ n. Begins bytes (optional_name n ++ optional_word (target_constant target)) rest in
+    let N : Option (ℕ × ℕ) → Type 0 =
+    λ n. Begins bytes (optional_name n ++ optional_word (target_constant target)) rest in
     let C : Option ℕ → Type 0 = λ c. Begins bytes (optional_name name ++ optional_word c) rest in
     let here : TargetStands code bytes made = record {
       begins = subst N (sym tells.name_is) (subst C (sym tells.constant_is) begins);
@@ -228,25 +289,31 @@ stands code bytes target rest x name constant tells begins is_name fits e =
     } in
     subst (λ (p : Target × List ℕ). TargetStands code bytes p) (ok_is made x e) here
 
-target_stands : (form : Form) (code : ℕ) (bytes : List ℕ) (x : Target × List ℕ) → Tells code form → Bytes bytes → first_target form bytes ≡ Ok x → TargetStands code bytes x
+target_stands : (form : Form) (code : ℕ) (bytes : List ℕ) (x : Target × List ℕ) → Tells code form → Bytes bytes
+    → first_target form bytes ≡ Ok x → TargetStands code bytes x
 unfolding first_target
 target_stands (Nothing target) code bytes x tells are e =
     stands code bytes target bytes x None None tells (record { is = refl; behind = are }) tt tt e
 target_stands (Constant target) code bytes x tells are e =
     let constant = bind_ok (first_word bytes) (λ constant. Ok (target constant.0, constant.1)) x e in
     let word = word_reads bytes constant.0 are constant.1 in
-    stands code bytes (target constant.0.0) constant.0.1 x None (Some constant.0.0) (tells constant.0.0) word.begins tt word.fits constant.2
+    stands code bytes (target constant.0.0) constant.0.1 x None (Some constant.0.0) (tells constant.0.0) word.begins tt
+    word.fits constant.2
 target_stands (Name target) code bytes x tells are e =
     let name = bind_ok (first_name bytes) (λ name. Ok (target name.0, name.1)) x e in
     let n = name_reads bytes name.0 are name.1 in
     stands code bytes (target name.0.0) name.0.1 x (Some name.0.0) None (tells name.0.0) n.begins n.fits tt name.2
 target_stands (NameAndConstant target) code bytes x tells are e =
-    let name = bind_ok (first_name bytes) (λ name. first_word name.1 >>= λ constant. Ok (target name.0 constant.0, constant.1)) x e in
+    let name =
+    bind_ok (first_name bytes)
+    (λ name. first_word name.1 >>= λ constant. Ok (target name.0 constant.0, constant.1)) x e in
     let constant = bind_ok (first_word name.0.1) (λ constant. Ok (target name.0.0 constant.0, constant.1)) x name.2 in
     let n = name_reads bytes name.0 are name.1 in
     let word = word_reads name.0.1 constant.0 n.begins.behind constant.1 in
-    let both = begins_then bytes (name_bytes name.0.0) name.0.1 (word_bytes constant.0.0) constant.0.1 n.begins word.begins in
-    stands code bytes (target name.0.0 constant.0.0) constant.0.1 x (Some name.0.0) (Some constant.0.0) (tells name.0.0 constant.0.0) both n.fits word.fits constant.2
+    let both =
+    begins_then bytes (name_bytes name.0.0) name.0.1 (word_bytes constant.0.0) constant.0.1 n.begins word.begins in
+    stands code bytes (target name.0.0 constant.0.0) constant.0.1 x (Some name.0.0) (Some constant.0.0)
+    (tells name.0.0 constant.0.0) both n.fits word.fits constant.2
 
 -- a command byte is its command and its bit
 code_parts : (code : ℕ) (b : Bool) → code < 256 → nat_le 128 code ≡ b → code ≡ code % 128 + byte_form b
@@ -256,32 +323,60 @@ code_parts code false lt e = let le = leb-false 128 code e in omega arith
 abbrev pub RelocationReads : List ℕ → Relocation × List ℕ → Type 0
 RelocationReads bytes x = Reads relocation_bytes RelocationFits bytes x
 
-relocation_made : (bytes : List ℕ) (code displacement : ℕ × List ℕ) (target : Target × List ℕ) (x : Relocation × List ℕ) → ByteReads bytes code → ByteReads code.1 displacement → TargetStands (code.0 % 128) displacement.1 target → (nat_le 128 code.0 && is_without_byte_form (code.0 % 128)) ≡ false → done (relocation_of code.0 displacement.0 target.0, target.1) ≡ done x → RelocationReads bytes x
+relocation_made : (bytes : List ℕ) (code displacement : ℕ × List ℕ) (target : Target × List ℕ)
+    (x : Relocation × List ℕ) → ByteReads bytes code → ByteReads code.1 displacement
+    → TargetStands (code.0 % 128) displacement.1 target
+    → (nat_le 128 code.0 && is_without_byte_form (code.0 % 128)) ≡ false
+    → done (relocation_of code.0 displacement.0 target.0, target.1) ≡ done x → RelocationReads bytes x
 relocation_made bytes code displacement target x c d t has_form e =
     let is_byte : Bool = nat_le 128 code.0 in
     let behind : List ℕ = optional_name (target_name target.0) ++ optional_word (target_constant target.0) in
     let others = begins_then code.1 (displacement.0 ∷ []) displacement.1 behind target.1 d.begins t.begins in
     let whole = begins_then bytes (code.0 ∷ []) code.1 (displacement.0 ∷ behind) target.1 c.begins others in
-    let command_byte : code.0 ≡ command target.0 + byte_form is_byte = code_parts code.0 is_byte c.fits refl ∙ ap (λ (n : ℕ). n + byte_form is_byte) (sym t.command_is) in
-    let exists : (is_byte && is_without_byte_form (command target.0)) ≡ false = ap (λ (n : ℕ). is_byte && is_without_byte_form n) t.command_is ∙ has_form in
+    let command_byte : code.0 ≡ command target.0 + byte_form is_byte =
+    code_parts code.0 is_byte c.fits refl ∙ ap (λ (n : ℕ). n + byte_form is_byte) (sym t.command_is) in
+    let exists : (is_byte && is_without_byte_form (command target.0)) ≡ false =
+    ap (λ (n : ℕ). is_byte && is_without_byte_form n) t.command_is ∙ has_form in
     let made : Relocation × List ℕ = (relocation_of code.0 displacement.0 target.0, target.1) in
     let here : RelocationReads bytes made = record {
       begins = subst (λ (k : ℕ). Begins bytes (k ∷ displacement.0 ∷ behind) target.1) command_byte whole;
-      fits = record { form = form_exists is_byte target.0 exists; displacement = d.fits; name = t.name; constant = t.constant };
+      fits = record {
+        form = form_exists is_byte target.0 exists;
+        displacement = d.fits;
+        name = t.name;
+        constant = t.constant;
+      };
     } in
     subst (λ (p : Relocation × List ℕ). RelocationReads bytes p) (ok_is made x e) here
 
-pub relocation_reads : (bytes : List ℕ) (x : Relocation × List ℕ) → Bytes bytes → first_relocation bytes ≡ Ok x → RelocationReads bytes x
+pub relocation_reads : (bytes : List ℕ) (x : Relocation × List ℕ) → Bytes bytes → first_relocation bytes ≡ Ok x
+    → RelocationReads bytes x
 unfolding first_relocation form_of
 relocation_reads bytes x are e =
-    let code = bind_ok (first_byte bytes) (λ code. form_of (nat_le 128 code.0) (code.0 % 128) >>= λ form. first_byte code.1 >>= λ displacement. first_target form displacement.1 >>= λ target. Ok (relocation_of code.0 displacement.0 target.0, target.1)) x e in
-    let form = bind_ok (form_of (nat_le 128 code.0.0) (code.0.0 % 128)) (λ form. first_byte code.0.1 >>= λ displacement. first_target form displacement.1 >>= λ target. Ok (relocation_of code.0.0 displacement.0 target.0, target.1)) x code.2 in
-    let displacement = bind_ok (first_byte code.0.1) (λ displacement. first_target form.0 displacement.1 >>= λ target. Ok (relocation_of code.0.0 displacement.0 target.0, target.1)) x form.2 in
-    let target = bind_ok (first_target form.0 displacement.0.1) (λ target. Ok (relocation_of code.0.0 displacement.0.0 target.0, target.1)) x displacement.2 in
+    let code =
+    bind_ok (first_byte bytes)
+    (λ code. form_of (nat_le 128 code.0) (code.0 % 128) >>= λ form. first_byte code.1 >>=
+    λ displacement. first_target form displacement.1 >>= λ target. Ok
+    (relocation_of code.0 displacement.0 target.0, target.1)) x e in
+    let form =
+    bind_ok (form_of (nat_le 128 code.0.0) (code.0.0 % 128))
+    (λ form. first_byte code.0.1 >>= λ displacement. first_target form displacement.1 >>= λ target. Ok
+    (relocation_of code.0.0 displacement.0 target.0, target.1)) x code.2 in
+    let displacement =
+    bind_ok (first_byte code.0.1)
+    (λ displacement. first_target form.0 displacement.1 >>= λ target. Ok
+    (relocation_of code.0.0 displacement.0 target.0, target.1)) x form.2 in
+    let target =
+    bind_ok (first_target form.0 displacement.0.1)
+    (λ target. Ok (relocation_of code.0.0 displacement.0.0 target.0, target.1)) x displacement.2 in
     let c = byte_reads bytes code.0 are code.1 in
     let d = byte_reads code.0.1 displacement.0 c.begins.behind displacement.1 in
-    let parts = form_parts (nat_le 128 code.0.0 && is_without_byte_form (code.0.0 % 128)) (row_of (code.0.0 % 128)) form.0 form.1 in
-    let t = target_stands form.0 (code.0.0 % 128) displacement.0.1 target.0 (row_tells (code.0.0 % 128) form.0 parts.0) d.begins.behind target.1 in
+    let parts =
+    form_parts (nat_le 128 code.0.0 && is_without_byte_form (code.0.0 % 128)) (row_of (code.0.0 % 128)) form.0
+    form.1 in
+    let t =
+    target_stands form.0 (code.0.0 % 128) displacement.0.1 target.0 (row_tells (code.0.0 % 128) form.0 parts.0)
+    d.begins.behind target.1 in
     relocation_made bytes code.0 displacement.0 target.0 x c d t parts.1 target.2
 
 -- ---- items one behind another
@@ -296,7 +391,8 @@ module _ {A : Type 0} (first : List ℕ → Result (A × List ℕ) RecordFault) 
     pub is : bytes ≡ flat_map write items
     pub fits : AllByRecursion P items
 
-  pub items_read : (n : ℕ) (bytes : List ℕ) (items : List A) → EachReads → Shrinks first → Bytes bytes → length bytes ≤ n → items_within first n bytes ≡ Ok items → AllRead bytes items
+  pub items_read : (n : ℕ) (bytes : List ℕ) (items : List A) → EachReads → Shrinks first → Bytes bytes
+      → length bytes ≤ n → items_within first n bytes ≡ Ok items → AllRead bytes items
   unfolding items_within
   items_read zero [] items each shrinks are le e =
       subst (λ (xs : List A). AllRead [] xs) (ok_is [] items e) (record { is = refl; fits = tt })
@@ -304,7 +400,9 @@ module _ {A : Type 0} (first : List ℕ → Result (A × List ℕ) RecordFault) 
       subst (λ (xs : List A). AllRead [] xs) (ok_is [] items e) (record { is = refl; fits = tt })
   items_read zero (byte ∷ bytes) items each shrinks are le e = absurd (omega arith)
   items_read (suc n) (byte ∷ bytes) items each shrinks are le e =
-      let a = bind_ok (first (byte ∷ bytes)) (λ item. items_within first n item.1 >>= λ others. Ok (item.0 ∷ others)) items e in
+      let a =
+      bind_ok (first (byte ∷ bytes)) (λ item. items_within first n item.1 >>= λ others. Ok (item.0 ∷ others)) items
+      e in
       let b = bind_ok (items_within first n a.0.1) (λ others. Ok (a.0.0 ∷ others)) items a.2 in
       let here = each.at (byte ∷ bytes) a.0 are a.1 in
       let less = shrinks.shorter (byte ∷ bytes) a.0 a.1 in

@@ -18,11 +18,13 @@ bytes_behind (x ∷ xs) ys small = bytes_behind xs ys small.1
 pub same_eqb : (x : ℕ) → eqb x x ≡ true
 same_eqb x = elim (eqb_tells x x) [ inl hit ↦ hit.0 | inr miss ↦ absurd (miss.1 refl) ]
 
-pub bind_ok : {A B E : Type 0} (r : Result A E) (f : A → Result B E) (y : B) → (r >>= f) ≡ Ok y → (x : A) × (r ≡ Ok x) × (f x ≡ Ok y)
+pub bind_ok : {A B E : Type 0} (r : Result A E) (f : A → Result B E) (y : B) → (r >>= f) ≡ Ok y
+    → (x : A) × (r ≡ Ok x) × (f x ≡ Ok y)
 bind_ok (Ok x) f y e = (x, refl, e)
 bind_ok (Err stop) f y e = absurd cc
 
-pub bind_err : {A B E : Type 0} (r : Result A E) (f : A → Result B E) (stop : E) → (r >>= f) ≡ Err stop → (r ≡ Err stop) ⊎ ((x : A) × (r ≡ Ok x) × (f x ≡ Err stop))
+pub bind_err : {A B E : Type 0} (r : Result A E) (f : A → Result B E) (stop : E) → (r >>= f) ≡ Err stop
+    → (r ≡ Err stop) ⊎ ((x : A) × (r ≡ Ok x) × (f x ≡ Err stop))
 bind_err {A} {B} {E} (Ok x) f stop e = inr (x, refl, e)
 bind_err {A} {B} {E} (Err other) f stop e = inl (ap (λ (s : E). Err s) (let same : other ≡ stop = cc in same))
 

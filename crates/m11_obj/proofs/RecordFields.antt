@@ -20,12 +20,14 @@ done x = Ok x
 type_is : (x y : RecordKind × List ℕ) → done x ≡ done y → x.0 ≡ y.0
 type_is x y e = let same : x ≡ y = cc in ap (λ (p : RecordKind × List ℕ). p.0) same
 
-pub kind_found : (bytes : List ℕ) (k : RecordKind) (rest : List ℕ) → IsRecord bytes → first_type bytes ≡ Ok (k, rest) → record_kind bytes ≡ Ok k
+pub kind_found : (bytes : List ℕ) (k : RecordKind) (rest : List ℕ) → IsRecord bytes → first_type bytes ≡ Ok (k, rest)
+    → record_kind bytes ≡ Ok k
 kind_found bytes k rest is typed =
     let c = ok_value (content_of bytes) is in
     let p = parts_of bytes c.0 c.1 in
     let same : kind_in c.0 ≡ k = p.same ∙ type_is (p.type, p.rest) (k, rest) (sym p.typed ∙ typed) in
-    ap (λ (r : Result Content RecordFault). r >>= λ content. Ok (kind_in content)) c.1 ∙ ap (λ (l : RecordKind). done l) same
+    ap (λ (r : Result Content RecordFault). r >>= λ content. Ok (kind_in content)) c.1
+    ∙ ap (λ (l : RecordKind). done l) same
 
 pub type_is_found : (bytes : List ℕ) (fault : RecordFault) → IsRecord bytes → first_type bytes ≡ Err fault → ⊥
 type_is_found bytes fault is typed =
@@ -35,7 +37,8 @@ type_is_found bytes fault is typed =
     let both : done made ≡ Err fault = sym p.typed ∙ typed in
     absurd cc
 
-text_by_kind : (r : Result Content RecordFault) → (r >>= λ content. Ok (kind_in content)) ≡ Ok kind.Text → IsSome (text_in r)
+text_by_kind : (r : Result Content RecordFault) → (r >>= λ content. Ok (kind_in content)) ≡ Ok kind.Text
+    → IsSome (text_in r)
 text_by_kind (Ok (Gsd entries)) e = absurd cc
 text_by_kind (Ok EndOfGsd) e = absurd cc
 text_by_kind (Ok (Text address bytes)) e = refl
@@ -49,23 +52,27 @@ text_found bytes e = text_by_kind (content_of bytes) e
 
 -- ---- entries
 
-gsd_parts : (bytes : List ℕ) (entries : List GsdEntry) → content_of bytes ≡ Ok (Gsd entries) → (2 ≤ length bytes) × (entries_of (drop 2 bytes) ≡ Ok entries)
+gsd_parts : (bytes : List ℕ) (entries : List GsdEntry) → content_of bytes ≡ Ok (Gsd entries)
+    → (2 ≤ length bytes) × (entries_of (drop 2 bytes) ≡ Ok entries)
 unfolding content_behind
 gsd_parts bytes entries e =
     let p = parts_of bytes (Gsd entries) e in
-    let says : content_behind kind.Gsd p.rest ≡ Ok (Gsd entries) = subst (λ (k : RecordKind). content_behind k p.rest ≡ Ok (Gsd entries)) (sym p.same) p.says in
+    let says : content_behind kind.Gsd p.rest ≡ Ok (Gsd entries) =
+    subst (λ (k : RecordKind). content_behind k p.rest ≡ Ok (Gsd entries)) (sym p.same) p.says in
     let a = bind_ok (entries_of p.rest) (λ es. Ok (Gsd es)) (Gsd entries) says in
     let same : a.0 ≡ entries = (let both : done (Gsd a.0) ≡ done (Gsd entries) = a.2 in cc) in
     (p.takes.enough, ap entries_of (sym p.takes.behind) ∙ a.1 ∙ ap (λ (es : List GsdEntry). done es) same)
 
-gsd_length : (bytes : List ℕ) (entries : List GsdEntry) → content_of bytes ≡ Ok (Gsd entries) → length bytes ≡ 2 + 8 * length entries
+gsd_length : (bytes : List ℕ) (entries : List GsdEntry) → content_of bytes ≡ Ok (Gsd entries)
+    → length bytes ≡ 2 + 8 * length entries
 unfolding entries_of items_of
 gsd_length bytes entries e =
     let p = gsd_parts bytes entries e in
     let long = entries_length (length (drop 2 bytes)) (drop 2 bytes) entries (omega arith) p.1 in
     omega (arith, length-drop 2 bytes, p.0)
 
-count_by_kind : (bytes : List ℕ) (r : Result Content RecordFault) → content_of bytes ≡ r → (r >>= λ content. Ok (kind_in content)) ≡ Ok kind.Gsd → length bytes ≡ 2 + 8 * length (entries_in r)
+count_by_kind : (bytes : List ℕ) (r : Result Content RecordFault) → content_of bytes ≡ r
+    → (r >>= λ content. Ok (kind_in content)) ≡ Ok kind.Gsd → length bytes ≡ 2 + 8 * length (entries_in r)
 count_by_kind bytes (Ok (Gsd entries)) is e = gsd_length bytes entries is
 count_by_kind bytes (Ok EndOfGsd) is e = absurd cc
 count_by_kind bytes (Ok (Text address text)) is e = absurd cc
@@ -74,11 +81,14 @@ count_by_kind bytes (Ok InternalSymbols) is e = absurd cc
 count_by_kind bytes (Ok EndOfModule) is e = absurd cc
 count_by_kind bytes (Err fault) is e = absurd cc
 
-pub entries_counted : (bytes : List ℕ) → record_kind bytes ≡ Ok kind.Gsd → length bytes ≡ 2 + 8 * length (record_entries bytes)
+pub entries_counted : (bytes : List ℕ) → record_kind bytes ≡ Ok kind.Gsd
+    → length bytes ≡ 2 + 8 * length (record_entries bytes)
 entries_counted bytes e = count_by_kind bytes (content_of bytes) refl e
 
-none_by_kind : (r : Result Content RecordFault) (k : RecordKind) → (r >>= λ content. Ok (kind_in content)) ≡ Ok k → k ≢ kind.Gsd → length (entries_in r) ≡ 0
-none_by_kind (Ok (Gsd entries)) k e ne = (let same : kind.Gsd ≡ k = (let both : done kind.Gsd ≡ done k = e in cc) in absurd (ne (sym same)))
+none_by_kind : (r : Result Content RecordFault) (k : RecordKind) → (r >>= λ content. Ok (kind_in content)) ≡ Ok k
+    → k ≢ kind.Gsd → length (entries_in r) ≡ 0
+none_by_kind (Ok (Gsd entries)) k e ne =
+    (let same : kind.Gsd ≡ k = (let both : done kind.Gsd ≡ done k = e in cc) in absurd (ne (sym same)))
 none_by_kind (Ok EndOfGsd) k e ne = refl
 none_by_kind (Ok (Text address bytes)) k e ne = refl
 none_by_kind (Ok (Relocations relocations)) k e ne = refl
@@ -86,15 +96,18 @@ none_by_kind (Ok InternalSymbols) k e ne = refl
 none_by_kind (Ok EndOfModule) k e ne = refl
 none_by_kind (Err fault) k e ne = refl
 
-pub no_entries : (bytes : List ℕ) (k : RecordKind) → record_kind bytes ≡ Ok k → k ≢ kind.Gsd → length (record_entries bytes) ≡ 0
+pub no_entries : (bytes : List ℕ) (k : RecordKind) → record_kind bytes ≡ Ok k → k ≢ kind.Gsd
+    → length (record_entries bytes) ≡ 0
 no_entries bytes k e ne = none_by_kind (content_of bytes) k e ne
 
 -- an entry's place, and what is read there
 abbrev FoundAt : List ℕ → List GsdEntry → ℕ → GsdEntry → Type 0
 FoundAt bytes entries i d =
-    (2 + 8 * i ≤ length bytes) × ((rest : List ℕ) × (first_entry (drop (2 + 8 * i) bytes) ≡ Ok (get_or entries i d, rest)))
+    (2 + 8 * i ≤ length bytes)
+    × ((rest : List ℕ) × (first_entry (drop (2 + 8 * i) bytes) ≡ Ok (get_or entries i d, rest)))
 
-found_by_content : (bytes : List ℕ) (r : Result Content RecordFault) (i : ℕ) (d : GsdEntry) → content_of bytes ≡ r → i < length (entries_in r) → FoundAt bytes (entries_in r) i d
+found_by_content : (bytes : List ℕ) (r : Result Content RecordFault) (i : ℕ) (d : GsdEntry) → content_of bytes ≡ r
+    → i < length (entries_in r) → FoundAt bytes (entries_in r) i d
 unfolding entries_of items_of
 found_by_content bytes (Ok (Gsd entries)) i d is lt =
     let p = gsd_parts bytes entries is in
@@ -107,7 +120,8 @@ found_by_content bytes (Ok InternalSymbols) i d is lt = absurd (omega arith)
 found_by_content bytes (Ok EndOfModule) i d is lt = absurd (omega arith)
 found_by_content bytes (Err fault) i d is lt = absurd (omega arith)
 
-pub entry_found : (bytes : List ℕ) (i : ℕ) (d : GsdEntry) → i < length (record_entries bytes) → FoundAt bytes (record_entries bytes) i d
+pub entry_found : (bytes : List ℕ) (i : ℕ) (d : GsdEntry) → i < length (record_entries bytes)
+    → FoundAt bytes (record_entries bytes) i d
 entry_found bytes i d lt = found_by_content bytes (content_of bytes) i d refl lt
 
 -- ---- text
@@ -118,13 +132,16 @@ text_same x y e =
     let second : x.1 ≡ y.1 = cc in
     ap (λ (number : ℕ). done (number, x.1)) first ∙ ap (λ (rest : List ℕ). done (y.0, rest)) second
 
-text_parts : (bytes : List ℕ) (address : ℕ) (text : List ℕ) → content_of bytes ≡ Ok (Text address text) → (4 ≤ length bytes) × (first_word (drop 2 bytes) ≡ Ok (address, text)) × (text ≡ drop 4 bytes)
+text_parts : (bytes : List ℕ) (address : ℕ) (text : List ℕ) → content_of bytes ≡ Ok (Text address text)
+    → (4 ≤ length bytes) × (first_word (drop 2 bytes) ≡ Ok (address, text)) × (text ≡ drop 4 bytes)
 unfolding content_behind
 text_parts bytes address text e =
     let p = parts_of bytes (Text address text) e in
-    let says : content_behind kind.Text p.rest ≡ Ok (Text address text) = subst (λ (k : RecordKind). content_behind k p.rest ≡ Ok (Text address text)) (sym p.same) p.says in
+    let says : content_behind kind.Text p.rest ≡ Ok (Text address text) =
+    subst (λ (k : RecordKind). content_behind k p.rest ≡ Ok (Text address text)) (sym p.same) p.says in
     let a = bind_ok (first_word p.rest) (λ word. Ok (Text word.0 word.1)) (Text address text) says in
-    let found : first_word (drop 2 bytes) ≡ Ok (address, text) = ap first_word (sym p.takes.behind) ∙ a.1 ∙ text_same a.0 (address, text) a.2 in
+    let found : first_word (drop 2 bytes) ≡ Ok (address, text) =
+    ap first_word (sym p.takes.behind) ∙ a.1 ∙ text_same a.0 (address, text) a.2 in
     let t = word_takes (drop 2 bytes) (address, text) found in
     (omega (arith, t.enough, p.takes.enough, length-drop 2 bytes), found, t.behind ∙ drop-drop 2 2 bytes)
 
@@ -134,7 +151,8 @@ pub record IsTextOf (bytes : List ℕ) (text : ℕ × List ℕ) : Type 0 where
   pub address : first_word (drop 2 bytes) ≡ Ok text
   pub behind : text.1 ≡ drop 4 bytes
 
-text_by_content : (bytes : List ℕ) (r : Result Content RecordFault) → content_of bytes ≡ r → IsSome (text_in r) → (text : ℕ × List ℕ) × (text_in r ≡ Some text) × IsTextOf bytes text
+text_by_content : (bytes : List ℕ) (r : Result Content RecordFault) → content_of bytes ≡ r → IsSome (text_in r)
+    → (text : ℕ × List ℕ) × (text_in r ≡ Some text) × IsTextOf bytes text
 text_by_content bytes (Ok (Text address text)) is some =
     let p = text_parts bytes address text is in
     ((address, text), refl, record { enough = p.0; address = p.1; behind = p.2 })
@@ -145,7 +163,8 @@ text_by_content bytes (Ok InternalSymbols) is some = absurd cc
 text_by_content bytes (Ok EndOfModule) is some = absurd cc
 text_by_content bytes (Err fault) is some = absurd cc
 
-pub text_is : (bytes : List ℕ) → IsSome (record_text bytes) → (text : ℕ × List ℕ) × (record_text bytes ≡ Some text) × IsTextOf bytes text
+pub text_is : (bytes : List ℕ) → IsSome (record_text bytes)
+    → (text : ℕ × List ℕ) × (record_text bytes ≡ Some text) × IsTextOf bytes text
 text_is bytes some = text_by_content bytes (content_of bytes) refl some
 
 -- ---- what the calls read
@@ -159,14 +178,18 @@ entry_bounds bytes i lt = (entry_found bytes i blank_entry lt).0
 entry_is : (x y : GsdEntry × List ℕ) → done x ≡ done y → x.0 ≡ y.0
 entry_is x y e = let same : x ≡ y = cc in ap (λ (p : GsdEntry × List ℕ). p.0) same
 
-pub entry_read : (bytes back : List ℕ) (i : ℕ) (entry : GsdEntry) (others : List ℕ) → i < length (record_entries bytes) → back ≡ drop (2 + 8 * i) bytes → first_entry back ≡ Ok (entry, others) → slice_get (record_entries bytes) i ≡ Some entry
+pub entry_read : (bytes back : List ℕ) (i : ℕ) (entry : GsdEntry) (others : List ℕ) → i < length (record_entries bytes)
+    → back ≡ drop (2 + 8 * i) bytes → first_entry back ≡ Ok (entry, others)
+    → slice_get (record_entries bytes) i ≡ Some entry
 entry_read bytes back i entry others lt is read =
     let found = (entry_found bytes i entry lt).1 in
     let place : first_entry back ≡ Ok (get_or (record_entries bytes) i entry, found.0) = ap first_entry is ∙ found.1 in
-    let same : get_or (record_entries bytes) i entry ≡ entry = entry_is (get_or (record_entries bytes) i entry, found.0) (entry, others) (sym place ∙ read) in
+    let same : get_or (record_entries bytes) i entry ≡ entry =
+    entry_is (get_or (record_entries bytes) i entry, found.0) (entry, others) (sym place ∙ read) in
     slice_get-get_or (record_entries bytes) i entry lt ∙ ap (λ (e : GsdEntry). Some e) same
 
-pub entry_is_read : (bytes back : List ℕ) (i : ℕ) (fault : RecordFault) → i < length (record_entries bytes) → back ≡ drop (2 + 8 * i) bytes → first_entry back ≡ Err fault → ⊥
+pub entry_is_read : (bytes back : List ℕ) (i : ℕ) (fault : RecordFault) → i < length (record_entries bytes)
+    → back ≡ drop (2 + 8 * i) bytes → first_entry back ≡ Err fault → ⊥
 entry_is_read bytes back i fault lt is read =
     let found = (entry_found bytes i blank_entry lt).1 in
     let made : GsdEntry × List ℕ = (get_or (record_entries bytes) i blank_entry, found.0) in
@@ -176,14 +199,16 @@ entry_is_read bytes back i fault lt is read =
 pub text_bounds : (bytes : List ℕ) → IsSome (record_text bytes) → 4 ≤ length bytes
 text_bounds bytes some = (text_is bytes some).2.enough
 
-pub text_read : (bytes back : List ℕ) (text : ℕ × List ℕ) → IsSome (record_text bytes) → back ≡ drop 2 bytes → first_word back ≡ Ok text → record_text bytes ≡ Some text
+pub text_read : (bytes back : List ℕ) (text : ℕ × List ℕ) → IsSome (record_text bytes) → back ≡ drop 2 bytes
+    → first_word back ≡ Ok text → record_text bytes ≡ Some text
 text_read bytes back text some is read =
     let t = text_is bytes some in
     let both : done t.0 ≡ done text = sym t.2.address ∙ sym (ap first_word is) ∙ read in
     let same : t.0 ≡ text = cc in
     t.1 ∙ ap (λ (x : ℕ × List ℕ). Some x) same
 
-pub text_is_read : (bytes back : List ℕ) (fault : RecordFault) → IsSome (record_text bytes) → back ≡ drop 2 bytes → first_word back ≡ Err fault → ⊥
+pub text_is_read : (bytes back : List ℕ) (fault : RecordFault) → IsSome (record_text bytes) → back ≡ drop 2 bytes
+    → first_word back ≡ Err fault → ⊥
 text_is_read bytes back fault some is read =
     let t = text_is bytes some in
     let both : done t.0 ≡ Err fault = sym t.2.address ∙ sym (ap first_word is) ∙ read in

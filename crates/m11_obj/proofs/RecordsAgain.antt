@@ -15,7 +15,8 @@ record_again (Relocations relocations) fits = rw (relocations_again relocations 
 record_again InternalSymbols fits = refl
 record_again EndOfModule fits = refl
 
-pub means : (content : Content) (bytes : List ℕ) → Fits content → bytes ≡ record_data content → content_of bytes ≡ Ok content
+pub means : (content : Content) (bytes : List ℕ) → Fits content → bytes ≡ record_data content
+    → content_of bytes ≡ Ok content
 means content bytes fits is = ap content_of is ∙ record_again content fits
 
 pub is_record : (content : Content) (bytes : List ℕ) → Fits content → bytes ≡ record_data content → IsRecord bytes

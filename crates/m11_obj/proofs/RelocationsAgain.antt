@@ -30,7 +30,8 @@ row (SectionDisplaced name) = Name (λ n. SectionDisplaced n)
 row (SectionAdditive name constant) = NameAndConstant (λ n c. SectionAdditive n c)
 row (SectionAdditiveDisplaced name constant) = NameAndConstant (λ n c. SectionAdditiveDisplaced n c)
 
-row_again : (is_byte : Bool) (target : Target) → FormExists is_byte target → form_of is_byte (command target) ≡ Ok (row target)
+row_again : (is_byte : Bool) (target : Target) → FormExists is_byte target
+    → form_of is_byte (command target) ≡ Ok (row target)
 unfolding form_of row_of row
 row_again false (Internal constant) exists = refl
 row_again false (Global name) exists = refl
@@ -60,37 +61,49 @@ row_again true (SectionAdditive name constant) exists = refl
 row_again true (SectionAdditiveDisplaced name constant) exists = refl
 
 -- what follows a command of each form
-constant_again : (target : ℕ → Target) (constant : ℕ) (rest : List ℕ) → constant < 2 ^ 16 → first_target (Constant target) (word_bytes constant ++ rest) ≡ Ok (target constant, rest)
+constant_again : (target : ℕ → Target) (constant : ℕ) (rest : List ℕ) → constant < 2 ^ 16
+    → first_target (Constant target) (word_bytes constant ++ rest) ≡ Ok (target constant, rest)
 unfolding first_target
 constant_again target constant rest lt = rw (word_again constant rest lt) refl
 
-named_again : (target : ℕ × ℕ → Target) (name : ℕ × ℕ) (rest : List ℕ) → IsName name → first_target (Name target) ((name_bytes name ++ []) ++ rest) ≡ Ok (target name, rest)
+named_again : (target : ℕ × ℕ → Target) (name : ℕ × ℕ) (rest : List ℕ) → IsName name
+    → first_target (Name target) ((name_bytes name ++ []) ++ rest) ≡ Ok (target name, rest)
 unfolding first_target
 named_again target name rest is = rw (name_again name rest is) refl
 
-both_again : (target : ℕ × ℕ → ℕ → Target) (name : ℕ × ℕ) (constant : ℕ) (rest : List ℕ) → IsName name → constant < 2 ^ 16 → first_target (NameAndConstant target) ((name_bytes name ++ word_bytes constant) ++ rest) ≡ Ok (target name constant, rest)
+both_again : (target : ℕ × ℕ → ℕ → Target) (name : ℕ × ℕ) (constant : ℕ) (rest : List ℕ) → IsName name
+    → constant < 2 ^ 16 → first_target (NameAndConstant target) ((name_bytes name ++ word_bytes constant) ++ rest)
+    ≡ Ok (target name constant, rest)
 unfolding first_target
 both_again target name constant rest is lt =
-    ap (first_target (NameAndConstant target)) (append_assoc (name_bytes name) (word_bytes constant) rest) ∙ rw (name_again name (word_bytes constant ++ rest) is, word_again constant rest lt) refl
+    ap (first_target (NameAndConstant target)) (append_assoc (name_bytes name) (word_bytes constant) rest)
+    ∙ rw (name_again name (word_bytes constant ++ rest) is, word_again constant rest lt) refl
 
 abbrev arguments : Target → List ℕ
 arguments target = optional_name (target_name target) ++ optional_word (target_constant target)
 
-target_again : (target : Target) (rest : List ℕ) → IfSome (target_name target) IsName → IfSome (target_constant target) (λ word. word < 2 ^ 16) → first_target (row target) (arguments target ++ rest) ≡ Ok (target, rest)
+target_again : (target : Target) (rest : List ℕ) → IfSome (target_name target) IsName
+    → IfSome (target_constant target) (λ word. word < 2 ^ 16)
+    → first_target (row target) (arguments target ++ rest) ≡ Ok (target, rest)
 unfolding row first_target
 target_again (Internal constant) rest is lt = constant_again (λ c. Internal c) constant rest lt
 target_again (Global name) rest is lt = named_again (λ n. Global n) name rest is
 target_again (InternalDisplaced constant) rest is lt = constant_again (λ c. InternalDisplaced c) constant rest lt
 target_again (GlobalDisplaced name) rest is lt = named_again (λ n. GlobalDisplaced n) name rest is
 target_again (GlobalAdditive name constant) rest is lt = both_again (λ n c. GlobalAdditive n c) name constant rest is lt
-target_again (GlobalAdditiveDisplaced name constant) rest is lt = both_again (λ n c. GlobalAdditiveDisplaced n c) name constant rest is lt
-target_again (LocationCounterDefinition name constant) rest is lt = both_again (λ n c. LocationCounterDefinition n c) name constant rest is lt
-target_again (LocationCounterModification constant) rest is lt = constant_again (λ c. LocationCounterModification c) constant rest lt
+target_again (GlobalAdditiveDisplaced name constant) rest is lt =
+    both_again (λ n c. GlobalAdditiveDisplaced n c) name constant rest is lt
+target_again (LocationCounterDefinition name constant) rest is lt =
+    both_again (λ n c. LocationCounterDefinition n c) name constant rest is lt
+target_again (LocationCounterModification constant) rest is lt =
+    constant_again (λ c. LocationCounterModification c) constant rest lt
 target_again ProgramLimits rest is lt = refl
 target_again (Section name) rest is lt = named_again (λ n. Section n) name rest is
 target_again (SectionDisplaced name) rest is lt = named_again (λ n. SectionDisplaced n) name rest is
-target_again (SectionAdditive name constant) rest is lt = both_again (λ n c. SectionAdditive n c) name constant rest is lt
-target_again (SectionAdditiveDisplaced name constant) rest is lt = both_again (λ n c. SectionAdditiveDisplaced n c) name constant rest is lt
+target_again (SectionAdditive name constant) rest is lt =
+    both_again (λ n c. SectionAdditive n c) name constant rest is lt
+target_again (SectionAdditiveDisplaced name constant) rest is lt =
+    both_again (λ n c. SectionAdditiveDisplaced n c) name constant rest is lt
 
 command_below : (target : Target) → command target < 16
 command_below (Internal constant) = omega arith
@@ -116,12 +129,18 @@ code_again : (code : ℕ) (is_byte : Bool) → code < 16 → (code + byte_form i
 code_again code true lt = omega arith
 code_again code false lt = omega arith
 
-pub relocation_again : (relocation : Relocation) (rest : List ℕ) → RelocationFits relocation → first_relocation (relocation_bytes relocation ++ rest) ≡ Ok (relocation, rest)
+pub relocation_again : (relocation : Relocation) (rest : List ℕ) → RelocationFits relocation
+    → first_relocation (relocation_bytes relocation ++ rest) ≡ Ok (relocation, rest)
 unfolding first_relocation
 relocation_again relocation rest fits =
     let target = relocation.target in
     let below = command_below target in
-    rw (bit_again (command target) relocation.is_byte below, code_again (command target) relocation.is_byte below, row_again relocation.is_byte target fits.form, target_again target rest fits.name fits.constant) refl
+    rw (
+      bit_again (command target) relocation.is_byte below,
+      code_again (command target) relocation.is_byte below,
+      row_again relocation.is_byte target fits.form,
+      target_again target rest fits.name fits.constant,
+    ) refl
 
 relocations_count : (relocations : List Relocation) → length relocations ≤ length (relocations_bytes relocations)
 relocations_count [] = omega arith
@@ -129,15 +148,22 @@ relocations_count (relocation ∷ relocations) =
     let others = relocations_count relocations in
     omega (arith, length-append (relocation_bytes relocation) (relocations_bytes relocations))
 
-relocations_within_again : (n : ℕ) (relocations : List Relocation) → length relocations ≤ n → AllByRecursion RelocationFits relocations → items_within first_relocation n (relocations_bytes relocations) ≡ Ok relocations
+relocations_within_again : (n : ℕ) (relocations : List Relocation) → length relocations ≤ n
+    → AllByRecursion RelocationFits relocations
+    → items_within first_relocation n (relocations_bytes relocations) ≡ Ok relocations
 unfolding items_within
 relocations_within_again zero [] le fits = refl
 relocations_within_again (suc n) [] le fits = refl
 relocations_within_again zero (relocation ∷ relocations) le fits = absurd (omega arith)
 relocations_within_again (suc n) (relocation ∷ relocations) le fits =
-    rw (relocation_again relocation (relocations_bytes relocations) fits.0, relocations_within_again n relocations (omega arith) fits.1) refl
+    rw (
+      relocation_again relocation (relocations_bytes relocations) fits.0,
+      relocations_within_again n relocations (omega arith) fits.1,
+    ) refl
 
-pub relocations_again : (relocations : List Relocation) → RelocationsFit relocations → relocations_of (relocations_bytes relocations) ≡ Ok relocations
+pub relocations_again : (relocations : List Relocation) → RelocationsFit relocations
+    → relocations_of (relocations_bytes relocations) ≡ Ok relocations
 unfolding relocations_of items_of
 relocations_again relocations fits =
-    relocations_within_again (length (relocations_bytes relocations)) relocations (relocations_count relocations) (recursion_from_All RelocationFits relocations fits)
+    relocations_within_again (length (relocations_bytes relocations)) relocations (relocations_count relocations)
+    (recursion_from_All RelocationFits relocations fits)

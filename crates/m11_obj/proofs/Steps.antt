@@ -25,31 +25,67 @@ entry_shrinks = record {
 
 -- ---- relocations
 
-target_length : (form : Form) (bytes : List ℕ) (x : Target × List ℕ) → first_target form bytes ≡ Ok x → length x.1 ≤ length bytes
+target_length : (form : Form) (bytes : List ℕ) (x : Target × List ℕ) → first_target form bytes ≡ Ok x
+    → length x.1 ≤ length bytes
 unfolding first_target
 target_length (Nothing target) bytes x e = omega (arith, ok_length (target, bytes) x e)
 target_length (Constant target) bytes x e =
     let constant = bind_ok (first_word bytes) (λ constant. Ok (target constant.0, constant.1)) x e in
-    omega (arith, takes_length 2 bytes constant.0.1 (word_takes bytes constant.0 constant.1), ok_length (target constant.0.0, constant.0.1) x constant.2)
+    omega (
+      arith,
+      takes_length 2 bytes constant.0.1 (word_takes bytes constant.0 constant.1),
+      ok_length (target constant.0.0, constant.0.1) x constant.2,
+    )
 target_length (Name target) bytes x e =
     let name = bind_ok (first_name bytes) (λ name. Ok (target name.0, name.1)) x e in
-    omega (arith, takes_length 4 bytes name.0.1 (name_takes bytes name.0 name.1), ok_length (target name.0.0, name.0.1) x name.2)
+    omega (
+      arith,
+      takes_length 4 bytes name.0.1 (name_takes bytes name.0 name.1),
+      ok_length (target name.0.0, name.0.1) x name.2,
+    )
 target_length (NameAndConstant target) bytes x e =
-    let name = bind_ok (first_name bytes) (λ name. first_word name.1 >>= λ constant. Ok (target name.0 constant.0, constant.1)) x e in
+    let name =
+    bind_ok (first_name bytes)
+    (λ name. first_word name.1 >>= λ constant. Ok (target name.0 constant.0, constant.1)) x e in
     let constant = bind_ok (first_word name.0.1) (λ constant. Ok (target name.0.0 constant.0, constant.1)) x name.2 in
-    omega (arith, takes_length 4 bytes name.0.1 (name_takes bytes name.0 name.1), takes_length 2 name.0.1 constant.0.1 (word_takes name.0.1 constant.0 constant.1), ok_length (target name.0.0 constant.0.0, constant.0.1) x constant.2)
+    omega (
+      arith,
+      takes_length 4 bytes name.0.1 (name_takes bytes name.0 name.1),
+      takes_length 2 name.0.1 constant.0.1 (word_takes name.0.1 constant.0 constant.1),
+      ok_length (target name.0.0 constant.0.0, constant.0.1) x constant.2,
+    )
 
 abbrev pub relocation_of : ℕ → ℕ → Target → Relocation
-relocation_of code displacement target = record { is_byte = nat_le 128 code; displacement = displacement; target = target }
+relocation_of code displacement target =
+    record { is_byte = nat_le 128 code; displacement = displacement; target = target }
 
-pub relocation_length : (bytes : List ℕ) (x : Relocation × List ℕ) → first_relocation bytes ≡ Ok x → length x.1 + 2 ≤ length bytes
+pub relocation_length : (bytes : List ℕ) (x : Relocation × List ℕ) → first_relocation bytes ≡ Ok x
+    → length x.1 + 2 ≤ length bytes
 unfolding first_relocation
 relocation_length bytes x e =
-    let code = bind_ok (first_byte bytes) (λ code. form_of (nat_le 128 code.0) (code.0 % 128) >>= λ form. first_byte code.1 >>= λ displacement. first_target form displacement.1 >>= λ target. Ok (relocation_of code.0 displacement.0 target.0, target.1)) x e in
-    let form = bind_ok (form_of (nat_le 128 code.0.0) (code.0.0 % 128)) (λ form. first_byte code.0.1 >>= λ displacement. first_target form displacement.1 >>= λ target. Ok (relocation_of code.0.0 displacement.0 target.0, target.1)) x code.2 in
-    let displacement = bind_ok (first_byte code.0.1) (λ displacement. first_target form.0 displacement.1 >>= λ target. Ok (relocation_of code.0.0 displacement.0 target.0, target.1)) x form.2 in
-    let target = bind_ok (first_target form.0 displacement.0.1) (λ target. Ok (relocation_of code.0.0 displacement.0.0 target.0, target.1)) x displacement.2 in
-    omega (arith, takes_length 1 bytes code.0.1 (byte_takes bytes code.0 code.1), takes_length 1 code.0.1 displacement.0.1 (byte_takes code.0.1 displacement.0 displacement.1), target_length form.0 displacement.0.1 target.0 target.1, ok_length (relocation_of code.0.0 displacement.0.0 target.0.0, target.0.1) x target.2)
+    let code =
+    bind_ok (first_byte bytes)
+    (λ code. form_of (nat_le 128 code.0) (code.0 % 128) >>= λ form. first_byte code.1 >>=
+    λ displacement. first_target form displacement.1 >>= λ target. Ok
+    (relocation_of code.0 displacement.0 target.0, target.1)) x e in
+    let form =
+    bind_ok (form_of (nat_le 128 code.0.0) (code.0.0 % 128))
+    (λ form. first_byte code.0.1 >>= λ displacement. first_target form displacement.1 >>= λ target. Ok
+    (relocation_of code.0.0 displacement.0 target.0, target.1)) x code.2 in
+    let displacement =
+    bind_ok (first_byte code.0.1)
+    (λ displacement. first_target form.0 displacement.1 >>= λ target. Ok
+    (relocation_of code.0.0 displacement.0 target.0, target.1)) x form.2 in
+    let target =
+    bind_ok (first_target form.0 displacement.0.1)
+    (λ target. Ok (relocation_of code.0.0 displacement.0.0 target.0, target.1)) x displacement.2 in
+    omega (
+      arith,
+      takes_length 1 bytes code.0.1 (byte_takes bytes code.0 code.1),
+      takes_length 1 code.0.1 displacement.0.1 (byte_takes code.0.1 displacement.0 displacement.1),
+      target_length form.0 displacement.0.1 target.0 target.1,
+      ok_length (relocation_of code.0.0 displacement.0.0 target.0.0, target.0.1) x target.2,
+    )
 
 pub relocation_shrinks : Shrinks first_relocation
 relocation_shrinks =
@@ -57,21 +93,25 @@ relocation_shrinks =
 
 -- ---- the checks
 
-pub entries_checked : (bytes : List ℕ) (entry : GsdEntry) (rest : List ℕ) → first_entry bytes ≡ Ok (entry, rest) → checked (entries_of bytes) ≡ checked (entries_of rest)
+pub entries_checked : (bytes : List ℕ) (entry : GsdEntry) (rest : List ℕ) → first_entry bytes ≡ Ok (entry, rest)
+    → checked (entries_of bytes) ≡ checked (entries_of rest)
 unfolding entries_of
 entries_checked bytes entry rest is = checked_step first_entry bytes (entry, rest) entry_shrinks is
 
-pub relocations_checked : (bytes : List ℕ) (relocation : Relocation) (rest : List ℕ) → first_relocation bytes ≡ Ok (relocation, rest) → checked (relocations_of bytes) ≡ checked (relocations_of rest)
+pub relocations_checked : (bytes : List ℕ) (relocation : Relocation) (rest : List ℕ)
+    → first_relocation bytes ≡ Ok (relocation, rest) → checked (relocations_of bytes) ≡ checked (relocations_of rest)
 unfolding relocations_of
 relocations_checked bytes relocation rest is =
     checked_step first_relocation bytes (relocation, rest) relocation_shrinks is
 
-pub entries_stop : (bytes : List ℕ) (fault : RecordFault) → 0 < length bytes → first_entry bytes ≡ Err fault → checked (entries_of bytes) ≡ Err fault
+pub entries_stop : (bytes : List ℕ) (fault : RecordFault) → 0 < length bytes → first_entry bytes ≡ Err fault
+    → checked (entries_of bytes) ≡ Err fault
 unfolding entries_of
 entries_stop bytes fault lt is =
     ap (λ (r : Result (List GsdEntry) RecordFault). checked r) (items_stop first_entry bytes fault lt is)
 
-pub relocations_stop : (bytes : List ℕ) (fault : RecordFault) → 0 < length bytes → first_relocation bytes ≡ Err fault → checked (relocations_of bytes) ≡ Err fault
+pub relocations_stop : (bytes : List ℕ) (fault : RecordFault) → 0 < length bytes → first_relocation bytes ≡ Err fault
+    → checked (relocations_of bytes) ≡ Err fault
 unfolding relocations_of
 relocations_stop bytes fault lt is =
     ap (λ (r : Result (List Relocation) RecordFault). checked r) (items_stop first_relocation bytes fault lt is)

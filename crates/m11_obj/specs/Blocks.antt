@@ -88,7 +88,8 @@ missing lack.End = fault.Truncated
 missing lack.TooMuch = fault.TooMuch
 
 -- a part of a block was read, or why it was not
-abbrev pub ReadsPart : {X A : Type 0} → (X → A) → (List ℕ → Read BlockFault A) → Place → Place → Result X BlockFault → Type 0
+abbrev pub ReadsPart : {X A : Type 0} → (X → A) → (List ℕ → Read BlockFault A) → Place → Place → Result X BlockFault
+    → Type 0
 ReadsPart view read old new (Ok x) = Reads read old new (view x)
 ReadsPart view read old new (Err e) = Stops read old new (why_of e)
 

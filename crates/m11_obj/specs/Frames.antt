@@ -32,4 +32,5 @@ content_limit = 512
 pub data AreBlocks : List (List ℕ) → List ℕ → Type 0 where
   Nothing : AreBlocks [] []
   Zero : {contents : List (List ℕ)} {bytes : List ℕ} → AreBlocks contents bytes → AreBlocks contents (0 ∷ bytes)
-  Block : {contents : List (List ℕ)} {bytes : List ℕ} (content : List ℕ) → length content ≤ content_limit → AreBlocks contents bytes → AreBlocks (content ∷ contents) (block content ++ bytes)
+  Block : {contents : List (List ℕ)} {bytes : List ℕ} (content : List ℕ) → length content ≤ content_limit
+      → AreBlocks contents bytes → AreBlocks (content ∷ contents) (block content ++ bytes)

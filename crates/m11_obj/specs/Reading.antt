@@ -48,7 +48,8 @@ first_name bytes = do
 -- ---- items one behind another
 
 -- items up to the end of the bytes, of which there are no more than the number
-unfoldable pub items_within : {A : Type 0} → (List ℕ → Result (A × List ℕ) RecordFault) → ℕ → List ℕ → Result (List A) RecordFault
+unfoldable pub items_within : {A : Type 0} → (List ℕ → Result (A × List ℕ) RecordFault) → ℕ → List ℕ
+    → Result (List A) RecordFault
 items_within first zero bytes = Ok []
 items_within first (suc n) [] = Ok []
 items_within first (suc n) (byte ∷ bytes) = do
@@ -57,7 +58,8 @@ items_within first (suc n) (byte ∷ bytes) = do
   Ok (item.0 ∷ others)
 
 -- items up to the end of the bytes; each takes some, so there are no more of them than bytes
-unfoldable pub items_of : {A : Type 0} → (List ℕ → Result (A × List ℕ) RecordFault) → List ℕ → Result (List A) RecordFault
+unfoldable pub items_of : {A : Type 0} → (List ℕ → Result (A × List ℕ) RecordFault) → List ℕ
+    → Result (List A) RecordFault
 items_of first bytes = items_within first (length bytes) bytes
 
 -- ---- entries of the global symbol directory
@@ -65,7 +67,8 @@ items_of first bytes = items_within first (length bytes) bytes
 -- the types of entries, each at the place of its code
 abbrev pub kinds : List (Result GsdKind RecordFault)
 kinds =
-    Ok ModuleName ∷ Ok ControlSection ∷ Ok InternalSymbol ∷ Ok TransferAddress ∷ Ok GlobalSymbol ∷ Ok ProgramSection ∷ Ok Identification ∷ Err MappedArray ∷ []
+    Ok ModuleName ∷ Ok ControlSection ∷ Ok InternalSymbol ∷ Ok TransferAddress ∷ Ok GlobalSymbol
+    ∷ Ok ProgramSection ∷ Ok Identification ∷ Err MappedArray ∷ []
 
 unfoldable pub kind_of : ℕ → Result GsdKind RecordFault
 kind_of code = unwrap_or (slice_get kinds code) (Err UnknownType)
@@ -153,7 +156,8 @@ relocations_of bytes = items_of first_relocation bytes
 -- the types of records, each at the place of its code
 abbrev pub types : List (Result RecordKind RecordFault)
 types =
-    Err UnknownType ∷ Ok kind.Gsd ∷ Ok kind.EndOfGsd ∷ Ok kind.Text ∷ Ok kind.Relocations ∷ Ok kind.InternalSymbols ∷ Ok kind.EndOfModule ∷ Err Library ∷ Err Library ∷ []
+    Err UnknownType ∷ Ok kind.Gsd ∷ Ok kind.EndOfGsd ∷ Ok kind.Text ∷ Ok kind.Relocations
+    ∷ Ok kind.InternalSymbols ∷ Ok kind.EndOfModule ∷ Err Library ∷ Err Library ∷ []
 
 unfoldable pub type_of : ℕ → Result RecordKind RecordFault
 type_of code = unwrap_or (slice_get types code) (Err UnknownType)

@@ -71,7 +71,8 @@ byte_form is_byte = if is_byte then 128 else 0
 -- the command byte, the displacement byte, the name if there is one, the constant if there is one
 abbrev pub relocation_bytes : Relocation → List ℕ
 relocation_bytes relocation =
-    (command relocation.target + byte_form relocation.is_byte) ∷ relocation.displacement ∷ optional_name (target_name relocation.target) ++ optional_word (target_constant relocation.target)
+    (command relocation.target + byte_form relocation.is_byte) ∷ relocation.displacement
+    ∷ optional_name (target_name relocation.target) ++ optional_word (target_constant relocation.target)
 
 abbrev pub relocations_bytes : List Relocation → List ℕ
 relocations_bytes relocations = flat_map relocation_bytes relocations

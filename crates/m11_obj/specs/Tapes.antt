@@ -32,8 +32,11 @@ data_limit = 65529
 -- which has no data. Before each block any bytes but 001 may stand, and behind the last all bytes
 pub data IsTape : List (ℕ × List ℕ) → ℕ → List ℕ → Type 0 where
   Transfer : (address : ℕ) (rest : List ℕ) → address < 65536 → IsTape [] address (tape_block address [] ++ rest)
-  Skipped : {blocks : List (ℕ × List ℕ)} {address : ℕ} {bytes : List ℕ} (byte : ℕ) → byte ≢ 1 → IsTape blocks address bytes → IsTape blocks address (byte ∷ bytes)
-  Block : {blocks : List (ℕ × List ℕ)} {start : ℕ} {bytes : List ℕ} (address : ℕ) (content : List ℕ) → address < 65536 → 0 < length content → length content ≤ data_limit → IsTape blocks start bytes → IsTape ((address, content) ∷ blocks) start (tape_block address content ++ bytes)
+  Skipped : {blocks : List (ℕ × List ℕ)} {address : ℕ} {bytes : List ℕ} (byte : ℕ) → byte ≢ 1
+      → IsTape blocks address bytes → IsTape blocks address (byte ∷ bytes)
+  Block : {blocks : List (ℕ × List ℕ)} {start : ℕ} {bytes : List ℕ} (address : ℕ) (content : List ℕ) → address < 65536
+      → 0 < length content → length content ≤ data_limit → IsTape blocks start bytes
+      → IsTape ((address, content) ∷ blocks) start (tape_block address content ++ bytes)
 
 -- ---- what one call reads
 
@@ -173,13 +176,15 @@ missing lack.End = fault.Truncated
 missing lack.TooMuch = fault.TooMuch
 
 -- something was read, or why it was not
-abbrev pub ReadsPart : {X A : Type 0} → (X → A) → (List ℕ → Read TapeFault A) → Place → Place → Result X TapeFault → Type 0
+abbrev pub ReadsPart : {X A : Type 0} → (X → A) → (List ℕ → Read TapeFault A) → Place → Place → Result X TapeFault
+    → Type 0
 ReadsPart view read old new (Ok x) = Reads read old new (view x)
 ReadsPart view read old new (Err e) = Stops read old new (why_of e)
 
 -- what the next part is, and where the reader stands then
 abbrev pub ReadsNext : TapeStage → Place → Place → TapeStage → Result TapePart TapeFault → Type 0
-ReadsNext BeforeBlock old new after answer = ReadsPart (λ part. part) first_part old new answer × (after ≡ stage_after answer)
+ReadsNext BeforeBlock old new after answer =
+    ReadsPart (λ part. part) first_part old new answer × (after ≡ stage_after answer)
 ReadsNext (InBlock left total) old new after answer =
     ReadsPart (λ part. part) (next_part total) old new answer × (after ≡ stage_after answer)
 ReadsNext (AtEnd address) old new after answer = answer ≡ Ok (Start address)

@@ -25,7 +25,8 @@ impl Flags for SectionFlags {
 
     ghost exact = { ⊤ };
 
-    ghost table = { (codes "SAVED", 1) ∷ (codes "OVERLAID", 4) ∷ (codes "READ_ONLY", 16) ∷ (codes "RELOCATABLE", 32) ∷ (codes "GLOBAL", 64) ∷ (codes "DATA", 128) ∷ [] };
+    ghost table = { (codes "SAVED", 1) ∷ (codes "OVERLAID", 4) ∷ (codes "READ_ONLY", 16) ∷ (codes "RELOCATABLE", 32)
+        ∷ (codes "GLOBAL", 64) ∷ (codes "DATA", 128) ∷ [] };
 
     ghost set_of = { λ f. f.0 };
 

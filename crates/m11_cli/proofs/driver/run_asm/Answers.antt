@@ -1,4 +1,4 @@
-use Rattle.std.proofs.Common.{◌≡◌, ◌∙◌, sym, None}
+use Rattle.std.proofs.Common.{◌∙◌, sym, None}
 use Rattle.m11_asm.specs.Run.{Runs}
 use Rattle.m11_asm.specs.Writes.{texts}
 use Rattle.m11_cpu.specs.Dialogue.{output_of}

@@ -42,7 +42,8 @@ returns-in_err-sim_task-clause-planned g c =
     let entered = entered_by c.in_ok-command.command c.in_ok-matches.matches application words (codes "sim")
     rows app parsed.matches refl (sim.ensures.found.0 refl) sim.ensures.rows in
     let free = subst (λ a. fault_of a words ≡ []) app (parsed.kinds (ap is_simple_and_free app)) in
-    subst (Plans words) (sym (err_is c.from_residual-in_err-sim_task.result fault c.from_residual-in_err-sim_task.ensures.1))
+    subst (Plans words) (sym
+    (err_is c.from_residual-in_err-sim_task.result fault c.from_residual-in_err-sim_task.ensures.1))
     (plans_refused words rows fault free entered c.in_err-sim_task.ensures.fault)
 
 -- one of the commands was entered, and each was asked for

@@ -5,7 +5,9 @@ use Rattle.m11_obj.proofs.reading.check_relocations.Goals as goal
 
 pub returns-in-Err : goal.returns-in-Err
 returns-in-Err c =
-    sym (relocations_stop c.loop-rest.rest.now c.in-Err.fault (omega (arith, eqb-false _ 0 (sym c.is_empty.ensures ∙ c.loop-rest-test.true))) c.in-Err.ensures) ∙ c.loop-rest.invariant
+    sym (relocations_stop c.loop-rest.rest.now c.in-Err.fault
+    (omega (arith, eqb-false _ 0 (sym c.is_empty.ensures ∙ c.loop-rest-test.true))) c.in-Err.ensures)
+    ∙ c.loop-rest.invariant
 
 pub loop-rest-smaller : goal.loop-rest-smaller
 loop-rest-smaller c =
@@ -13,7 +15,9 @@ loop-rest-smaller c =
 
 pub loop-rest-preserved : goal.loop-rest-preserved
 loop-rest-preserved c =
-    sym (relocations_checked c.loop-rest.rest.now c.in-Ok.field-0-0 c.in-Ok.behind.now c.in-Ok.ensures) ∙ c.loop-rest.invariant
+    sym (relocations_checked c.loop-rest.rest.now c.in-Ok.field-0-0 c.in-Ok.behind.now c.in-Ok.ensures)
+    ∙ c.loop-rest.invariant
 
 pub returns : goal.returns
-returns c = sym (relocations_end c.loop-rest.rest.now (omega (arith, eqb-true _ 0 (sym c.is_empty.ensures ∙ c.loop-rest-test.false)))) ∙ c.loop-rest.invariant
+returns c = sym (relocations_end c.loop-rest.rest.now
+    (omega (arith, eqb-true _ 0 (sym c.is_empty.ensures ∙ c.loop-rest-test.false)))) ∙ c.loop-rest.invariant

@@ -17,4 +17,5 @@ unreachable-requires c =
 
 pub returns : goal.returns
 returns c =
-    entry_read c.args.bytes.now _ c.args.index c.in-Ok.entry _ c.requires.in_bounds c.split_at.ensures.back c.in-Ok.ensures
+    entry_read c.args.bytes.now _ c.args.index c.in-Ok.entry _ c.requires.in_bounds c.split_at.ensures.back
+    c.in-Ok.ensures

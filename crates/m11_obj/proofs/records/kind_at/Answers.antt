@@ -11,4 +11,6 @@ returns-clause-kind c = kind_found c.args.bytes.now c.in-Ok.kind _ c.requires c.
 
 pub returns-clause-text : goal.returns-clause-text
 returns-clause-text c = λ is_text.
-    text_found c.args.bytes.now (kind_found c.args.bytes.now c.in-Ok.kind _ c.requires c.in-Ok.ensures ∙ ap (λ (k : RecordKind). done k) is_text)
+    text_found c.args.bytes.now
+    (kind_found c.args.bytes.now c.in-Ok.kind _ c.requires c.in-Ok.ensures
+    ∙ ap (λ (k : RecordKind). done k) is_text)

@@ -8,11 +8,13 @@ split_at-requires c = (has_relocations c.args.bytes.now c.in-Relocations.ensures
 
 pub returns-in-Relocations-clause-are : goal.returns-in-Relocations-clause-are
 returns-in-Relocations-clause-are c =
-    subst (λ (bytes : List ℕ). AreRelocations bytes) (sym c.split_at.ensures.back) (has_relocations c.args.bytes.now c.in-Relocations.ensures.kind).are
+    subst (λ (bytes : List ℕ). AreRelocations bytes) (sym c.split_at.ensures.back)
+    (has_relocations c.args.bytes.now c.in-Relocations.ensures.kind).are
 
 pub returns-in-Relocations-clause-left : goal.returns-in-Relocations-clause-left
 returns-in-Relocations-clause-left c =
-    ap (λ (bytes : List ℕ). relocations_left bytes) c.split_at.ensures.back ∙ (has_relocations c.args.bytes.now c.in-Relocations.ensures.kind).left
+    ap (λ (bytes : List ℕ). relocations_left bytes) c.split_at.ensures.back
+    ∙ (has_relocations c.args.bytes.now c.in-Relocations.ensures.kind).left
 
 pub returns-in-Relocations-clause-few : goal.returns-in-Relocations-clause-few
 returns-in-Relocations-clause-few c =

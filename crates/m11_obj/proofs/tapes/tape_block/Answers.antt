@@ -6,5 +6,6 @@ use Rattle.m11_obj.proofs.tapes.tape_block.Goals as goal
 pub returns-clause-again : goal.returns-clause-again
 returns-clause-again c =
     IfOk-weaker c.summed_bytes.result _ _
-    (λ v is rest. written_again c.args.address c.args.bytes.now (omega arith) c.requires.some c.requires.fits _ (rw c.header.ensures at is) rest)
+    (λ v is rest. written_again c.args.address c.args.bytes.now (omega arith) c.requires.some c.requires.fits _
+    (rw c.header.ensures at is) rest)
     c.summed_bytes.ensures.bytes

@@ -11,4 +11,5 @@ returns-then-is_empty c = λ before unclosed holds. takes_no_line before unclose
 
 pub returns : goal.returns
 returns c = λ before unclosed holds. takes_source_end before unclosed (held_of c.args.self.now) holds
-    (rw c.as_slice.ensures.value at (above_zero _ (eqb-false _ 0 (sym c.is_empty.ensures ∙ c.if-is_empty.false)))) _ _ c.take_line.ensures
+    (rw c.as_slice.ensures.value at (above_zero _ (eqb-false _ 0 (sym c.is_empty.ensures ∙ c.if-is_empty.false)))) _ _
+    c.take_line.ensures

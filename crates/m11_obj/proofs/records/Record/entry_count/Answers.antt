@@ -10,5 +10,6 @@ overflow_sub-result c =
 pub returns-in-Gsd : goal.returns-in-Gsd
 returns-in-Gsd c =
     let counted = entries_counted c.as_slice-bytes.result.now (c.in-Gsd.ensures.kind) in
-    let same = ap (λ (bytes : List ℕ). length (record_entries bytes)) (c.as_slice-bytes.ensures.value ∙ c.self.view_is) in
+    let same =
+    ap (λ (bytes : List ℕ). length (record_entries bytes)) (c.as_slice-bytes.ensures.value ∙ c.self.view_is) in
     omega (arith, counted, same)

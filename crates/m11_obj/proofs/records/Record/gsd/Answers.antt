@@ -11,17 +11,27 @@ loop-entry-preserved c =
     let entry = c.entry-item.result in
     let content = c.loop-entry.content.items in
     let longer = ap length c.put_entry.ensures.bytes ∙ length-append content (entry_bytes entry) in (
-      pieces_more entry_bytes (word_bytes 1) c.args.entries.now c.loop-entry.entry-index entry content _ c.loop-entry-test.true c.entry-item.is c.loop-entry.invariant.0 c.put_entry.ensures.bytes,
+      pieces_more entry_bytes (word_bytes 1) c.args.entries.now c.loop-entry.entry-index entry content _
+          c.loop-entry-test.true c.entry-item.is c.loop-entry.invariant.0 c.put_entry.ensures.bytes,
       omega arith,
-      fact_more EntryFits c.args.entries.now c.loop-entry.entry-index entry c.loop-entry-test.true c.entry-item.is c.loop-entry.invariant.2 c.put_entry.ensures.fits,
+      fact_more EntryFits c.args.entries.now c.loop-entry.entry-index entry c.loop-entry-test.true c.entry-item.is
+          c.loop-entry.invariant.2 c.put_entry.ensures.fits,
     )
 
 pub invariant_of-result : goal.invariant_of-result
 invariant_of-result c =
-    is_record (Gsd c.args.entries.now) _ (c.requires, fact_all EntryFits c.args.entries.now c.loop-entry.entry-index c.loop-entry-test.false c.loop-entry.invariant.2)
-    (pieces_all entry_bytes (word_bytes 1) c.args.entries.now c.loop-entry.entry-index _ c.loop-entry-test.false c.loop-entry.invariant.0)
+    is_record (Gsd c.args.entries.now) _ (
+      c.requires,
+      fact_all EntryFits c.args.entries.now c.loop-entry.entry-index c.loop-entry-test.false c.loop-entry.invariant.2,
+    )
+    (pieces_all entry_bytes (word_bytes 1) c.args.entries.now c.loop-entry.entry-index _ c.loop-entry-test.false
+    c.loop-entry.invariant.0)
 
 pub returns-clause-means : goal.returns-clause-means
 returns-clause-means c =
-    means (Gsd c.args.entries.now) _ (c.requires, fact_all EntryFits c.args.entries.now c.loop-entry.entry-index c.loop-entry-test.false c.loop-entry.invariant.2)
-    (pieces_all entry_bytes (word_bytes 1) c.args.entries.now c.loop-entry.entry-index _ c.loop-entry-test.false c.loop-entry.invariant.0)
+    means (Gsd c.args.entries.now) _ (
+      c.requires,
+      fact_all EntryFits c.args.entries.now c.loop-entry.entry-index c.loop-entry-test.false c.loop-entry.invariant.2,
+    )
+    (pieces_all entry_bytes (word_bytes 1) c.args.entries.now c.loop-entry.entry-index _ c.loop-entry-test.false
+    c.loop-entry.invariant.0)

@@ -7,21 +7,36 @@ use Rattle.m11_obj.proofs.records.Record.relocations.Goals as goal
 
 pub put_relocation-requires-clause-room : goal.put_relocation-requires-clause-room
 put_relocation-requires-clause-room c =
-    piece_has_room relocation_bytes c.args.relocations.now c.loop-relocation.relocation-index c.relocation-item.result c.loop-relocation.content.items (word_bytes 4) content_limit c.loop-relocation-test.true c.relocation-item.is c.loop-relocation.invariant.0 c.requires.room
+    piece_has_room relocation_bytes c.args.relocations.now c.loop-relocation.relocation-index c.relocation-item.result
+    c.loop-relocation.content.items (word_bytes 4) content_limit c.loop-relocation-test.true c.relocation-item.is
+    c.loop-relocation.invariant.0 c.requires.room
 
 pub loop-relocation-preserved : goal.loop-relocation-preserved
 loop-relocation-preserved c =
     let relocation = c.relocation-item.result in (
-      pieces_more relocation_bytes (word_bytes 4) c.args.relocations.now c.loop-relocation.relocation-index relocation c.loop-relocation.content.items _ c.loop-relocation-test.true c.relocation-item.is c.loop-relocation.invariant.0 c.put_relocation.ensures.bytes,
-      fact_more RelocationFits c.args.relocations.now c.loop-relocation.relocation-index relocation c.loop-relocation-test.true c.relocation-item.is c.loop-relocation.invariant.1 c.put_relocation.ensures.fits,
+      pieces_more relocation_bytes (word_bytes 4) c.args.relocations.now c.loop-relocation.relocation-index relocation
+          c.loop-relocation.content.items _ c.loop-relocation-test.true c.relocation-item.is
+          c.loop-relocation.invariant.0 c.put_relocation.ensures.bytes,
+      fact_more RelocationFits c.args.relocations.now c.loop-relocation.relocation-index relocation
+          c.loop-relocation-test.true c.relocation-item.is c.loop-relocation.invariant.1 c.put_relocation.ensures.fits,
     )
 
 pub invariant_of-result : goal.invariant_of-result
 invariant_of-result c =
-    is_record (Relocations c.args.relocations.now) _ (c.requires.room, fact_all RelocationFits c.args.relocations.now c.loop-relocation.relocation-index c.loop-relocation-test.false c.loop-relocation.invariant.1)
-    (pieces_all relocation_bytes (word_bytes 4) c.args.relocations.now c.loop-relocation.relocation-index _ c.loop-relocation-test.false c.loop-relocation.invariant.0)
+    is_record (Relocations c.args.relocations.now) _ (
+      c.requires.room,
+      fact_all RelocationFits c.args.relocations.now c.loop-relocation.relocation-index
+          c.loop-relocation-test.false c.loop-relocation.invariant.1,
+    )
+    (pieces_all relocation_bytes (word_bytes 4) c.args.relocations.now c.loop-relocation.relocation-index _
+    c.loop-relocation-test.false c.loop-relocation.invariant.0)
 
 pub returns-clause-means : goal.returns-clause-means
 returns-clause-means c =
-    means (Relocations c.args.relocations.now) _ (c.requires.room, fact_all RelocationFits c.args.relocations.now c.loop-relocation.relocation-index c.loop-relocation-test.false c.loop-relocation.invariant.1)
-    (pieces_all relocation_bytes (word_bytes 4) c.args.relocations.now c.loop-relocation.relocation-index _ c.loop-relocation-test.false c.loop-relocation.invariant.0)
+    means (Relocations c.args.relocations.now) _ (
+      c.requires.room,
+      fact_all RelocationFits c.args.relocations.now c.loop-relocation.relocation-index
+          c.loop-relocation-test.false c.loop-relocation.invariant.1,
+    )
+    (pieces_all relocation_bytes (word_bytes 4) c.args.relocations.now c.loop-relocation.relocation-index _
+    c.loop-relocation-test.false c.loop-relocation.invariant.0)
