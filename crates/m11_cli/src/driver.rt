@@ -72,7 +72,7 @@ pub fn command_without_words<E: Sink>(error: &io::Error, err: &mut E) -> u8
     match error.kind() {
         ErrorKind::OutOfMemory => finish(&Outcome::Usage(UsageFault::NoMemory), err),
         _ => {
-            let _ = TextTo::new(err).writeln(error);
+            let _ = TextTo { sink: err }.writeln(error);
             2
         }
     }
@@ -129,8 +129,8 @@ fn explain<O: Sink, E: Sink>(fault: &UsageFault, out: &mut O, err: &mut E)
         (output_of (E.text err.old) (E.faults err.old)) (output_of (E.text err.new) (E.faults err.new)) }
 {
     let _ = match fault {
-        UsageFault::Help(error) => TextTo::new(out).write(error),
-        UsageFault::Words(error) => TextTo::new(err).write(error),
+        UsageFault::Help(error) => TextTo { sink: out }.write(error),
+        UsageFault::Words(error) => TextTo { sink: err }.write(error),
         UsageFault::BadOctal
         | UsageFault::OddAddress
         | UsageFault::BadAddress
