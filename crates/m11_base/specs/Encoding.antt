@@ -107,7 +107,8 @@ size_value Byte = 0o100000
 -- N 10, Z 4, V 2, C 1
 abbrev pub condition_bits : ConditionCodes → ℕ
 condition_bits codes =
-    from_bool codes.negative * 0o10 + from_bool codes.zero * 0o4 + from_bool codes.overflow * 0o2 + from_bool codes.carry
+    from_bool codes.negative * 0o10 + from_bool codes.zero * 0o4 + from_bool codes.overflow * 0o2
+    + from_bool codes.carry
 
 -- ---- the code of an instruction that fits
 
