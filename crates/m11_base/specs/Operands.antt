@@ -19,9 +19,12 @@ registers = R0 ∷ R1 ∷ R2 ∷ R3 ∷ R4 ∷ R5 ∷ Sp ∷ Pc ∷ []
 abbrev pub register_of : ℕ → Register
 register_of number = slice_index_or registers number R0
 
+abbrev pub mode_of : ℕ → Mode
+mode_of code = slice_index_or modes code mode.Register
+
 -- the operand of six bits: the mode's code above the number of the register
 abbrev pub operand_of : ℕ → Operand
-operand_of bits = record { mode = slice_index_or modes (bits / 8) mode.Register; register = register_of (bits % 8) }
+operand_of bits = record { mode = mode_of (bits / 8); register = register_of (bits % 8) }
 
 -- ---- and back
 

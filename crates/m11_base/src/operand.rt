@@ -2,7 +2,7 @@
 //! "Addressing modes".)
 
 ghost use Rattle.std.specs.Prelude.{◌≡◌, ◌<◌, ◌%◌};
-ghost use Rattle.m11_base.specs.Operands.{register_of, register_number, operand_of, operand_code};
+ghost use Rattle.m11_base.specs.Operands.{mode_of, register_of, register_number, operand_of, operand_code};
 
 /// What an instruction works on: words or single bytes.
 #[derive(Clone, Copy, Debug, PartialEq, Eq)]
@@ -56,18 +56,6 @@ pub struct Operand {
     pub register: Register,
 }
 
-// The modes, each at the place of its code.
-static MODES: [Mode; 8] = [
-    Mode::Register,
-    Mode::RegisterDeferred,
-    Mode::Autoincrement,
-    Mode::AutoincrementDeferred,
-    Mode::Autodecrement,
-    Mode::AutodecrementDeferred,
-    Mode::Index,
-    Mode::IndexDeferred,
-];
-
 // The registers, each at the place of its number.
 static REGISTERS: [Register; 8] = [
     Register::R0,
@@ -80,8 +68,28 @@ static REGISTERS: [Register; 8] = [
     Register::Pc,
 ];
 
+impl Mode {
+    // The mode of a code, of which the lower three bits count.
+    #[inline(always)]
+    fn of_bits(bits: u16) -> Mode
+        ensures { result ≡ mode_of (bits % 8) }
+    {
+        match bits % 8 {
+            0 => Mode::Register,
+            1 => Mode::RegisterDeferred,
+            2 => Mode::Autoincrement,
+            3 => Mode::AutoincrementDeferred,
+            4 => Mode::Autodecrement,
+            5 => Mode::AutodecrementDeferred,
+            6 => Mode::Index,
+            _ => Mode::IndexDeferred,
+        }
+    }
+}
+
 impl Register {
     /// The register of a number, of which the lower three bits count.
+    #[inline(always)]
     pub fn of_bits(bits: u16) -> Register
         ensures { result ≡ register_of (bits % 8) }
     {
@@ -89,6 +97,7 @@ impl Register {
     }
 
     /// The register's number, 0 to 7.
+    #[inline(always)]
     pub fn number(self) -> u16
         ensures number { result ≡ register_number self }
         ensures below { result < 8 }
@@ -99,11 +108,12 @@ impl Register {
 
 impl Operand {
     /// The operand of six bits, which are the lower ones of `bits`: the mode's code above the number of the register.
+    #[inline(always)]
     pub fn of_bits(bits: u16) -> Operand
         ensures { result ≡ operand_of (bits % 64) }
     {
         Operand {
-            mode: MODES[usize::from(bits % 64 / 8)],
+            mode: Mode::of_bits(bits / 8),
             register: Register::of_bits(bits),
         }
     }
