@@ -8,6 +8,7 @@ use m11_base::{BranchOp, ConditionCodes};
 /// Whether a branch is taken, the condition codes being these. (PDP-11/40 Processor Handbook, "Instruction
 /// set": branches.)
 #[tactic(auto, unfolding(crate::specs::Branches::is_taken))]
+#[inline(always)]
 pub fn is_taken(operation: BranchOp, codes: ConditionCodes) -> bool
     ensures { result ≡ is_taken operation codes }
 {

@@ -12,6 +12,7 @@ use m11_base::{ConditionCodes, DoubleOp, Size};
 /// it. Operands of bytes are below octal 400, and so is the result. CMP and BIT store theirs nowhere.
 /// (PDP-11/40 Processor Handbook, "Instruction set": double operand instructions.)
 #[tactic(auto, unfolding(crate::specs::Doubles::double_result))]
+#[inline(always)]
 pub fn double(
     operation: DoubleOp,
     size: Size,
@@ -50,6 +51,7 @@ pub fn exclusive_or(register: u16, destination: u16, codes: ConditionCodes) -> C
 }
 
 // One value and another one.
+#[inline(always)]
 pub(crate) fn sum(size: Size, first: u16, second: u16) -> Computed
     requires first { first < size_limit size }
     requires second { second < size_limit size }
@@ -63,6 +65,7 @@ pub(crate) fn sum(size: Size, first: u16, second: u16) -> Computed
 }
 
 // One value less another one.
+#[inline(always)]
 pub(crate) fn difference(size: Size, first: u16, second: u16) -> Computed
     requires first { first < size_limit size }
     requires second { second < size_limit size }

@@ -37,6 +37,7 @@ pub enum Division {
 }
 
 // A value with N and Z as it has them.
+#[inline(always)]
 pub(crate) fn with_codes(size: Size, value: u16, overflow: bool, carry: bool) -> Computed
     requires { value < size_limit size }
     ensures { result ≡ with_codes size value overflow carry }
@@ -53,6 +54,7 @@ pub(crate) fn with_codes(size: Size, value: u16, overflow: bool, carry: bool) ->
 }
 
 // A sum or a difference: the exact number without signs, and with them.
+#[inline(always)]
 pub(crate) fn exact_result(size: Size, unsigned_number: i32, signed_number: i32) -> Computed
     ensures { result ≡ exact_result size unsigned_number signed_number }
 {

@@ -14,6 +14,7 @@ use m11_base::{ConditionCodes, SingleOp, Size};
 /// were, as they do where SWAB is asked for a byte. TST stores its result nowhere. (PDP-11/40 Processor
 /// Handbook, "Instruction set": single operand instructions.)
 #[tactic(auto, unfolding(crate::specs::Singles::single_result))]
+#[inline(always)]
 pub fn single(operation: SingleOp, size: Size, value: u16, codes: ConditionCodes) -> Computed
     requires { value < size_limit size }
     ensures computed { result ≡ single_result operation size value codes }
@@ -39,6 +40,7 @@ pub fn single(operation: SingleOp, size: Size, value: u16, codes: ConditionCodes
 }
 
 // The two bytes of a word, turned.
+#[inline(always)]
 fn swapped(size: Size, value: u16, codes: ConditionCodes) -> Computed
     requires { value < size_limit size }
     ensures { result ≡ swapped size value codes }
@@ -53,6 +55,7 @@ fn swapped(size: Size, value: u16, codes: ConditionCodes) -> Computed
 }
 
 // A result that leaves C as it was.
+#[inline(always)]
 fn keeping_carry(codes: ConditionCodes, computed: Computed) -> Computed
     ensures { result ≡ keeping_carry codes computed }
 {
@@ -66,6 +69,7 @@ fn keeping_carry(codes: ConditionCodes, computed: Computed) -> Computed
 }
 
 // The value below 0 by as much as it was above.
+#[inline(always)]
 fn negated(size: Size, value: u16) -> Computed
     requires { value < size_limit size }
     ensures { result ≡ negated size value }
@@ -76,6 +80,7 @@ fn negated(size: Size, value: u16) -> Computed
 }
 
 // The value with the carry taken off.
+#[inline(always)]
 fn less_carry(size: Size, value: u16, carry: bool) -> Computed
     requires { value < size_limit size }
     ensures { result ≡ less_carry size value carry }
@@ -90,6 +95,7 @@ fn less_carry(size: Size, value: u16, carry: bool) -> Computed
 }
 
 // A value after a step of one place, and the bit that left.
+#[inline(always)]
 fn stepped(size: Size, value: u16, bit: bool) -> Computed
     requires { value < size_limit size }
     ensures { result ≡ stepped size value bit }
@@ -98,6 +104,7 @@ fn stepped(size: Size, value: u16, bit: bool) -> Computed
 }
 
 // The value a place to the right, with the carry in front of it.
+#[inline(always)]
 fn rotated_right(size: Size, value: u16, carry: bool) -> Computed
     requires { value < size_limit size }
     ensures { result ≡ rotated_right size value carry }
@@ -107,6 +114,7 @@ fn rotated_right(size: Size, value: u16, carry: bool) -> Computed
 }
 
 // The value a place to the left, with the carry behind it.
+#[inline(always)]
 fn rotated_left(size: Size, value: u16, carry: bool) -> Computed
     requires { value < size_limit size }
     ensures { result ≡ rotated_left size value carry }
@@ -116,6 +124,7 @@ fn rotated_left(size: Size, value: u16, carry: bool) -> Computed
 }
 
 // The value a place to the right, its sign kept.
+#[inline(always)]
 fn halved(size: Size, value: u16) -> Computed
     requires { value < size_limit size }
     ensures { result ≡ halved size value }
@@ -124,6 +133,7 @@ fn halved(size: Size, value: u16) -> Computed
 }
 
 // All bits are N.
+#[inline(always)]
 fn sign_filled(size: Size, codes: ConditionCodes) -> Computed
     ensures { result ≡ sign_filled size codes }
 {

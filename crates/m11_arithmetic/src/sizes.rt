@@ -6,6 +6,7 @@ ghost use Rattle.m11_arithmetic.specs.Sizes.{size_limit, sign_bit, signed, modul
 use m11_base::Size;
 
 // The number that a value is when its highest bit is a sign.
+#[inline(always)]
 pub(crate) fn signed(size: Size, value: u16) -> i32
     requires { value < size_limit size }
     ensures { result ≡ signed size value }
@@ -17,6 +18,7 @@ pub(crate) fn signed(size: Size, value: u16) -> i32
 }
 
 // What is left of an exact number in the size's bits.
+#[inline(always)]
 pub(crate) fn kept(size: Size, number: i32) -> u16
     ensures value { result ≡ modulo (size_limit size) number }
     ensures within { result < size_limit size }
@@ -27,12 +29,14 @@ pub(crate) fn kept(size: Size, number: i32) -> u16
     }
 }
 
+#[inline(always)]
 fn kept_in_word(number: i32) -> u16
     ensures { result ≡ modulo 0o200000 number }
 {
     (number.cast_unsigned() % 0o200000) as u16
 }
 
+#[inline(always)]
 fn kept_in_byte(number: i32) -> u16
     ensures { result ≡ modulo 0o400 number }
 {
@@ -40,6 +44,7 @@ fn kept_in_byte(number: i32) -> u16
 }
 
 // Whether a size can't represent an exact number with a sign.
+#[inline(always)]
 pub(crate) fn overflows(size: Size, number: i32) -> bool
     ensures { result ≡ overflows size number }
 {
@@ -50,6 +55,7 @@ pub(crate) fn overflows(size: Size, number: i32) -> bool
 }
 
 // Whether an exact number isn't a value of the size, when no bit is a sign.
+#[inline(always)]
 pub(crate) fn is_outside(size: Size, number: i32) -> bool
     ensures { result ≡ is_outside size number }
 {
@@ -60,6 +66,7 @@ pub(crate) fn is_outside(size: Size, number: i32) -> bool
 }
 
 // The highest bit alone.
+#[inline(always)]
 pub(crate) fn sign_bit(size: Size) -> u16
     ensures { result ≡ sign_bit size }
 {
@@ -70,6 +77,7 @@ pub(crate) fn sign_bit(size: Size) -> u16
 }
 
 // The value with every bit turned.
+#[inline(always)]
 pub(crate) fn complement(size: Size, value: u16) -> u16
     requires { value < size_limit size }
     ensures value { result ≡ complement size value }

@@ -13,6 +13,7 @@ use m11_base::{Feed, Sink};
 impl Machine {
     /// The word at an address.
     #[tactic(auto, using(crate::proofs::Dialogues::dialogues), unfolding(crate::specs::Access::load_word))]
+    #[inline(always)]
     pub(crate) fn load_word<F: Feed>(&mut self, address: u16, feed: &mut F) -> Result<u16, Abort>
         ensures { Does (load_word address self.old) (input_alone (F.text feed.old) (F.faults feed.old))
             (input_alone (F.text feed.new) (F.faults feed.new)) (result, self.new) }
@@ -28,6 +29,7 @@ impl Machine {
 
     /// The byte at an address.
     #[tactic(auto, using(crate::proofs::Dialogues::dialogues), unfolding(crate::specs::Access::load_byte))]
+    #[inline(always)]
     pub(crate) fn load_byte<F: Feed>(&mut self, address: u16, feed: &mut F) -> Result<u16, Abort>
         ensures does { Does (load_byte address self.old) (input_alone (F.text feed.old) (F.faults feed.old))
             (input_alone (F.text feed.new) (F.faults feed.new)) (result, self.new) }
@@ -42,9 +44,23 @@ impl Machine {
         self.load_device(address, feed)
     }
 
-    // The word at an even address past the memory.
+    // The word at an even address past the memory. It is inlined and what it calls is not, so that a load from memory
+    // clears no room for the answer of a device.
     #[tactic(auto, using(crate::proofs::Dialogues::dialogues), unfolding(crate::specs::Access::load_device))]
+    #[inline(always)]
     fn load_device<F: Feed>(&mut self, address: u16, feed: &mut F) -> Result<u16, Abort>
+        ensures does { Does (load_device address self.old) (input_alone (F.text feed.old) (F.faults feed.old))
+            (input_alone (F.text feed.new) (F.faults feed.new)) (result, self.new) }
+        ensures byte { IfOk result (λ value. value < 256) }
+    {
+        self.device_word(address, feed)
+    }
+
+    // The word of a register of a device.
+    #[tactic(auto, using(crate::proofs::Dialogues::dialogues), unfolding(crate::specs::Access::load_device))]
+    #[cold]
+    #[inline(never)]
+    fn device_word<F: Feed>(&mut self, address: u16, feed: &mut F) -> Result<u16, Abort>
         ensures does { Does (load_device address self.old) (input_alone (F.text feed.old) (F.faults feed.old))
             (input_alone (F.text feed.new) (F.faults feed.new)) (result, self.new) }
         ensures byte { IfOk result (λ value. value < 256) }
@@ -104,6 +120,7 @@ impl Machine {
 
     /// Puts a word at an address.
     #[tactic(auto, using(crate::proofs::Dialogues::dialogues), unfolding(crate::specs::Access::store_word))]
+    #[inline(always)]
     pub(crate) fn store_word<S: Sink>(
         &mut self,
         address: u16,
@@ -125,6 +142,7 @@ impl Machine {
 
     /// Puts a byte, which is below 256, at an address.
     #[tactic(auto, using(crate::proofs::Dialogues::dialogues), unfolding(crate::specs::Access::store_byte))]
+    #[inline(always)]
     pub(crate) fn store_byte<S: Sink>(
         &mut self,
         address: u16,
@@ -144,9 +162,26 @@ impl Machine {
         self.store_device(address, u16::from(value), sink)
     }
 
-    // Puts a word at an even address past the memory.
+    // Puts a word at an even address past the memory. What it calls is apart for the same reason.
     #[tactic(auto, using(crate::proofs::Dialogues::dialogues), unfolding(crate::specs::Access::store_device))]
+    #[inline(always)]
     fn store_device<S: Sink>(&mut self, address: u16, value: u16, sink: &mut S) -> Result<(), Abort>
+        ensures { Does (store_device address value self.old) (output_alone (S.text sink.old) (S.faults sink.old))
+            (output_alone (S.text sink.new) (S.faults sink.new)) (result, self.new) }
+    {
+        self.set_device_word(address, value, sink)
+    }
+
+    // Puts a word into a register of a device.
+    #[tactic(auto, using(crate::proofs::Dialogues::dialogues), unfolding(crate::specs::Access::store_device))]
+    #[cold]
+    #[inline(never)]
+    fn set_device_word<S: Sink>(
+        &mut self,
+        address: u16,
+        value: u16,
+        sink: &mut S,
+    ) -> Result<(), Abort>
         ensures { Does (store_device address value self.old) (output_alone (S.text sink.old) (S.faults sink.old))
             (output_alone (S.text sink.new) (S.faults sink.new)) (result, self.new) }
     {
@@ -191,6 +226,7 @@ fn put_byte<S: Sink>(sink: &mut S, byte: u8) -> bool
 }
 
 // The byte at an odd address past the memory: the high byte of a register, which is 0.
+#[inline(always)]
 fn load_odd(address: u16) -> Result<u16, Abort>
     ensures answer { result ≡ load_odd address }
     ensures byte { IfOk result (λ value. value < 256) }
@@ -202,6 +238,7 @@ fn load_odd(address: u16) -> Result<u16, Abort>
 }
 
 // Puts a byte at an odd address past the memory: the high bytes of registers take nothing.
+#[inline(always)]
 fn store_odd(address: u16) -> Result<(), Abort>
     ensures { result ≡ store_odd address }
 {

@@ -34,6 +34,8 @@ pub(crate) enum DeviceRegister {
 }
 
 /// The register whose word is at an even address.
+#[cold]
+#[inline(never)]
 pub(crate) fn device_at(address: u16) -> Option<DeviceRegister>
     ensures { result ≡ device_at address }
 {

@@ -17,6 +17,7 @@ pub(crate) enum DestinationUse {
 }
 
 /// What an operation on two operands does with the destination.
+#[inline(always)]
 pub(crate) fn use_by_double(operation: DoubleOp) -> DestinationUse
     ensures { result ≡ use_by_double operation }
 {
@@ -28,6 +29,7 @@ pub(crate) fn use_by_double(operation: DoubleOp) -> DestinationUse
 }
 
 /// What an operation on one operand does with it. JMP computes nothing: it goes to it.
+#[inline(always)]
 pub(crate) fn use_by_single(operation: SingleOp) -> Option<DestinationUse>
     ensures { result ≡ use_by_single operation }
 {

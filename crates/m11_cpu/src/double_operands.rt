@@ -58,6 +58,7 @@ impl Machine {
 
     // MOV and MOVB: the destination is not read.
     #[tactic(auto, using(crate::proofs::Dialogues::dialogues), unfolding(crate::specs::DoubleOperands::move_to))]
+    #[inline(always)]
     fn move_to<S: Sink>(
         &mut self,
         place: Place,
@@ -77,6 +78,7 @@ impl Machine {
 
     // Puts a word or byte into a place. MOVB extends the sign of a byte in a register.
     #[tactic(auto, using(crate::proofs::Dialogues::dialogues), unfolding(crate::specs::DoubleOperands::store_moved))]
+    #[inline(always)]
     fn store_moved<S: Sink>(
         &mut self,
         place: Place,
@@ -184,6 +186,7 @@ impl Machine {
 }
 
 // A byte as a word of the same number with a sign.
+#[inline(always)]
 fn sign_extended(byte: u16) -> u16
     ensures { result ≡ sign_extended byte }
 {

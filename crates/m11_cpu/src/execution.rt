@@ -27,6 +27,7 @@ pub(crate) enum Ending {
 impl Machine {
     /// Does one instruction, whose code was read.
     #[tactic(auto, using(crate::proofs::Dialogues::with_both), unfolding(crate::specs::Execution::execute))]
+    #[inline(always)]
     pub(crate) fn execute<F: Feed, S: Sink>(
         &mut self,
         instruction: Insn,

@@ -12,6 +12,7 @@ use m11_base::{BranchOp, Feed, Operand, Register, Sink, Size};
 
 impl Machine {
     /// A branch: where it is taken, the program counter moves by this many words.
+    #[inline(always)]
     pub(crate) fn branch(&mut self, operation: BranchOp, words: i8)
         ensures { self.new ≡ branched operation words self.old }
     {
@@ -22,6 +23,7 @@ impl Machine {
     }
 
     /// SOB: one is taken off the register; where it is then not 0, the program counter goes back by this many words.
+    #[inline(always)]
     pub(crate) fn count_down(&mut self, register: Register, words: u8)
         ensures { self.new ≡ counted_down register words self.old }
     {
@@ -137,6 +139,7 @@ impl Machine {
 }
 
 // The address so many words from another one, modulo 200000.
+#[inline(always)]
 fn words_on(address: u16, words: i8) -> u16
     ensures { result ≡ words_on address words }
 {

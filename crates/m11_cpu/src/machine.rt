@@ -73,6 +73,7 @@ impl Machine {
     }
 
     /// What a register holds.
+    #[inline(always)]
     pub fn register(&self, register: Register) -> u16
         ensures { result ≡ register_of register self.now }
     {
@@ -103,6 +104,7 @@ impl Machine {
     }
 
     /// Puts a word into a register.
+    #[inline(always)]
     pub(crate) fn set_register(&mut self, register: Register, value: u16)
         ensures { self.new ≡ with_register register value self.old }
     {
@@ -110,6 +112,7 @@ impl Machine {
     }
 
     /// Steps a register forward by some bytes.
+    #[inline(always)]
     pub(crate) fn advance(&mut self, register: Register, bytes: u16)
         ensures { self.new ≡ advanced register bytes self.old }
     {
@@ -117,6 +120,7 @@ impl Machine {
     }
 
     /// Puts condition codes.
+    #[inline(always)]
     pub(crate) fn set_codes(&mut self, codes: ConditionCodes)
         ensures { self.new ≡ with_condition_codes codes self.old }
     {
@@ -125,6 +129,7 @@ impl Machine {
 
     /// Puts the condition codes of an instruction that has stored its result. A write of the processor status stays as
     /// it was written.
+    #[inline(always)]
     pub(crate) fn finish(&mut self, place: Place, codes: ConditionCodes)
         ensures { self.new ≡ finished place codes self.old }
     {

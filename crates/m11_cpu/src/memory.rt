@@ -39,6 +39,7 @@ impl Memory {
 
     /// Whether the memory has a byte at this address.
     #[tactic(auto, using(crate::proofs::WordsAsBytes::length_of_bytes))]
+    #[inline(always)]
     pub(crate) fn holds(&self, address: u16) -> bool
         ensures { result ≡ nat_lt address (length self.now) }
     {
@@ -61,6 +62,7 @@ impl Memory {
 
     /// The word at an even address inside the memory.
     #[tactic(auto, using(crate::proofs::WordsAsBytes::length_of_bytes, crate::proofs::WordsAsBytes::whole_word))]
+    #[inline(always)]
     pub(crate) fn word(&self, address: u16) -> u16
         requires even { address % 2 ≡ 0 }
         requires inside { address < length self.now }
@@ -71,6 +73,7 @@ impl Memory {
 
     /// The byte at an address inside the memory.
     #[tactic(auto, using(crate::proofs::WordsAsBytes::length_of_bytes, crate::proofs::WordsAsBytes::even_byte, crate::proofs::WordsAsBytes::odd_byte))]
+    #[inline(always)]
     pub(crate) fn byte(&self, address: u16) -> u8
         requires { address < length self.now }
         ensures { result ≡ byte_at self.now address }
@@ -85,6 +88,7 @@ impl Memory {
 
     /// Puts a word at an even address inside the memory.
     #[tactic(auto, using(crate::proofs::WordsAsBytes::length_of_bytes, crate::proofs::WordsAsBytes::size_stays, crate::proofs::WordsAsBytes::put_word))]
+    #[inline(always)]
     pub(crate) fn set_word(&mut self, address: u16, value: u16)
         requires even { address % 2 ≡ 0 }
         requires inside { address < length self.old }
@@ -96,6 +100,7 @@ impl Memory {
 
     /// Puts a byte at an address inside the memory.
     #[tactic(auto, using(crate::proofs::WordsAsBytes::length_of_bytes, crate::proofs::WordsAsBytes::size_stays, crate::proofs::WordsAsBytes::put_low, crate::proofs::WordsAsBytes::put_high))]
+    #[inline(always)]
     pub(crate) fn set_byte(&mut self, address: u16, value: u8)
         requires { address < length self.old }
         ensures byte { self.new ≡ with_byte address value self.old }

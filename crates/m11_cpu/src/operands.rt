@@ -22,6 +22,7 @@ pub(crate) enum Place {
 impl Machine {
     /// The place of an operand, its register being stepped as the mode says.
     #[tactic(auto, using(crate::proofs::Dialogues::dialogues), unfolding(crate::specs::Places::place_of))]
+    #[inline(always)]
     pub(crate) fn place_of<F: Feed>(
         &mut self,
         operand: Operand,
@@ -61,6 +62,7 @@ impl Machine {
 
     // The place whose address is the word at this address.
     #[tactic(auto, using(crate::proofs::Dialogues::dialogues), unfolding(crate::specs::Places::deferred))]
+    #[inline(never)]
     fn deferred<F: Feed>(&mut self, address: u16, feed: &mut F) -> Result<Place, Abort>
         ensures { Does (deferred address self.old) (input_alone (F.text feed.old) (F.faults feed.old))
             (input_alone (F.text feed.new) (F.faults feed.new)) (result, self.new) }
@@ -70,6 +72,7 @@ impl Machine {
 
     // The address that a register and the next word of the program add up to.
     #[tactic(auto, using(crate::proofs::Dialogues::dialogues), unfolding(crate::specs::Places::indexed))]
+    #[inline(always)]
     fn indexed<F: Feed>(&mut self, register: Register, feed: &mut F) -> Result<u16, Abort>
         ensures { Does (indexed register self.old) (input_alone (F.text feed.old) (F.faults feed.old))
             (input_alone (F.text feed.new) (F.faults feed.new)) (result, self.new) }
@@ -80,6 +83,7 @@ impl Machine {
 
     /// The next word of the program. The program counter steps behind it once it is read.
     #[tactic(auto, using(crate::proofs::Dialogues::dialogues), unfolding(crate::specs::Places::next_word))]
+    #[inline(always)]
     pub(crate) fn next_word<F: Feed>(&mut self, feed: &mut F) -> Result<u16, Abort>
         ensures { Does (next_word self.old) (input_alone (F.text feed.old) (F.faults feed.old))
             (input_alone (F.text feed.new) (F.faults feed.new)) (result, self.new) }
@@ -91,6 +95,7 @@ impl Machine {
     }
 
     /// What a register holds before it steps forward.
+    #[inline(always)]
     pub(crate) fn forward(&mut self, register: Register, bytes: u16) -> u16
         ensures { (result, self.new) ≡ forward register bytes self.old }
     {
@@ -100,6 +105,7 @@ impl Machine {
     }
 
     /// What a register holds behind its step back.
+    #[inline(always)]
     pub(crate) fn back(&mut self, register: Register, bytes: u16) -> u16
         ensures { (result, self.new) ≡ back register bytes self.old }
     {
@@ -110,6 +116,7 @@ impl Machine {
 
     /// The word or byte in a place.
     #[tactic(auto, using(crate::proofs::Dialogues::dialogues), unfolding(crate::specs::Places::fetch))]
+    #[inline(always)]
     pub(crate) fn fetch<F: Feed>(
         &mut self,
         place: Place,
@@ -130,6 +137,7 @@ impl Machine {
 
     /// The word or byte that an operand means, fetched wholly: its place, and what is there.
     #[tactic(auto, using(crate::proofs::Dialogues::dialogues), unfolding(crate::specs::Places::fetch_operand))]
+    #[inline(always)]
     pub(crate) fn fetch_operand<F: Feed>(
         &mut self,
         operand: Operand,
@@ -146,6 +154,7 @@ impl Machine {
 
     /// Puts a word, or a byte below 256, into a place. A byte in a register is its low byte.
     #[tactic(auto, using(crate::proofs::Dialogues::dialogues), unfolding(crate::specs::Places::store))]
+    #[inline(always)]
     pub(crate) fn store<S: Sink>(
         &mut self,
         place: Place,
@@ -173,6 +182,7 @@ impl Machine {
     /// Puts the result of an operation into a place, and then its condition codes, but where the place is the processor
     /// status, which stays as it was written.
     #[tactic(auto, using(crate::proofs::Dialogues::dialogues), unfolding(crate::specs::Places::put_result))]
+    #[inline(always)]
     pub(crate) fn put_result<S: Sink>(
         &mut self,
         place: Place,
@@ -191,6 +201,7 @@ impl Machine {
 }
 
 // A word with 0 for its low byte.
+#[inline(always)]
 fn without_low_byte(word: u16) -> u16
     ensures high { result ≡ without_low_byte word }
     ensures room { result + 255 < 0o200000 }
@@ -199,6 +210,7 @@ fn without_low_byte(word: u16) -> u16
 }
 
 // How many bytes modes 2 and 4 step a register.
+#[inline(always)]
 fn step_of(size: Size, register: Register) -> u16
     ensures { result ≡ step_of size register }
 {

@@ -28,6 +28,7 @@ impl Machine {
     }
 
     /// The same, with the count of steps.
+    #[inline(never)]
     pub(crate) fn run_counted<F: Feed, S: Sink>(
         &mut self,
         limit: u32,

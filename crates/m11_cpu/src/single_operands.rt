@@ -12,6 +12,7 @@ use m11_base::{Feed, Operand, SingleOp, Sink, Size};
 impl Machine {
     /// An operation on one operand.
     #[tactic(auto, using(crate::proofs::Dialogues::with_both), unfolding(crate::specs::SingleOperands::single))]
+    #[inline(always)]
     pub(crate) fn single<F: Feed, S: Sink>(
         &mut self,
         operation: SingleOp,
@@ -35,6 +36,7 @@ impl Machine {
 
     // CLR, CLRB and SXT: the operand is not read.
     #[tactic(auto, using(crate::proofs::Dialogues::with_both), unfolding(crate::specs::SingleOperands::write))]
+    #[inline(always)]
     fn write<F: Feed, S: Sink>(
         &mut self,
         operation: SingleOp,
@@ -53,6 +55,7 @@ impl Machine {
 
     // TST and TSTB: nothing is stored.
     #[tactic(auto, using(crate::proofs::Dialogues::dialogues), unfolding(crate::specs::SingleOperands::test))]
+    #[inline(always)]
     fn test<F: Feed>(
         &mut self,
         operation: SingleOp,
@@ -71,6 +74,7 @@ impl Machine {
 
     // The operand is read, and the result put in its place.
     #[tactic(auto, using(crate::proofs::Dialogues::with_both), unfolding(crate::specs::SingleOperands::change_single))]
+    #[inline(always)]
     fn change_single<F: Feed, S: Sink>(
         &mut self,
         operation: SingleOp,
@@ -88,6 +92,7 @@ impl Machine {
 
     // What is in a place is read, and the result put there.
     #[tactic(auto, using(crate::proofs::Dialogues::with_both), unfolding(crate::specs::SingleOperands::change_at))]
+    #[inline(always)]
     fn change_at<F: Feed, S: Sink>(
         &mut self,
         operation: SingleOp,

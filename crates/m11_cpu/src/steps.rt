@@ -16,6 +16,7 @@ impl Machine {
     /// The program's requests and bytes go to `feed` and `sink` as they come, and nothing is asked for ahead. A stop
     /// other than `Halt` and `Wait` stands: each further step answers it and changes nothing. After `Halt` and `Wait` a
     /// further step goes on behind them. It takes no memory.
+    #[inline(always)]
     pub fn step<F: Feed, S: Sink>(&mut self, feed: &mut F, sink: &mut S) -> Turn
         ensures { Does (step self.old)
             (both (F.text feed.old) (F.faults feed.old) (S.text sink.old) (S.faults sink.old))
@@ -31,6 +32,7 @@ impl Machine {
 
     // Reads the word at the program counter and executes its instruction.
     #[tactic(auto, using(crate::proofs::Dialogues::with_both), unfolding(crate::specs::Steps::instruction))]
+    #[inline(always)]
     fn instruction<F: Feed, S: Sink>(&mut self, feed: &mut F, sink: &mut S) -> Result<Ending, Abort>
         ensures { Does (instruction self.old)
             (both (F.text feed.old) (F.faults feed.old) (S.text sink.old) (S.faults sink.old))
@@ -43,6 +45,7 @@ impl Machine {
 
     // What an instruction comes to: the next one follows, a trap is made, or the machine stops.
     #[tactic(auto, using(crate::proofs::Dialogues::dialogues), unfolding(crate::specs::Steps::turned))]
+    #[inline(always)]
     fn turned<S: Sink>(&mut self, ending: Result<Ending, Abort>, sink: &mut S) -> Turn
         ensures { Does (turned ending self.old) (output_alone (S.text sink.old) (S.faults sink.old))
             (output_alone (S.text sink.new) (S.faults sink.new)) (result, self.new) }
@@ -59,6 +62,7 @@ impl Machine {
 
     // An instruction that has come to its end is followed by a trace trap where T is set.
     #[tactic(auto, using(crate::proofs::Dialogues::dialogues), unfolding(crate::specs::Steps::ended))]
+    #[inline(always)]
     fn ended<S: Sink>(&mut self, sink: &mut S) -> Turn
         ensures { Does (ended self.old) (output_alone (S.text sink.old) (S.faults sink.old))
             (output_alone (S.text sink.new) (S.faults sink.new)) (result, self.new) }

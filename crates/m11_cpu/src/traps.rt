@@ -14,6 +14,8 @@ use m11_base::{Register, Sink};
 impl Machine {
     /// A trap: the processor status and the program counter are pushed, and then loaded from the vector. Where they
     /// can't be pushed, the machine stops.
+    #[cold]
+    #[inline(never)]
     pub(crate) fn trap<S: Sink>(&mut self, vector: Vector, sink: &mut S) -> Turn
         ensures { Does (trap vector self.old) (output_alone (S.text sink.old) (S.faults sink.old))
             (output_alone (S.text sink.new) (S.faults sink.new)) (result, self.new) }
