@@ -159,6 +159,14 @@ fn width_of(relocation: &Relocation) -> usize
     }
 }
 
+/// Whether all bytes that a relocation stores lie within a text of so many bytes. The first has the displacement 4.
+pub fn lies_within(relocation: &Relocation, count: usize) -> bool
+    ensures { result ≡ lies_within relocation.now count }
+{
+    let place = usize::from(relocation.displacement);
+    place >= 4 && place + width_of(relocation) - 4 <= count
+}
+
 // The place of a relocation has to lie within the text before it.
 fn check_place(relocation: &Relocation, text: Option<usize>) -> Result<(), ModuleFault>
     ensures { result ≡ answered (place_fault relocation.now text) }
@@ -166,11 +174,11 @@ fn check_place(relocation: &Relocation, text: Option<usize>) -> Result<(), Modul
     let Some(count) = text else {
         return Err(ModuleFault::NoText);
     };
-    let place = usize::from(relocation.displacement);
-    if place < 4 || place + width_of(relocation) - 4 > count {
-        return Err(ModuleFault::BadDisplacement);
+    if lies_within(relocation, count) {
+        Ok(())
+    } else {
+        Err(ModuleFault::BadDisplacement)
     }
-    Ok(())
 }
 
 // What is stored has to be known, or there has to be room for its name.

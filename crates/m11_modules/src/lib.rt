@@ -9,6 +9,7 @@ mod names;
 mod rules;
 mod stage;
 
+pub use checks::lies_within;
 pub use fault::ModuleFault;
 pub use laws::{files_are_in_order, ordered_records_are_files};
 pub use names::absolute_section;
