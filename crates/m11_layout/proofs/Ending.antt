@@ -1,0 +1,153 @@
+-- The end of the first reading.
+use Rattle.std.proofs.Common.{◌≡◌, ℕ, if◌then◌else◌, List, [], ◌∷◌, ◌++◌, append-nil, Option, Some, None, Result, Ok, Err, refl, sym, subst}
+use Rattle.std.specs.Option.{option_or}
+use Rattle.std.proofs.Math.Seq.{append_snoc}
+use Rattle.m11_modules.specs.declared.fault.ModuleFault.{ModuleFault}
+use Rattle.m11_modules.specs.declared.fault.ModuleFault.TheVariants as rule
+use Rattle.m11_modules.specs.declared.stage.Stage.{Stage}
+use Rattle.m11_modules.specs.declared.stage.Stage.TheVariants.{Between, InDirectory, InBody}
+use Rattle.m11_modules.specs.Parts.{Part, EndOfFile}
+use Rattle.m11_modules.specs.Places.{known_of}
+use Rattle.m11_modules.specs.Rules.{fault_known, fault_of, first_fault, may_stand}
+use Rattle.m11_layout.specs.Faults.{of_module}
+use Rattle.m11_layout.specs.Gathering.{Gathered, gathered_behind, gathered_behind_all, nothing_gathered}
+use Rattle.m11_layout.specs.Planning.{Ends, IsPlan, Places, Planned, Plans, bases_onto}
+use Rattle.m11_layout.specs.Reading.{FirstFault, Reading, Stands}
+use Rattle.m11_layout.specs.declared.fault.LinkFault.{LinkFault}
+use Rattle.m11_layout.specs.declared.fault.LinkFault.TheVariants as fault
+use Rattle.m11_layout.proofs.PlansOfParts.{plan_is, too_large_is}
+use Rattle.m11_layout.proofs.Standing.{gathered_append}
+use Rattle.m11_layout.proofs.Walking.{head_none, rest_none}
+
+-- ---- a plan that isn't made
+
+pub plan_failed : (bottom : ℕ) (gathered : Gathered) (entries new : List ((ℕ × ℕ) × ℕ)) (said : LinkFault) → entries ≡ []
+    → Places (bases_onto entries bottom gathered.sections) new (Err said) → Plans bottom gathered (Err said)
+plan_failed bottom gathered entries new fault.TooLarge e h =
+    let P : List ((ℕ × ℕ) × ℕ) → Type 0 = λ based. bases_onto based bottom gathered.sections ≡ None in subst P e h
+plan_failed bottom gathered entries new fault.NoMemory e h = tt
+plan_failed bottom gathered entries new fault.Read e h = h
+plan_failed bottom gathered entries new (fault.Write output) e h = h
+plan_failed bottom gathered entries new (fault.Block inner) e h = h
+plan_failed bottom gathered entries new (fault.Record inner) e h = h
+plan_failed bottom gathered entries new fault.BadOrder e h = h
+plan_failed bottom gathered entries new fault.NoText e h = h
+plan_failed bottom gathered entries new fault.BadDisplacement e h = h
+plan_failed bottom gathered entries new fault.UnknownSection e h = h
+plan_failed bottom gathered entries new fault.TooManyGlobals e h = h
+plan_failed bottom gathered entries new fault.TooManySections e h = h
+plan_failed bottom gathered entries new fault.TooManyModules e h = h
+plan_failed bottom gathered entries new fault.TooMuch e h = h
+plan_failed bottom gathered entries new fault.TextOutside e h = h
+
+-- ---- behind the end of the last file
+
+end_sound : (done before : List Part) → first_fault done (before ++ EndOfFile ∷ []) ≡ None → fault_of (done ++ before) EndOfFile ≡ None
+unfolding first_fault
+end_sound done [] e =
+    let P : List Part → Type 0 = λ all. fault_of all EndOfFile ≡ None in
+    subst P (sym (append-nil done)) (head_none (fault_of done EndOfFile) None e)
+end_sound done (part ∷ before) e =
+    let P : List Part → Type 0 = λ all. fault_of all EndOfFile ≡ None in
+    subst P (append_snoc done part before) (end_sound (done ++ part ∷ []) before
+    (rest_none (fault_of done part) (first_fault (done ++ part ∷ []) (before ++ EndOfFile ∷ [])) e))
+
+rest_sound : (done before : List Part) → first_fault done (before ++ EndOfFile ∷ []) ≡ None → first_fault done before ≡ None
+unfolding first_fault
+rest_sound done [] e = refl
+rest_sound done (part ∷ before) e =
+    let rest = first_fault (done ++ part ∷ []) (before ++ EndOfFile ∷ []) in
+    let first = head_none (fault_of done part) rest e in
+    let P : Option ModuleFault → Type 0 = λ o. option_or o (first_fault (done ++ part ∷ []) before) ≡ None in
+    subst P (sym first) (rest_sound (done ++ part ∷ []) before (rest_none (fault_of done part) rest e))
+
+nothing_more : (bottom : ℕ) (before : List Part)
+    → gathered_behind_all bottom nothing_gathered (before ++ EndOfFile ∷ []) ≡ gathered_behind_all bottom nothing_gathered before
+unfolding gathered_behind
+nothing_more bottom before = gathered_append bottom nothing_gathered before (EndOfFile ∷ [])
+
+planned : (bottom : ℕ) (before : List Part) (reading : Reading) (plan : Planned) → Stands bottom (before ++ EndOfFile ∷ []) reading
+    → Plans reading.bottom reading.gathered (Ok plan) → IsPlan bottom before plan
+planned bottom before reading plan s h =
+    let P : Gathered → Type 0 = λ g. plan.gathered ≡ g in
+    let Q : ℕ → Type 0 = λ n. plan.bottom ≡ n in
+    let R : Gathered → Type 0 = λ g. bases_onto [] reading.bottom g.sections ≡ Some (record { bases = plan.bases; top = plan.top }) in
+    let S : ℕ → Type 0 = λ n. bases_onto [] n plan.gathered.sections ≡ Some (record { bases = plan.bases; top = plan.top }) in
+    record {
+      gathered = subst P (nothing_more bottom before) (subst P s.gathered h.0);
+      bases = subst S s.bottom_is (subst R (sym h.0) h.2);
+      bottom_is = subst Q s.bottom_is h.1;
+    }
+
+too_large : (bottom : ℕ) (before : List Part) (reading : Reading) → Stands bottom (before ++ EndOfFile ∷ []) reading
+    → bases_onto [] reading.bottom reading.gathered.sections ≡ None
+    → bases_onto [] bottom (gathered_behind_all bottom nothing_gathered before).sections ≡ None
+too_large bottom before reading s h =
+    let P : Gathered → Type 0 = λ g. bases_onto [] bottom g.sections ≡ None in
+    let S : ℕ → Type 0 = λ n. bases_onto [] n reading.gathered.sections ≡ None in
+    subst P (nothing_more bottom before) (subst P s.gathered (subst S s.bottom_is h))
+
+-- the plan behind the end of the last file
+pub ended : (bottom : ℕ) (before : List Part) (reading : Reading) (result : Result Planned LinkFault)
+    → Stands bottom (before ++ EndOfFile ∷ []) reading → Plans reading.bottom reading.gathered result → Ends bottom before result
+ended bottom before reading (Ok plan) s h =
+    (end_sound [] before s.sound, plan_is bottom before plan (rest_sound [] before s.sound) (planned bottom before reading plan s h))
+ended bottom before reading (Err fault.TooLarge) s h =
+    (end_sound [] before s.sound, too_large_is bottom before (rest_sound [] before s.sound) (too_large bottom before reading s h))
+ended bottom before reading (Err fault.NoMemory) s h = tt
+ended bottom before reading (Err fault.Read) s h = absurd h
+ended bottom before reading (Err (fault.Write output)) s h = absurd h
+ended bottom before reading (Err (fault.Block inner)) s h = absurd h
+ended bottom before reading (Err (fault.Record inner)) s h = absurd h
+ended bottom before reading (Err fault.BadOrder) s h = absurd h
+ended bottom before reading (Err fault.NoText) s h = absurd h
+ended bottom before reading (Err fault.BadDisplacement) s h = absurd h
+ended bottom before reading (Err fault.UnknownSection) s h = absurd h
+ended bottom before reading (Err fault.TooManyGlobals) s h = absurd h
+ended bottom before reading (Err fault.TooManySections) s h = absurd h
+ended bottom before reading (Err fault.TooManyModules) s h = absurd h
+ended bottom before reading (Err fault.TooMuch) s h = absurd h
+ended bottom before reading (Err fault.TextOutside) s h = absurd h
+
+pub ended_seen : {seen : Reading} (bottom : ℕ) (before : List Part) (reading : Reading) (result : Result Planned LinkFault) → seen ≡ reading
+    → Stands bottom (before ++ EndOfFile ∷ []) reading → Plans seen.bottom seen.gathered result → Ends bottom before result
+ended_seen {seen} bottom before reading result is s h =
+    let P : Reading → Type 0 = λ r. Stands bottom (before ++ EndOfFile ∷ []) r in ended bottom before seen result (subst P (sym is) s) h
+
+-- ---- an end inside a module
+
+inside : (stage : Stage) (said : ModuleFault) → option_or (if may_stand EndOfFile stage then None else Some rule.BadOrder) None ≡ Some said
+    → (said ≡ rule.BadOrder) × ((if may_stand EndOfFile stage then None else Some rule.BadOrder) ≡ Some rule.BadOrder)
+inside Between said e = search
+inside InDirectory said e = (search, refl)
+inside InBody said e = (search, refl)
+
+end_fault : (before : List Part) (said : ModuleFault) → first_fault before (EndOfFile ∷ []) ≡ Some said
+    → (said ≡ rule.BadOrder) × (fault_of before EndOfFile ≡ Some rule.BadOrder)
+unfolding first_fault fault_known
+end_fault before said e = inside (known_of before).stage said e
+
+ends_inside : (bottom : ℕ) (before : List Part) (told : LinkFault) (said : ModuleFault)
+    → first_fault before (EndOfFile ∷ []) ≡ Some said → told ≡ of_module said → Ends bottom before (Err told)
+ends_inside bottom before told said e t =
+    let f = end_fault before said e in
+    let P : ModuleFault → Type 0 = λ m. told ≡ of_module m in
+    let Q : LinkFault → Type 0 = λ l. Ends bottom before (Err l) in
+    subst Q (sym (subst P f.0 t)) f.1
+
+pub end_refused : (bottom : ℕ) (before : List Part) (told : LinkFault) → FirstFault before (EndOfFile ∷ []) told → Ends bottom before (Err told)
+end_refused bottom before fault.NoMemory h = tt
+end_refused bottom before fault.TooLarge h = ends_inside bottom before fault.TooLarge h.0 h.1 h.2
+end_refused bottom before fault.Read h = ends_inside bottom before fault.Read h.0 h.1 h.2
+end_refused bottom before (fault.Write output) h = ends_inside bottom before (fault.Write output) h.0 h.1 h.2
+end_refused bottom before (fault.Block inner) h = ends_inside bottom before (fault.Block inner) h.0 h.1 h.2
+end_refused bottom before (fault.Record inner) h = ends_inside bottom before (fault.Record inner) h.0 h.1 h.2
+end_refused bottom before fault.BadOrder h = ends_inside bottom before fault.BadOrder h.0 h.1 h.2
+end_refused bottom before fault.NoText h = ends_inside bottom before fault.NoText h.0 h.1 h.2
+end_refused bottom before fault.BadDisplacement h = ends_inside bottom before fault.BadDisplacement h.0 h.1 h.2
+end_refused bottom before fault.UnknownSection h = ends_inside bottom before fault.UnknownSection h.0 h.1 h.2
+end_refused bottom before fault.TooManyGlobals h = ends_inside bottom before fault.TooManyGlobals h.0 h.1 h.2
+end_refused bottom before fault.TooManySections h = ends_inside bottom before fault.TooManySections h.0 h.1 h.2
+end_refused bottom before fault.TooManyModules h = ends_inside bottom before fault.TooManyModules h.0 h.1 h.2
+end_refused bottom before fault.TooMuch h = ends_inside bottom before fault.TooMuch h.0 h.1 h.2
+end_refused bottom before fault.TextOutside h = ends_inside bottom before fault.TextOutside h.0 h.1 h.2

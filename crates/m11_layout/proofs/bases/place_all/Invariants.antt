@@ -1,0 +1,7 @@
+use Rattle.std.proofs.Common.{◌≡◌, drop}
+use Rattle.m11_layout.specs.Planning.{bases_onto}
+use Rattle.m11_layout.proofs.bases.place_all.Given as goal
+
+abbrev pub invariant-sections : goal.invariant-sections
+invariant-sections l = bases_onto l.bases.entries l.next (drop l.index l.tables.sections)
+    ≡ bases_onto l.initial.bases.entries l.bottom l.tables.sections

@@ -1,0 +1,110 @@
+-- Globals: where each is defined, and how it is referred to. (RT-11 Volume and File Formats Manual, "Object file
+-- format", GSD and RLD blocks. Weak references are this project's own: bit 001 of an entry that defines nothing.)
+use Rattle.std.specs.Prelude.{ℕ, ◌+◌, ◌%◌, map, option_map, Bool, ◌&&◌, not, List, [], ◌∷◌, Option, Some, None, if◌then◌else◌}
+use Rattle.std.specs.List.{filter_map, list_any}
+use Rattle.std.specs.Map.{keys_of, lookup}
+use Rattle.m11_obj.specs.declared.gsd.GsdEntry.{GsdEntry}
+use Rattle.m11_obj.specs.declared.gsd.GsdKind.{GsdKind}
+use Rattle.m11_obj.specs.declared.gsd.GsdKind.TheVariants.{GlobalSymbol}
+use Rattle.m11_modules.specs.Names.{is_name, is_among}
+use Rattle.m11_modules.specs.Parts.{Part, Entry, Relocated}
+use Rattle.m11_modules.specs.Places.{distinct, this_module, modules_in, sections_in, global_of}
+use Rattle.m11_modules.specs.Rules.{has_bits, defines}
+use Rattle.m11_layout.specs.Modules.{told_behind}
+use Rattle.m11_layout.specs.Sections.{module_base}
+use Rattle.m11_layout.specs.declared.definition.Definition.{Definition}
+use Rattle.m11_layout.specs.declared.definition.GlobalPlace.{GlobalPlace}
+use Rattle.m11_layout.specs.declared.definition.GlobalPlace.TheVariants.{Absolute, In}
+
+-- ---- definitions
+
+abbrev pub last_of : {X : Type 0} → List X → Option X
+last_of [] = None
+last_of (x ∷ []) = Some x
+last_of (x ∷ y ∷ xs) = last_of (y ∷ xs)
+
+-- the section that a module entered last
+unfoldable pub last_section : List Part → Option (ℕ × ℕ)
+last_section parts = last_of (keys_of (sections_in parts))
+
+-- a relocatable symbol stands in the section that its module entered last, octal 40 being its bit
+abbrev pub place_in : Option (ℕ × ℕ) → ℕ → GlobalPlace
+place_in None value = Absolute value
+place_in (Some section) value = In section value
+
+abbrev pub place_of : Option (ℕ × ℕ) → GsdEntry → GlobalPlace
+place_of section entry = if has_bits 32 entry.flags then place_in section entry.value else Absolute entry.value
+
+abbrev pub definition_by : GsdKind → GsdEntry → ℕ → Option (ℕ × ℕ) → Option ((ℕ × ℕ) × Definition)
+definition_by GlobalSymbol entry modules section =
+    if defines entry then Some (entry.name, record { module_index = modules; place = place_of section entry }) else None
+definition_by kind entry modules section = None
+
+-- the definition in a part, behind the parts before it
+abbrev pub definition_in : List Part → Part → Option ((ℕ × ℕ) × Definition)
+definition_in before (Entry entry) = definition_by entry.kind entry (modules_in before) (last_section (this_module before))
+definition_in before part = None
+
+-- all definitions, in order
+unfoldable pub definitions_of : List Part → List ((ℕ × ℕ) × Definition)
+definitions_of parts = told_behind definition_in [] parts
+
+-- ---- values
+
+-- what a definition's place is worth: a relocatable one lies behind its module's contribution
+abbrev pub place_value : ℕ → List Part → ℕ → GlobalPlace → ℕ
+place_value bottom parts index (Absolute value) = value
+place_value bottom parts index (In section value) = (module_base bottom parts index section + value) % 0o200000
+
+abbrev pub definition_value : ℕ → List Part → Definition → ℕ
+definition_value bottom parts definition = place_value bottom parts definition.module_index definition.place
+
+-- the first definition of a global
+abbrev pub first_definition : List Part → ℕ × ℕ → Option Definition
+first_definition parts name = lookup (is_name name) (definitions_of parts)
+
+-- its value, where it is defined
+unfoldable pub global_value : ℕ → List Part → ℕ × ℕ → Option ℕ
+global_value bottom parts name = option_map (definition_value bottom parts) (first_definition parts name)
+
+-- ---- references
+
+-- an entry that defines nothing refers; weakly where its bit 001 is set
+abbrev pub weak_by : GsdKind → GsdEntry → Option (ℕ × ℕ)
+weak_by GlobalSymbol entry = if not (defines entry) && has_bits 1 entry.flags then Some entry.name else None
+weak_by kind entry = None
+
+abbrev pub weak_in : Part → Option (ℕ × ℕ)
+weak_in (Entry entry) = weak_by entry.kind entry
+weak_in part = None
+
+-- the names that a module's entries refer to weakly
+unfoldable pub weak_names : List Part → List (ℕ × ℕ)
+weak_names parts = filter_map weak_in parts
+
+-- a reference, and whether it is strong: an entry's by its bit, a relocation's where its module has no weak entry
+abbrev pub reference_by : GsdKind → GsdEntry → Option ((ℕ × ℕ) × Bool)
+reference_by GlobalSymbol entry = if defines entry then None else Some (entry.name, not (has_bits 1 entry.flags))
+reference_by kind entry = None
+
+abbrev pub relocated_reference : List (ℕ × ℕ) → Option (ℕ × ℕ) → Option ((ℕ × ℕ) × Bool)
+relocated_reference weak None = None
+relocated_reference weak (Some name) = Some (name, not (is_among weak name))
+
+abbrev pub reference_in : List Part → Part → Option ((ℕ × ℕ) × Bool)
+reference_in before (Entry entry) = reference_by entry.kind entry
+reference_in before (Relocated relocation) =
+    relocated_reference (weak_names (this_module before)) (global_of relocation.target)
+reference_in before part = None
+
+-- all references, in order
+unfoldable pub references_of : List Part → List ((ℕ × ℕ) × Bool)
+references_of parts = told_behind reference_in [] parts
+
+abbrev pub is_strong_to : ℕ × ℕ → (ℕ × ℕ) × Bool → Bool
+is_strong_to name reference = is_name name reference.0 && reference.1
+
+-- the names that are referred to, in order of first reference, each with whether some reference is strong
+unfoldable pub referred : List Part → List ((ℕ × ℕ) × Bool)
+referred parts =
+    map (λ name. (name, list_any (is_strong_to name) (references_of parts))) (distinct (keys_of (references_of parts)))

@@ -1,0 +1,129 @@
+//! The first reading of a link: what it gathers, record by record.
+
+ghost use Rattle.std.specs.Prelude.{◌≡◌, ◌∷◌, [], ℕ, List, Some, Err};
+ghost use Rattle.m11_modules.specs.Parts.{Part, EndOfFile};
+ghost use Rattle.m11_layout.specs.Planning.{Ends};
+ghost use Rattle.m11_layout.specs.declared.fault.LinkFault.{LinkFault};
+ghost use Rattle.m11_layout.specs.Reading.{FailsAgain, KeepsFault, Stands, TakesBlock, TakesParts};
+
+use crate::fault::LinkFault;
+use crate::plan::{Plan, plan_of};
+use crate::tables::Tables;
+use m11_modules::Rules;
+use m11_obj::{Block, read_record};
+use std::alloc::Global;
+use std::marker::Model;
+
+/// What the blocks of all objects have told so far. It keeps modules, sections and globals, never text.
+#[derive(Drop)]
+pub struct Layout {
+    alloc: Global,
+    rules: Rules,
+    tables: Tables,
+    bottom: u16,
+    fault: Option<LinkFault>,
+}
+
+impl Model for Layout {
+    ghost use Rattle.m11_layout.specs.Reading.{Reading};
+
+    ghost Value = { Reading };
+
+    ghost view = { λ l. record { known = l.rules; gathered = l.tables; bottom = l.bottom; fault = l.fault } };
+}
+
+impl Layout {
+    /// No block came so far; relocatable sections will lie from the bottom on, which may be any address.
+    pub fn new(alloc: Global, bottom: u16) -> Layout
+        ensures { Stands bottom [] result }
+    {
+        Layout {
+            alloc,
+            rules: Rules::new(alloc),
+            tables: Tables::new(alloc),
+            bottom,
+            fault: None,
+        }
+    }
+
+    /// Takes one block.
+    ///
+    /// Faults: `Record` where the block is no record, and then the first fault of its order and its entries. After a
+    /// fault each call answers it again.
+    pub fn block(&mut self, block: &Block) -> Result<(), LinkFault>
+        ensures takes { (bottom : ℕ) (before : List Part) → Stands bottom before self.old
+            → TakesBlock bottom before self.new block.now.items result }
+        ensures again { FailsAgain self.old self.new result }
+        ensures kept { KeepsFault self.new result }
+    {
+        match self.fault {
+            Some(fault) => Err(fault),
+            None => match self.take_block(block) {
+                Ok(()) => Ok(()),
+                Err(fault) => {
+                    self.fault = Some(fault);
+                    Err(fault)
+                }
+            },
+        }
+    }
+
+    /// Takes the end of an object: `BadOrder` inside a module. After a fault it is answered again.
+    pub fn end_file(&mut self) -> Result<(), LinkFault>
+        ensures takes { (bottom : ℕ) (before : List Part) → Stands bottom before self.old
+            → TakesParts bottom before self.new (EndOfFile ∷ []) result }
+        ensures again { FailsAgain self.old self.new result }
+        ensures kept { KeepsFault self.new result }
+    {
+        match self.fault {
+            Some(fault) => Err(fault),
+            None => match self.take_end() {
+                Ok(()) => Ok(()),
+                Err(fault) => {
+                    self.fault = Some(fault);
+                    Err(fault)
+                }
+            },
+        }
+    }
+
+    /// The end of the first reading: what it has found, as a plan for the second.
+    ///
+    /// Faults: the one that came before; `BadOrder` inside a module; then `TooLarge` where a relocatable section ends
+    /// past 160000; `NoMemory` where memory is refused.
+    pub fn end(self) -> Result<Plan, LinkFault>
+        ensures ends { (bottom : ℕ) (before : List Part) → Stands bottom before self → Ends bottom before result }
+        ensures again { (fault : LinkFault) → self.fault ≡ Some fault → result ≡ Err fault }
+    {
+        let mut layout = self;
+        match layout.fault {
+            Some(fault) => Err(fault),
+            None => match layout.take_end() {
+                Ok(()) => plan_of(layout.alloc, layout.bottom, layout.tables),
+                Err(fault) => Err(fault),
+            },
+        }
+    }
+
+    // Takes the end of an object where no fault came before.
+    fn take_end(&mut self) -> Result<(), LinkFault>
+        ensures takes { (bottom : ℕ) (before : List Part) → Stands bottom before self.old
+            → TakesParts bottom before self.new (EndOfFile ∷ []) result }
+        ensures kept { self.new.fault ≡ self.old.fault }
+    {
+        self.rules.end_of_file()?;
+        Ok(())
+    }
+
+    // Takes one block where no fault came before.
+    fn take_block(&mut self, block: &Block) -> Result<(), LinkFault>
+        ensures takes { (bottom : ℕ) (before : List Part) → Stands bottom before self.old
+            → TakesBlock bottom before self.new block.now.items result }
+        ensures kept { self.new.fault ≡ self.old.fault }
+    {
+        let record = read_record(block)?;
+        self.rules.record(&record)?;
+        self.tables.note(self.bottom, &record)?;
+        Ok(())
+    }
+}

@@ -1,0 +1,17 @@
+//! The layout of a link: where the sections of all modules lie, and what their globals are worth. (MACRO-11 Language
+//! Reference Manual, ".PSECT directive"; RT-11 Volume and File Formats Manual, "Object file format".)
+#![tactic(auto)]
+
+mod bases;
+mod definition;
+mod fault;
+mod layout;
+mod plan;
+mod tables;
+
+pub use fault::{LinkFault, LinkOutput};
+pub use layout::Layout;
+pub use plan::Plan;
+
+#[cfg(test)]
+mod tests;
