@@ -1,0 +1,3 @@
+pub mod Bits
+pub mod Lines
+pub mod Storing
