@@ -35,7 +35,8 @@ pub record Gathered : Type 0 where
   -- globals in order of first definition, and in order of first reference with whether one is strong
   pub definitions : List ((ℕ × ℕ) × Definition)
   pub references : List ((ℕ × ℕ) × Bool)
-  -- the first transfer address that is even; and the one that is, should this module still enter `. ABS.` as relocatable
+  -- the first transfer address that is even; and the one that is, should this module still enter `. ABS.` as
+  -- relocatable
   pub transfer : Option Transfer
   pub moved : Option Transfer
 
@@ -55,7 +56,8 @@ is_concatenated attributes = is_relocatable attributes && not (is_overlaid attri
 -- the size behind one more contribution
 abbrev pub joined : ℕ → ℕ → ℕ → ℕ
 joined attributes before size = min size_cap
-    (if is_concatenated attributes then min size_cap before + contributed attributes size else max before (contributed attributes size))
+    (if is_concatenated attributes then min size_cap before + contributed attributes size
+    else max before (contributed attributes size))
 
 abbrev pub flags_of : ℕ → SectionFlags
 flags_of attributes = record { 0 = attributes }
@@ -106,7 +108,8 @@ with_first found (Some pair) =
 
 abbrev pub with_definition : GsdEntry → Gathered → Gathered
 with_definition entry g = record g {
-  definitions = with_first g.definitions (Some (entry.name, record { module_index = length g.names; place = place_of g.section entry }));
+  definitions = with_first g.definitions
+      (Some (entry.name, record { module_index = length g.names; place = place_of g.section entry }));
 }
 
 abbrev pub with_weak : ℕ × ℕ → Gathered → Gathered
@@ -136,7 +139,8 @@ is_relocated (Some total) assumed = is_relocatable total.attributes.0
 -- the section, where the module entered it
 abbrev pub entered_total : Gathered → ℕ × ℕ → Option Total
 entered_total g name =
-    if is_some (lookup (is_contribution (length g.names, name)) g.contributions) then lookup (is_name name) g.sections else None
+    if is_some (lookup (is_contribution (length g.names, name)) g.contributions)
+    then lookup (is_name name) g.sections else None
 
 abbrev pub transfer_behind : Option Transfer → Bool → Transfer → Option Transfer
 transfer_behind (Some transfer) is_even other = Some transfer

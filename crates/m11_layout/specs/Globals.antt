@@ -42,7 +42,8 @@ definition_by kind entry modules section = None
 
 -- the definition in a part, behind the parts before it
 abbrev pub definition_in : List Part → Part → Option ((ℕ × ℕ) × Definition)
-definition_in before (Entry entry) = definition_by entry.kind entry (modules_in before) (last_section (this_module before))
+definition_in before (Entry entry) =
+    definition_by entry.kind entry (modules_in before) (last_section (this_module before))
 definition_in before part = None
 
 -- all definitions, in order

@@ -67,8 +67,8 @@ greatest (size ∷ sizes) = max size (greatest sizes)
 -- greatest as it is
 abbrev pub total : ℕ → List ℕ → ℕ
 total attributes sizes =
-    if is_relocatable attributes then (if is_overlaid attributes then greatest (map rounded sizes) else sum (map rounded sizes))
-    else greatest sizes
+    if is_relocatable attributes
+    then (if is_overlaid attributes then greatest (map rounded sizes) else sum (map rounded sizes)) else greatest sizes
 
 unfoldable pub section_size : List Part → ℕ × ℕ → ℕ
 section_size parts name = total (first_attributes parts name) (sizes_of parts name)
@@ -86,7 +86,8 @@ names_before name (other ∷ others) = if is_name name other then [] else other 
 -- relocatable sections lie from the bottom on, in the order of their first entries; absolute ones at 0
 unfoldable pub section_base : ℕ → List Part → ℕ × ℕ → ℕ
 section_base bottom parts name =
-    if is_relocatable (first_attributes parts name) then bottom + sum_by (room_of parts) (names_before name (section_names parts)) else 0
+    if is_relocatable (first_attributes parts name)
+    then bottom + sum_by (room_of parts) (names_before name (section_names parts)) else 0
 
 -- the first address behind the relocatable sections
 unfoldable pub top : ℕ → List Part → ℕ

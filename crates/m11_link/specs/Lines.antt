@@ -57,7 +57,8 @@ attributes_text attributes = access_text attributes ++ content_text attributes +
     ++ relocation_text attributes ++ allocation_text attributes ++ saved_text attributes
 
 abbrev pub columns : ℕ × ℕ → ℕ → ℕ → List ℕ
-columns name first second = ((((name_text name ++ 32 ∷ []) ++ octal_text first) ++ 32 ∷ []) ++ octal_text second) ++ 32 ∷ []
+columns name first second =
+    ((((name_text name ++ 32 ∷ []) ++ octal_text first) ++ 32 ∷ []) ++ octal_text second) ++ 32 ∷ []
 
 -- a section: its name, base, size and attributes
 abbrev pub section_line : ℕ × ℕ → ℕ → ℕ → ℕ → List ℕ

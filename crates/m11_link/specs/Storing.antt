@@ -56,7 +56,8 @@ abbrev pub stored_bytes : Planned → ℕ → ℕ → ℕ → Bool → Target �
 stored_bytes plan module_index own location is_byte target.ProgramLimits = word_bytes plan.bottom ++ word_bytes plan.top
 stored_bytes plan module_index own location is_byte (target.LocationCounterDefinition name constant) = []
 stored_bytes plan module_index own location is_byte (target.LocationCounterModification constant) = []
-stored_bytes plan module_index own location is_byte other = value_bytes is_byte (value_of plan module_index own location other)
+stored_bytes plan module_index own location is_byte other =
+    value_bytes is_byte (value_of plan module_index own location other)
 
 -- ---- where
 
@@ -67,6 +68,8 @@ replaced text index bytes = take index text ++ bytes ++ drop (index + length byt
 -- a text that stands at an address, behind this base, with a relocation: its first byte has the displacement 4. One
 -- that doesn't lie within the text, which is refused before, changes nothing
 abbrev pub relocated : Planned → ℕ → ℕ → ℕ → Relocation → List ℕ → List ℕ
-relocated plan module_index own address relocation text = if lies_within relocation (length text) then replaced text (relocation.displacement - 4)
-    (stored_bytes plan module_index own (modulo (address + (relocation.displacement - 4))) relocation.is_byte relocation.target)
-    else text
+relocated plan module_index own address relocation text =
+    let index = relocation.displacement - 4 in
+    let location = modulo (address + index) in
+    let bytes = stored_bytes plan module_index own location relocation.is_byte relocation.target in
+    if lies_within relocation (length text) then replaced text index bytes else text

@@ -123,9 +123,9 @@ fn replace(text: &mut [u8], index: usize, bytes: &[u8])
     text[index..index + bytes.len()].copy_from_slice(bytes);
 }
 
-/// Puts what a relocation stores into its text, which stands at this address in the module of this index; `base` is that
-/// of the text's section in the module. What stood there is replaced. A relocation that doesn't lie within its text
-/// changes nothing.
+/// Puts what a relocation stores into its text, which stands at this address in the module of this index; `base` is
+/// that of the text's section in the module. What stood there is replaced. A relocation that doesn't lie within its
+/// text changes nothing.
 pub fn relocate(
     plan: &Plan,
     module_index: usize,
