@@ -33,7 +33,7 @@ pub(crate) struct Tables {
     definitions: IndexMap<Name, Definition>,
     references: IndexMap<Name, bool>,
     transfer: Option<Transfer>,
-    // The same if this module enters `. ABS.` yet as relocatable, which its transfer entries so far can't know.
+    // The same, should this module still enter `. ABS.` as relocatable, which its entries so far don't tell.
     moved: Option<Transfer>,
 }
 
