@@ -9,12 +9,13 @@ use Rattle.indexmap.specs.IndexMap.{insert_entry}
 use Rattle.m11_modules.specs.Names.{is_name}
 use Rattle.m11_modules.specs.Parts.{Part}
 use Rattle.m11_modules.specs.Places.{section_names}
-use Rattle.m11_layout.specs.Gathering.{flags_of, size_cap}
-use Rattle.m11_layout.specs.Planning.{Bases, bases_onto, sections_of}
-use Rattle.m11_layout.specs.Sections.{first_attributes, is_relocatable, is_too_large, names_before, section_base, section_size, top}
+use Rattle.m11_layout.specs.Gathering.{size_cap}
+use Rattle.m11_layout.specs.Planning.{Bases, bases_onto}
+use Rattle.m11_layout.specs.Sections.{first_attributes, flags_of, is_relocatable, is_too_large, names_before, section_base, section_size, top}
 use Rattle.m11_layout.specs.declared.definition.Total.{Total}
 use Rattle.m11_layout.proofs.Finding.{neither, Apart, is_name_itself, is_name_same, turned}
 use Rattle.m11_layout.proofs.ModulesOfParts.{add_zero}
+use Rattle.m11_layout.proofs.Sizing.{totals_in}
 
 abbrev Name : Type 0
 Name = ℕ × ℕ
@@ -145,11 +146,11 @@ module _ (attributes size : Name → ℕ) (bottom : ℕ) (all : List Name) where
 
 -- the bases of the sections of some parts
 pub bases_placed : (bottom : ℕ) (parts : List Part) → Apart is_name (section_names parts)
-    → bases_onto [] bottom (sections_of parts) ≡ (if is_too_large bottom parts then None
+    → bases_onto [] bottom (totals_in parts) ≡ (if is_too_large bottom parts then None
     else Some (record { bases = map (λ name. (name, section_base bottom parts name)) (section_names parts); top = top bottom parts }))
 unfolding is_too_large section_base section_size first_attributes top
 bases_placed bottom parts d =
     let all = section_names parts in
-    let P : ℕ → Type 0 = λ n. bases_onto [] n (sections_of parts) ≡ (if is_too_large bottom parts then None
+    let P : ℕ → Type 0 = λ n. bases_onto [] n (totals_in parts) ≡ (if is_too_large bottom parts then None
     else Some (record { bases = map (λ name. (name, section_base bottom parts name)) all; top = top bottom parts })) in
     subst P (add_zero bottom) (bases_walked (first_attributes parts) (section_size parts) bottom all [] all refl d)

@@ -1,6 +1,6 @@
 -- Look-ups in lists of pairs, and names that stand in a list once.
-use Rattle.std.proofs.Common.{◌≡◌, ℕ, ◌==◌, ◌&&◌, Bool, true, false, cond, ◌||◌, if◌then◌else◌, List, [], ◌∷◌, ◌++◌, map, Option, Some, refl, sym, ap, ◌∙◌, subst, true≢false, arith}
-use Rattle.std.specs.List.{list_any}
+use Rattle.std.proofs.Common.{◌≡◌, ℕ, ◌==◌, ◌&&◌, Bool, true, false, cond, ◌||◌, if◌then◌else◌, List, [], ◌∷◌, ◌++◌, map, option_map, Option, Some, refl, sym, ap, ◌∙◌, subst, true≢false, arith}
+use Rattle.std.specs.List.{cons_option, filter_map, list_any}
 use Rattle.std.specs.Map.{keys_of, lookup}
 use Rattle.std.specs.Option.{option_or}
 use Rattle.std.proofs.lemmas.Bool.Decides.{nat_tests}
@@ -8,6 +8,7 @@ use Rattle.std.proofs.lemmas.List.Folds.{list_any-append}
 use Rattle.indexmap.specs.IndexMap.{insert_entry}
 use Rattle.indexmap.specs.IndexSet.{insert_key}
 use Rattle.m11_modules.specs.Names.{is_name}
+use Rattle.m11_modules.specs.Places.{distinct, distinct_behind}
 use Rattle.m11_layout.specs.Gathering.{is_contribution}
 
 -- ---- two names are one where the test says so
@@ -72,7 +73,7 @@ neither false c e = (refl, e)
 same_some : {X : Type 0} (x y : X) → Some x ≡ Some y → x ≡ y
 same_some x y e = cc
 
-or_true : (b c : Bool) → c ≡ true → (b || c) ≡ true
+pub or_true : (b c : Bool) → c ≡ true → (b || c) ≡ true
 or_true true c e = refl
 or_true false c e = e
 
@@ -138,3 +139,34 @@ module _ {K : Type 0} (eq : K → K → Bool) (same : (x y : K) → eq x y ≡ t
       let first = same_some e.1 (f e.0) (subst Q (itself e.0) (h e.0 (subst P (sym (itself e.0)) refl))) in
       let rest = pairs_found f es d.1 (λ q t. found_behind f e es q (eq q e.0) refl d.0 t (h q (or_true (eq q e.0) (list_any (eq q) (keys_of es)) t))) in
       paired e es (f e.0) (map (λ k. (k, f k)) (keys_of es)) first rest
+
+  found_later : {X : Type 0} (e : K × X) (es : List (K × X)) (q : K) (b : Bool) (found : Option X) → eq q e.0 ≡ b
+      → list_any (eq e.0) (keys_of es) ≡ false → list_any (eq q) (keys_of es) ≡ true
+      → found ≡ cond (eq q e.0) (Some e.1) (lookup (eq q) es) → found ≡ lookup (eq q) es
+  found_later e es q false found t d a h = h ∙ ap (λ b. cond b (Some e.1) (lookup (eq q) es)) t
+  found_later e es q true found t d a h =
+      let P : K → Type 0 = λ k. list_any (eq k) (keys_of es) ≡ true in
+      absurd (true≢false (sym (subst P (same q e.0 t) a) ∙ d))
+
+  -- what is told by name of pairs whose names stand once is what the pairs tell
+  pub each_told : {X Y : Type 0} (tell : K → X → Y) (find : K → Option X) (es : List (K × X)) → Apart eq (keys_of es)
+      → ((q : K) → list_any (eq q) (keys_of es) ≡ true → find q ≡ lookup (eq q) es)
+      → filter_map (λ k. option_map (tell k) (find k)) (keys_of es) ≡ map (λ e. tell e.0 e.1) es
+  each_told tell find [] d h = refl
+  each_told tell find (e ∷ es) d h =
+      let P : Bool → Type 0 = λ b. (b || list_any (eq e.0) (keys_of es)) ≡ true in
+      let first = h e.0 (subst P (sym (itself e.0)) refl)
+      ∙ ap (λ b. cond b (Some e.1) (lookup (eq e.0) es)) (itself e.0) in
+      let rest = each_told tell find es d.1 (λ q t. found_later e es q (eq q e.0) (find q) refl d.0 t
+      (h q (or_true (eq q e.0) (list_any (eq q) (keys_of es)) t))) in
+      λ j. cons_option (option_map (tell e.0) (first j)) (rest j)
+
+-- names that are told in order of first appearance stand once
+apart_behind : (seen names : List (ℕ × ℕ)) → Apart is_name seen → Apart is_name (distinct_behind seen names)
+apart_behind seen [] d = d
+apart_behind seen (name ∷ names) d =
+    apart_behind (insert_key is_name seen name) names (apart_inserted is_name is_name_same is_name_itself seen name d)
+
+pub apart_distinct : (names : List (ℕ × ℕ)) → Apart is_name (distinct names)
+unfolding distinct
+apart_distinct names = apart_behind [] names tt

@@ -14,6 +14,7 @@ pub mod Offsets
 pub mod OneContribution
 pub mod Placing
 pub mod PlannedBases
+pub mod PlannedLists
 pub mod PlansOfParts
 pub mod ReferenceSteps
 pub mod ReferencesGathered

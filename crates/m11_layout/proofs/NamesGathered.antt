@@ -1,9 +1,9 @@
 -- The names that are gathered are those of the modules.
-use Rattle.std.proofs.Common.{◌≡◌, ℕ, ◌+◌, ◌<◌, nat_eq, nat_lt, Bool, true, false, List, [], ◌∷◌, ◌++◌, get_or, length, append-nil, Option, Some, None, refl, sym, ap, ◌∙◌, subst, arith}
+use Rattle.std.proofs.Common.{◌≡◌, ℕ, ◌+◌, ◌<◌, ◌≤◌, nat_eq, nat_lt, Bool, true, false, if◌then◌else◌, List, [], ◌∷◌, ◌++◌, get_or, length, append-nil, Option, Some, None, refl, sym, ap, ◌∙◌, subst, arith}
 use Rattle.std.specs.List.{cons_option, filter_map}
 use Rattle.std.specs.Option.{option_or, unwrap_or}
 use Rattle.std.proofs.lemmas.Bool.Decides.{nat_tests}
-use Rattle.std.proofs.lemmas.List.{get_or_append_left, get_or_push, length_push}
+use Rattle.std.proofs.lemmas.List.{get_or_append_left, get_or_past, get_or_push, length_push}
 use Rattle.std.proofs.lemmas.List.Elements.{filter_map-append}
 use Rattle.m11_obj.specs.declared.gsd.GsdEntry.{GsdEntry}
 use Rattle.m11_obj.specs.declared.gsd.GsdKind.{GsdKind}
@@ -12,7 +12,7 @@ use Rattle.m11_modules.specs.Parts.{Part, Directory, Entry, EndOfDirectory, Text
 use Rattle.m11_modules.specs.Places.{ends_module, global_of, modules_in, this_module}
 use Rattle.m11_modules.proofs.KnownBehind.{this_module_ended, this_module_goes_on}
 use Rattle.m11_layout.specs.Gathering.{Gathered, gathered_behind, nothing_gathered, with_entry, with_relocated}
-use Rattle.m11_layout.specs.Modules.{first_of, module_at, module_name, name_by, name_in, name_told}
+use Rattle.m11_layout.specs.Modules.{first_of, module_at, module_name, name_at, name_by, name_in, name_told}
 use Rattle.m11_layout.proofs.Keeping.{relocated_keeps, symbol_keeps}
 use Rattle.m11_layout.proofs.ModulesOfParts.{add_zero, one_ended, module_more, modules_are, modules_more, where_true}
 use Rattle.m11_layout.proofs.Sizing.{or_none}
@@ -142,3 +142,18 @@ below_none index h = omega arith
 pub names_none : NamesOf [] nothing_gathered.names nothing_gathered.name
 unfolding modules_in name_told this_module
 names_none = record { count = refl; told = refl; each = λ index h. absurd (below_none index h) }
+
+-- ---- the name of any index
+
+named : (before : List Part) (names : List (ℕ × ℕ)) (name : Option (ℕ × ℕ)) (index : ℕ) (b : Bool)
+    → nat_lt index (modules_in before) ≡ b → NamesOf before names name
+    → get_or names index (0, 0) ≡ (if b then module_name (module_at before index) else (0, 0))
+named before names name index true t n =
+    let below : index < modules_in before = grind (arith, nat_tests) in n.each index below
+named before names name index false t n =
+    let past : modules_in before ≤ index = grind (arith, nat_tests) in
+    let P : ℕ → Type 0 = λ k. k ≤ index in get_or_past names index (0, 0) (subst P (sym n.count) past)
+
+pub names_are : (before : List Part) (names : List (ℕ × ℕ)) (name : Option (ℕ × ℕ)) (index : ℕ)
+    → NamesOf before names name → get_or names index (0, 0) ≡ name_at before index
+names_are before names name index n = named before names name index (nat_lt index (modules_in before)) refl n

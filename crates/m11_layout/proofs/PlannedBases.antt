@@ -47,7 +47,7 @@ none_high test (first ∷ names) name n t = by (test first) (is_name name first)
     by false true e f n t h = ap test (is_name_same name first f) ∙ e
     by false false e f n t h = h n t
 
-found_mapped : (value : ℕ × ℕ → ℕ) (names : List (ℕ × ℕ)) (name : ℕ × ℕ) → list_any (is_name name) names ≡ true
+pub found_mapped : (value : ℕ × ℕ → ℕ) (names : List (ℕ × ℕ)) (name : ℕ × ℕ) → list_any (is_name name) names ≡ true
     → lookup (is_name name) (map (λ n. (n, value n)) names) ≡ Some (value name)
 found_mapped value [] name t = absurd (true≢false (sym t))
 found_mapped value (first ∷ names) name t = by (is_name name first) refl t (found_mapped value names name)

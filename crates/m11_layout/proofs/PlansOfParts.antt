@@ -7,7 +7,8 @@ use Rattle.m11_modules.specs.Places.{known_of, section_names, this_module}
 use Rattle.m11_modules.specs.Rules.{fault_of, first_fault}
 use Rattle.m11_layout.specs.Gathering.{Gathered, gathered_behind, gathered_behind_all, nothing_gathered}
 use Rattle.m11_layout.specs.Globals.{definition_value, first_definition, global_value, last_section, place_value}
-use Rattle.m11_layout.specs.Planning.{Bases, IsPlan, IsPlanOf, Planned, bases_onto, defined_value, planned_base, planned_value, value_at}
+use Rattle.m11_layout.specs.Modules.{name_at}
+use Rattle.m11_layout.specs.Planning.{Bases, IsPlan, IsPlanOf, Planned, bases_onto, defined_value, planned_base, planned_module, planned_value, value_at}
 use Rattle.m11_layout.specs.Sections.{is_too_large, module_base, top}
 use Rattle.m11_layout.specs.declared.definition.Definition.{Definition}
 use Rattle.m11_layout.specs.declared.definition.GlobalPlace.{GlobalPlace}
@@ -18,8 +19,9 @@ use Rattle.m11_layout.proofs.ContributionsGathered.{ContributionsOf, contributio
 use Rattle.m11_layout.proofs.DefinitionsGathered.{DefinitionsOf, definitions_none, definitions_step}
 use Rattle.m11_layout.proofs.LastSections.{section_none, section_step}
 use Rattle.m11_layout.proofs.Finding.{Apart}
-use Rattle.m11_layout.proofs.NamesGathered.{NamesOf, names_none, names_step}
+use Rattle.m11_layout.proofs.NamesGathered.{NamesOf, names_are, names_none, names_step}
 use Rattle.m11_layout.proofs.PlannedBases.{base_planned, bases_of}
+use Rattle.m11_layout.proofs.PlannedLists.{attributes_are, globals_listed, sections_listed}
 use Rattle.m11_layout.proofs.ReferenceSteps.{ReferencesOf, references_are, references_none, references_step}
 use Rattle.m11_layout.proofs.SectionsGathered.{SectionsOf, sections_are, sections_none, sections_step}
 use Rattle.m11_layout.proofs.TransferPlanned.{TransfersIn, transfer_planned, transfers_none, transfers_step}
@@ -121,15 +123,19 @@ plan_is bottom parts plan n is =
     (sym (bases_are bottom parts plan.gathered.sections means.sections) ∙ is.bases) in
     let bases : HasBases bottom parts plan = λ index name.
     base_planned bottom parts plan index name means.sections means.contributions (ap (λ these. these.bases) placed.1) placed.0 in
+    let names : (index : ℕ) → planned_module plan index ≡ name_at parts index = λ index.
+    names_are parts plan.gathered.names plan.gathered.name index means.names in
     record {
       fits = placed.0;
       bases = bases;
       values = λ name. value_is bottom parts plan name bases means.definitions;
       transfer = transfer_planned bottom parts plan means.names.count means.sections means.contributions means.transfers bases;
-      sections = sections_are parts plan.gathered.sections means.sections;
+      sections = sections_listed bottom parts plan means.sections (ap (λ these. these.bases) placed.1);
+      globals = globals_listed bottom parts plan means.definitions (λ index place. place_is bottom parts plan index place bases) names;
+      attributes = λ name. attributes_are parts plan name means.sections;
       definitions = means.definitions.found;
       defined = means.definitions.names;
       references = references_are parts plan.gathered.references plan.gathered.weak means.references;
-      names = means.names.each;
+      names = names;
       limits = (is.bottom_is, ap (λ these. these.top) placed.1);
     }

@@ -18,13 +18,12 @@ use Rattle.m11_modules.specs.Rules.{fault_of, first_fault}
 use Rattle.m11_modules.specs.Steps.{known_behind}
 use Rattle.m11_modules.specs.Steps as steps
 use Rattle.m11_modules.proofs.KnownBehind.{known_behind_part}
-use Rattle.m11_layout.specs.Gathering.{Gathered, flags_of, gathered_behind, gathered_behind_all, nothing_gathered, size_cap, total_behind, with_entry}
-use Rattle.m11_layout.specs.Planning.{sections_of, total_in}
-use Rattle.m11_layout.specs.Sections.{attribute_bits, attributes_by, attributes_in, control_attributes, first_attributes, section_size, sizes_of, total}
+use Rattle.m11_layout.specs.Gathering.{Gathered, gathered_behind, gathered_behind_all, nothing_gathered, size_cap, total_behind, with_entry}
+use Rattle.m11_layout.specs.Sections.{attribute_bits, attributes_by, attributes_in, control_attributes, first_attributes, flags_of, section_size, sizes_of, total}
 use Rattle.m11_layout.specs.declared.definition.Total.{Total}
 use Rattle.m11_layout.proofs.Finding.{Apart, apart_inserted, is_name_itself, is_name_same, lookup_inserted, pairs_found}
 use Rattle.m11_layout.proofs.Keeping.{relocated_keeps, symbol_keeps}
-use Rattle.m11_layout.proofs.Sizing.{attributes_found, total_entered, total_from, total_kept, total_of}
+use Rattle.m11_layout.proofs.Sizing.{attributes_found, total_entered, total_from, total_in, total_kept, total_of, totals_in}
 use Rattle.m11_layout.proofs.Walking.{walked}
 
 -- these sections, whose names stand once, are those of the parts
@@ -124,7 +123,7 @@ is_there parts sections name s t =
     s.totals name ∙ there parts name (attributes_found parts name) refl
     (sym (ap is_some (s.totals name)) ∙ is_some-lookup (is_name name) sections ∙ t)
 
-pub sections_are : (parts : List Part) (sections : Sections) → SectionsOf parts sections → sections ≡ sections_of parts
+pub sections_are : (parts : List Part) (sections : Sections) → SectionsOf parts sections → sections ≡ totals_in parts
 unfolding known_of
 sections_are parts sections s =
     pairs_found is_name is_name_same is_name_itself (total_in parts) sections s.apart (λ name t. is_there parts sections name s t)

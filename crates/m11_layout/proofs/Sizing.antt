@@ -12,9 +12,9 @@ use Rattle.m11_obj.specs.declared.gsd.GsdKind.{GsdKind}
 use Rattle.m11_obj.specs.declared.gsd.GsdKind.TheVariants.{ModuleName, ControlSection, InternalSymbol, TransferAddress, GlobalSymbol, ProgramSection, Identification}
 use Rattle.m11_modules.specs.Names.{is_name}
 use Rattle.m11_modules.specs.Parts.{Part, Directory, Entry, EndOfDirectory, Text, Relocations, Relocated, EndOfModule, EndOfFile}
-use Rattle.m11_modules.specs.Places.{section_by, section_in, sections_in}
-use Rattle.m11_layout.specs.Gathering.{flags_of, size_cap, total_behind}
-use Rattle.m11_layout.specs.Sections.{attributes_by, attributes_in, greatest, is_overlaid, is_relocatable, attribute_bits, control_attributes, rounded, size_under, sizes_of, total}
+use Rattle.m11_modules.specs.Places.{section_by, section_in, section_names, sections_in}
+use Rattle.m11_layout.specs.Gathering.{size_cap, total_behind}
+use Rattle.m11_layout.specs.Sections.{attributes_by, attributes_in, first_attributes, flags_of, greatest, is_overlaid, is_relocatable, attribute_bits, control_attributes, rounded, section_size, size_under, sizes_of, total}
 use Rattle.m11_layout.specs.declared.definition.Total.{Total}
 use Rattle.m11_layout.proofs.Finding.{is_name_same, lookup_append}
 
@@ -80,6 +80,15 @@ attributes_found parts name = lookup (is_name name) (filter_map attributes_in pa
 
 abbrev pub total_of : List Part → ℕ × ℕ → Option Total
 total_of parts name = total_from (attributes_found parts name) (sizes_of parts name)
+
+-- the same of a section that is entered
+abbrev pub total_in : List Part → ℕ × ℕ → Total
+total_in parts name =
+    record { attributes = flags_of (first_attributes parts name); size = min size_cap (section_size parts name) }
+
+-- and of all sections, in order of first appearance
+abbrev pub totals_in : List Part → List ((ℕ × ℕ) × Total)
+totals_in parts = map (λ name. (name, total_in parts name)) (section_names parts)
 
 sized : (attributes one other : ℕ) → one ≡ other
     → ◌≡◌ {A = Option Total} (Some (record { attributes = flags_of attributes; size = one })) (Some (record { attributes = flags_of attributes; size = other }))

@@ -6,7 +6,6 @@ use Rattle.std.specs.Map.{lookup}
 use Rattle.std.specs.Option.{is_some, option_or, unwrap_or}
 use Rattle.indexmap.specs.IndexMap.{insert_entry}
 use Rattle.indexmap.specs.IndexSet.{insert_key}
-use Rattle.m11_obj.specs.declared.flags.SectionFlags.{SectionFlags}
 use Rattle.m11_obj.specs.declared.gsd.GsdEntry.{GsdEntry}
 use Rattle.m11_obj.specs.declared.gsd.GsdKind.{GsdKind}
 use Rattle.m11_obj.specs.declared.gsd.GsdKind.TheVariants.{ModuleName, ControlSection, TransferAddress, GlobalSymbol, ProgramSection}
@@ -17,7 +16,7 @@ use Rattle.m11_modules.specs.Rules.{has_bits, defines}
 use Rattle.m11_layout.specs.declared.definition.Definition.{Definition}
 use Rattle.m11_layout.specs.declared.definition.Total.{Total}
 use Rattle.m11_layout.specs.declared.definition.Transfer.{Transfer}
-use Rattle.m11_layout.specs.Sections.{is_relocatable, is_overlaid, rounded, control_attributes, attribute_bits}
+use Rattle.m11_layout.specs.Sections.{is_relocatable, is_overlaid, rounded, control_attributes, attribute_bits, flags_of}
 use Rattle.m11_layout.specs.Transfers.{is_even}
 use Rattle.m11_layout.specs.Globals.{place_of}
 
@@ -58,9 +57,6 @@ abbrev pub joined : ℕ → ℕ → ℕ → ℕ
 joined attributes before size = min size_cap
     (if is_concatenated attributes then min size_cap before + contributed attributes size
     else max before (contributed attributes size))
-
-abbrev pub flags_of : ℕ → SectionFlags
-flags_of attributes = record { 0 = attributes }
 
 -- a section behind one more entry, whose attributes count where it is the first
 abbrev pub total_behind : Option Total → ℕ → ℕ → Total

@@ -1,6 +1,6 @@
 -- Globals: where each is defined, and how it is referred to. (RT-11 Volume and File Formats Manual, "Object file
 -- format", GSD and RLD blocks. Weak references are this project's own: bit 001 of an entry that defines nothing.)
-use Rattle.std.specs.Prelude.{ℕ, ◌+◌, ◌%◌, map, option_map, Bool, ◌&&◌, not, List, [], ◌∷◌, Option, Some, None, if◌then◌else◌}
+use Rattle.std.specs.Prelude.{ℕ, ◌+◌, ◌%◌, map, option_map, Bool, ◌&&◌, not, List, [], ◌∷◌, is_none, Option, Some, None, if◌then◌else◌}
 use Rattle.std.specs.List.{filter_map, list_any}
 use Rattle.std.specs.Map.{keys_of, lookup}
 use Rattle.m11_obj.specs.declared.gsd.GsdEntry.{GsdEntry}
@@ -10,11 +10,12 @@ use Rattle.m11_modules.specs.Names.{is_name, is_among}
 use Rattle.m11_modules.specs.Parts.{Part, Entry, Relocated}
 use Rattle.m11_modules.specs.Places.{distinct, this_module, modules_in, sections_in, global_of}
 use Rattle.m11_modules.specs.Rules.{has_bits, defines}
-use Rattle.m11_layout.specs.Modules.{told_behind}
+use Rattle.m11_layout.specs.Modules.{name_at, told_behind}
 use Rattle.m11_layout.specs.Sections.{module_base}
 use Rattle.m11_layout.specs.declared.definition.Definition.{Definition}
 use Rattle.m11_layout.specs.declared.definition.GlobalPlace.{GlobalPlace}
 use Rattle.m11_layout.specs.declared.definition.GlobalPlace.TheVariants.{Absolute, In}
+use Rattle.m11_layout.specs.declared.planned.PlannedGlobal.{PlannedGlobal}
 
 -- ---- definitions
 
@@ -68,6 +69,21 @@ first_definition parts name = lookup (is_name name) (definitions_of parts)
 unfoldable pub global_value : ℕ → List Part → ℕ × ℕ → Option ℕ
 global_value bottom parts name = option_map (definition_value bottom parts) (first_definition parts name)
 
+abbrev pub global_told : ℕ → List Part → ℕ × ℕ → Definition → PlannedGlobal
+global_told bottom parts name definition = record {
+  name = name;
+  value = definition_value bottom parts definition;
+  module_name = name_at parts definition.module_index;
+}
+
+abbrev pub global_defined : ℕ → List Part → ℕ × ℕ → Option PlannedGlobal
+global_defined bottom parts name = option_map (global_told bottom parts name) (first_definition parts name)
+
+-- the globals that are defined, in order of first definition, each with its value and the name of the module that
+-- defines it first
+unfoldable pub globals_of : ℕ → List Part → List PlannedGlobal
+globals_of bottom parts = filter_map (global_defined bottom parts) (distinct (keys_of (definitions_of parts)))
+
 -- ---- references
 
 -- an entry that defines nothing refers; weakly where its bit 001 is set
@@ -109,3 +125,22 @@ is_strong_to name reference = is_name name reference.0 && reference.1
 unfoldable pub referred : List Part → List ((ℕ × ℕ) × Bool)
 referred parts =
     map (λ name. (name, list_any (is_strong_to name) (references_of parts))) (distinct (keys_of (references_of parts)))
+
+-- ---- what is missing
+
+abbrev pub is_undefined : List Part → ℕ × ℕ → Bool
+is_undefined parts name = is_none (first_definition parts name)
+
+abbrev pub strong_undefined : List Part → (ℕ × ℕ) × Bool → Option (ℕ × ℕ)
+strong_undefined parts reference = if is_undefined parts reference.0 && reference.1 then Some reference.0 else None
+
+abbrev pub weak_undefined : List Part → (ℕ × ℕ) × Bool → Option (ℕ × ℕ)
+weak_undefined parts reference = if is_undefined parts reference.0 && not reference.1 then Some reference.0 else None
+
+-- the names without a definition to which some reference is strong, in order of first reference of either strength
+unfoldable pub undefined_names : List Part → List (ℕ × ℕ)
+undefined_names parts = filter_map (strong_undefined parts) (referred parts)
+
+-- those to which no reference is strong
+unfoldable pub weak_undefined_names : List Part → List (ℕ × ℕ)
+weak_undefined_names parts = filter_map (weak_undefined parts) (referred parts)

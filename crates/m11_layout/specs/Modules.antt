@@ -7,6 +7,7 @@ use Rattle.m11_obj.specs.declared.gsd.GsdEntry.{GsdEntry}
 use Rattle.m11_obj.specs.declared.gsd.GsdKind.{GsdKind}
 use Rattle.m11_obj.specs.declared.gsd.GsdKind.TheVariants.{ModuleName}
 use Rattle.m11_modules.specs.Parts.{Part, Entry, EndOfModule}
+use Rattle.m11_modules.specs.Places.{modules_in}
 
 -- each part with the index of its module, from this one on; an end belongs to the module that it ends
 abbrev pub indexed : ℕ → List Part → List (ℕ × Part)
@@ -52,3 +53,7 @@ name_told parts = first_of (filter_map name_in parts)
 
 abbrev pub module_name : List Part → ℕ × ℕ
 module_name parts = unwrap_or (name_told parts) (0, 0)
+
+-- the name of the module of an index; past the last module that ended it is blank
+abbrev pub name_at : List Part → ℕ → ℕ × ℕ
+name_at parts index = if nat_lt index (modules_in parts) then module_name (module_at parts index) else (0, 0)

@@ -1,25 +1,27 @@
 -- What a plan tells of what was gathered. (This project's own. That it is what Sections.antt and Globals.antt say of all
 -- parts is proved.)
-use Rattle.std.specs.Prelude.{◌≡◌, ◌<◌, get_or, map, min, option_and_then, true, false, ℕ, ◌+◌, ◌%◌, nat_lt, List, [], ◌∷◌, ⊤, Option, Some, None, Result, Ok, Err, if◌then◌else◌}
+use Rattle.std.specs.Prelude.{◌≡◌, get_or, map, min, option_and_then, true, false, ℕ, ◌+◌, ◌%◌, nat_lt, List, [], ◌∷◌, ⊤, Option, Some, None, Result, Ok, Err, if◌then◌else◌}
 use Rattle.std.specs.Map.{keys_of, lookup}
 use Rattle.std.specs.Option.{unwrap_or}
 use Rattle.indexmap.specs.IndexMap.{insert_entry}
 use Rattle.m11_modules.specs.Names.{is_name}
-use Rattle.m11_layout.specs.Gathering.{Gathered, gathered_behind_all, is_contribution, flags_of, nothing_gathered, settled, size_cap}
-use Rattle.m11_layout.specs.Globals.{definitions_of, first_definition, global_value, referred}
-use Rattle.m11_layout.specs.Modules.{module_at, module_name}
-use Rattle.m11_layout.specs.Sections.{first_attributes, is_relocatable, is_too_large, module_base, section_size, top}
+use Rattle.m11_layout.specs.Gathering.{Gathered, gathered_behind_all, is_contribution, nothing_gathered, settled}
+use Rattle.m11_layout.specs.Globals.{definitions_of, first_definition, global_value, globals_of, referred}
+use Rattle.m11_layout.specs.Modules.{name_at}
+use Rattle.m11_layout.specs.Sections.{first_attributes, is_relocatable, is_too_large, module_base, most_size, sections_of, top}
 use Rattle.m11_layout.specs.Transfers.{transfer_address}
 use Rattle.m11_layout.specs.declared.definition.Definition.{Definition}
 use Rattle.m11_layout.specs.declared.definition.GlobalPlace.{GlobalPlace}
 use Rattle.m11_layout.specs.declared.definition.GlobalPlace.TheVariants.{Absolute, In}
 use Rattle.m11_layout.specs.declared.definition.Total.{Total}
 use Rattle.m11_layout.specs.declared.definition.Transfer.{Transfer}
+use Rattle.m11_layout.specs.declared.planned.PlannedGlobal.{PlannedGlobal}
+use Rattle.m11_layout.specs.declared.planned.PlannedSection.{PlannedSection}
 use Rattle.m11_layout.specs.declared.fault.LinkFault.{LinkFault}
 use Rattle.m11_layout.specs.declared.fault.LinkFault.TheVariants.{BadOrder, TooLarge, NoMemory}
 use Rattle.m11_modules.specs.declared.fault.ModuleFault.TheVariants as rule
 use Rattle.m11_modules.specs.Parts.{Part, EndOfFile}
-use Rattle.m11_modules.specs.Places.{distinct, modules_in, section_names}
+use Rattle.m11_modules.specs.Places.{distinct}
 use Rattle.m11_modules.specs.Rules.{fault_of}
 
 -- ---- bases
@@ -62,6 +64,10 @@ pub record Planned : Type 0 where
   pub bottom : ℕ
   pub top : ℕ
 
+-- the base of a section; 0 where there is none of that name
+abbrev pub planned_section_base : Planned → ℕ × ℕ → ℕ
+planned_section_base plan name = unwrap_or (lookup (is_name name) plan.bases) 0
+
 abbrev pub behind_offset : Option ℕ → ℕ → ℕ
 behind_offset None base = 0
 behind_offset (Some offset) base = (base + offset) % 0o200000
@@ -70,7 +76,7 @@ behind_offset (Some offset) base = (base + offset) % 0o200000
 abbrev pub planned_base : Planned → ℕ → ℕ × ℕ → ℕ
 planned_base plan module_index name = behind_offset
     (lookup (is_contribution (module_index, name)) plan.gathered.contributions)
-    (unwrap_or (lookup (is_name name) plan.bases) 0)
+    (planned_section_base plan name)
 
 abbrev pub value_at : Planned → ℕ → GlobalPlace → ℕ
 value_at plan module_index (Absolute value) = value
@@ -93,6 +99,41 @@ transfer_at plan (Some transfer) =
 abbrev pub planned_transfer : Planned → ℕ
 planned_transfer plan = transfer_at plan (settled plan.gathered)
 
+-- the name of the module of an index, blank past the last
+abbrev pub planned_module : Planned → ℕ → ℕ × ℕ
+planned_module plan module_index = get_or plan.gathered.names module_index (0, 0)
+
+abbrev pub attributes_told : Option Total → ℕ
+attributes_told None = 0
+attributes_told (Some total) = total.attributes.0
+
+-- the attributes of a section; 0 where there is none of that name
+abbrev pub planned_attributes : Planned → ℕ × ℕ → ℕ
+planned_attributes plan name = attributes_told (lookup (is_name name) plan.gathered.sections)
+
+abbrev pub section_planned : Planned → (ℕ × ℕ) × Total → PlannedSection
+section_planned plan section = record {
+  name = section.0;
+  base = planned_section_base plan section.0;
+  size = min most_size section.1.size;
+  attributes = section.1.attributes;
+}
+
+-- the sections in order of first appearance
+unfoldable pub planned_sections : Planned → List PlannedSection
+planned_sections plan = map (section_planned plan) plan.gathered.sections
+
+abbrev pub global_planned : Planned → (ℕ × ℕ) × Definition → PlannedGlobal
+global_planned plan global = record {
+  name = global.0;
+  value = value_at plan global.1.module_index global.1.place;
+  module_name = planned_module plan global.1.module_index;
+}
+
+-- the globals in order of first definition
+unfoldable pub planned_globals : Planned → List PlannedGlobal
+planned_globals plan = map (global_planned plan) plan.gathered.definitions
+
 -- ---- the end of the first reading
 
 -- a plan of all parts
@@ -101,30 +142,23 @@ pub record IsPlan (bottom : ℕ) (parts : List Part) (plan : Planned) : Type 0 w
   pub bases : bases_onto [] bottom plan.gathered.sections ≡ Some (record { bases = plan.bases; top = plan.top })
   pub bottom_is : plan.bottom ≡ bottom
 
--- the sections in order of first appearance, each with the attributes of its first entry and its size; a size past all
--- addresses is told as octal 200000
-abbrev pub total_in : List Part → ℕ × ℕ → Total
-total_in parts name =
-    record { attributes = flags_of (first_attributes parts name); size = min size_cap (section_size parts name) }
-
-abbrev pub sections_of : List Part → List ((ℕ × ℕ) × Total)
-sections_of parts = map (λ name. (name, total_in parts name)) (section_names parts)
-
 -- what a plan tells of all parts, in the words of the definitions: nothing is too large; the base of each module's
--- contribution to each section; the value of each global; the transfer address; the sections, definitions and
--- references, in order; the modules' names; and the addresses between which relocatable sections lie
+-- contribution to each section; the value of each global; the transfer address; the sections and globals, in order; the
+-- attributes of each section; definitions and references, in order; the modules' names; and the addresses between which
+-- relocatable sections lie
 pub record IsPlanOf (bottom : ℕ) (parts : List Part) (plan : Planned) : Type 0 where
   pub fits : is_too_large bottom parts ≡ false
   pub bases : (module_index : ℕ) (name : ℕ × ℕ)
       → planned_base plan module_index name ≡ module_base bottom parts module_index name
   pub values : (name : ℕ × ℕ) → planned_value plan name ≡ global_value bottom parts name
   pub transfer : planned_transfer plan ≡ transfer_address bottom parts
-  pub sections : plan.gathered.sections ≡ sections_of parts
+  pub sections : planned_sections plan ≡ sections_of bottom parts
+  pub globals : planned_globals plan ≡ globals_of bottom parts
+  pub attributes : (name : ℕ × ℕ) → planned_attributes plan name ≡ first_attributes parts name
   pub definitions : (name : ℕ × ℕ) → lookup (is_name name) plan.gathered.definitions ≡ first_definition parts name
   pub defined : keys_of plan.gathered.definitions ≡ distinct (keys_of (definitions_of parts))
   pub references : plan.gathered.references ≡ referred parts
-  pub names : (module_index : ℕ) → module_index < modules_in parts
-      → get_or plan.gathered.names module_index (0, 0) ≡ module_name (module_at parts module_index)
+  pub names : (module_index : ℕ) → planned_module plan module_index ≡ name_at parts module_index
   pub limits : (plan.bottom ≡ bottom) × (plan.top ≡ top bottom parts)
 
 -- a plan of what was gathered

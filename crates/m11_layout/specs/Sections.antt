@@ -1,11 +1,12 @@
 -- Where sections and the modules' contributions to them lie. (MACRO-11 Language Reference Manual, ".PSECT directive":
 -- CON and OVR, REL and ABS; RT-11 Volume and File Formats Manual, "Object file format", GSD block. That contributions
 -- are rounded up to even in every section that is relocated, and the absolute ones not, is this project's own.)
-use Rattle.std.specs.Prelude.{ℕ, ◌+◌, ◌%◌, max, sum, sum_by, Bool, ◌&&◌, not, nat_lt, List, [], ◌∷◌, map, Option, Some, None, if◌then◌else◌}
+use Rattle.std.specs.Prelude.{ℕ, ◌+◌, ◌%◌, max, min, sum, sum_by, Bool, ◌&&◌, not, nat_lt, List, [], ◌∷◌, map, Option, Some, None, if◌then◌else◌}
 use Rattle.std.specs.Int.RustNames.{bit_and}
 use Rattle.std.specs.List.{filter_map, list_any}
 use Rattle.std.specs.Map.{lookup}
 use Rattle.std.specs.Option.{unwrap_or}
+use Rattle.m11_obj.specs.declared.flags.SectionFlags.{SectionFlags}
 use Rattle.m11_obj.specs.declared.gsd.GsdEntry.{GsdEntry}
 use Rattle.m11_obj.specs.declared.gsd.GsdKind.{GsdKind}
 use Rattle.m11_obj.specs.declared.gsd.GsdKind.TheVariants.{ControlSection, ProgramSection}
@@ -14,12 +15,16 @@ use Rattle.m11_modules.specs.Parts.{Part, Entry}
 use Rattle.m11_modules.specs.Places.{sections_in, section_names}
 use Rattle.m11_modules.specs.Rules.{has_bits}
 use Rattle.m11_layout.specs.Modules.{module_at, modules_before}
+use Rattle.m11_layout.specs.declared.planned.PlannedSection.{PlannedSection}
 
 -- ---- attributes
 
 -- the bits that are attributes: octal 365, for SAV, OVR, RO, REL, GBL and D
 abbrev pub attribute_bits : ℕ
 attribute_bits = 245
+
+abbrev pub flags_of : ℕ → SectionFlags
+flags_of attributes = record { 0 = attributes }
 
 -- a control section has the attributes of its directive: octal 104 for `.ASECT`, octal 40 for `.CSECT` without a
 -- name, octal 144 for one with a name
@@ -100,6 +105,25 @@ ends_too_high bottom parts name = is_relocatable (first_attributes parts name)
 
 unfoldable pub is_too_large : ℕ → List Part → Bool
 is_too_large bottom parts = list_any (ends_too_high bottom parts) (section_names parts)
+
+-- ---- all sections
+
+-- octal 177777: no size is told that is greater. None is: entries tell no greater ones, so that no absolute section has
+-- one, and relocatable sections end by octal 160000
+abbrev pub most_size : ℕ
+most_size = 65535
+
+abbrev pub section_told : ℕ → List Part → ℕ × ℕ → PlannedSection
+section_told bottom parts name = record {
+  name = name;
+  base = section_base bottom parts name;
+  size = min most_size (section_size parts name);
+  attributes = flags_of (first_attributes parts name);
+}
+
+-- the sections in order of first appearance, each with its base, its size and the attributes of its first entry
+unfoldable pub sections_of : ℕ → List Part → List PlannedSection
+sections_of bottom parts = map (section_told bottom parts) (section_names parts)
 
 -- ---- contributions
 

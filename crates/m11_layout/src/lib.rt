@@ -7,11 +7,13 @@ mod definition;
 mod fault;
 mod layout;
 mod plan;
+mod planned;
 mod tables;
 
 pub use fault::{LinkFault, LinkOutput};
 pub use layout::Layout;
 pub use plan::Plan;
+pub use planned::{PlannedGlobal, PlannedSection};
 
 #[cfg(test)]
 mod tests;

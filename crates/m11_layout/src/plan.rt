@@ -1,14 +1,18 @@
 //! What the first reading of a link has found: the plan for the second.
 
-ghost use Rattle.std.specs.Prelude.{◌≡◌, ◌<◌};
-ghost use Rattle.m11_layout.specs.Planning.{Plans, planned_base, planned_transfer, planned_value, value_at};
+ghost use Rattle.std.specs.Prelude.{◌≡◌, ◌<◌, Some, length, min, slice_get};
+ghost use Rattle.m11_layout.specs.Planning.{Plans, planned_attributes, planned_base, planned_globals, planned_module, planned_section_base, planned_sections, planned_transfer, planned_value, value_at};
+ghost use Rattle.m11_layout.specs.Sections.{most_size};
 
 use crate::bases::place_all;
 use crate::definition::GlobalPlace;
 use crate::fault::LinkFault;
+use crate::planned::{PlannedGlobal, PlannedSection};
 use crate::tables::Tables;
+use bitflags::Flags;
 use indexmap::IndexMap;
 use m11_base::Name;
+use m11_obj::SectionFlags;
 use std::alloc::Global;
 use std::marker::Model;
 
@@ -27,6 +31,16 @@ impl Model for Plan {
     ghost Value = { Planned };
 
     ghost view = { λ p. record { gathered = p.tables; bases = p.bases.entries; bottom = p.bottom; top = p.top } };
+}
+
+// The greatest size that is told.
+const MOST_SIZE: u32 = 0o177777;
+
+// The size of a section, as it is told.
+fn told_size(size: u32) -> u16
+    ensures { result ≡ min most_size size }
+{
+    size.min(MOST_SIZE) as u16
 }
 
 /// The plan of what was gathered: `TooLarge` where a relocatable section ends past 160000.
@@ -52,11 +66,18 @@ impl Plan {
     {
         match self.tables.offset(module_index, section) {
             Some(offset) => {
-                let base = self.bases.get(&section).copied().unwrap_or(0);
+                let base = self.section_base(section);
                 ((u32::from(base) + offset % 0o200000) % 0o200000) as u16
             }
             None => 0,
         }
+    }
+
+    // The base of a section; 0 where there is none of that name.
+    fn section_base(&self, section: Name) -> u16
+        ensures { result ≡ planned_section_base self.now section }
+    {
+        self.bases.get(&section).copied().unwrap_or(0)
     }
 
     /// The value of a global, where it is defined.
@@ -94,5 +115,82 @@ impl Plan {
         ensures { result ≡ (self.now.bottom, self.now.top) }
     {
         (self.bottom, self.top)
+    }
+
+    /// The number of sections.
+    #[tactic(auto, using(crate::proofs::PlannedLists::sections_counted))]
+    pub fn section_count(&self) -> usize
+        ensures { result ≡ length (planned_sections self.now) }
+    {
+        self.tables.section_count()
+    }
+
+    /// The section at an index below their number, in order of first appearance.
+    #[tactic(auto, using(crate::proofs::PlannedLists::sections_counted, crate::proofs::PlannedLists::section_found))]
+    pub fn section_at(&self, index: usize) -> PlannedSection
+        requires { index < length (planned_sections self.now) }
+        ensures { slice_get (planned_sections self.now) index ≡ Some result }
+    {
+        let (name, total) = self.tables.section_at(index);
+        PlannedSection {
+            name,
+            base: self.section_base(name),
+            size: told_size(total.size),
+            attributes: total.attributes,
+        }
+    }
+
+    /// The attributes of a section, by its first entry; none where no module enters it.
+    pub fn attributes(&self, section: Name) -> SectionFlags
+        ensures { result.0 ≡ planned_attributes self.now section }
+    {
+        match self.tables.total(section) {
+            Some(total) => total.attributes,
+            None => SectionFlags::empty(),
+        }
+    }
+
+    /// The number of globals that are defined.
+    #[tactic(auto, using(crate::proofs::PlannedLists::globals_counted))]
+    pub fn global_count(&self) -> usize
+        ensures { result ≡ length (planned_globals self.now) }
+    {
+        self.tables.definition_count()
+    }
+
+    /// The global at an index below their number, in order of first definition.
+    #[tactic(auto, using(crate::proofs::PlannedLists::globals_counted, crate::proofs::PlannedLists::global_found))]
+    pub fn global_at(&self, index: usize) -> PlannedGlobal
+        requires { index < length (planned_globals self.now) }
+        ensures { slice_get (planned_globals self.now) index ≡ Some result }
+    {
+        let (name, definition) = self.tables.definition_at(index);
+        PlannedGlobal {
+            name,
+            value: self.value_at(definition.module_index, definition.place),
+            module_name: self.module_name(definition.module_index),
+        }
+    }
+
+    /// The number of globals that are referred to.
+    pub fn reference_count(&self) -> usize
+        ensures { result ≡ length self.now.gathered.references }
+    {
+        self.tables.reference_count()
+    }
+
+    /// The global at an index below their number, in order of first reference, and whether some reference is strong.
+    pub fn reference_at(&self, index: usize) -> (Name, bool)
+        requires { index < length self.now.gathered.references }
+        ensures { slice_get self.now.gathered.references index ≡ Some result }
+    {
+        self.tables.reference_at(index)
+    }
+
+    /// The name of the module of an index; blank past the last.
+    pub fn module_name(&self, module_index: usize) -> Name
+        ensures { result ≡ planned_module self.now module_index }
+    {
+        self.tables.module_name(module_index)
     }
 }

@@ -1,6 +1,6 @@
 //! The tables that a layout gathers while records come.
 
-ghost use Rattle.std.specs.Prelude.{◌≡◌, ◌≤◌, ◌<◌, Some, length, map, slice_get};
+ghost use Rattle.std.specs.Prelude.{◌≡◌, ◌≤◌, ◌<◌, Some, get_or, length, map, slice_get};
 ghost use Rattle.m11_obj.specs.Reading.{record_entries, record_relocations};
 ghost use Rattle.m11_modules.specs.Parts.{Entry, Relocated};
 ghost use Rattle.m11_modules.specs.Parts.{record_parts};
@@ -210,6 +210,13 @@ impl Tables {
         }
     }
 
+    /// A section.
+    pub(crate) fn total(&self, name: Name) -> Option<Total>
+        ensures { result ≡ lookup (names.is_name name) self.now.sections }
+    {
+        self.sections.get(&name).copied()
+    }
+
     /// Where in a section the contribution of a module lies, if there is one.
     pub(crate) fn offset(&self, module_index: usize, section: Name) -> Option<u32>
         ensures { result ≡ lookup (is_contribution (module_index, section)) self.now.contributions }
@@ -222,6 +229,52 @@ impl Tables {
         ensures { result ≡ lookup (names.is_name name) self.now.definitions }
     {
         self.definitions.get(&name).copied()
+    }
+
+    /// The number of globals that are defined.
+    pub(crate) fn definition_count(&self) -> usize
+        ensures { result ≡ length self.now.definitions }
+    {
+        self.definitions.len()
+    }
+
+    /// The definition at an index below their number, in order of first definition.
+    pub(crate) fn definition_at(&self, index: usize) -> (Name, Definition)
+        requires { index < length self.now.definitions }
+        ensures { slice_get self.now.definitions index ≡ Some result }
+    {
+        match self.definitions.get_index(index) {
+            Some((name, definition)) => (*name, *definition),
+            None => unreachable!(),
+        }
+    }
+
+    /// The number of globals that are referred to.
+    pub(crate) fn reference_count(&self) -> usize
+        ensures { result ≡ length self.now.references }
+    {
+        self.references.len()
+    }
+
+    /// The reference at an index below their number, in order of first reference, and whether one to it is strong.
+    pub(crate) fn reference_at(&self, index: usize) -> (Name, bool)
+        requires { index < length self.now.references }
+        ensures { slice_get self.now.references index ≡ Some result }
+    {
+        match self.references.get_index(index) {
+            Some((name, is_strong)) => (*name, *is_strong),
+            None => unreachable!(),
+        }
+    }
+
+    /// The name of a module that ended, by its index; blank past the last.
+    pub(crate) fn module_name(&self, module_index: usize) -> Name
+        ensures { result ≡ get_or self.now.names module_index (0, 0) }
+    {
+        match self.names.get(module_index) {
+            Some(name) => *name,
+            None => blank_name(),
+        }
     }
 
     /// The first even transfer address.
@@ -276,13 +329,6 @@ impl Tables {
             }
         }
         Ok(())
-    }
-
-    // A section so far.
-    fn total(&self, name: Name) -> Option<Total>
-        ensures { result ≡ lookup (names.is_name name) self.now.sections }
-    {
-        self.sections.get(&name).copied()
     }
 
     // A section behind one more contribution.

@@ -1,9 +1,10 @@
 //! Plans of small objects, each with what it tells.
 
-use crate::{Layout, LinkFault, Plan};
+use crate::{Layout, LinkFault, Plan, PlannedGlobal, PlannedSection};
+use bitflags::Flags;
 use m11_base::Name;
 use m11_obj::GsdKind::{ControlSection, GlobalSymbol, ModuleName, ProgramSection, TransferAddress};
-use m11_obj::{Block, GsdEntry, GsdKind, Record, RecordFault};
+use m11_obj::{Block, GsdEntry, GsdKind, Record, RecordFault, SectionFlags};
 use std::alloc::Global;
 use std::test::Fail;
 
@@ -45,6 +46,42 @@ enum Fact<'a> {
     Undefined(&'a [u8; 6]),
     Transfer(u16),
     Limits(u16, u16),
+    // How many sections, globals and references there are.
+    Counts(usize, usize, usize),
+    // The section at an index: its name, base, size and attributes.
+    Section(usize, &'a [u8; 6], u16, u16, u8),
+    // The global at an index: its name, value and module.
+    Global(usize, &'a [u8; 6], u16, &'a [u8; 6]),
+    // The reference at an index, and whether it is strong.
+    Reference(usize, &'a [u8; 6], bool),
+    // The name of a module.
+    Module(usize, &'a [u8; 6]),
+    // The attributes of a section.
+    Attributes(&'a [u8; 6], u8),
+}
+
+fn section(plan: &Plan, index: usize) -> Option<PlannedSection> {
+    if index < plan.section_count() {
+        Some(plan.section_at(index))
+    } else {
+        None
+    }
+}
+
+fn global(plan: &Plan, index: usize) -> Option<PlannedGlobal> {
+    if index < plan.global_count() {
+        Some(plan.global_at(index))
+    } else {
+        None
+    }
+}
+
+fn reference(plan: &Plan, index: usize) -> Option<(Name, bool)> {
+    if index < plan.reference_count() {
+        Some(plan.reference_at(index))
+    } else {
+        None
+    }
 }
 
 // Whether a plan tells this.
@@ -57,6 +94,35 @@ fn tells(plan: &Plan, fact: &Fact<'_>) -> Option<bool> {
         Fact::Undefined(global) => Some(plan.value(Name::pack(global)?).is_none()),
         Fact::Transfer(address) => Some(plan.transfer() == address),
         Fact::Limits(bottom, top) => Some(plan.limits() == (bottom, top)),
+        Fact::Counts(sections, globals, references) => Some(
+            plan.section_count() == sections
+                && plan.global_count() == globals
+                && plan.reference_count() == references,
+        ),
+        Fact::Section(index, name, base, size, attributes) => {
+            let wanted = PlannedSection {
+                name: Name::pack(name)?,
+                base,
+                size,
+                attributes: SectionFlags::from_bits_retain(attributes),
+            };
+            Some(section(plan, index)? == wanted)
+        }
+        Fact::Global(index, name, value, module_name) => {
+            let wanted = PlannedGlobal {
+                name: Name::pack(name)?,
+                value,
+                module_name: Name::pack(module_name)?,
+            };
+            Some(global(plan, index)? == wanted)
+        }
+        Fact::Reference(index, name, is_strong) => {
+            Some(reference(plan, index)? == (Name::pack(name)?, is_strong))
+        }
+        Fact::Module(index, name) => Some(plan.module_name(index) == Name::pack(name)?),
+        Fact::Attributes(name, attributes) => {
+            Some(plan.attributes(Name::pack(name)?).bits() == attributes)
+        }
     }
 }
 
@@ -357,5 +423,73 @@ fn a_fault_is_answered_again(rt: HostRuntime) -> Result<(), Fail> {
 fn objects_of_no_module_have_an_empty_plan(rt: HostRuntime) -> Result<(), Fail> {
     let facts = [Fact::Limits(0o1000, 0o1000), Fact::Transfer(1)];
     assert!(rt; has_plan(rt.alloc(), 0o1000, &[], &facts));
+    Ok(())
+}
+
+#[test]
+fn sections_are_told_in_order_with_their_attributes(rt: HostRuntime) -> Result<(), Fail> {
+    let first: [Row<'_>; 2] = [
+        (ProgramSection, b"PROG  ", CON, 5),
+        (ProgramSection, b". ABS.", ABS, 0o177777),
+    ];
+    let second: [Row<'_>; 2] = [
+        (ProgramSection, b"DATA  ", 0o252, 4),
+        (ProgramSection, b"PROG  ", 0o377, 2),
+    ];
+    let facts = [
+        Fact::Counts(3, 0, 0),
+        Fact::Section(0, b"PROG  ", 0o1000, 8, CON),
+        Fact::Section(1, b". ABS.", 0, 0o177777, ABS),
+        Fact::Section(2, b"DATA  ", 0o1010, 4, 0o240),
+        Fact::Attributes(b"PROG  ", CON),
+        Fact::Attributes(b"DATA  ", 0o240),
+        Fact::Attributes(b"NONE  ", 0),
+    ];
+    assert!(rt; has_plan(rt.alloc(), 0o1000, &[&first, &second], &facts));
+    Ok(())
+}
+
+#[test]
+fn globals_are_told_with_the_module_that_defines_them_first(rt: HostRuntime) -> Result<(), Fail> {
+    let first: [Row<'_>; 3] = [
+        (ProgramSection, b"PROG  ", CON, 6),
+        (GlobalSymbol, b"X     ", 0o050, 2),
+        (ModuleName, b"ONE   ", 0, 0),
+    ];
+    let second: [Row<'_>; 3] = [
+        (ModuleName, b"TWO   ", 0, 0),
+        (GlobalSymbol, b"X     ", 0o010, 7),
+        (GlobalSymbol, b"A     ", 0o010, 3),
+    ];
+    let facts = [
+        Fact::Counts(1, 2, 0),
+        Fact::Global(0, b"X     ", 0o1002, b"ONE   "),
+        Fact::Global(1, b"A     ", 3, b"TWO   "),
+        Fact::Module(0, b"ONE   "),
+        Fact::Module(1, b"TWO   "),
+        Fact::Module(2, b"      "),
+    ];
+    assert!(rt; has_plan(rt.alloc(), 0o1000, &[&first, &second], &facts));
+    Ok(())
+}
+
+#[test]
+fn references_are_told_in_order_and_stay_strong(rt: HostRuntime) -> Result<(), Fail> {
+    let first: [Row<'_>; 2] = [
+        (GlobalSymbol, b"B     ", 0o001, 0),
+        (GlobalSymbol, b"A     ", 0, 0),
+    ];
+    let second: [Row<'_>; 3] = [
+        (GlobalSymbol, b"A     ", 0o001, 0),
+        (GlobalSymbol, b"C     ", 0o001, 0),
+        (GlobalSymbol, b"B     ", 0, 0),
+    ];
+    let facts = [
+        Fact::Counts(0, 0, 3),
+        Fact::Reference(0, b"B     ", true),
+        Fact::Reference(1, b"A     ", true),
+        Fact::Reference(2, b"C     ", false),
+    ];
+    assert!(rt; has_plan(rt.alloc(), 0o1000, &[&first, &second], &facts));
     Ok(())
 }
