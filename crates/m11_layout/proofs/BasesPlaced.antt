@@ -26,21 +26,27 @@ none_of : (b c : Bool) → b ≡ false → c ≡ false → (b || c) ≡ false
 none_of true c e f = search
 none_of false c e f = f
 
-apart_before : (done : List Name) (name : Name) (rest : List Name) → Apart is_name (done ++ name ∷ rest) → list_any (is_name name) done ≡ false
+apart_before : (done : List Name) (name : Name) (rest : List Name) → Apart is_name (done ++ name ∷ rest)
+    → list_any (is_name name) done ≡ false
 apart_before [] name rest d = refl
 apart_before (first ∷ done) name rest d =
     none_of (is_name name first) (list_any (is_name name) done)
-    (turned is_name is_name_same is_name_itself name first (is_name name first) refl (apart_later first done name rest d.0))
+    (turned is_name is_name_same is_name_itself name first (is_name name first) refl
+    (apart_later first done name rest d.0))
     (apart_before done name rest d.1)
   where
-    apart_later : (first : Name) (done : List Name) (name : Name) (rest : List Name) → list_any (is_name first) (done ++ name ∷ rest) ≡ false → is_name first name ≡ false
+    apart_later : (first : Name) (done : List Name) (name : Name) (rest : List Name)
+        → list_any (is_name first) (done ++ name ∷ rest) ≡ false → is_name first name ≡ false
     apart_later first [] name rest e = (neither (is_name first name) (list_any (is_name first) rest) e).0
     apart_later first (other ∷ done) name rest e =
-        apart_later first done name rest (neither (is_name first other) (list_any (is_name first) (done ++ name ∷ rest)) e).1
+        apart_later first done name rest (neither (is_name first other)
+        (list_any (is_name first) (done ++ name ∷ rest)) e).1
 
-before_it : (done : List Name) (name : Name) (rest : List Name) → list_any (is_name name) done ≡ false → names_before name (done ++ name ∷ rest) ≡ done
+before_it : (done : List Name) (name : Name) (rest : List Name) → list_any (is_name name) done ≡ false
+    → names_before name (done ++ name ∷ rest) ≡ done
 before_it [] name rest e =
-    let P : Bool → Type 0 = λ b. (if b then [] else name ∷ names_before name rest) ≡ [] in subst P (sym (is_name_itself name)) refl
+    let P : Bool → Type 0 = λ b. (if b then [] else name ∷ names_before name rest) ≡ [] in
+    subst P (sym (is_name_itself name)) refl
 before_it (first ∷ done) name rest e =
     let n = neither (is_name name first) (list_any (is_name name) done) e in
     let P : Bool → Type 0 = λ b. (if b then [] else first ∷ names_before name (done ++ name ∷ rest)) ≡ first ∷ done in
@@ -52,7 +58,8 @@ inserted_last f [] name value e = refl
 inserted_last f (first ∷ done) name value e =
     let n = neither (is_name name first) (list_any (is_name name) done) e in
     let these = map (λ n. (n, f n)) done in
-    let P : Bool → Type 0 = λ b. (if b then (first, value) ∷ these else (first, f first) ∷ insert_entry is_name these name value)
+    let P : Bool → Type 0 =
+    λ b. (if b then (first, value) ∷ these else (first, f first) ∷ insert_entry is_name these name value)
     ≡ (first, f first) ∷ (these ++ (name, value) ∷ []) in
     subst P (sym n.0) (ap (λ entries. (first, f first) ∷ entries) (inserted_last f done name value n.1))
 
@@ -69,20 +76,25 @@ uncapped : (next size : ℕ) → nat_lt 57344 (next + size) ≡ false → min 65
 uncapped next size e = grind (arith, nat_tests)
 
 -- one section more, where the others lead to this answer
-module _ (onto : List (Name × ℕ) → ℕ → Option Bases) (bases : List (Name × ℕ)) (name : Name) (next size : ℕ) (more : Bool) (answer : Bases)
+module _ (onto : List (Name × ℕ) → ℕ → Option Bases) (bases : List (Name × ℕ)) (name : Name) (next size : ℕ)
+    (more : Bool) (answer : Bases)
     (last : (value : ℕ) → insert_entry is_name bases name value ≡ bases ++ (name, value) ∷ []) where
-  lower : (high : Bool) → (high ≡ false → min 65536 size ≡ size) → onto (bases ++ (name, next) ∷ []) (next + size) ≡ (if more then None else Some answer)
+  lower : (high : Bool) → (high ≡ false → min 65536 size ≡ size)
+      → onto (bases ++ (name, next) ∷ []) (next + size) ≡ (if more then None else Some answer)
       → option_and_then (λ (behind : Bases). onto behind.bases behind.top)
-      (if high then None else Some (record { bases = insert_entry is_name bases name next; top = next + min 65536 size }))
+      (if high then None else Some
+      (record { bases = insert_entry is_name bases name next; top = next + min 65536 size }))
       ≡ (if high || more then None else Some answer)
   lower true u h = refl
   lower false u h =
-      let P : List (Name × ℕ) → Type 0 = λ entries. onto entries (next + min 65536 size) ≡ (if more then None else Some answer) in
+      let P : List (Name × ℕ) → Type 0 = λ entries. onto entries (next + min 65536 size)
+      ≡ (if more then None else Some answer) in
       let Q : ℕ → Type 0 = λ n. onto (bases ++ (name, next) ∷ []) (next + n) ≡ (if more then None else Some answer) in
       subst P (sym (last next)) (subst Q (sym (u refl)) h)
 
   pub one_placed : (relocatable : Bool) (base : ℕ) → base ≡ next
-      → onto (bases ++ (name, (if relocatable then base else 0)) ∷ []) (next + (if relocatable then size else 0)) ≡ (if more then None else Some answer)
+      → onto (bases ++ (name, (if relocatable then base else 0)) ∷ []) (next + (if relocatable then size else 0))
+      ≡ (if more then None else Some answer)
       → option_and_then (λ (behind : Bases). onto behind.bases behind.top)
       (if relocatable
       then (if nat_lt 57344 (next + min 65536 size) then None
@@ -94,7 +106,8 @@ module _ (onto : List (Name × ℕ) → ℕ → Option Bases) (bases : List (Nam
       (if b then None else Some (record { bases = insert_entry is_name bases name next; top = next + min 65536 size }))
       ≡ (if nat_lt 57344 (base + size) || more then None else Some answer) in
       let Q : ℕ → Type 0 = λ n. option_and_then (λ (behind : Bases). onto behind.bases behind.top)
-      (if nat_lt 57344 (next + size) then None else Some (record { bases = insert_entry is_name bases name next; top = next + min 65536 size }))
+      (if nat_lt 57344 (next + size) then None else Some
+      (record { bases = insert_entry is_name bases name next; top = next + min 65536 size }))
       ≡ (if nat_lt 57344 (n + size) || more then None else Some answer) in
       let R : ℕ → Type 0 = λ n. onto (bases ++ (name, n) ∷ []) (next + size) ≡ (if more then None else Some answer) in
       subst P (sym (capped_test next size)) (subst Q (sym e)
@@ -126,7 +139,9 @@ module _ (attributes size : Name → ℕ) (bottom : ℕ) (all : List Name) where
 
   bases_walked : (done rest : List Name) → done ++ rest ≡ all → Apart is_name all → Onto done rest
   bases_walked done [] e d =
-      let P : List Name → Type 0 = λ names. ◌≡◌ {A = Option Bases} (Some (record { bases = based done; top = bottom + sum_by room done })) (Some (record { bases = based names; top = bottom + sum_by room names })) in
+      let P : List Name → Type 0 = λ names. ◌≡◌ {A = Option Bases}
+      (Some (record { bases = based done; top = bottom + sum_by room done }))
+      (Some (record { bases = based names; top = bottom + sum_by room names })) in
       subst P (sym (append-nil done) ∙ e) refl
   bases_walked done (name ∷ rest) e d =
       let A : List Name → Type 0 = λ names. Apart is_name names in
@@ -134,12 +149,16 @@ module _ (attributes size : Name → ℕ) (bottom : ℕ) (all : List Name) where
       let B : List Name → Type 0 = λ names. names_before name names ≡ done in
       let b : names_before name all ≡ done = subst B e (before_it done name rest a) in
       let answer : Bases = record { bases = based all; top = bottom + sum_by room all } in
-      let onto : List (Name × ℕ) → ℕ → Option Bases = λ bases next. bases_onto bases next (map (λ name. (name, total_at name)) rest) in
+      let onto : List (Name × ℕ) → ℕ → Option Bases =
+      λ bases next. bases_onto bases next (map (λ name. (name, total_at name)) rest) in
       let more = bases_walked (done ++ name ∷ []) rest (append_snoc done name rest ∙ e) d in
-      let P : List (Name × ℕ) → Type 0 = λ bases. onto bases (bottom + sum_by room (done ++ name ∷ [])) ≡ (if list_any too_high rest then None else Some answer) in
-      let Q : ℕ → Type 0 = λ n. onto (based done ++ (name, base name) ∷ []) n ≡ (if list_any too_high rest then None else Some answer) in
+      let P : List (Name × ℕ) → Type 0 = λ bases. onto bases (bottom + sum_by room (done ++ name ∷ []))
+      ≡ (if list_any too_high rest then None else Some answer) in
+      let Q : ℕ → Type 0 = λ n. onto (based done ++ (name, base name) ∷ []) n
+      ≡ (if list_any too_high rest then None else Some answer) in
       one_placed onto (based done) name (bottom + sum_by room done) (size name) (list_any too_high rest) answer
-      (λ value. inserted_last base done name value a) (is_relocatable (attributes name)) (bottom + sum_by room (names_before name all))
+      (λ value. inserted_last base done name value a) (is_relocatable (attributes name))
+      (bottom + sum_by room (names_before name all))
       (ap (λ names. bottom + sum_by room names) b)
       (subst Q (ap (λ n. bottom + n) (sum_by_push room done name) ∙ sym (moved bottom (sum_by room done) (room name)))
       (subst P (map-append (λ n. (n, base n)) done (name ∷ [])) more))
@@ -147,7 +166,11 @@ module _ (attributes size : Name → ℕ) (bottom : ℕ) (all : List Name) where
 -- the bases of the sections of some parts
 pub bases_placed : (bottom : ℕ) (parts : List Part) → Apart is_name (section_names parts)
     → bases_onto [] bottom (totals_in parts) ≡ (if is_too_large bottom parts then None
-    else Some (record { bases = map (λ name. (name, section_base bottom parts name)) (section_names parts); top = top bottom parts }))
+    else Some (record {
+      bases = map (λ name. (name, section_base bottom parts name))
+          (section_names parts);
+      top = top bottom parts;
+    }))
 unfolding is_too_large section_base section_size first_attributes top
 bases_placed bottom parts d =
     let all = section_names parts in

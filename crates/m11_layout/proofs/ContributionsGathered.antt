@@ -28,30 +28,38 @@ Contributions = List ((ℕ × (ℕ × ℕ)) × ℕ)
 -- these contributions are those of the parts
 abbrev pub ContributionsOf : List Part → List ((ℕ × (ℕ × ℕ)) × ℕ) → Type 0
 ContributionsOf before contributions =
-    (index : ℕ) (name : ℕ × ℕ) → lookup (is_contribution (index, name)) contributions ≡ contribution_of before index name
+    (index : ℕ) (name : ℕ × ℕ) → lookup (is_contribution (index, name)) contributions
+    ≡ contribution_of before index name
 
 -- ---- one more part gathered
 
-kept : (before : List Part) (part : Part) (old new : Contributions) → new ≡ old → filter_map attributes_in (part ∷ []) ≡ []
+kept : (before : List Part) (part : Part) (old new : Contributions) → new ≡ old
+    → filter_map attributes_in (part ∷ []) ≡ []
     → filter_map section_in (part ∷ []) ≡ [] → ContributionsOf before old → ContributionsOf (before ++ part ∷ []) new
 kept before part old new e a s c =
     let P : Contributions → Type 0 = λ contributions. ContributionsOf (before ++ part ∷ []) contributions in
     subst P (sym e) (λ index name. c index name ∙ sym (contribution_kept before part index name a s))
 
 entered : (before : List Part) (part : Part) (g : Gathered) (new : Contributions) (name : ℕ × ℕ) (attributes size : ℕ)
-    → new ≡ insert_entry is_contribution g.contributions (length g.names, name) (next_offset (lookup (is_name name) g.sections))
-    → filter_map attributes_in (part ∷ []) ≡ (name, attributes) ∷ [] → filter_map section_in (part ∷ []) ≡ (name, size) ∷ []
-    → lookup (is_name name) (sections_in (this_module before)) ≡ None → length g.names ≡ modules_in before → SectionsOf before g.sections
+    → new ≡ insert_entry is_contribution g.contributions (length g.names, name)
+    (next_offset (lookup (is_name name) g.sections))
+    → filter_map attributes_in (part ∷ []) ≡ (name, attributes) ∷ []
+    → filter_map section_in (part ∷ []) ≡ (name, size) ∷ []
+    → lookup (is_name name) (sections_in (this_module before)) ≡ None → length g.names ≡ modules_in before
+    → SectionsOf before g.sections
     → ContributionsOf before g.contributions → ContributionsOf (before ++ part ∷ []) new
 entered before part g new name attributes size e a s n l sections c =
     let P : Contributions → Type 0 = λ contributions. ContributionsOf (before ++ part ∷ []) contributions in
     let offset = next_offset (lookup (is_name name) g.sections) in
     subst P (sym e) (λ index other.
-    lookup_inserted is_contribution is_contribution_same is_contribution_itself (index, other) (length g.names, name) offset g.contributions
+    lookup_inserted is_contribution is_contribution_same is_contribution_itself (index, other)
+    (length g.names, name) offset g.contributions
     ∙ (λ j. cond (is_contribution (index, other) (l j, name)) (Some offset) (c index other j))
-    ∙ contribution_entered before part index other name attributes size offset a s n (ap (λ found. next_offset found) (sections.totals name)))
+    ∙ contribution_entered before part index other name attributes size offset a s n
+    (ap (λ found. next_offset found) (sections.totals name)))
 
-none_there : (found : Option ℕ) (past : Bool) → first_there ((is_some found, BadOrder) ∷ (past, TooManySections) ∷ []) ≡ None → found ≡ None
+none_there : (found : Option ℕ) (past : Bool) → first_there
+    ((is_some found, BadOrder) ∷ (past, TooManySections) ∷ []) ≡ None → found ≡ None
 none_there None past e = refl
 none_there (Some size) past e = search
 
@@ -61,24 +69,30 @@ contributions_told g = g.contributions
 entry_step : (bottom : ℕ) (before : List Part) (g : Gathered) (kind : GsdKind) (entry : GsdEntry)
     → filter_map attributes_in (Entry entry ∷ []) ≡ cons_option (attributes_by kind entry) []
     → filter_map section_in (Entry entry ∷ []) ≡ cons_option (section_by kind entry) []
-    → entry_fault kind entry (sections_in (this_module before)) (known_of before).sections (known_of before).globals ≡ None
+    → entry_fault kind entry (sections_in (this_module before)) (known_of before).sections (known_of before).globals
+    ≡ None
     → length g.names ≡ modules_in before → SectionsOf before g.sections
-    → ContributionsOf before g.contributions → ContributionsOf (before ++ Entry entry ∷ []) (with_entry bottom kind entry g).contributions
+    → ContributionsOf before g.contributions → ContributionsOf (before ++ Entry entry ∷ [])
+    (with_entry bottom kind entry g).contributions
 entry_step bottom before g ControlSection entry a s n l t c =
     entered before (Entry entry) g _ entry.name (control_attributes entry.name) entry.value refl a s
-    (none_there (lookup (is_name entry.name) (sections_in (this_module before))) (is_past most_sections (known_of before).sections entry.name) n) l t c
+    (none_there (lookup (is_name entry.name) (sections_in (this_module before)))
+    (is_past most_sections (known_of before).sections entry.name) n) l t c
 entry_step bottom before g ProgramSection entry a s n l t c =
     entered before (Entry entry) g _ entry.name (bit_and entry.flags attribute_bits) entry.value refl a s
-    (none_there (lookup (is_name entry.name) (sections_in (this_module before))) (is_past most_sections (known_of before).sections entry.name) n) l t c
+    (none_there (lookup (is_name entry.name) (sections_in (this_module before)))
+    (is_past most_sections (known_of before).sections entry.name) n) l t c
 entry_step bottom before g ModuleName entry a s n l t c = kept before (Entry entry) g.contributions _ refl a s c
 entry_step bottom before g InternalSymbol entry a s n l t c = kept before (Entry entry) g.contributions _ refl a s c
 entry_step bottom before g TransferAddress entry a s n l t c = kept before (Entry entry) g.contributions _ refl a s c
 entry_step bottom before g GlobalSymbol entry a s n l t c =
-    kept before (Entry entry) g.contributions _ (symbol_keeps contributions_told g (λ definitions references weak. refl) entry) a s c
+    kept before (Entry entry) g.contributions _ (symbol_keeps contributions_told g
+    (λ definitions references weak. refl) entry) a s c
 entry_step bottom before g Identification entry a s n l t c = kept before (Entry entry) g.contributions _ refl a s c
 
 pub no_fault : (before : List Part) (entry : GsdEntry) → fault_of before (Entry entry) ≡ None
-    → entry_fault entry.kind entry (sections_in (this_module before)) (known_of before).sections (known_of before).globals ≡ None
+    → entry_fault entry.kind entry (sections_in (this_module before)) (known_of before).sections
+    (known_of before).globals ≡ None
 unfolding fault_known known_of
 no_fault before entry n = n
 
@@ -89,12 +103,15 @@ unfolding gathered_behind
 contributions_step bottom before g Directory n l t c = kept before Directory g.contributions _ refl refl refl c
 contributions_step bottom before g (Entry entry) n l t c =
     entry_step bottom before g entry.kind entry refl refl (no_fault before entry n) l t c
-contributions_step bottom before g EndOfDirectory n l t c = kept before EndOfDirectory g.contributions _ refl refl refl c
-contributions_step bottom before g (Text address bytes) n l t c = kept before (Text address bytes) g.contributions _ refl refl refl c
+contributions_step bottom before g EndOfDirectory n l t c =
+    kept before EndOfDirectory g.contributions _ refl refl refl c
+contributions_step bottom before g (Text address bytes) n l t c =
+    kept before (Text address bytes) g.contributions _ refl refl refl c
 contributions_step bottom before g Relocations n l t c = kept before Relocations g.contributions _ refl refl refl c
 contributions_step bottom before g (Relocated relocation) n l t c =
     kept before (Relocated relocation) g.contributions _
-    (relocated_keeps contributions_told g (λ definitions references weak. refl) (global_of relocation.target)) refl refl c
+    (relocated_keeps contributions_told g (λ definitions references weak. refl)
+    (global_of relocation.target)) refl refl c
 contributions_step bottom before g EndOfModule n l t c = kept before EndOfModule g.contributions _ refl refl refl c
 contributions_step bottom before g EndOfFile n l t c = kept before EndOfFile g.contributions _ refl refl refl c
 

@@ -21,7 +21,8 @@ use Rattle.m11_layout.proofs.Walking.{head_none, rest_none}
 
 -- ---- a plan that isn't made
 
-pub plan_failed : (bottom : ℕ) (gathered : Gathered) (entries new : List ((ℕ × ℕ) × ℕ)) (said : LinkFault) → entries ≡ []
+pub plan_failed : (bottom : ℕ) (gathered : Gathered) (entries new : List ((ℕ × ℕ) × ℕ)) (said : LinkFault)
+    → entries ≡ []
     → Places (bases_onto entries bottom gathered.sections) new (Err said) → Plans bottom gathered (Err said)
 plan_failed bottom gathered entries new fault.TooLarge e h =
     let P : List ((ℕ × ℕ) × ℕ) → Type 0 = λ based. bases_onto based bottom gathered.sections ≡ None in subst P e h
@@ -42,7 +43,8 @@ plan_failed bottom gathered entries new fault.TextOutside e h = h
 
 -- ---- behind the end of the last file
 
-end_sound : (done before : List Part) → first_fault done (before ++ EndOfFile ∷ []) ≡ None → fault_of (done ++ before) EndOfFile ≡ None
+end_sound : (done before : List Part) → first_fault done (before ++ EndOfFile ∷ []) ≡ None
+    → fault_of (done ++ before) EndOfFile ≡ None
 unfolding first_fault
 end_sound done [] e =
     let P : List Part → Type 0 = λ all. fault_of all EndOfFile ≡ None in
@@ -52,7 +54,8 @@ end_sound done (part ∷ before) e =
     subst P (append_snoc done part before) (end_sound (done ++ part ∷ []) before
     (rest_none (fault_of done part) (first_fault (done ++ part ∷ []) (before ++ EndOfFile ∷ [])) e))
 
-rest_sound : (done before : List Part) → first_fault done (before ++ EndOfFile ∷ []) ≡ None → first_fault done before ≡ None
+rest_sound : (done before : List Part) → first_fault done (before ++ EndOfFile ∷ []) ≡ None
+    → first_fault done before ≡ None
 unfolding first_fault
 rest_sound done [] e = refl
 rest_sound done (part ∷ before) e =
@@ -62,17 +65,21 @@ rest_sound done (part ∷ before) e =
     subst P (sym first) (rest_sound (done ++ part ∷ []) before (rest_none (fault_of done part) rest e))
 
 nothing_more : (bottom : ℕ) (before : List Part)
-    → gathered_behind_all bottom nothing_gathered (before ++ EndOfFile ∷ []) ≡ gathered_behind_all bottom nothing_gathered before
+    → gathered_behind_all bottom nothing_gathered (before ++ EndOfFile ∷ [])
+    ≡ gathered_behind_all bottom nothing_gathered before
 unfolding gathered_behind
 nothing_more bottom before = gathered_append bottom nothing_gathered before (EndOfFile ∷ [])
 
-planned : (bottom : ℕ) (before : List Part) (reading : Reading) (plan : Planned) → Stands bottom (before ++ EndOfFile ∷ []) reading
+planned : (bottom : ℕ) (before : List Part) (reading : Reading) (plan : Planned)
+    → Stands bottom (before ++ EndOfFile ∷ []) reading
     → Plans reading.bottom reading.gathered (Ok plan) → IsPlan bottom before plan
 planned bottom before reading plan s h =
     let P : Gathered → Type 0 = λ g. plan.gathered ≡ g in
     let Q : ℕ → Type 0 = λ n. plan.bottom ≡ n in
-    let R : Gathered → Type 0 = λ g. bases_onto [] reading.bottom g.sections ≡ Some (record { bases = plan.bases; top = plan.top }) in
-    let S : ℕ → Type 0 = λ n. bases_onto [] n plan.gathered.sections ≡ Some (record { bases = plan.bases; top = plan.top }) in
+    let R : Gathered → Type 0 = λ g. bases_onto [] reading.bottom g.sections
+    ≡ Some (record { bases = plan.bases; top = plan.top }) in
+    let S : ℕ → Type 0 = λ n. bases_onto [] n plan.gathered.sections
+    ≡ Some (record { bases = plan.bases; top = plan.top }) in
     record {
       gathered = subst P (nothing_more bottom before) (subst P s.gathered h.0);
       bases = subst S s.bottom_is (subst R (sym h.0) h.2);
@@ -89,11 +96,18 @@ too_large bottom before reading s h =
 
 -- the plan behind the end of the last file
 pub ended : (bottom : ℕ) (before : List Part) (reading : Reading) (result : Result Planned LinkFault)
-    → Stands bottom (before ++ EndOfFile ∷ []) reading → Plans reading.bottom reading.gathered result → Ends bottom before result
-ended bottom before reading (Ok plan) s h =
-    (end_sound [] before s.sound, plan_is bottom before plan (rest_sound [] before s.sound) (planned bottom before reading plan s h))
-ended bottom before reading (Err fault.TooLarge) s h =
-    (end_sound [] before s.sound, too_large_is bottom before (rest_sound [] before s.sound) (too_large bottom before reading s h))
+    → Stands bottom (before ++ EndOfFile ∷ []) reading → Plans reading.bottom reading.gathered result
+    → Ends bottom before result
+ended bottom before reading (Ok plan) s h = (
+  end_sound [] before s.sound,
+  plan_is bottom before plan (rest_sound [] before s.sound)
+      (planned bottom before reading plan s h),
+)
+ended bottom before reading (Err fault.TooLarge) s h = (
+  end_sound [] before s.sound,
+  too_large_is bottom before (rest_sound [] before s.sound)
+      (too_large bottom before reading s h),
+)
 ended bottom before reading (Err fault.NoMemory) s h = tt
 ended bottom before reading (Err fault.Read) s h = absurd h
 ended bottom before reading (Err (fault.Write output)) s h = absurd h
@@ -109,14 +123,18 @@ ended bottom before reading (Err fault.TooManyModules) s h = absurd h
 ended bottom before reading (Err fault.TooMuch) s h = absurd h
 ended bottom before reading (Err fault.TextOutside) s h = absurd h
 
-pub ended_seen : {seen : Reading} (bottom : ℕ) (before : List Part) (reading : Reading) (result : Result Planned LinkFault) → seen ≡ reading
-    → Stands bottom (before ++ EndOfFile ∷ []) reading → Plans seen.bottom seen.gathered result → Ends bottom before result
+pub ended_seen : {seen : Reading} (bottom : ℕ) (before : List Part) (reading : Reading)
+    (result : Result Planned LinkFault) → seen ≡ reading
+    → Stands bottom (before ++ EndOfFile ∷ []) reading → Plans seen.bottom seen.gathered result
+    → Ends bottom before result
 ended_seen {seen} bottom before reading result is s h =
-    let P : Reading → Type 0 = λ r. Stands bottom (before ++ EndOfFile ∷ []) r in ended bottom before seen result (subst P (sym is) s) h
+    let P : Reading → Type 0 = λ r. Stands bottom (before ++ EndOfFile ∷ []) r in
+    ended bottom before seen result (subst P (sym is) s) h
 
 -- ---- an end inside a module
 
-inside : (stage : Stage) (said : ModuleFault) → option_or (if may_stand EndOfFile stage then None else Some rule.BadOrder) None ≡ Some said
+inside : (stage : Stage) (said : ModuleFault) → option_or
+    (if may_stand EndOfFile stage then None else Some rule.BadOrder) None ≡ Some said
     → (said ≡ rule.BadOrder) × ((if may_stand EndOfFile stage then None else Some rule.BadOrder) ≡ Some rule.BadOrder)
 inside Between said e = search
 inside InDirectory said e = (search, refl)
@@ -135,7 +153,8 @@ ends_inside bottom before told said e t =
     let Q : LinkFault → Type 0 = λ l. Ends bottom before (Err l) in
     subst Q (sym (subst P f.0 t)) f.1
 
-pub end_refused : (bottom : ℕ) (before : List Part) (told : LinkFault) → FirstFault before (EndOfFile ∷ []) told → Ends bottom before (Err told)
+pub end_refused : (bottom : ℕ) (before : List Part) (told : LinkFault) → FirstFault before (EndOfFile ∷ []) told
+    → Ends bottom before (Err told)
 end_refused bottom before fault.NoMemory h = tt
 end_refused bottom before fault.TooLarge h = ends_inside bottom before fault.TooLarge h.0 h.1 h.2
 end_refused bottom before fault.Read h = ends_inside bottom before fault.Read h.0 h.1 h.2

@@ -31,18 +31,21 @@ is_name_same (a, b) (c, d) e =
     let h = both (a == c) (b == d) e in joined_pair a c b d (same_number a c h.0) (same_number b d h.1)
 
 pub is_name_itself : (one : ℕ × ℕ) → is_name one one ≡ true
-is_name_itself (a, b) = let P : Bool → Type 0 = λ t. (t && (b == b)) ≡ true in subst P (sym (number_itself a)) (number_itself b)
+is_name_itself (a, b) =
+    let P : Bool → Type 0 = λ t. (t && (b == b)) ≡ true in subst P (sym (number_itself a)) (number_itself b)
 
 pub is_contribution_same : (one other : ℕ × (ℕ × ℕ)) → is_contribution one other ≡ true → one ≡ other
 is_contribution_same (i, a) (j, b) e =
     let h = both (i == j) (is_name a b) e in joined_pair i j a b (same_number i j h.0) (is_name_same a b h.1)
 
 pub is_contribution_itself : (one : ℕ × (ℕ × ℕ)) → is_contribution one one ≡ true
-is_contribution_itself (i, a) = let P : Bool → Type 0 = λ t. (t && is_name a a) ≡ true in subst P (sym (number_itself i)) (is_name_itself a)
+is_contribution_itself (i, a) =
+    let P : Bool → Type 0 = λ t. (t && is_name a a) ≡ true in subst P (sym (number_itself i)) (is_name_itself a)
 
 -- ---- look-ups
 
-swap_tests : {A : Type 0} (b c : Bool) (x y z : A) → (b ≡ true → c ≡ true → ⊥) → cond b x (cond c y z) ≡ cond c y (cond b x z)
+swap_tests : {A : Type 0} (b c : Bool) (x y z : A) → (b ≡ true → c ≡ true → ⊥)
+    → cond b x (cond c y z) ≡ cond c y (cond b x z)
 swap_tests true true x y z h = absurd (h refl refl)
 swap_tests true false x y z h = refl
 swap_tests false c x y z h = refl
@@ -56,7 +59,8 @@ chosen_or : {X : Type 0} (b : Bool) (x : X) (this behind more : Option X) → th
 chosen_or true x this behind more e = refl
 chosen_or false x this behind more e = e
 
-pub lookup_append : {K X : Type 0} (test : K → Bool) (es fs : List (K × X)) → lookup test (es ++ fs) ≡ option_or (lookup test es) (lookup test fs)
+pub lookup_append : {K X : Type 0} (test : K → Bool) (es fs : List (K × X))
+    → lookup test (es ++ fs) ≡ option_or (lookup test es) (lookup test fs)
 lookup_append test [] fs = refl
 lookup_append test (e ∷ es) fs = chosen_or (test e.0) e.1 _ _ (lookup test fs) (lookup_append test es fs)
 
@@ -77,20 +81,25 @@ pub or_true : (b c : Bool) → c ≡ true → (b || c) ≡ true
 or_true true c e = refl
 or_true false c e = e
 
-paired : {K X : Type 0} (e : K × X) (es : List (K × X)) (x : X) (fs : List (K × X)) → e.1 ≡ x → es ≡ fs → e ∷ es ≡ (e.0, x) ∷ fs
+paired : {K X : Type 0} (e : K × X) (es : List (K × X)) (x : X) (fs : List (K × X)) → e.1 ≡ x → es ≡ fs
+    → e ∷ es ≡ (e.0, x) ∷ fs
 paired e es x fs p q = λ j. (e.0, p j) ∷ q j
 
-module _ {K : Type 0} (eq : K → K → Bool) (same : (x y : K) → eq x y ≡ true → x ≡ y) (itself : (x : K) → eq x x ≡ true) where
+module _ {K : Type 0} (eq : K → K → Bool) (same : (x y : K) → eq x y ≡ true → x ≡ y) (itself : (x : K)
+    → eq x x ≡ true) where
   inserted : {X : Type 0} (q k : K) (v : X) (e : K × X) (es : List (K × X)) (b : Bool) → eq k e.0 ≡ b
       → lookup (eq q) (insert_entry eq es k v) ≡ cond (eq q k) (Some v) (lookup (eq q) es)
-      → lookup (eq q) (if b then (e.0, v) ∷ es else e ∷ insert_entry eq es k v) ≡ cond (eq q k) (Some v) (cond (eq q e.0) (Some e.1) (lookup (eq q) es))
+      → lookup (eq q) (if b then (e.0, v) ∷ es else e ∷ insert_entry eq es k v)
+      ≡ cond (eq q k) (Some v) (cond (eq q e.0) (Some e.1) (lookup (eq q) es))
   inserted q k v e es true t h =
-      let P : K → Type 0 = λ x. cond (eq q e.0) (Some v) (lookup (eq q) es) ≡ cond (eq q x) (Some v) (cond (eq q e.0) (Some e.1) (lookup (eq q) es)) in
+      let P : K → Type 0 = λ x. cond (eq q e.0) (Some v) (lookup (eq q) es)
+      ≡ cond (eq q x) (Some v) (cond (eq q e.0) (Some e.1) (lookup (eq q) es)) in
       subst P (sym (same k e.0 t)) (same_tests (eq q e.0) (Some v) (lookup (eq q) es) (Some e.1))
   inserted q k v e es false f h =
       let two : (eq q e.0 ≡ true → eq q k ≡ true → ⊥) = λ s t.
       let P : K → Type 0 = λ x. eq x e.0 ≡ true in true≢false (sym (subst P (same q k t) s) ∙ f) in
-      ap (λ o. cond (eq q e.0) (Some e.1) o) h ∙ swap_tests (eq q e.0) (eq q k) (Some e.1) (Some v) (lookup (eq q) es) two
+      ap (λ o. cond (eq q e.0) (Some e.1) o) h ∙ swap_tests (eq q e.0) (eq q k) (Some e.1) (Some v)
+      (lookup (eq q) es) two
 
   -- what is found behind one more pair
   pub lookup_inserted : {X : Type 0} (q k : K) (v : X) (es : List (K × X))
@@ -112,32 +121,41 @@ module _ {K : Type 0} (eq : K → K → Bool) (same : (x y : K) → eq x y ≡ t
   apart_more : (ks : List K) (k : K) → list_any (eq k) ks ≡ false → Apart eq ks → Apart eq (ks ++ k ∷ [])
   apart_more [] k e d = (refl, tt)
   apart_more (x ∷ ks) k e d =
-      let n = neither (eq k x) (list_any (eq k) ks) e in
-      (list_any-append (eq x) ks (k ∷ []) ∙ none_or (list_any (eq x) ks) (eq x k) d.0 (turned x k (eq x k) refl n.0), apart_more ks k n.1 d.1)
+      let n = neither (eq k x) (list_any (eq k) ks) e in (
+        list_any-append (eq x) ks (k ∷ []) ∙ none_or (list_any (eq x) ks) (eq x k) d.0
+            (turned x k (eq x k) refl n.0),
+        apart_more ks k n.1 d.1,
+      )
 
-  inserted_apart : (b : Bool) (ks : List K) (k : K) → list_any (eq k) ks ≡ b → Apart eq ks → Apart eq (if b then ks else ks ++ k ∷ [])
+  inserted_apart : (b : Bool) (ks : List K) (k : K) → list_any (eq k) ks ≡ b → Apart eq ks
+      → Apart eq (if b then ks else ks ++ k ∷ [])
   inserted_apart true ks k e d = d
   inserted_apart false ks k e d = apart_more ks k e d
 
   pub apart_inserted : (ks : List K) (k : K) → Apart eq ks → Apart eq (insert_key eq ks k)
   apart_inserted ks k d = inserted_apart (list_any (eq k) ks) ks k refl d
 
-  found_behind : {X : Type 0} (f : K → X) (e : K × X) (es : List (K × X)) (q : K) (b : Bool) → eq q e.0 ≡ b → list_any (eq e.0) (keys_of es) ≡ false
-      → list_any (eq q) (keys_of es) ≡ true → cond (eq q e.0) (Some e.1) (lookup (eq q) es) ≡ Some (f q) → lookup (eq q) es ≡ Some (f q)
+  found_behind : {X : Type 0} (f : K → X) (e : K × X) (es : List (K × X)) (q : K) (b : Bool) → eq q e.0 ≡ b
+      → list_any (eq e.0) (keys_of es) ≡ false
+      → list_any (eq q) (keys_of es) ≡ true → cond (eq q e.0) (Some e.1) (lookup (eq q) es) ≡ Some (f q)
+      → lookup (eq q) es ≡ Some (f q)
   found_behind {X} f e es q false t d a h =
       let P : Bool → Type 0 = λ b. cond b (Some e.1) (lookup (eq q) es) ≡ Some (f q) in subst P t h
   found_behind f e es q true t d a h =
-      let P : K → Type 0 = λ k. list_any (eq k) (keys_of es) ≡ true in absurd (true≢false (sym (subst P (same q e.0 t) a) ∙ d))
+      let P : K → Type 0 = λ k. list_any (eq k) (keys_of es) ≡ true in
+      absurd (true≢false (sym (subst P (same q e.0 t) a) ∙ d))
 
   -- pairs whose names stand once are what is found under them
   pub pairs_found : {X : Type 0} (f : K → X) (es : List (K × X)) → Apart eq (keys_of es)
-      → ((q : K) → list_any (eq q) (keys_of es) ≡ true → lookup (eq q) es ≡ Some (f q)) → es ≡ map (λ k. (k, f k)) (keys_of es)
+      → ((q : K) → list_any (eq q) (keys_of es) ≡ true → lookup (eq q) es ≡ Some (f q))
+      → es ≡ map (λ k. (k, f k)) (keys_of es)
   pairs_found f [] d h = refl
   pairs_found {X} f (e ∷ es) d h =
       let P : Bool → Type 0 = λ b. (b || list_any (eq e.0) (keys_of es)) ≡ true in
       let Q : Bool → Type 0 = λ b. cond b (Some e.1) (lookup (eq e.0) es) ≡ Some (f e.0) in
       let first = same_some e.1 (f e.0) (subst Q (itself e.0) (h e.0 (subst P (sym (itself e.0)) refl))) in
-      let rest = pairs_found f es d.1 (λ q t. found_behind f e es q (eq q e.0) refl d.0 t (h q (or_true (eq q e.0) (list_any (eq q) (keys_of es)) t))) in
+      let rest = pairs_found f es d.1 (λ q t. found_behind f e es q (eq q e.0) refl d.0 t
+      (h q (or_true (eq q e.0) (list_any (eq q) (keys_of es)) t))) in
       paired e es (f e.0) (map (λ k. (k, f k)) (keys_of es)) first rest
 
   found_later : {X : Type 0} (e : K × X) (es : List (K × X)) (q : K) (b : Bool) (found : Option X) → eq q e.0 ≡ b

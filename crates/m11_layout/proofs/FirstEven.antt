@@ -17,7 +17,8 @@ use Rattle.m11_layout.proofs.Telling.{told_more}
 -- ---- lists of transfer entries
 
 pub find_same : (before : List Part) (p q : Transfer → Bool) (transfers : List Transfer) → AllKnown before transfers
-    → ((transfer : Transfer) → known_at before transfer ≡ true → p transfer ≡ q transfer) → find p transfers ≡ find q transfers
+    → ((transfer : Transfer) → known_at before transfer ≡ true → p transfer ≡ q transfer)
+    → find p transfers ≡ find q transfers
 find_same before p q [] k h = refl
 find_same before p q (transfer ∷ transfers) k h =
     let first = h transfer k.0 in
@@ -35,16 +36,19 @@ find_more p (first ∷ transfers) transfer = by (p first) _ _ (find_more p trans
     by false more rest e = e
 
 pub all_known : (before after : List Part) (transfers : List Transfer)
-    → ((transfer : Transfer) → known_at before transfer ≡ true → known_at after transfer ≡ true) → AllKnown before transfers → AllKnown after transfers
+    → ((transfer : Transfer) → known_at before transfer ≡ true → known_at after transfer ≡ true)
+    → AllKnown before transfers → AllKnown after transfers
 all_known before after [] h k = tt
 all_known before after (transfer ∷ transfers) h k = (h transfer k.0, all_known before after transfers h k.1)
 
-pub one_known : (before : List Part) (transfers : List Transfer) (transfer : Transfer) → AllKnown before transfers → known_at before transfer ≡ true
+pub one_known : (before : List Part) (transfers : List Transfer) (transfer : Transfer) → AllKnown before transfers
+    → known_at before transfer ≡ true
     → AllKnown before (transfers ++ transfer ∷ [])
 one_known before [] transfer k e = (e, tt)
 one_known before (first ∷ transfers) transfer k e = (k.0, one_known before transfers transfer k.1 e)
 
-pub transfers_more : (before : List Part) (part : Part) → transfers_of (before ++ part ∷ []) ≡ transfers_of before ++ cons_option (transfer_in before part) []
+pub transfers_more : (before : List Part) (part : Part)
+    → transfers_of (before ++ part ∷ []) ≡ transfers_of before ++ cons_option (transfer_in before part) []
 unfolding transfers_of
 transfers_more before part = told_more transfer_in before part
 
@@ -56,14 +60,17 @@ more_known false true a true e = refl
 more_known false true a false e = e
 more_known false false a x e = e
 
-known_by : (before : List Part) (part : Part) (transfer : Transfer) (b : Bool) → is_some (entered_at before transfer.module_index transfer.section) ≡ b
+known_by : (before : List Part) (part : Part) (transfer : Transfer) (b : Bool)
+    → is_some (entered_at before transfer.module_index transfer.section) ≡ b
     → known_at before transfer ≡ true
     → (nat_lt transfer.module_index (modules_in before)
     || (nat_eq transfer.module_index (modules_in before)
-    && (is_some (entered_at (before ++ part ∷ []) transfer.module_index transfer.section) || is_name transfer.section absolute_name))) ≡ true
+    && (is_some (entered_at (before ++ part ∷ []) transfer.module_index transfer.section)
+    || is_name transfer.section absolute_name))) ≡ true
 known_by before part transfer true e k =
     let P : Option ℕ → Type 0 = λ entered. (nat_lt transfer.module_index (modules_in before)
-    || (nat_eq transfer.module_index (modules_in before) && (is_some entered || is_name transfer.section absolute_name))) ≡ true in
+    || (nat_eq transfer.module_index (modules_in before)
+    && (is_some entered || is_name transfer.section absolute_name))) ≡ true in
     subst P (sym (entered_stays before part transfer.module_index transfer.section e)) k
 known_by before part transfer false e k =
     let l = nat_lt transfer.module_index (modules_in before) in
@@ -72,18 +79,23 @@ known_by before part transfer false e k =
     let P : Bool → Type 0 = λ b. (l || (n && (b || a))) ≡ true in
     more_known l n a (is_some (entered_at (before ++ part ∷ []) transfer.module_index transfer.section)) (subst P e k)
 
-pub known_goes_on : (before : List Part) (part : Part) (transfer : Transfer) → modules_in (before ++ part ∷ []) ≡ modules_in before
+pub known_goes_on : (before : List Part) (part : Part) (transfer : Transfer)
+    → modules_in (before ++ part ∷ []) ≡ modules_in before
     → known_at before transfer ≡ true → known_at (before ++ part ∷ []) transfer ≡ true
 known_goes_on before part transfer m k =
     let P : ℕ → Type 0 = λ n. (nat_lt transfer.module_index n
     || (nat_eq transfer.module_index n
-    && (is_some (entered_at (before ++ part ∷ []) transfer.module_index transfer.section) || is_name transfer.section absolute_name))) ≡ true in
-    subst P (sym m) (known_by before part transfer (is_some (entered_at before transfer.module_index transfer.section)) refl k)
+    && (is_some (entered_at (before ++ part ∷ []) transfer.module_index transfer.section)
+    || is_name transfer.section absolute_name))) ≡ true in
+    subst P (sym m) (known_by before part transfer
+    (is_some (entered_at before transfer.module_index transfer.section)) refl k)
 
-below_next : (index modules : ℕ) (x : Bool) → (nat_lt index modules || (nat_eq index modules && x)) ≡ true → nat_lt index (modules + 1) ≡ true
+below_next : (index modules : ℕ) (x : Bool) → (nat_lt index modules || (nat_eq index modules && x)) ≡ true
+    → nat_lt index (modules + 1) ≡ true
 below_next index modules x e = by (nat_lt index modules) (nat_eq index modules) refl refl e
   where
-    by : (l n : Bool) → nat_lt index modules ≡ l → nat_eq index modules ≡ n → (l || (n && x)) ≡ true → nat_lt index (modules + 1) ≡ true
+    by : (l n : Bool) → nat_lt index modules ≡ l → nat_eq index modules ≡ n → (l || (n && x)) ≡ true
+        → nat_lt index (modules + 1) ≡ true
     by true n f g e = grind (arith, nat_tests)
     by false true f g e = grind (arith, nat_tests)
     by false false f g e = absurd (true≢false (sym e))
@@ -91,25 +103,31 @@ below_next index modules x e = by (nat_lt index modules) (nat_eq index modules) 
 pub known_below : (before : List Part) (transfer : Transfer) → known_at before transfer ≡ true
     → nat_lt transfer.module_index (modules_in (before ++ EndOfModule ∷ [])) ≡ true
 known_below before transfer k =
-    ap (λ n. nat_lt transfer.module_index n) (one_ended before) ∙ below_next transfer.module_index (modules_in before) _ k
+    ap (λ n. nat_lt transfer.module_index n) (one_ended before)
+    ∙ below_next transfer.module_index (modules_in before) _ k
 
-pub known_ended : (before : List Part) (transfer : Transfer) → known_at before transfer ≡ true → known_at (before ++ EndOfModule ∷ []) transfer ≡ true
+pub known_ended : (before : List Part) (transfer : Transfer) → known_at before transfer ≡ true
+    → known_at (before ++ EndOfModule ∷ []) transfer ≡ true
 known_ended before transfer k =
     ap (λ b. b || (nat_eq transfer.module_index (modules_in (before ++ EndOfModule ∷ []))
-    && (is_some (entered_at (before ++ EndOfModule ∷ []) transfer.module_index transfer.section) || is_name transfer.section absolute_name)))
+    && (is_some (entered_at (before ++ EndOfModule ∷ []) transfer.module_index transfer.section)
+    || is_name transfer.section absolute_name)))
     (known_below before transfer k)
 
 -- ---- relocated behind one more part
 
-under_by : (before : List Part) (part : Part) (assumed : Bool) (transfer : Transfer) (b : Bool) → is_absolute_here before transfer ≡ b
+under_by : (before : List Part) (part : Part) (assumed : Bool) (transfer : Transfer) (b : Bool)
+    → is_absolute_here before transfer ≡ b
     → known_at before transfer ≡ true
     → (if b then assumed else relocated_at (before ++ part ∷ []) transfer.module_index transfer.section)
     ≡ (if b then assumed else relocated_at before transfer.module_index transfer.section)
 under_by before part assumed transfer true e k = refl
 under_by before part assumed transfer false e k = stays_known before part transfer k e
 
-pub under_goes_on : (before : List Part) (part : Part) (assumed : Bool) (transfer : Transfer) → modules_in (before ++ part ∷ []) ≡ modules_in before
-    → known_at before transfer ≡ true → relocated_under (before ++ part ∷ []) assumed transfer ≡ relocated_under before assumed transfer
+pub under_goes_on : (before : List Part) (part : Part) (assumed : Bool) (transfer : Transfer)
+    → modules_in (before ++ part ∷ []) ≡ modules_in before
+    → known_at before transfer ≡ true → relocated_under (before ++ part ∷ []) assumed transfer
+    ≡ relocated_under before assumed transfer
 under_goes_on before part assumed transfer m k =
     ap (λ n. if nat_eq transfer.module_index n && is_name transfer.section absolute_name then assumed
     else relocated_at (before ++ part ∷ []) transfer.module_index transfer.section) m

@@ -9,7 +9,8 @@ module _ {A : Type 0} (F : Gathered → A) (g : Gathered)
     (keeps : (definitions : List ((ℕ × ℕ) × Definition)) (references : List ((ℕ × ℕ) × Bool)) (weak : List (ℕ × ℕ))
     → F (record g { definitions = definitions; references = references; weak = weak }) ≡ F g) where
   by_symbol : (b c : Bool) (entry : GsdEntry)
-      → F (if b then with_definition entry g else if c then with_weak entry.name g else with_reference entry.name true g) ≡ F g
+      → F (if b then with_definition entry g else if c then with_weak entry.name g else with_reference entry.name
+      true g) ≡ F g
   by_symbol true c entry = keeps _ _ _
   by_symbol false true entry = keeps _ _ _
   by_symbol false false entry = keeps _ _ _

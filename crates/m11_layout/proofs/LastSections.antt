@@ -19,13 +19,15 @@ last_more [] x = refl
 last_more (first ∷ []) x = refl
 last_more (first ∷ second ∷ xs) x = last_more (second ∷ xs) x
 
-last_section_more : (own : List Part) (part : Part) → last_section (own ++ part ∷ []) ≡ last_of (keys_of (sections_in own) ++ keys_of (sections_in (part ∷ [])))
+last_section_more : (own : List Part) (part : Part)
+    → last_section (own ++ part ∷ []) ≡ last_of (keys_of (sections_in own) ++ keys_of (sections_in (part ∷ [])))
 unfolding last_section sections_in
 last_section_more own part =
     ap (λ told. last_of (keys_of told)) (filter_map-append section_in own (part ∷ []))
     ∙ ap last_of (map-append (λ e. e.0) (filter_map section_in own) (filter_map section_in (part ∷ [])))
 
-section_kept : (before : List Part) (part : Part) (old new : Option (ℕ × ℕ)) → ends_module part ≡ false → filter_map section_in (part ∷ []) ≡ []
+section_kept : (before : List Part) (part : Part) (old new : Option (ℕ × ℕ)) → ends_module part ≡ false
+    → filter_map section_in (part ∷ []) ≡ []
     → new ≡ old → old ≡ last_section (this_module before) → new ≡ last_section (this_module (before ++ part ∷ []))
 unfolding last_section sections_in
 section_kept before part old new e s same is =
@@ -34,7 +36,8 @@ section_kept before part old new e s same is =
     ∙ ap (λ told. last_of (keys_of (filter_map section_in own) ++ keys_of told)) (sym s)
     ∙ sym (last_section_more own part) ∙ ap (λ parts. last_section parts) (sym (this_module_goes_on before part e))
 
-section_entered : (before : List Part) (part : Part) (name : ℕ × ℕ) (size : ℕ) → ends_module part ≡ false → filter_map section_in (part ∷ []) ≡ (name, size) ∷ []
+section_entered : (before : List Part) (part : Part) (name : ℕ × ℕ) (size : ℕ) → ends_module part ≡ false
+    → filter_map section_in (part ∷ []) ≡ (name, size) ∷ []
     → Some name ≡ last_section (this_module (before ++ part ∷ []))
 unfolding last_section sections_in
 section_entered before part name size e s =
@@ -47,28 +50,34 @@ abbrev section_told : Gathered → Option (ℕ × ℕ)
 section_told g = g.section
 
 section_entry : (bottom : ℕ) (before : List Part) (g : Gathered) (kind : GsdKind) (entry : GsdEntry)
-    → filter_map section_in (Entry entry ∷ []) ≡ cons_option (section_by kind entry) [] → g.section ≡ last_section (this_module before)
+    → filter_map section_in (Entry entry ∷ []) ≡ cons_option (section_by kind entry) []
+    → g.section ≡ last_section (this_module before)
     → (with_entry bottom kind entry g).section ≡ last_section (this_module (before ++ Entry entry ∷ []))
-section_entry bottom before g ControlSection entry s is = section_entered before (Entry entry) entry.name entry.value refl s
-section_entry bottom before g ProgramSection entry s is = section_entered before (Entry entry) entry.name entry.value refl s
+section_entry bottom before g ControlSection entry s is =
+    section_entered before (Entry entry) entry.name entry.value refl s
+section_entry bottom before g ProgramSection entry s is =
+    section_entered before (Entry entry) entry.name entry.value refl s
 section_entry bottom before g ModuleName entry s is = section_kept before (Entry entry) g.section _ refl s refl is
 section_entry bottom before g InternalSymbol entry s is = section_kept before (Entry entry) g.section _ refl s refl is
 section_entry bottom before g TransferAddress entry s is = section_kept before (Entry entry) g.section _ refl s refl is
 section_entry bottom before g GlobalSymbol entry s is =
-    section_kept before (Entry entry) g.section _ refl s (symbol_keeps section_told g (λ definitions references weak. refl) entry) is
+    section_kept before (Entry entry) g.section _ refl s
+    (symbol_keeps section_told g (λ definitions references weak. refl) entry) is
 section_entry bottom before g Identification entry s is = section_kept before (Entry entry) g.section _ refl s refl is
 
 section_ended : (before : List Part) → None ≡ last_section (this_module (before ++ EndOfModule ∷ []))
 unfolding last_section sections_in
 section_ended before = ap (λ parts. last_section parts) (sym (this_module_ended before))
 
-pub section_step : (bottom : ℕ) (before : List Part) (g : Gathered) (part : Part) → g.section ≡ last_section (this_module before)
+pub section_step : (bottom : ℕ) (before : List Part) (g : Gathered) (part : Part)
+    → g.section ≡ last_section (this_module before)
     → (gathered_behind bottom g part).section ≡ last_section (this_module (before ++ part ∷ []))
 unfolding gathered_behind
 section_step bottom before g Directory is = section_kept before Directory g.section _ refl refl refl is
 section_step bottom before g (Entry entry) is = section_entry bottom before g entry.kind entry refl is
 section_step bottom before g EndOfDirectory is = section_kept before EndOfDirectory g.section _ refl refl refl is
-section_step bottom before g (Text address bytes) is = section_kept before (Text address bytes) g.section _ refl refl refl is
+section_step bottom before g (Text address bytes) is =
+    section_kept before (Text address bytes) g.section _ refl refl refl is
 section_step bottom before g Relocations is = section_kept before Relocations g.section _ refl refl refl is
 section_step bottom before g (Relocated relocation) is =
     section_kept before (Relocated relocation) g.section _ refl refl

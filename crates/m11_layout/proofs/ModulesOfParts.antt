@@ -23,7 +23,8 @@ one_after a b = omega arith
 
 -- ---- one more part
 
-pub modules_more : (before : List Part) (part : Part) → modules_in (before ++ part ∷ []) ≡ modules_in before + modules_in (part ∷ [])
+pub modules_more : (before : List Part) (part : Part)
+    → modules_in (before ++ part ∷ []) ≡ modules_in before + modules_in (part ∷ [])
 unfolding modules_in
 modules_more [] part = sym (zero_add (modules_in (part ∷ [])))
 modules_more (Directory ∷ before) part = modules_more before part
@@ -32,7 +33,8 @@ modules_more (EndOfDirectory ∷ before) part = modules_more before part
 modules_more (Text address bytes ∷ before) part = modules_more before part
 modules_more (Relocations ∷ before) part = modules_more before part
 modules_more (Relocated relocation ∷ before) part = modules_more before part
-modules_more (EndOfModule ∷ before) part = ap (λ n. n + 1) (modules_more before part) ∙ one_after (modules_in before) (modules_in (part ∷ []))
+modules_more (EndOfModule ∷ before) part =
+    ap (λ n. n + 1) (modules_more before part) ∙ one_after (modules_in before) (modules_in (part ∷ []))
 modules_more (EndOfFile ∷ before) part = modules_more before part
 
 indexed_one : (index : ℕ) (part : Part) → indexed index (part ∷ []) ≡ (index, part) ∷ []
@@ -51,17 +53,23 @@ unfolding modules_in
 indexed_more index [] part = indexed_one index part ∙ ap (λ n. (n, part) ∷ []) (sym (add_zero index))
 indexed_more index (Directory ∷ before) part = ap (λ all. (index, Directory) ∷ all) (indexed_more index before part)
 indexed_more index (Entry entry ∷ before) part = ap (λ all. (index, Entry entry) ∷ all) (indexed_more index before part)
-indexed_more index (EndOfDirectory ∷ before) part = ap (λ all. (index, EndOfDirectory) ∷ all) (indexed_more index before part)
-indexed_more index (Text address bytes ∷ before) part = ap (λ all. (index, Text address bytes) ∷ all) (indexed_more index before part)
+indexed_more index (EndOfDirectory ∷ before) part =
+    ap (λ all. (index, EndOfDirectory) ∷ all) (indexed_more index before part)
+indexed_more index (Text address bytes ∷ before) part =
+    ap (λ all. (index, Text address bytes) ∷ all) (indexed_more index before part)
 indexed_more index (Relocations ∷ before) part = ap (λ all. (index, Relocations) ∷ all) (indexed_more index before part)
-indexed_more index (Relocated relocation ∷ before) part = ap (λ all. (index, Relocated relocation) ∷ all) (indexed_more index before part)
+indexed_more index (Relocated relocation ∷ before) part =
+    ap (λ all. (index, Relocated relocation) ∷ all) (indexed_more index before part)
 indexed_more index (EndOfModule ∷ before) part =
     ap (λ all. (index, EndOfModule) ∷ all) (indexed_more (index + 1) before part)
-    ∙ ap (λ n. (index, EndOfModule) ∷ (indexed (index + 1) before ++ (n, part) ∷ [])) (one_moved index (modules_in before))
+    ∙ ap (λ n. (index, EndOfModule) ∷ (indexed (index + 1) before ++ (n, part) ∷ []))
+    (one_moved index (modules_in before))
 indexed_more index (EndOfFile ∷ before) part = ap (λ all. (index, EndOfFile) ∷ all) (indexed_more index before part)
 
-indexed_last : (before : List Part) (part : Part) → indexed 0 (before ++ part ∷ []) ≡ indexed 0 before ++ (modules_in before, part) ∷ []
-indexed_last before part = indexed_more 0 before part ∙ ap (λ n. indexed 0 before ++ (n, part) ∷ []) (zero_add (modules_in before))
+indexed_last : (before : List Part) (part : Part) → indexed 0 (before ++ part ∷ [])
+    ≡ indexed 0 before ++ (modules_in before, part) ∷ []
+indexed_last before part =
+    indexed_more 0 before part ∙ ap (λ n. indexed 0 before ++ (n, part) ∷ []) (zero_add (modules_in before))
 
 abbrev pub where_true : Bool → Part → List Part
 where_true b part = if b then part ∷ [] else []
@@ -71,20 +79,24 @@ only true part = refl
 only false part = refl
 
 pub module_more : (before : List Part) (part : Part) (index : ℕ)
-    → module_at (before ++ part ∷ []) index ≡ module_at before index ++ where_true (nat_eq (modules_in before) index) part
+    → module_at (before ++ part ∷ []) index ≡ module_at before index ++ where_true
+    (nat_eq (modules_in before) index) part
 unfolding module_at
 module_more before part index =
     ap (λ all. filter_map (part_at index) all) (indexed_last before part)
     ∙ filter_map-append (part_at index) (indexed 0 before) ((modules_in before, part) ∷ [])
-    ∙ ap (λ these. filter_map (part_at index) (indexed 0 before) ++ these) (only (nat_eq (modules_in before) index) part)
+    ∙ ap (λ these. filter_map (part_at index) (indexed 0 before) ++ these)
+    (only (nat_eq (modules_in before) index) part)
 
 pub before_more : (before : List Part) (part : Part) (index : ℕ)
-    → modules_before (before ++ part ∷ []) index ≡ modules_before before index ++ where_true (nat_lt (modules_in before) index) part
+    → modules_before (before ++ part ∷ []) index ≡ modules_before before index ++ where_true
+    (nat_lt (modules_in before) index) part
 unfolding modules_before
 before_more before part index =
     ap (λ all. filter_map (part_before index) all) (indexed_last before part)
     ∙ filter_map-append (part_before index) (indexed 0 before) ((modules_in before, part) ∷ [])
-    ∙ ap (λ these. filter_map (part_before index) (indexed 0 before) ++ these) (only (nat_lt (modules_in before) index) part)
+    ∙ ap (λ these. filter_map (part_before index) (indexed 0 before) ++ these)
+    (only (nat_lt (modules_in before) index) part)
 
 -- ---- the module that hasn't ended is the last one
 
@@ -106,28 +118,37 @@ itself n = grind (arith, nat_tests)
 not_before : (n : ℕ) → nat_lt n n ≡ false
 not_before n = grind (arith, nat_tests)
 
-none_more : (before : List Part) (part : Part) (index : ℕ) → modules_in before < index → module_at before index ≡ [] → module_at (before ++ part ∷ []) index ≡ []
+none_more : (before : List Part) (part : Part) (index : ℕ) → modules_in before < index → module_at before index ≡ []
+    → module_at (before ++ part ∷ []) index ≡ []
 none_more before part index h e =
     module_more before part index ∙ (λ j. e j ++ where_true (not_beyond (modules_in before) index h j) part)
 
-earlier_more : (before : List Part) (part : Part) (index : ℕ) → modules_in before < index → modules_before before index ≡ before
+earlier_more : (before : List Part) (part : Part) (index : ℕ) → modules_in before < index
+    → modules_before before index ≡ before
     → modules_before (before ++ part ∷ []) index ≡ before ++ part ∷ []
 earlier_more before part index h e =
     before_more before part index ∙ (λ j. e j ++ where_true (beyond (modules_in before) index h j) part)
 
-goes_on : (before : List Part) (part : Part) → ends_module part ≡ false → modules_in (part ∷ []) ≡ 0 → Modules before → Modules (before ++ part ∷ [])
+goes_on : (before : List Part) (part : Part) → ends_module part ≡ false → modules_in (part ∷ []) ≡ 0 → Modules before
+    → Modules (before ++ part ∷ [])
 goes_on before part e z m =
-    let same : modules_in (before ++ part ∷ []) ≡ modules_in before = modules_more before part ∙ ap (λ n. modules_in before + n) z ∙ add_zero (modules_in before) in
-    let now = module_more before part (modules_in before) ∙ (λ j. m.this j ++ where_true (itself (modules_in before) j) part) ∙ sym (this_module_goes_on before part e) in
-    let sooner = before_more before part (modules_in before) ∙ ap (λ b. modules_before before (modules_in before) ++ where_true b part) (not_before (modules_in before)) ∙ append-nil (modules_before before (modules_in before)) in
+    let same : modules_in (before ++ part ∷ []) ≡ modules_in before = modules_more before part
+    ∙ ap (λ n. modules_in before + n) z ∙ add_zero (modules_in before) in
+    let now = module_more before part (modules_in before)
+    ∙ (λ j. m.this j ++ where_true (itself (modules_in before) j) part) ∙ sym (this_module_goes_on before part e) in
+    let sooner = before_more before part (modules_in before)
+    ∙ ap (λ b. modules_before before (modules_in before) ++ where_true b part) (not_before (modules_in before))
+    ∙ append-nil (modules_before before (modules_in before)) in
     record {
       this = ap (λ n. module_at (before ++ part ∷ []) n) same ∙ now;
       all = (λ j. modules_before (before ++ part ∷ []) (same j) ++ this_module_goes_on before part e j)
           ∙ ap (λ these. these ++ (this_module before ++ part ∷ [])) sooner
           ∙ sym (append_assoc (modules_before before (modules_in before)) (this_module before) (part ∷ []))
           ∙ ap (λ these. these ++ part ∷ []) m.all;
-      none = λ index h. let P : ℕ → Type 0 = λ n. n < index in let h' = subst P same h in none_more before part index h' (m.none index h');
-      earlier = λ index h. let P : ℕ → Type 0 = λ n. n < index in let h' = subst P same h in earlier_more before part index h' (m.earlier index h');
+      none = λ index h. let P : ℕ → Type 0 = λ n. n < index in let h' = subst P same h in
+          none_more before part index h' (m.none index h');
+      earlier = λ index h. let P : ℕ → Type 0 = λ n. n < index in let h' = subst P same h in
+          earlier_more before part index h' (m.earlier index h');
     }
 
 pub one_ended : (before : List Part) → modules_in (before ++ EndOfModule ∷ []) ≡ modules_in before + 1
@@ -145,13 +166,16 @@ ended before m =
     let next = modules_in before + 1 in
     record {
       this = ap (λ n. module_at (before ++ EndOfModule ∷ []) n) (one_ended before)
-          ∙ none_more before EndOfModule next (less (modules_in before)) (m.none next (less (modules_in before))) ∙ sym (this_module_ended before);
+          ∙ none_more before EndOfModule next (less (modules_in before)) (m.none next (less (modules_in before)))
+          ∙ sym (this_module_ended before);
       all = (λ j. modules_before (before ++ EndOfModule ∷ []) (one_ended before j) ++ this_module_ended before j)
           ∙ append-nil (modules_before (before ++ EndOfModule ∷ []) next)
           ∙ earlier_more before EndOfModule next (less (modules_in before)) (m.earlier next (less (modules_in before)));
-      none = λ index h. let P : ℕ → Type 0 = λ n. n < index in let h' = lesser (modules_in before) index (subst P (one_ended before) h) in
+      none = λ index h. let P : ℕ → Type 0 = λ n. n < index in
+          let h' = lesser (modules_in before) index (subst P (one_ended before) h) in
           none_more before EndOfModule index h' (m.none index h');
-      earlier = λ index h. let P : ℕ → Type 0 = λ n. n < index in let h' = lesser (modules_in before) index (subst P (one_ended before) h) in
+      earlier = λ index h. let P : ℕ → Type 0 = λ n. n < index in
+          let h' = lesser (modules_in before) index (subst P (one_ended before) h) in
           earlier_more before EndOfModule index h' (m.earlier index h');
     }
 

@@ -29,30 +29,39 @@ first_more : {X : Type 0} (xs ys : List X) → first_of (xs ++ ys) ≡ option_or
 first_more [] ys = refl
 first_more (x ∷ xs) ys = refl
 
-told_more : (own : List Part) (part : Part) → name_told (own ++ part ∷ []) ≡ option_or (name_told own) (first_of (filter_map name_in (part ∷ [])))
+told_more : (own : List Part) (part : Part) → name_told (own ++ part ∷ [])
+    ≡ option_or (name_told own) (first_of (filter_map name_in (part ∷ [])))
 unfolding name_told
-told_more own part = ap first_of (filter_map-append name_in own (part ∷ [])) ∙ first_more (filter_map name_in own) (filter_map name_in (part ∷ []))
+told_more own part =
+    ap first_of (filter_map-append name_in own (part ∷ []))
+    ∙ first_more (filter_map name_in own) (filter_map name_in (part ∷ []))
 
 not_here : (n index : ℕ) → index < n → nat_eq n index ≡ false
 not_here n index h = grind (arith, nat_tests)
 
 -- a module that ended stays as it is
-ended_stays : (before : List Part) (part : Part) (index : ℕ) → index < modules_in before → module_at (before ++ part ∷ []) index ≡ module_at before index
+ended_stays : (before : List Part) (part : Part) (index : ℕ) → index < modules_in before
+    → module_at (before ++ part ∷ []) index ≡ module_at before index
 ended_stays before part index h =
-    module_more before part index ∙ ap (λ b. module_at before index ++ where_true b part) (not_here (modules_in before) index h) ∙ append-nil (module_at before index)
+    module_more before part index ∙ ap (λ b. module_at before index ++ where_true b part)
+    (not_here (modules_in before) index h) ∙ append-nil (module_at before index)
 
-goes_on : (before : List Part) (part : Part) (names : List (ℕ × ℕ)) (old new : Option (ℕ × ℕ)) → ends_module part ≡ false
+goes_on : (before : List Part) (part : Part) (names : List (ℕ × ℕ)) (old new : Option (ℕ × ℕ))
+    → ends_module part ≡ false
     → modules_in (part ∷ []) ≡ 0 → new ≡ option_or old (first_of (filter_map name_in (part ∷ [])))
     → NamesOf before names old → NamesOf (before ++ part ∷ []) names new
 goes_on before part names old new e z is n =
-    let same : modules_in (before ++ part ∷ []) ≡ modules_in before = modules_more before part ∙ ap (λ k. modules_in before + k) z ∙ add_zero (modules_in before) in
+    let same : modules_in (before ++ part ∷ []) ≡ modules_in before = modules_more before part
+    ∙ ap (λ k. modules_in before + k) z ∙ add_zero (modules_in before) in
     record {
       count = n.count ∙ sym same;
-      told = is ∙ ap (λ name. option_or name (first_of (filter_map name_in (part ∷ [])))) n.told ∙ sym (told_more (this_module before) part)
+      told = is ∙ ap (λ name. option_or name (first_of (filter_map name_in (part ∷ [])))) n.told
+          ∙ sym (told_more (this_module before) part)
           ∙ ap (λ own. name_told own) (sym (this_module_goes_on before part e));
       each = λ index h.
           let P : ℕ → Type 0 = λ k. index < k in
-          let h' = subst P same h in n.each index h' ∙ ap (λ own. module_name own) (sym (ended_stays before part index h'));
+          let h' = subst P same h in n.each index h'
+          ∙ ap (λ own. module_name own) (sym (ended_stays before part index h'));
     }
 
 -- ---- an end
@@ -61,7 +70,8 @@ here : (n : ℕ) → nat_eq n n ≡ true
 here n = grind (arith, nat_tests)
 
 -- the module that ends is as it was, with its end
-this_ends : (before : List Part) → module_at (before ++ EndOfModule ∷ []) (modules_in before) ≡ this_module before ++ EndOfModule ∷ []
+this_ends : (before : List Part) → module_at (before ++ EndOfModule ∷ []) (modules_in before)
+    ≡ this_module before ++ EndOfModule ∷ []
 this_ends before =
     module_more before EndOfModule (modules_in before)
     ∙ (λ j. (modules_are before).this j ++ where_true (here (modules_in before) j) EndOfModule)
@@ -69,21 +79,27 @@ this_ends before =
 this_name : (before : List Part) (name : Option (ℕ × ℕ)) → name ≡ name_told (this_module before)
     → unwrap_or name (0, 0) ≡ module_name (module_at (before ++ EndOfModule ∷ []) (modules_in before))
 this_name before name e =
-    ap (λ told. unwrap_or told (0, 0)) (e ∙ sym (or_none (name_told (this_module before))) ∙ sym (told_more (this_module before) EndOfModule))
+    ap (λ told. unwrap_or told (0, 0)) (e ∙ sym (or_none (name_told (this_module before)))
+    ∙ sym (told_more (this_module before) EndOfModule))
     ∙ ap (λ own. module_name own) (sym (this_ends before))
 
-each_name : (before : List Part) (names : List (ℕ × ℕ)) (name : Option (ℕ × ℕ)) (index : ℕ) (b : Bool) → nat_lt index (modules_in before) ≡ b
+each_name : (before : List Part) (names : List (ℕ × ℕ)) (name : Option (ℕ × ℕ)) (index : ℕ) (b : Bool)
+    → nat_lt index (modules_in before) ≡ b
     → index < modules_in before + 1 → NamesOf before names name
-    → get_or (names ++ unwrap_or name (0, 0) ∷ []) index (0, 0) ≡ module_name (module_at (before ++ EndOfModule ∷ []) index)
+    → get_or (names ++ unwrap_or name (0, 0) ∷ []) index (0, 0)
+    ≡ module_name (module_at (before ++ EndOfModule ∷ []) index)
 each_name before names name index true t h n =
     let below : index < modules_in before = grind (arith, nat_tests) in
     let P : ℕ → Type 0 = λ k. index < k in
-    get_or_append_left names (unwrap_or name (0, 0) ∷ []) (0, 0) index (subst P (sym n.count) below) ∙ n.each index below
+    get_or_append_left names (unwrap_or name (0, 0) ∷ []) (0, 0) index (subst P (sym n.count) below)
+    ∙ n.each index below
     ∙ ap (λ own. module_name own) (sym (ended_stays before EndOfModule index below))
 each_name before names name index false t h n =
     let at : modules_in before ≡ index = grind (arith, nat_tests) in
-    let P : ℕ → Type 0 = λ k. get_or (names ++ unwrap_or name (0, 0) ∷ []) k (0, 0) ≡ module_name (module_at (before ++ EndOfModule ∷ []) k) in
-    subst P at (get_or_push names (unwrap_or name (0, 0)) (0, 0) (modules_in before) n.count ∙ this_name before name n.told)
+    let P : ℕ → Type 0 = λ k. get_or (names ++ unwrap_or name (0, 0) ∷ []) k (0, 0)
+    ≡ module_name (module_at (before ++ EndOfModule ∷ []) k) in
+    subst P at (get_or_push names (unwrap_or name (0, 0)) (0, 0) (modules_in before) n.count
+    ∙ this_name before name n.told)
 
 ended : (before : List Part) (names : List (ℕ × ℕ)) (name : Option (ℕ × ℕ)) → NamesOf before names name
     → NamesOf (before ++ EndOfModule ∷ []) (names ++ unwrap_or name (0, 0) ∷ []) None
@@ -104,24 +120,33 @@ abbrev Named : List Part → Gathered → Type 0
 Named before g = NamesOf before g.names g.name
 
 kept : (before : List Part) (g new : Gathered) (part : Part) → ends_module part ≡ false → modules_in (part ∷ []) ≡ 0
-    → filter_map name_in (part ∷ []) ≡ [] → names_told new ≡ names_told g → Named before g → Named (before ++ part ∷ []) new
+    → filter_map name_in (part ∷ []) ≡ [] → names_told new ≡ names_told g → Named before g
+    → Named (before ++ part ∷ []) new
 kept before g new part e z none same n =
     let P : List (ℕ × ℕ) × Option (ℕ × ℕ) → Type 0 = λ told. NamesOf (before ++ part ∷ []) told.0 told.1 in
     subst P (sym same) (goes_on before part g.names g.name g.name e z
     (sym (or_none g.name) ∙ ap (λ told. option_or g.name (first_of told)) (sym none)) n)
 
-entry_step : (bottom : ℕ) (before : List Part) (g : Gathered) (kind : GsdKind) (entry : GsdEntry) → modules_in (Entry entry ∷ []) ≡ 0
+entry_step : (bottom : ℕ) (before : List Part) (g : Gathered) (kind : GsdKind) (entry : GsdEntry)
+    → modules_in (Entry entry ∷ []) ≡ 0
     → filter_map name_in (Entry entry ∷ []) ≡ cons_option (name_by kind entry) [] → Named before g
     → Named (before ++ Entry entry ∷ []) (with_entry bottom kind entry g)
 entry_step bottom before g ModuleName entry z a n =
-    goes_on before (Entry entry) g.names g.name (option_or g.name (Some entry.name)) refl z (ap (λ told. option_or g.name (first_of told)) (sym a)) n
-entry_step bottom before g ControlSection entry z a n = kept before g (with_entry bottom ControlSection entry g) (Entry entry) refl z a refl n
-entry_step bottom before g ProgramSection entry z a n = kept before g (with_entry bottom ProgramSection entry g) (Entry entry) refl z a refl n
-entry_step bottom before g InternalSymbol entry z a n = kept before g (with_entry bottom InternalSymbol entry g) (Entry entry) refl z a refl n
-entry_step bottom before g TransferAddress entry z a n = kept before g (with_entry bottom TransferAddress entry g) (Entry entry) refl z a refl n
+    goes_on before (Entry entry) g.names g.name (option_or g.name (Some entry.name)) refl z
+    (ap (λ told. option_or g.name (first_of told)) (sym a)) n
+entry_step bottom before g ControlSection entry z a n =
+    kept before g (with_entry bottom ControlSection entry g) (Entry entry) refl z a refl n
+entry_step bottom before g ProgramSection entry z a n =
+    kept before g (with_entry bottom ProgramSection entry g) (Entry entry) refl z a refl n
+entry_step bottom before g InternalSymbol entry z a n =
+    kept before g (with_entry bottom InternalSymbol entry g) (Entry entry) refl z a refl n
+entry_step bottom before g TransferAddress entry z a n =
+    kept before g (with_entry bottom TransferAddress entry g) (Entry entry) refl z a refl n
 entry_step bottom before g GlobalSymbol entry z a n =
-    kept before g (with_entry bottom GlobalSymbol entry g) (Entry entry) refl z a (symbol_keeps names_told g (λ definitions references weak. refl) entry) n
-entry_step bottom before g Identification entry z a n = kept before g (with_entry bottom Identification entry g) (Entry entry) refl z a refl n
+    kept before g (with_entry bottom GlobalSymbol entry g) (Entry entry) refl z a
+    (symbol_keeps names_told g (λ definitions references weak. refl) entry) n
+entry_step bottom before g Identification entry z a n =
+    kept before g (with_entry bottom Identification entry g) (Entry entry) refl z a refl n
 
 pub names_step : (bottom : ℕ) (before : List Part) (g : Gathered) (part : Part) → NamesOf before g.names g.name
     → NamesOf (before ++ part ∷ []) (gathered_behind bottom g part).names (gathered_behind bottom g part).name
@@ -132,7 +157,8 @@ names_step bottom before g EndOfDirectory n = kept before g g EndOfDirectory ref
 names_step bottom before g (Text address bytes) n = kept before g g (Text address bytes) refl refl refl refl n
 names_step bottom before g Relocations n = kept before g g Relocations refl refl refl refl n
 names_step bottom before g (Relocated relocation) n =
-    kept before g (with_relocated (global_of relocation.target) g) (Relocated relocation) refl refl refl (relocated_keeps names_told g (λ definitions references weak. refl) (global_of relocation.target)) n
+    kept before g (with_relocated (global_of relocation.target) g) (Relocated relocation) refl refl refl
+    (relocated_keeps names_told g (λ definitions references weak. refl) (global_of relocation.target)) n
 names_step bottom before g EndOfModule n = ended before g.names g.name n
 names_step bottom before g EndOfFile n = kept before g g EndOfFile refl refl refl refl n
 

@@ -8,7 +8,8 @@ use Rattle.m11_modules.specs.Parts.{Part, Entry, Relocated}
 use Rattle.m11_modules.specs.Places.{global_of}
 use Rattle.m11_layout.specs.Gathering.{Gathered, gathered_behind, gathered_behind_all, with_entry, with_relocated}
 
-pub drop_at : {X : Type 0} (xs : List X) (index : ℕ) (x : X) → slice_get xs index ≡ Some x → drop index xs ≡ x ∷ drop (index + 1) xs
+pub drop_at : {X : Type 0} (xs : List X) (index : ℕ) (x : X) → slice_get xs index ≡ Some x
+    → drop index xs ≡ x ∷ drop (index + 1) xs
 drop_at {X} xs index x e =
     let P : X → Type 0 = λ y. drop index xs ≡ y ∷ drop (index + 1) xs in
     subst P (get_or_from_slice_get xs index x x e) (drop_more xs index x (slice_get_within xs index x e))
@@ -19,21 +20,26 @@ module _ {X : Type 0} (bottom : ℕ) (make : X → Part) where
       → later ≡ gathered_behind bottom now (make item)
       → gathered_behind_all bottom later (map make behind) ≡ gathered_behind_all bottom old (map make items)
   walk_noted old now later items rest behind item e i h =
-      let P : List X → Type 0 = λ left. gathered_behind_all bottom now (map make left) ≡ gathered_behind_all bottom old (map make items) in
-      let Q : Gathered → Type 0 = λ g. gathered_behind_all bottom g (map make behind) ≡ gathered_behind_all bottom old (map make items) in
+      let P : List X → Type 0 = λ left. gathered_behind_all bottom now (map make left)
+      ≡ gathered_behind_all bottom old (map make items) in
+      let Q : Gathered → Type 0 = λ g. gathered_behind_all bottom g (map make behind)
+      ≡ gathered_behind_all bottom old (map make items) in
       subst Q (sym h) (subst P e i)
 
   pub walk_ended : (old now : Gathered) (items rest : List X) → rest ≡ []
       → gathered_behind_all bottom now (map make rest) ≡ gathered_behind_all bottom old (map make items)
       → now ≡ gathered_behind_all bottom old (map make items)
   walk_ended old now items rest e i =
-      let P : List X → Type 0 = λ left. gathered_behind_all bottom now (map make left) ≡ gathered_behind_all bottom old (map make items) in
+      let P : List X → Type 0 = λ left. gathered_behind_all bottom now (map make left)
+      ≡ gathered_behind_all bottom old (map make items) in
       subst P e i
 
-  pub item_noted : (old now later : Gathered) (items : List X) (index : ℕ) (item : X) → slice_get items index ≡ Some item
+  pub item_noted : (old now later : Gathered) (items : List X) (index : ℕ) (item : X)
+      → slice_get items index ≡ Some item
       → gathered_behind_all bottom now (map make (drop index items)) ≡ gathered_behind_all bottom old (map make items)
       → later ≡ gathered_behind bottom now (make item)
-      → gathered_behind_all bottom later (map make (drop (index + 1) items)) ≡ gathered_behind_all bottom old (map make items)
+      → gathered_behind_all bottom later (map make (drop (index + 1) items))
+      ≡ gathered_behind_all bottom old (map make items)
   item_noted old now later items index item e i h =
       walk_noted old now later items (drop index items) (drop (index + 1) items) item (drop_at items index item e) i h
 
@@ -43,12 +49,14 @@ module _ {X : Type 0} (bottom : ℕ) (make : X → Part) where
   items_noted old now items index le i = walk_ended old now items (drop index items) (drop_all index items le) i
 
 -- an entry and a relocation, by what they tell
-pub entry_noted : (bottom : ℕ) (now later : Gathered) (entry : GsdEntry) → later ≡ with_entry bottom entry.kind entry now
+pub entry_noted : (bottom : ℕ) (now later : Gathered) (entry : GsdEntry)
+    → later ≡ with_entry bottom entry.kind entry now
     → later ≡ gathered_behind bottom now (Entry entry)
 unfolding gathered_behind
 entry_noted bottom now later entry e = e
 
 pub relocation_noted : (bottom : ℕ) (now later : Gathered) (relocation : Relocation)
-    → later ≡ with_relocated (global_of relocation.target) now → later ≡ gathered_behind bottom now (Relocated relocation)
+    → later ≡ with_relocated (global_of relocation.target) now
+    → later ≡ gathered_behind bottom now (Relocated relocation)
 unfolding gathered_behind
 relocation_noted bottom now later relocation e = e

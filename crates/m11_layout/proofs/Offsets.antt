@@ -26,7 +26,8 @@ pub data Tells (part : Part) : Type 0 where
   TellsOne : (name : ℕ × ℕ) (attributes size : ℕ) → filter_map attributes_in (part ∷ []) ≡ (name, attributes) ∷ []
       → filter_map section_in (part ∷ []) ≡ (name, size) ∷ [] → Tells part
 
-entry_tells : (entry : GsdEntry) (kind : GsdKind) → filter_map attributes_in (Entry entry ∷ []) ≡ cons_option (attributes_by kind entry) []
+entry_tells : (entry : GsdEntry) (kind : GsdKind) → filter_map attributes_in (Entry entry ∷ [])
+    ≡ cons_option (attributes_by kind entry) []
     → filter_map section_in (Entry entry ∷ []) ≡ cons_option (section_by kind entry) [] → Tells (Entry entry)
 entry_tells entry ControlSection a s = TellsOne entry.name (control_attributes entry.name) entry.value a s
 entry_tells entry ProgramSection a s = TellsOne entry.name (bit_and entry.flags attribute_bits) entry.value a s
@@ -61,34 +62,44 @@ sections_where false part = refl
 
 pub entered_more : (before : List Part) (part : Part) (index : ℕ) (name : ℕ × ℕ)
     → entered_at (before ++ part ∷ []) index name
-    ≡ option_or (entered_at before index name) (lookup (is_name name) (told_where (nat_eq (modules_in before) index) part))
+    ≡ option_or (entered_at before index name) (lookup (is_name name)
+    (told_where (nat_eq (modules_in before) index) part))
 unfolding sections_in
 entered_more before part index name =
     ap (λ parts. lookup (is_name name) (sections_in parts)) (module_more before part index)
-    ∙ ap (λ told. lookup (is_name name) told) (filter_map-append section_in (module_at before index) (where_true (nat_eq (modules_in before) index) part))
-    ∙ lookup_append (is_name name) (sections_in (module_at before index)) (sections_in (where_true (nat_eq (modules_in before) index) part))
-    ∙ ap (λ told. option_or (entered_at before index name) (lookup (is_name name) told)) (sections_where (nat_eq (modules_in before) index) part)
+    ∙ ap (λ told. lookup (is_name name) told) (filter_map-append section_in (module_at before index)
+    (where_true (nat_eq (modules_in before) index) part))
+    ∙ lookup_append (is_name name) (sections_in (module_at before index))
+    (sections_in (where_true (nat_eq (modules_in before) index) part))
+    ∙ ap (λ told. option_or (entered_at before index name) (lookup (is_name name) told))
+    (sections_where (nat_eq (modules_in before) index) part)
 
 pub earlier_sizes_more : (before : List Part) (part : Part) (index : ℕ) (name : ℕ × ℕ)
     → sizes_of (modules_before (before ++ part ∷ []) index) name
-    ≡ sizes_of (modules_before before index) name ++ filter_map (size_under name) (told_where (nat_lt (modules_in before) index) part)
+    ≡ sizes_of (modules_before before index) name ++ filter_map (size_under name)
+    (told_where (nat_lt (modules_in before) index) part)
 unfolding sizes_of sections_in
 earlier_sizes_more before part index name =
     ap (λ parts. sizes_of parts name) (before_more before part index)
-    ∙ ap (λ told. filter_map (size_under name) told) (filter_map-append section_in (modules_before before index) (where_true (nat_lt (modules_in before) index) part))
-    ∙ filter_map-append (size_under name) (sections_in (modules_before before index)) (sections_in (where_true (nat_lt (modules_in before) index) part))
-    ∙ ap (λ told. sizes_of (modules_before before index) name ++ filter_map (size_under name) told) (sections_where (nat_lt (modules_in before) index) part)
+    ∙ ap (λ told. filter_map (size_under name) told)
+    (filter_map-append section_in (modules_before before index) (where_true (nat_lt (modules_in before) index) part))
+    ∙ filter_map-append (size_under name) (sections_in (modules_before before index))
+    (sections_in (where_true (nat_lt (modules_in before) index) part))
+    ∙ ap (λ told. sizes_of (modules_before before index) name ++ filter_map (size_under name) told)
+    (sections_where (nat_lt (modules_in before) index) part)
 
 -- a module enters no section without attributes
 both_none : (first rest : Option ℕ) → option_or first rest ≡ None → (first ≡ None) × (rest ≡ None)
 both_none None rest e = (refl, e)
 both_none (Some x) rest e = search
 
-one_found : (b : Bool) (size : ℕ) (attributes : ℕ) → cond b (Some attributes) None ≡ None → cond b (Some size) None ≡ None
+one_found : (b : Bool) (size : ℕ) (attributes : ℕ) → cond b (Some attributes) None ≡ None
+    → cond b (Some size) None ≡ None
 one_found true size attributes e = search
 one_found false size attributes e = refl
 
-neither_found : (b : Bool) (part : Part) (name : ℕ × ℕ) → Tells part → lookup (is_name name) (filter_map attributes_in (part ∷ [])) ≡ None
+neither_found : (b : Bool) (part : Part) (name : ℕ × ℕ) → Tells part
+    → lookup (is_name name) (filter_map attributes_in (part ∷ [])) ≡ None
     → lookup (is_name name) (told_where b part) ≡ None
 neither_found false part name t e = refl
 neither_found true part name (TellsNone a s) e = ap (λ told. lookup (is_name name) told) s
@@ -101,29 +112,37 @@ EntersTold parts = (index : ℕ) (name : ℕ × ℕ) → attributes_found parts 
 
 enters_more : (before : List Part) (part : Part) → EntersTold before → EntersTold (before ++ part ∷ [])
 enters_more before part h index name e =
-    let n = both_none (attributes_found before name) (lookup (is_name name) (filter_map attributes_in (part ∷ []))) (sym (attributes_more before part name) ∙ e) in
+    let n = both_none (attributes_found before name) (lookup (is_name name) (filter_map attributes_in (part ∷ [])))
+    (sym (attributes_more before part name) ∙ e) in
     entered_more before part index name
-    ∙ (λ j. option_or (h index name n.0 j) (neither_found (nat_eq (modules_in before) index) part name (tells part) n.1 j))
+    ∙ (λ j. option_or (h index name n.0 j) (neither_found (nat_eq (modules_in before) index) part name
+    (tells part) n.1 j))
 
 enters_none : EntersTold []
 unfolding module_at sections_in
 enters_none index name e = refl
 
-pub enters_told : (parts : List Part) (index : ℕ) (name : ℕ × ℕ) → attributes_found parts name ≡ None → entered_at parts index name ≡ None
+pub enters_told : (parts : List Part) (index : ℕ) (name : ℕ × ℕ) → attributes_found parts name ≡ None
+    → entered_at parts index name ≡ None
 enters_told parts = grown EntersTold enters_more parts enters_none
 
 -- a module that hasn't entered a section has no size of it
-no_size : (name : ℕ × ℕ) (told : List ((ℕ × ℕ) × ℕ)) → lookup (is_name name) told ≡ None → filter_map (size_under name) told ≡ []
+no_size : (name : ℕ × ℕ) (told : List ((ℕ × ℕ) × ℕ)) → lookup (is_name name) told ≡ None
+    → filter_map (size_under name) told ≡ []
 no_size name [] e = refl
-no_size name (first ∷ told) e = by (is_name name first.0) first.1 (lookup (is_name name) told) (filter_map (size_under name) told) (no_size name told) e
+no_size name (first ∷ told) e =
+    by (is_name name first.0) first.1 (lookup (is_name name) told) (filter_map (size_under name) told)
+    (no_size name told) e
   where
-    by : (b : Bool) (size : ℕ) (found : Option ℕ) (sizes : List ℕ) → (found ≡ None → sizes ≡ []) → cond b (Some size) found ≡ None
+    by : (b : Bool) (size : ℕ) (found : Option ℕ) (sizes : List ℕ) → (found ≡ None → sizes ≡ [])
+        → cond b (Some size) found ≡ None
         → cons_option (if b then Some size else None) sizes ≡ []
     by true size found sizes h e = search
     by false size found sizes h e = h e
 
 -- so all its sizes are those of earlier modules
-pub earlier_sizes : (before : List Part) (name : ℕ × ℕ) → lookup (is_name name) (sections_in (this_module before)) ≡ None
+pub earlier_sizes : (before : List Part) (name : ℕ × ℕ)
+    → lookup (is_name name) (sections_in (this_module before)) ≡ None
     → sizes_of (modules_before before (modules_in before)) name ≡ sizes_of before name
 unfolding sizes_of sections_in
 earlier_sizes before name e =
@@ -137,7 +156,8 @@ earlier_sizes before name e =
 -- ---- the offset of a contribution
 
 abbrev pub offset_in : List Part → ℕ → ℕ × ℕ → ℕ
-offset_in parts index name = min size_cap (offset_behind (first_attributes parts name) (sizes_of (modules_before parts index) name))
+offset_in parts index name =
+    min size_cap (offset_behind (first_attributes parts name) (sizes_of (modules_before parts index) name))
 
 abbrev pub offset_from : Option ℕ → ℕ → Option ℕ
 offset_from None offset = None
@@ -152,7 +172,8 @@ no_offset false = refl
 
 next_by : (relocatable overlaid : Bool) (sizes : List ℕ)
     → (if relocatable && not overlaid
-    then min size_cap (if relocatable then (if overlaid then greatest (map rounded sizes) else sum (map rounded sizes)) else greatest sizes) else 0)
+    then min size_cap (if relocatable then
+    (if overlaid then greatest (map rounded sizes) else sum (map rounded sizes)) else greatest sizes) else 0)
     ≡ min size_cap (if relocatable && not overlaid then sum (map rounded sizes) else 0)
 next_by true true sizes = refl
 next_by true false sizes = refl
@@ -160,7 +181,9 @@ next_by false overlaid sizes = refl
 
 -- the next contribution lies behind those before it
 pub next_is : (found : Option ℕ) (sizes : List ℕ) (attributes : ℕ) → (found ≡ None → sizes ≡ [])
-    → next_offset (total_from found sizes) ≡ min size_cap (offset_behind (unwrap_or (option_or found (Some attributes)) 0) sizes)
+    → next_offset (total_from found sizes) ≡ min size_cap
+    (offset_behind (unwrap_or (option_or found (Some attributes)) 0) sizes)
 next_is None sizes attributes h =
-    let P : List ℕ → Type 0 = λ sizes. 0 ≡ min size_cap (offset_behind attributes sizes) in subst P (sym (h refl)) (no_offset (is_concatenated attributes))
+    let P : List ℕ → Type 0 = λ sizes. 0 ≡ min size_cap (offset_behind attributes sizes) in
+    subst P (sym (h refl)) (no_offset (is_concatenated attributes))
 next_is (Some first) sizes attributes h = next_by (is_relocatable first) (is_overlaid first) sizes

@@ -16,28 +16,36 @@ Sections = List ((ℕ × ℕ) × Total)
 -- what is left of the sections leads to all of them
 opened : (now : Based) (next : ℕ) (sections : Sections) (index : ℕ) (section : (ℕ × ℕ) × Total) (all : Option Bases)
     → slice_get sections index ≡ Some section → bases_onto now next (drop index sections) ≡ all
-    → option_and_then (λ behind. bases_onto behind.bases behind.top (drop (index + 1) sections)) (placed now next section) ≡ all
+    → option_and_then (λ behind. bases_onto behind.bases behind.top (drop (index + 1) sections))
+    (placed now next section) ≡ all
 opened now next sections index section all e i =
     let P : Sections → Type 0 = λ left. bases_onto now next left ≡ all in subst P (drop_at sections index section e) i
 
-pub placed_next : (now later : Based) (next top : ℕ) (sections : Sections) (index : ℕ) (section : (ℕ × ℕ) × Total) (all : Option Bases)
+pub placed_next : (now later : Based) (next top : ℕ) (sections : Sections) (index : ℕ) (section : (ℕ × ℕ) × Total)
+    (all : Option Bases)
     → slice_get sections index ≡ Some section → bases_onto now next (drop index sections) ≡ all
-    → placed now next section ≡ Some (record { bases = later; top = top }) → bases_onto later top (drop (index + 1) sections) ≡ all
+    → placed now next section ≡ Some (record { bases = later; top = top })
+    → bases_onto later top (drop (index + 1) sections) ≡ all
 placed_next now later next top sections index section all e i h =
-    let P : Option Bases → Type 0 = λ o. option_and_then (λ behind. bases_onto behind.bases behind.top (drop (index + 1) sections)) o ≡ all in
+    let P : Option Bases → Type 0 = λ o. option_and_then
+    (λ behind. bases_onto behind.bases behind.top (drop (index + 1) sections)) o ≡ all in
     subst P h (opened now next sections index section all e i)
 
-none_placed : (now : Based) (next : ℕ) (sections : Sections) (index : ℕ) (section : (ℕ × ℕ) × Total) (all : Option Bases)
+none_placed : (now : Based) (next : ℕ) (sections : Sections) (index : ℕ) (section : (ℕ × ℕ) × Total)
+    (all : Option Bases)
     → slice_get sections index ≡ Some section → bases_onto now next (drop index sections) ≡ all
     → placed now next section ≡ None → all ≡ None
 none_placed now next sections index section all e i h =
-    let P : Option Bases → Type 0 = λ o. option_and_then (λ behind. bases_onto behind.bases behind.top (drop (index + 1) sections)) o ≡ all in
+    let P : Option Bases → Type 0 = λ o. option_and_then
+    (λ behind. bases_onto behind.bases behind.top (drop (index + 1) sections)) o ≡ all in
     sym (subst P h (opened now next sections index section all e i))
 
-pub place_failed : (now later new : Based) (next : ℕ) (sections : Sections) (index : ℕ) (section : (ℕ × ℕ) × Total) (all : Option Bases) (said : LinkFault)
+pub place_failed : (now later new : Based) (next : ℕ) (sections : Sections) (index : ℕ) (section : (ℕ × ℕ) × Total)
+    (all : Option Bases) (said : LinkFault)
     → slice_get sections index ≡ Some section → bases_onto now next (drop index sections) ≡ all
     → Places (placed now next section) later (Err said) → Places all new (Err said)
-place_failed now later new next sections index section all fault.TooLarge e i h = none_placed now next sections index section all e i h
+place_failed now later new next sections index section all fault.TooLarge e i h =
+    none_placed now next sections index section all e i h
 place_failed now later new next sections index section all fault.NoMemory e i h = tt
 place_failed now later new next sections index section all fault.Read e i h = h
 place_failed now later new next sections index section all (fault.Write output) e i h = h
@@ -53,7 +61,8 @@ place_failed now later new next sections index section all fault.TooManyModules 
 place_failed now later new next sections index section all fault.TooMuch e i h = h
 place_failed now later new next sections index section all fault.TextOutside e i h = h
 
-pub all_placed : (now : Based) (next : ℕ) (sections : Sections) (index : ℕ) (all : Option Bases) → length sections ≤ index
+pub all_placed : (now : Based) (next : ℕ) (sections : Sections) (index : ℕ) (all : Option Bases)
+    → length sections ≤ index
     → bases_onto now next (drop index sections) ≡ all → Places all now (Ok next)
 all_placed now next sections index all le i =
     let P : Sections → Type 0 = λ left. bases_onto now next left ≡ all in sym (subst P (drop_all index sections le) i)

@@ -24,24 +24,30 @@ use Rattle.m11_layout.proofs.Walking.{grown}
 
 -- ---- a section that a module enters is among the sections
 
-found_somewhere : (found : Option ℕ) (sizes : List ℕ) (entered : Option ℕ) (size : ℕ) → entered ≡ Some size → (found ≡ None → entered ≡ None)
+found_somewhere : (found : Option ℕ) (sizes : List ℕ) (entered : Option ℕ) (size : ℕ) → entered ≡ Some size
+    → (found ≡ None → entered ≡ None)
     → is_some (total_from found sizes) ≡ true
 found_somewhere None sizes entered size e h = absurd (true≢false (ap is_some (sym e ∙ h refl)))
 found_somewhere (Some attributes) sizes entered size e h = refl
 
-pub is_section : (parts : List Part) (sections : List ((ℕ × ℕ) × Total)) (index : ℕ) (name : ℕ × ℕ) (size : ℕ) → SectionsOf parts sections
+pub is_section : (parts : List Part) (sections : List ((ℕ × ℕ) × Total)) (index : ℕ) (name : ℕ × ℕ) (size : ℕ)
+    → SectionsOf parts sections
     → entered_at parts index name ≡ Some size → list_any (is_name name) (section_names parts) ≡ true
 unfolding known_of
 is_section parts sections index name size s e =
-    ap (λ names. list_any (is_name name) names) (sym s.names) ∙ sym (is_some-lookup (is_name name) sections) ∙ ap is_some (s.totals name)
-    ∙ found_somewhere (attributes_found parts name) (sizes_of parts name) (entered_at parts index name) size e (enters_told parts index name)
+    ap (λ names. list_any (is_name name) names) (sym s.names) ∙ sym (is_some-lookup (is_name name) sections)
+    ∙ ap is_some (s.totals name)
+    ∙ found_somewhere (attributes_found parts name) (sizes_of parts name) (entered_at parts index name) size e
+    (enters_told parts index name)
 
 -- what is true of no name of a list is true of none in it
-none_high : (test : ℕ × ℕ → Bool) (names : List (ℕ × ℕ)) (name : ℕ × ℕ) → list_any test names ≡ false → list_any (is_name name) names ≡ true → test name ≡ false
+none_high : (test : ℕ × ℕ → Bool) (names : List (ℕ × ℕ)) (name : ℕ × ℕ) → list_any test names ≡ false
+    → list_any (is_name name) names ≡ true → test name ≡ false
 none_high test [] name n t = absurd (true≢false (sym t))
 none_high test (first ∷ names) name n t = by (test first) (is_name name first) refl refl n t (none_high test names name)
   where
-    by : (b c : Bool) → test first ≡ b → is_name name first ≡ c → (b || list_any test names) ≡ false → (c || list_any (is_name name) names) ≡ true
+    by : (b c : Bool) → test first ≡ b → is_name name first ≡ c → (b || list_any test names) ≡ false
+        → (c || list_any (is_name name) names) ≡ true
         → (list_any test names ≡ false → list_any (is_name name) names ≡ true → test name ≡ false) → test name ≡ false
     by true c e f n t h = absurd (true≢false n)
     by false true e f n t h = ap test (is_name_same name first f) ∙ e
@@ -53,7 +59,8 @@ found_mapped value [] name t = absurd (true≢false (sym t))
 found_mapped value (first ∷ names) name t = by (is_name name first) refl t (found_mapped value names name)
   where
     by : (c : Bool) → is_name name first ≡ c → (c || list_any (is_name name) names) ≡ true
-        → (list_any (is_name name) names ≡ true → lookup (is_name name) (map (λ n. (n, value n)) names) ≡ Some (value name))
+        → (list_any (is_name name) names ≡ true → lookup (is_name name) (map (λ n. (n, value n)) names)
+        ≡ Some (value name))
         → cond c (Some (value first)) (lookup (is_name name) (map (λ n. (n, value n)) names)) ≡ Some (value name)
     by true f t h = ap (λ n. Some (value n)) (sym (is_name_same name first f))
     by false f t h = h t
@@ -67,12 +74,14 @@ abbrev rounded_sum : List ℕ → ℕ
 rounded_sum sizes = sum (map rounded sizes)
 
 part_of_sum : (b : Bool) (part : Part) (name : ℕ × ℕ)
-    → rounded_sum (filter_map (size_under name) (told_where b part)) ≤ rounded_sum (filter_map (size_under name) (filter_map section_in (part ∷ [])))
+    → rounded_sum (filter_map (size_under name) (told_where b part))
+    ≤ rounded_sum (filter_map (size_under name) (filter_map section_in (part ∷ [])))
 part_of_sum true part name = omega arith
 part_of_sum false part name = omega arith
 
 abbrev Earlier : List Part → Type 0
-Earlier parts = (index : ℕ) (name : ℕ × ℕ) → rounded_sum (sizes_of (modules_before parts index) name) ≤ rounded_sum (sizes_of parts name)
+Earlier parts = (index : ℕ) (name : ℕ × ℕ) → rounded_sum (sizes_of (modules_before parts index) name)
+    ≤ rounded_sum (sizes_of parts name)
 
 added : (a b c d a' b' : ℕ) → a ≤ b → c ≤ d → a' ≡ a + c → b' ≡ b + d → a' ≤ b'
 added a b c d a' b' h k e f = omega arith
@@ -93,27 +102,34 @@ unfolding sizes_of modules_before
 earlier_none index name = omega arith
 
 -- earlier contributions are part of the section
-earlier_within : (parts : List Part) (index : ℕ) (name : ℕ × ℕ) → rounded_sum (sizes_of (modules_before parts index) name) ≤ rounded_sum (sizes_of parts name)
+earlier_within : (parts : List Part) (index : ℕ) (name : ℕ × ℕ)
+    → rounded_sum (sizes_of (modules_before parts index) name) ≤ rounded_sum (sizes_of parts name)
 earlier_within parts = grown Earlier earlier_more parts earlier_none
 
-within_limit : (relocatable overlaid : Bool) (base : ℕ) (earlier sizes : List ℕ) → rounded_sum earlier ≤ rounded_sum sizes
+within_limit : (relocatable overlaid : Bool) (base : ℕ) (earlier sizes : List ℕ)
+    → rounded_sum earlier ≤ rounded_sum sizes
     → (relocatable && nat_lt 57344 (base
-    + (if relocatable then (if overlaid then greatest (map rounded sizes) else rounded_sum sizes) else greatest sizes))) ≡ false
-    → min size_cap (if relocatable && not overlaid then rounded_sum earlier else 0) ≡ (if relocatable && not overlaid then rounded_sum earlier else 0)
+    + (if relocatable then (if overlaid then greatest (map rounded sizes) else rounded_sum sizes) else greatest
+    sizes))) ≡ false
+    → min size_cap (if relocatable && not overlaid then rounded_sum earlier else 0)
+    ≡ (if relocatable && not overlaid then rounded_sum earlier else 0)
 within_limit true true base earlier sizes h n = refl
 within_limit true false base earlier sizes h n = uncapped base (rounded_sum earlier) (rounded_sum sizes) h n
   where
-    uncapped : (base offset size : ℕ) → offset ≤ size → nat_lt 57344 (base + size) ≡ false → min size_cap offset ≡ offset
+    uncapped : (base offset size : ℕ) → offset ≤ size → nat_lt 57344 (base + size) ≡ false
+        → min size_cap offset ≡ offset
     uncapped base offset size h n = grind (arith, nat_tests)
 within_limit false overlaid base earlier sizes h n = refl
 
 -- where nothing is too large no offset is capped
 offset_uncapped : (bottom : ℕ) (parts : List Part) (index : ℕ) (name : ℕ × ℕ) → is_too_large bottom parts ≡ false
     → list_any (is_name name) (section_names parts) ≡ true
-    → offset_in parts index name ≡ offset_behind (first_attributes parts name) (sizes_of (modules_before parts index) name)
+    → offset_in parts index name ≡ offset_behind (first_attributes parts name)
+    (sizes_of (modules_before parts index) name)
 unfolding is_too_large section_size
 offset_uncapped bottom parts index name n t =
-    within_limit (is_relocatable (first_attributes parts name)) (is_overlaid (first_attributes parts name)) (section_base bottom parts name)
+    within_limit (is_relocatable (first_attributes parts name)) (is_overlaid (first_attributes parts name))
+    (section_base bottom parts name)
     (sizes_of (modules_before parts index) name) (sizes_of parts name) (earlier_within parts index name)
     (none_high (ends_too_high bottom parts) (section_names parts) name n t)
 
@@ -123,10 +139,13 @@ offset_uncapped bottom parts index name n t =
 abbrev pub bases_of : ℕ → List Part → List ((ℕ × ℕ) × ℕ)
 bases_of bottom parts = map (λ name. (name, section_base bottom parts name)) (section_names parts)
 
-base_told : (bottom : ℕ) (parts : List Part) (sections : List ((ℕ × ℕ) × Total)) (index : ℕ) (name : ℕ × ℕ) (entered : Option ℕ) → SectionsOf parts sections
+base_told : (bottom : ℕ) (parts : List Part) (sections : List ((ℕ × ℕ) × Total)) (index : ℕ) (name : ℕ × ℕ)
+    (entered : Option ℕ) → SectionsOf parts sections
     → is_too_large bottom parts ≡ false → entered_at parts index name ≡ entered
-    → behind_offset (offset_from entered (offset_in parts index name)) (unwrap_or (lookup (is_name name) (bases_of bottom parts)) 0)
-    ≡ base_entered entered (section_base bottom parts name + offset_behind (first_attributes parts name) (sizes_of (modules_before parts index) name)) % 0o200000
+    → behind_offset (offset_from entered (offset_in parts index name))
+    (unwrap_or (lookup (is_name name) (bases_of bottom parts)) 0)
+    ≡ base_entered entered (section_base bottom parts name + offset_behind (first_attributes parts name)
+    (sizes_of (modules_before parts index) name)) % 0o200000
 base_told bottom parts sections index name None s n e = refl
 base_told bottom parts sections index name (Some size) s n e =
     let t = is_section parts sections index name size s e in
@@ -134,8 +153,10 @@ base_told bottom parts sections index name (Some size) s n e =
     let offset = offset_uncapped bottom parts index name n t in
     λ j. (found j + offset j) % 0o200000
 
-pub base_planned : (bottom : ℕ) (parts : List Part) (plan : Planned) (index : ℕ) (name : ℕ × ℕ) → SectionsOf parts plan.gathered.sections
-    → ContributionsOf parts plan.gathered.contributions → plan.bases ≡ bases_of bottom parts → is_too_large bottom parts ≡ false
+pub base_planned : (bottom : ℕ) (parts : List Part) (plan : Planned) (index : ℕ) (name : ℕ × ℕ)
+    → SectionsOf parts plan.gathered.sections
+    → ContributionsOf parts plan.gathered.contributions → plan.bases ≡ bases_of bottom parts
+    → is_too_large bottom parts ≡ false
     → planned_base plan index name ≡ module_base bottom parts index name
 unfolding module_base contribution_base
 base_planned bottom parts plan index name s c b n =

@@ -58,8 +58,10 @@ told_so name base size attributes =
     record { name = name; base = base; size = size; attributes = flags_of attributes }
 
 sections_told : (bottom : ℕ) (parts : List Part) (plan : Planned) (names : List (ℕ × ℕ))
-    → ((name : ℕ × ℕ) → list_any (is_name name) names ≡ true → planned_section_base plan name ≡ section_base bottom parts name)
-    → map (section_planned plan) (map (λ name. (name, total_in parts name)) names) ≡ map (section_told bottom parts) names
+    → ((name : ℕ × ℕ) → list_any (is_name name) names ≡ true
+    → planned_section_base plan name ≡ section_base bottom parts name)
+    → map (section_planned plan) (map (λ name. (name, total_in parts name)) names)
+    ≡ map (section_told bottom parts) names
 sections_told bottom parts plan [] h = refl
 sections_told bottom parts plan (name ∷ names) h =
     let P : Bool → Type 0 = λ b. (b || list_any (is_name name) names) ≡ true in
@@ -90,7 +92,8 @@ attributes_are parts plan name s =
 
 -- ---- globals
 
-mapped_alike : {X Y : Type 0} (one other : X → Y) → ((x : X) → one x ≡ other x) → (xs : List X) → map one xs ≡ map other xs
+mapped_alike : {X Y : Type 0} (one other : X → Y) → ((x : X) → one x ≡ other x) → (xs : List X)
+    → map one xs ≡ map other xs
 mapped_alike one other h [] = refl
 mapped_alike one other h (x ∷ xs) = λ j. h x j ∷ mapped_alike one other h xs j
 

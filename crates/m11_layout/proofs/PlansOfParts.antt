@@ -38,7 +38,8 @@ pub record Means (bottom : ℕ) (before : List Part) (g : Gathered) : Type 0 whe
   pub transfers : TransfersIn bottom before g
   pub references : ReferencesOf before g.references g.weak
 
-means_step : (bottom : ℕ) (before : List Part) (g : Gathered) (part : Part) → fault_of before part ≡ None → Means bottom before g
+means_step : (bottom : ℕ) (before : List Part) (g : Gathered) (part : Part) → fault_of before part ≡ None
+    → Means bottom before g
     → Means bottom (before ++ part ∷ []) (gathered_behind bottom g part)
 means_step bottom before g part n m = record {
   sections = sections_step bottom before g part n m.sections;
@@ -61,12 +62,15 @@ means_none bottom = record {
   references = references_none;
 }
 
-pub gathered_means : (bottom : ℕ) (parts : List Part) → first_fault [] parts ≡ None → Means bottom parts (gathered_behind_all bottom nothing_gathered parts)
-gathered_means bottom parts n = walked bottom (Means bottom) (means_step bottom) [] parts nothing_gathered n (means_none bottom)
+pub gathered_means : (bottom : ℕ) (parts : List Part) → first_fault [] parts ≡ None
+    → Means bottom parts (gathered_behind_all bottom nothing_gathered parts)
+gathered_means bottom parts n =
+    walked bottom (Means bottom) (means_step bottom) [] parts nothing_gathered n (means_none bottom)
 
 -- ---- bases
 
-apart_names : (parts : List Part) (sections : List ((ℕ × ℕ) × Total)) → SectionsOf parts sections → Apart is_name (section_names parts)
+apart_names : (parts : List Part) (sections : List ((ℕ × ℕ) × Total)) → SectionsOf parts sections
+    → Apart is_name (section_names parts)
 unfolding known_of
 apart_names parts sections s = let P : List (ℕ × ℕ) → Type 0 = λ names. Apart is_name names in subst P s.names s.apart
 
@@ -76,7 +80,8 @@ bases_told bottom parts = record { bases = bases_of bottom parts; top = top bott
 bases_are : (bottom : ℕ) (parts : List Part) (sections : List ((ℕ × ℕ) × Total)) → SectionsOf parts sections
     → bases_onto [] bottom sections ≡ (if is_too_large bottom parts then None else Some (bases_told bottom parts))
 bases_are bottom parts sections s =
-    ap (λ these. bases_onto [] bottom these) (sections_are parts sections s) ∙ bases_placed bottom parts (apart_names parts sections s)
+    ap (λ these. bases_onto [] bottom these) (sections_are parts sections s)
+    ∙ bases_placed bottom parts (apart_names parts sections s)
 
 there : (b : Bool) (told answer : Bases) → (if b then None else Some answer) ≡ Some told → (b ≡ false) × (told ≡ answer)
 there true told answer e = search
@@ -87,16 +92,20 @@ nowhere true answer e = refl
 nowhere false answer e = search
 
 pub too_large_is : (bottom : ℕ) (parts : List Part) → first_fault [] parts ≡ None
-    → bases_onto [] bottom (gathered_behind_all bottom nothing_gathered parts).sections ≡ None → is_too_large bottom parts ≡ true
+    → bases_onto [] bottom (gathered_behind_all bottom nothing_gathered parts).sections ≡ None
+    → is_too_large bottom parts ≡ true
 too_large_is bottom parts n e =
-    nowhere (is_too_large bottom parts) (bases_told bottom parts) (sym (bases_are bottom parts _ (gathered_means bottom parts n).sections) ∙ e)
+    nowhere (is_too_large bottom parts) (bases_told bottom parts)
+    (sym (bases_are bottom parts _ (gathered_means bottom parts n).sections) ∙ e)
 
 -- ---- values
 
 abbrev HasBases : ℕ → List Part → Planned → Type 0
-HasBases bottom parts plan = (index : ℕ) (name : ℕ × ℕ) → planned_base plan index name ≡ module_base bottom parts index name
+HasBases bottom parts plan =
+    (index : ℕ) (name : ℕ × ℕ) → planned_base plan index name ≡ module_base bottom parts index name
 
-place_is : (bottom : ℕ) (parts : List Part) (plan : Planned) (index : ℕ) (place : GlobalPlace) → HasBases bottom parts plan
+place_is : (bottom : ℕ) (parts : List Part) (plan : Planned) (index : ℕ) (place : GlobalPlace)
+    → HasBases bottom parts plan
     → value_at plan index place ≡ place_value bottom parts index place
 place_is bottom parts plan index (Absolute value) b = refl
 place_is bottom parts plan index (In section value) b = ap (λ base. (base + value) % 0o200000) (b index section)
@@ -104,7 +113,8 @@ place_is bottom parts plan index (In section value) b = ap (λ base. (base + val
 defined_is : (bottom : ℕ) (parts : List Part) (plan : Planned) (found : Option Definition) → HasBases bottom parts plan
     → defined_value plan found ≡ option_map (definition_value bottom parts) found
 defined_is bottom parts plan None b = refl
-defined_is bottom parts plan (Some definition) b = ap (λ n. Some n) (place_is bottom parts plan definition.module_index definition.place b)
+defined_is bottom parts plan (Some definition) b =
+    ap (λ n. Some n) (place_is bottom parts plan definition.module_index definition.place b)
 
 value_is : (bottom : ℕ) (parts : List Part) (plan : Planned) (name : ℕ × ℕ) → HasBases bottom parts plan
     → DefinitionsOf parts plan.gathered.definitions → planned_value plan name ≡ global_value bottom parts name
@@ -114,7 +124,8 @@ value_is bottom parts plan name b d =
 
 -- ---- a plan
 
-pub plan_is : (bottom : ℕ) (parts : List Part) (plan : Planned) → first_fault [] parts ≡ None → IsPlan bottom parts plan → IsPlanOf bottom parts plan
+pub plan_is : (bottom : ℕ) (parts : List Part) (plan : Planned) → first_fault [] parts ≡ None
+    → IsPlan bottom parts plan → IsPlanOf bottom parts plan
 plan_is bottom parts plan n is =
     let P : Gathered → Type 0 = λ g. Means bottom parts g in
     let means = subst P (sym is.gathered) (gathered_means bottom parts n) in
@@ -122,16 +133,19 @@ plan_is bottom parts plan n is =
     let placed = there (is_too_large bottom parts) told (bases_told bottom parts)
     (sym (bases_are bottom parts plan.gathered.sections means.sections) ∙ is.bases) in
     let bases : HasBases bottom parts plan = λ index name.
-    base_planned bottom parts plan index name means.sections means.contributions (ap (λ these. these.bases) placed.1) placed.0 in
+    base_planned bottom parts plan index name means.sections means.contributions
+    (ap (λ these. these.bases) placed.1) placed.0 in
     let names : (index : ℕ) → planned_module plan index ≡ name_at parts index = λ index.
     names_are parts plan.gathered.names plan.gathered.name index means.names in
     record {
       fits = placed.0;
       bases = bases;
       values = λ name. value_is bottom parts plan name bases means.definitions;
-      transfer = transfer_planned bottom parts plan means.names.count means.sections means.contributions means.transfers bases;
+      transfer = transfer_planned bottom parts plan means.names.count means.sections means.contributions
+          means.transfers bases;
       sections = sections_listed bottom parts plan means.sections (ap (λ these. these.bases) placed.1);
-      globals = globals_listed bottom parts plan means.definitions (λ index place. place_is bottom parts plan index place bases) names;
+      globals = globals_listed bottom parts plan means.definitions
+          (λ index place. place_is bottom parts plan index place bases) names;
       attributes = λ name. attributes_are parts plan name means.sections;
       definitions = means.definitions.found;
       defined = means.definitions.names;

@@ -27,7 +27,8 @@ abbrev pub WeakOf : List Part → List (ℕ × ℕ) → Type 0
 WeakOf before weak = (name : ℕ × ℕ) → is_among weak name ≡ is_among (weak_names (this_module before)) name
 
 weak_more : (own : List Part) (part : Part) (name : ℕ × ℕ)
-    → is_among (weak_names (own ++ part ∷ [])) name ≡ (is_among (weak_names own) name || is_among (filter_map weak_in (part ∷ [])) name)
+    → is_among (weak_names (own ++ part ∷ [])) name
+    ≡ (is_among (weak_names own) name || is_among (filter_map weak_in (part ∷ [])) name)
 unfolding weak_names
 weak_more own part name =
     ap (λ names. is_among names name) (filter_map-append weak_in own (part ∷ []))
@@ -50,20 +51,26 @@ inserted_by true names name other e = by (is_name other name) refl
         t ∙ ap (λ b. b || true) (sym t)
 
 weak_kept : (before : List Part) (part : Part) (weak : List (ℕ × ℕ)) (told : Option (ℕ × ℕ)) → ends_module part ≡ false
-    → filter_map weak_in (part ∷ []) ≡ cons_option told [] → told ≡ None → WeakOf before weak → WeakOf (before ++ part ∷ []) weak
+    → filter_map weak_in (part ∷ []) ≡ cons_option told [] → told ≡ None → WeakOf before weak
+    → WeakOf (before ++ part ∷ []) weak
 weak_kept before part weak told e t n w name =
     w name ∙ sym (or_false (is_among (weak_names (this_module before)) name))
-    ∙ ap (λ names. is_among (weak_names (this_module before)) name || is_among names name) (sym (t ∙ ap (λ o. cons_option o []) n))
-    ∙ sym (weak_more (this_module before) part name) ∙ ap (λ own. is_among (weak_names own) name) (sym (this_module_goes_on before part e))
+    ∙ ap (λ names. is_among (weak_names (this_module before)) name || is_among names name)
+    (sym (t ∙ ap (λ o. cons_option o []) n))
+    ∙ sym (weak_more (this_module before) part name)
+    ∙ ap (λ own. is_among (weak_names own) name) (sym (this_module_goes_on before part e))
 
-weak_noted : (before : List Part) (part : Part) (weak : List (ℕ × ℕ)) (told : Option (ℕ × ℕ)) (noted : ℕ × ℕ) → ends_module part ≡ false
+weak_noted : (before : List Part) (part : Part) (weak : List (ℕ × ℕ)) (told : Option (ℕ × ℕ)) (noted : ℕ × ℕ)
+    → ends_module part ≡ false
     → filter_map weak_in (part ∷ []) ≡ cons_option told [] → told ≡ Some noted → WeakOf before weak
     → WeakOf (before ++ part ∷ []) (insert_key is_name weak noted)
 weak_noted before part weak told noted e t n w name =
     inserted_by (is_among weak noted) weak noted name refl
     ∙ ap (λ b. b || (is_name name noted || false)) (w name)
-    ∙ ap (λ names. is_among (weak_names (this_module before)) name || is_among names name) (sym (t ∙ ap (λ o. cons_option o []) n))
-    ∙ sym (weak_more (this_module before) part name) ∙ ap (λ own. is_among (weak_names own) name) (sym (this_module_goes_on before part e))
+    ∙ ap (λ names. is_among (weak_names (this_module before)) name || is_among names name)
+    (sym (t ∙ ap (λ o. cons_option o []) n))
+    ∙ sym (weak_more (this_module before) part name)
+    ∙ ap (λ own. is_among (weak_names own) name) (sym (this_module_goes_on before part e))
 
 weak_ended : (before : List Part) → WeakOf (before ++ EndOfModule ∷ []) []
 unfolding weak_names
@@ -78,29 +85,41 @@ pub record ReferencesOf (before : List Part) (references : List ((ℕ × ℕ) ×
 abbrev Referring : List Part → Gathered → Type 0
 Referring before g = ReferencesOf before g.references g.weak
 
-table_kept : (before : List Part) (part : Part) (table : List ((ℕ × ℕ) × Bool)) → reference_in before part ≡ None → TableOf (references_of before) table
+table_kept : (before : List Part) (part : Part) (table : List ((ℕ × ℕ) × Bool)) → reference_in before part ≡ None
+    → TableOf (references_of before) table
     → TableOf (references_of (before ++ part ∷ [])) table
 table_kept before part table n t =
     let P : List ((ℕ × ℕ) × Bool) → Type 0 = λ references. TableOf references table in
-    subst P (sym (references_more before part ∙ ap (λ o. references_of before ++ cons_option o []) n ∙ append-nil (references_of before))) t
+    subst P (sym (references_more before part ∙ ap (λ o. references_of before ++ cons_option o []) n
+    ∙ append-nil (references_of before))) t
 
 table_noted : (before : List Part) (part : Part) (table : List ((ℕ × ℕ) × Bool)) (name : ℕ × ℕ) (strong : Bool)
     → reference_in before part ≡ Some (name, strong) → TableOf (references_of before) table
-    → TableOf (references_of (before ++ part ∷ [])) (insert_entry is_name table name (unwrap_or (lookup (is_name name) table) false || strong))
+    → TableOf (references_of (before ++ part ∷ []))
+    (insert_entry is_name table name (unwrap_or (lookup (is_name name) table) false || strong))
 table_noted before part table name strong n t =
     let P : List ((ℕ × ℕ) × Bool) → Type 0 = λ references.
     TableOf references (insert_entry is_name table name (unwrap_or (lookup (is_name name) table) false || strong)) in
-    subst P (sym (references_more before part ∙ ap (λ o. references_of before ++ cons_option o []) n)) (one_referred (references_of before) table name strong t)
+    subst P (sym (references_more before part ∙ ap (λ o. references_of before ++ cons_option o []) n))
+    (one_referred (references_of before) table name strong t)
 
-kept : (before : List Part) (g : Gathered) (part : Part) (told : Option (ℕ × ℕ)) → ends_module part ≡ false → reference_in before part ≡ None
-    → filter_map weak_in (part ∷ []) ≡ cons_option told [] → told ≡ None → Referring before g → Referring (before ++ part ∷ []) g
-kept before g part told e r w n t = record { table = table_kept before part g.references r t.table; weak_is = weak_kept before part g.weak told e w n t.weak_is }
+kept : (before : List Part) (g : Gathered) (part : Part) (told : Option (ℕ × ℕ)) → ends_module part ≡ false
+    → reference_in before part ≡ None
+    → filter_map weak_in (part ∷ []) ≡ cons_option told [] → told ≡ None → Referring before g
+    → Referring (before ++ part ∷ []) g
+kept before g part told e r w n t =
+    record {
+      table = table_kept before part g.references r t.table;
+      weak_is =
+          weak_kept before part g.weak told e w n t.weak_is;
+    }
 
 symbol_step : (before : List Part) (g : Gathered) (entry : GsdEntry) (d w : Bool)
     → reference_in before (Entry entry) ≡ (if d then None else Some (entry.name, not w))
     → filter_map weak_in (Entry entry ∷ []) ≡ cons_option (if not d && w then Some entry.name else None) []
     → Referring before g
-    → Referring (before ++ Entry entry ∷ []) (if d then with_definition entry g else if w then with_weak entry.name g else with_reference entry.name true g)
+    → Referring (before ++ Entry entry ∷ [])
+    (if d then with_definition entry g else if w then with_weak entry.name g else with_reference entry.name true g)
 symbol_step before g entry true w r n t = kept before g (Entry entry) None refl r n refl t
 symbol_step before g entry false true r n t = record {
   table = table_noted before (Entry entry) g.references entry.name false r t.table;
@@ -111,10 +130,12 @@ symbol_step before g entry false false r n t = record {
   weak_is = weak_kept before (Entry entry) g.weak None refl n refl t.weak_is;
 }
 
-entry_step : (bottom : ℕ) (before : List Part) (g : Gathered) (kind : GsdKind) (entry : GsdEntry) → reference_in before (Entry entry) ≡ reference_by kind entry
+entry_step : (bottom : ℕ) (before : List Part) (g : Gathered) (kind : GsdKind) (entry : GsdEntry)
+    → reference_in before (Entry entry) ≡ reference_by kind entry
     → filter_map weak_in (Entry entry ∷ []) ≡ cons_option (weak_by kind entry) [] → Referring before g
     → Referring (before ++ Entry entry ∷ []) (with_entry bottom kind entry g)
-entry_step bottom before g GlobalSymbol entry r n t = symbol_step before g entry (defines entry) (has_bits 1 entry.flags) r n t
+entry_step bottom before g GlobalSymbol entry r n t =
+    symbol_step before g entry (defines entry) (has_bits 1 entry.flags) r n t
 entry_step bottom before g ControlSection entry r n t = kept before g (Entry entry) None refl r n refl t
 entry_step bottom before g ProgramSection entry r n t = kept before g (Entry entry) None refl r n refl t
 entry_step bottom before g ModuleName entry r n t = kept before g (Entry entry) None refl r n refl t
@@ -123,7 +144,8 @@ entry_step bottom before g TransferAddress entry r n t = kept before g (Entry en
 entry_step bottom before g Identification entry r n t = kept before g (Entry entry) None refl r n refl t
 
 relocated_step : (before : List Part) (g : Gathered) (part : Part) (global : Option (ℕ × ℕ)) → ends_module part ≡ false
-    → reference_in before part ≡ relocated_reference (weak_names (this_module before)) global → filter_map weak_in (part ∷ []) ≡ []
+    → reference_in before part ≡ relocated_reference (weak_names (this_module before)) global
+    → filter_map weak_in (part ∷ []) ≡ []
     → Referring before g → Referring (before ++ part ∷ []) (with_relocated global g)
 relocated_step before g part None e r n t = kept before g part None e r n refl t
 relocated_step before g part (Some name) e r n t = record {
@@ -132,7 +154,8 @@ relocated_step before g part (Some name) e r n t = record {
   weak_is = weak_kept before part g.weak None e n refl t.weak_is;
 }
 
-pub references_step : (bottom : ℕ) (before : List Part) (g : Gathered) (part : Part) → ReferencesOf before g.references g.weak
+pub references_step : (bottom : ℕ) (before : List Part) (g : Gathered) (part : Part)
+    → ReferencesOf before g.references g.weak
     → ReferencesOf (before ++ part ∷ []) (gathered_behind bottom g part).references (gathered_behind bottom g part).weak
 unfolding gathered_behind
 references_step bottom before g Directory t = kept before g Directory None refl refl refl refl t
@@ -140,15 +163,18 @@ references_step bottom before g (Entry entry) t = entry_step bottom before g ent
 references_step bottom before g EndOfDirectory t = kept before g EndOfDirectory None refl refl refl refl t
 references_step bottom before g (Text address bytes) t = kept before g (Text address bytes) None refl refl refl refl t
 references_step bottom before g Relocations t = kept before g Relocations None refl refl refl refl t
-references_step bottom before g (Relocated relocation) t = relocated_step before g (Relocated relocation) (global_of relocation.target) refl refl refl t
-references_step bottom before g EndOfModule t = record { table = table_kept before EndOfModule g.references refl t.table; weak_is = weak_ended before }
+references_step bottom before g (Relocated relocation) t =
+    relocated_step before g (Relocated relocation) (global_of relocation.target) refl refl refl t
+references_step bottom before g EndOfModule t =
+    record { table = table_kept before EndOfModule g.references refl t.table; weak_is = weak_ended before }
 references_step bottom before g EndOfFile t = kept before g EndOfFile None refl refl refl refl t
 
 pub references_none : ReferencesOf [] nothing_gathered.references nothing_gathered.weak
 unfolding references_of weak_names this_module
 references_none = record { table = none_referred; weak_is = λ name. refl }
 
-pub references_are : (parts : List Part) (references : List ((ℕ × ℕ) × Bool)) (weak : List (ℕ × ℕ)) → ReferencesOf parts references weak
+pub references_are : (parts : List Part) (references : List ((ℕ × ℕ) × Bool)) (weak : List (ℕ × ℕ))
+    → ReferencesOf parts references weak
     → references ≡ referred parts
 unfolding referred
 references_are parts references weak t = table_is (references_of parts) references t.table

@@ -21,7 +21,8 @@ References = List ((ℕ × ℕ) × Bool)
 
 -- what is found of a name in these references
 abbrev pub strong_in : ℕ × ℕ → List ((ℕ × ℕ) × Bool) → Option Bool
-strong_in name references = if list_any (is_name name) (keys_of references) then Some (list_any (is_strong_to name) references) else None
+strong_in name references =
+    if list_any (is_name name) (keys_of references) then Some (list_any (is_strong_to name) references) else None
 
 -- this table is of these references
 pub record TableOf (references table : List ((ℕ × ℕ) × Bool)) : Type 0 where
@@ -31,40 +32,53 @@ pub record TableOf (references table : List ((ℕ × ℕ) × Bool)) : Type 0 whe
 
 -- ---- one more reference
 
-none_strong : (name : ℕ × ℕ) (references : References) → list_any (is_name name) (keys_of references) ≡ false → list_any (is_strong_to name) references ≡ false
+none_strong : (name : ℕ × ℕ) (references : References) → list_any (is_name name) (keys_of references) ≡ false
+    → list_any (is_strong_to name) references ≡ false
 none_strong name [] e = refl
 none_strong name (first ∷ references) e = by (is_name name first.0) first.1 _ _ (none_strong name references) e
   where
-    by : (b strong there any : Bool) → (there ≡ false → any ≡ false) → (b || there) ≡ false → ((b && strong) || any) ≡ false
+    by : (b strong there any : Bool) → (there ≡ false → any ≡ false) → (b || there) ≡ false
+        → ((b && strong) || any) ≡ false
     by true strong there any h e = absurd (true≢false e)
     by false strong there any h e = h e
 
-strong_by : (named strong there any : Bool) (found : Option Bool) → (there ≡ false → any ≡ false) → (named ≡ true → found ≡ (if there then Some any else None))
+strong_by : (named strong there any : Bool) (found : Option Bool) → (there ≡ false → any ≡ false)
+    → (named ≡ true → found ≡ (if there then Some any else None))
     → cond named (Some (unwrap_or found false || strong)) (if there then Some any else None)
     ≡ (if there || (named || false) then Some (any || ((named && strong) || false)) else None)
-strong_by true true true true found h f = let P : Option Bool → Type 0 = λ o. Some (unwrap_or o false || true) ≡ Some true in subst P (sym (f refl)) refl
-strong_by true false true true found h f = let P : Option Bool → Type 0 = λ o. Some (unwrap_or o false || false) ≡ Some true in subst P (sym (f refl)) refl
-strong_by true true true false found h f = let P : Option Bool → Type 0 = λ o. Some (unwrap_or o false || true) ≡ Some true in subst P (sym (f refl)) refl
-strong_by true false true false found h f = let P : Option Bool → Type 0 = λ o. Some (unwrap_or o false || false) ≡ Some false in subst P (sym (f refl)) refl
+strong_by true true true true found h f =
+    let P : Option Bool → Type 0 = λ o. Some (unwrap_or o false || true) ≡ Some true in subst P (sym (f refl)) refl
+strong_by true false true true found h f =
+    let P : Option Bool → Type 0 = λ o. Some (unwrap_or o false || false) ≡ Some true in subst P (sym (f refl)) refl
+strong_by true true true false found h f =
+    let P : Option Bool → Type 0 = λ o. Some (unwrap_or o false || true) ≡ Some true in subst P (sym (f refl)) refl
+strong_by true false true false found h f =
+    let P : Option Bool → Type 0 = λ o. Some (unwrap_or o false || false) ≡ Some false in subst P (sym (f refl)) refl
 strong_by true strong false true found h f = absurd (true≢false (h refl))
-strong_by true true false false found h f = let P : Option Bool → Type 0 = λ o. Some (unwrap_or o false || true) ≡ Some true in subst P (sym (f refl)) refl
-strong_by true false false false found h f = let P : Option Bool → Type 0 = λ o. Some (unwrap_or o false || false) ≡ Some false in subst P (sym (f refl)) refl
+strong_by true true false false found h f =
+    let P : Option Bool → Type 0 = λ o. Some (unwrap_or o false || true) ≡ Some true in subst P (sym (f refl)) refl
+strong_by true false false false found h f =
+    let P : Option Bool → Type 0 = λ o. Some (unwrap_or o false || false) ≡ Some false in subst P (sym (f refl)) refl
 strong_by false strong true true found h f = refl
 strong_by false strong true false found h f = refl
 strong_by false strong false any found h f = refl
 
 strong_more : (references : References) (name other : ℕ × ℕ) (strong : Bool)
-    → cond (is_name other name) (Some (unwrap_or (strong_in name references) false || strong)) (strong_in other references)
+    → cond (is_name other name) (Some (unwrap_or (strong_in name references) false || strong))
+    (strong_in other references)
     ≡ strong_in other (references ++ (name, strong) ∷ [])
 strong_more references name other strong =
-    strong_by (is_name other name) strong (list_any (is_name other) (keys_of references)) (list_any (is_strong_to other) references)
-    (strong_in name references) (none_strong other references) (λ e. ap (λ n. strong_in n references) (sym (is_name_same other name e)))
+    strong_by (is_name other name) strong (list_any (is_name other) (keys_of references))
+    (list_any (is_strong_to other) references)
+    (strong_in name references) (none_strong other references)
+    (λ e. ap (λ n. strong_in n references) (sym (is_name_same other name e)))
     ∙ (λ j. if (sym (ap (list_any (is_name other)) (map-append (λ e. e.0) references ((name, strong) ∷ []))
     ∙ list_any-append (is_name other) (keys_of references) (name ∷ []))) j
     then Some (sym (list_any-append (is_strong_to other) references ((name, strong) ∷ [])) j) else None)
 
 pub one_referred : (references table : References) (name : ℕ × ℕ) (strong : Bool) → TableOf references table
-    → TableOf (references ++ (name, strong) ∷ []) (insert_entry is_name table name (unwrap_or (lookup (is_name name) table) false || strong))
+    → TableOf (references ++ (name, strong) ∷ []) (insert_entry is_name table name
+    (unwrap_or (lookup (is_name name) table) false || strong))
 one_referred references table name strong t =
     let value = unwrap_or (lookup (is_name name) table) false || strong in
     let keys = keys_insert_entry is_name table name value in
@@ -85,7 +99,8 @@ none_referred = record { names = refl; apart = tt; found = λ name. refl }
 
 there : (references : References) (name : ℕ × ℕ) (b : Bool) → list_any (is_name name) (keys_of references) ≡ b
     → is_some (if b then Some (list_any (is_strong_to name) references) else None) ≡ true
-    → (if b then Some (list_any (is_strong_to name) references) else None) ≡ Some (list_any (is_strong_to name) references)
+    → (if b then Some (list_any (is_strong_to name) references) else None)
+    ≡ Some (list_any (is_strong_to name) references)
 there references name true e t = refl
 there references name false e t = absurd (true≢false (sym t))
 
@@ -99,6 +114,7 @@ table_is references table t =
 
 -- ---- references behind one more part
 
-pub references_more : (before : List Part) (part : Part) → references_of (before ++ part ∷ []) ≡ references_of before ++ cons_option (reference_in before part) []
+pub references_more : (before : List Part) (part : Part)
+    → references_of (before ++ part ∷ []) ≡ references_of before ++ cons_option (reference_in before part) []
 unfolding references_of
 references_more before part = told_more reference_in before part

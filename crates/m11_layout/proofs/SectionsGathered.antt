@@ -35,7 +35,8 @@ pub record SectionsOf (before : List Part) (sections : List ((ℕ × ℕ) × Tot
 abbrev Sections : Type 0
 Sections = List ((ℕ × ℕ) × Total)
 
-kept : (before : List Part) (part : Part) (old new : Sections) → new ≡ old → (known_behind (known_of before) part).sections ≡ (known_of before).sections
+kept : (before : List Part) (part : Part) (old new : Sections) → new ≡ old
+    → (known_behind (known_of before) part).sections ≡ (known_of before).sections
     → filter_map attributes_in (part ∷ []) ≡ [] → filter_map section_in (part ∷ []) ≡ [] → fault_of before part ≡ None
     → SectionsOf before old → SectionsOf (before ++ part ∷ []) new
 kept before part old new e k a f n s =
@@ -49,7 +50,8 @@ kept before part old new e k a f n s =
 entered : (before : List Part) (part : Part) (old new : Sections) (name : ℕ × ℕ) (attributes size : ℕ)
     → new ≡ insert_entry is_name old name (total_behind (lookup (is_name name) old) attributes size)
     → (known_behind (known_of before) part).sections ≡ insert_key is_name (known_of before).sections name
-    → filter_map attributes_in (part ∷ []) ≡ (name, attributes) ∷ [] → filter_map section_in (part ∷ []) ≡ (name, size) ∷ []
+    → filter_map attributes_in (part ∷ []) ≡ (name, attributes) ∷ []
+    → filter_map section_in (part ∷ []) ≡ (name, size) ∷ []
     → fault_of before part ≡ None → SectionsOf before old → SectionsOf (before ++ part ∷ []) new
 entered before part old new name attributes size e k a f n s =
     let P : Sections → Type 0 = λ sections. SectionsOf (before ++ part ∷ []) sections in
@@ -57,7 +59,8 @@ entered before part old new name attributes size e k a f n s =
     let keys = keys_insert_entry is_name old name total in
     let Q : List (ℕ × ℕ) → Type 0 = λ names. Apart is_name names in
     subst P (sym e) (record {
-      names = keys ∙ ap (λ names. insert_key is_name names name) s.names ∙ sym k ∙ sym (ap (λ known. known.sections) (known_behind_part before part n));
+      names = keys ∙ ap (λ names. insert_key is_name names name) s.names ∙ sym k
+          ∙ sym (ap (λ known. known.sections) (known_behind_part before part n));
       apart = subst Q (sym keys) (apart_inserted is_name is_name_same is_name_itself (keys_of old) name s.apart);
       totals = λ other. lookup_inserted is_name is_name_same is_name_itself other name total old
           ∙ (λ j. cond (is_name other name) (Some (total_behind (s.totals name j) attributes size)) (s.totals other j))
@@ -70,7 +73,8 @@ sections_told g = g.sections
 entry_step : (bottom : ℕ) (before : List Part) (g : Gathered) (kind : GsdKind) (entry : GsdEntry)
     → (known_behind (known_of before) (Entry entry)).sections ≡ (steps.with_entry kind entry (known_of before)).sections
     → filter_map attributes_in (Entry entry ∷ []) ≡ cons_option (attributes_by kind entry) []
-    → filter_map section_in (Entry entry ∷ []) ≡ cons_option (section_by kind entry) [] → fault_of before (Entry entry) ≡ None
+    → filter_map section_in (Entry entry ∷ []) ≡ cons_option (section_by kind entry) []
+    → fault_of before (Entry entry) ≡ None
     → SectionsOf before g.sections → SectionsOf (before ++ Entry entry ∷ []) (with_entry bottom kind entry g).sections
 entry_step bottom before g ControlSection entry k a f n s =
     entered before (Entry entry) g.sections _ entry.name (control_attributes entry.name) entry.value refl k a f n s
@@ -80,10 +84,12 @@ entry_step bottom before g ModuleName entry k a f n s = kept before (Entry entry
 entry_step bottom before g InternalSymbol entry k a f n s = kept before (Entry entry) g.sections _ refl k a f n s
 entry_step bottom before g TransferAddress entry k a f n s = kept before (Entry entry) g.sections _ refl k a f n s
 entry_step bottom before g GlobalSymbol entry k a f n s =
-    kept before (Entry entry) g.sections _ (symbol_keeps sections_told g (λ definitions references weak. refl) entry) k a f n s
+    kept before (Entry entry) g.sections _ (symbol_keeps sections_told g
+    (λ definitions references weak. refl) entry) k a f n s
 entry_step bottom before g Identification entry k a f n s = kept before (Entry entry) g.sections _ refl k a f n s
 
-target_known : (global : Option (ℕ × ℕ)) (known : Known) → (steps.with_optional_global global known).sections ≡ known.sections
+target_known : (global : Option (ℕ × ℕ)) (known : Known)
+    → (steps.with_optional_global global known).sections ≡ known.sections
 target_known None known = refl
 target_known (Some name) known = refl
 
@@ -93,7 +99,8 @@ unfolding gathered_behind known_behind
 sections_step bottom before g Directory n s = kept before Directory g.sections _ refl refl refl refl n s
 sections_step bottom before g (Entry entry) n s = entry_step bottom before g entry.kind entry refl refl refl n s
 sections_step bottom before g EndOfDirectory n s = kept before EndOfDirectory g.sections _ refl refl refl refl n s
-sections_step bottom before g (Text address bytes) n s = kept before (Text address bytes) g.sections _ refl refl refl refl n s
+sections_step bottom before g (Text address bytes) n s =
+    kept before (Text address bytes) g.sections _ refl refl refl refl n s
 sections_step bottom before g Relocations n s = kept before Relocations g.sections _ refl refl refl refl n s
 sections_step bottom before g (Relocated relocation) n s =
     kept before (Relocated relocation) g.sections _
@@ -108,16 +115,22 @@ sections_none = record { names = refl; apart = tt; totals = λ name. refl }
 
 -- ---- the list of them
 
-there : (parts : List Part) (name : ℕ × ℕ) (found : Option ℕ) → attributes_found parts name ≡ found → is_some (total_from found (sizes_of parts name)) ≡ true
+there : (parts : List Part) (name : ℕ × ℕ) (found : Option ℕ) → attributes_found parts name ≡ found
+    → is_some (total_from found (sizes_of parts name)) ≡ true
     → total_of parts name ≡ Some (total_in parts name)
 unfolding first_attributes section_size
 there parts name None e t = absurd (true≢false (sym t))
 there parts name (Some attributes) e t =
     let P : Option ℕ → Type 0 = λ found. total_from found (sizes_of parts name)
-    ≡ Some (record { attributes = flags_of (unwrap_or found 0); size = min size_cap (total (unwrap_or found 0) (sizes_of parts name)) }) in
+    ≡ Some (record {
+      attributes = flags_of (unwrap_or found 0);
+      size = min size_cap
+          (total (unwrap_or found 0) (sizes_of parts name));
+    }) in
     subst P (sym e) refl
 
-is_there : (parts : List Part) (sections : Sections) (name : ℕ × ℕ) → SectionsOf parts sections → list_any (is_name name) (keys_of sections) ≡ true
+is_there : (parts : List Part) (sections : Sections) (name : ℕ × ℕ) → SectionsOf parts sections
+    → list_any (is_name name) (keys_of sections) ≡ true
     → lookup (is_name name) sections ≡ Some (total_in parts name)
 is_there parts sections name s t =
     s.totals name ∙ there parts name (attributes_found parts name) refl
@@ -126,11 +139,13 @@ is_there parts sections name s t =
 pub sections_are : (parts : List Part) (sections : Sections) → SectionsOf parts sections → sections ≡ totals_in parts
 unfolding known_of
 sections_are parts sections s =
-    pairs_found is_name is_name_same is_name_itself (total_in parts) sections s.apart (λ name t. is_there parts sections name s t)
+    pairs_found is_name is_name_same is_name_itself (total_in parts) sections s.apart
+    (λ name t. is_there parts sections name s t)
     ∙ ap (λ names. map (λ name. (name, total_in parts name)) names) s.names
 
 -- what is gathered of parts without a fault
 pub sections_gathered : (bottom : ℕ) (parts : List Part) → first_fault [] parts ≡ None
     → SectionsOf parts (gathered_behind_all bottom nothing_gathered parts).sections
 sections_gathered bottom parts n =
-    walked bottom (λ before g. SectionsOf before g.sections) (λ before g part f s. sections_step bottom before g part f s) [] parts nothing_gathered n sections_none
+    walked bottom (λ before g. SectionsOf before g.sections)
+    (λ before g part f s. sections_step bottom before g part f s) [] parts nothing_gathered n sections_none

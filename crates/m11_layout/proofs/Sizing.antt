@@ -30,10 +30,12 @@ greatest_more (first ∷ sizes) size =
 rounded_more : (sizes : List ℕ) (size : ℕ) → map rounded (sizes ++ size ∷ []) ≡ map rounded sizes ++ rounded size ∷ []
 rounded_more sizes size = map-append rounded sizes (size ∷ [])
 
-greatest_rounded : (sizes : List ℕ) (size : ℕ) → greatest (map rounded (sizes ++ size ∷ [])) ≡ max (greatest (map rounded sizes)) (rounded size)
+greatest_rounded : (sizes : List ℕ) (size : ℕ) → greatest (map rounded (sizes ++ size ∷ []))
+    ≡ max (greatest (map rounded sizes)) (rounded size)
 greatest_rounded sizes size = ap greatest (rounded_more sizes size) ∙ greatest_more (map rounded sizes) (rounded size)
 
-sum_rounded : (sizes : List ℕ) (size : ℕ) → sum (map rounded (sizes ++ size ∷ [])) ≡ sum (map rounded sizes) + rounded size
+sum_rounded : (sizes : List ℕ) (size : ℕ) → sum (map rounded (sizes ++ size ∷ []))
+    ≡ sum (map rounded sizes) + rounded size
 sum_rounded sizes size = ap sum (rounded_more sizes size) ∙ sum_by_push (λ n. n) (map rounded sizes) (rounded size)
 
 abbrev total_by : Bool → Bool → List ℕ → ℕ
@@ -42,7 +44,8 @@ total_by relocatable overlaid sizes =
 
 abbrev joined_by : Bool → Bool → ℕ → ℕ → ℕ
 joined_by relocatable overlaid before size = min size_cap
-    (if relocatable && not overlaid then min size_cap before + (if relocatable then rounded size else size) else max before (if relocatable then rounded size else size))
+    (if relocatable && not overlaid then min size_cap before
+    + (if relocatable then rounded size else size) else max before (if relocatable then rounded size else size))
 
 capped_sum : (a b : ℕ) → min 65536 (a + b) ≡ min 65536 (min 65536 (min 65536 a) + b)
 capped_sum a b = omega arith
@@ -51,10 +54,14 @@ capped_max : (a b : ℕ) → min 65536 (max a b) ≡ min 65536 (max (min 65536 a
 capped_max a b = omega arith
 
 total_more : (relocatable overlaid : Bool) (sizes : List ℕ) (size : ℕ)
-    → min size_cap (total_by relocatable overlaid (sizes ++ size ∷ [])) ≡ joined_by relocatable overlaid (min size_cap (total_by relocatable overlaid sizes)) size
-total_more true true sizes size = ap (λ n. min size_cap n) (greatest_rounded sizes size) ∙ capped_max (greatest (map rounded sizes)) (rounded size)
-total_more true false sizes size = ap (λ n. min size_cap n) (sum_rounded sizes size) ∙ capped_sum (sum (map rounded sizes)) (rounded size)
-total_more false overlaid sizes size = ap (λ n. min size_cap n) (greatest_more sizes size) ∙ capped_max (greatest sizes) size
+    → min size_cap (total_by relocatable overlaid (sizes ++ size ∷ []))
+    ≡ joined_by relocatable overlaid (min size_cap (total_by relocatable overlaid sizes)) size
+total_more true true sizes size =
+    ap (λ n. min size_cap n) (greatest_rounded sizes size) ∙ capped_max (greatest (map rounded sizes)) (rounded size)
+total_more true false sizes size =
+    ap (λ n. min size_cap n) (sum_rounded sizes size) ∙ capped_sum (sum (map rounded sizes)) (rounded size)
+total_more false overlaid sizes size =
+    ap (λ n. min size_cap n) (greatest_more sizes size) ∙ capped_max (greatest sizes) size
 
 max_zero : (n : ℕ) → max n 0 ≡ n
 max_zero n = omega arith
@@ -63,7 +70,8 @@ zero_more : (n : ℕ) → 0 + n ≡ n
 zero_more n = omega arith
 
 total_one : (relocatable overlaid : Bool) (size : ℕ)
-    → min size_cap (total_by relocatable overlaid (size ∷ [])) ≡ min size_cap (if relocatable then rounded size else size)
+    → min size_cap (total_by relocatable overlaid (size ∷ []))
+    ≡ min size_cap (if relocatable then rounded size else size)
 total_one true true size = ap (λ n. min size_cap n) (max_zero (rounded size))
 total_one true false size = ap (λ n. min size_cap n) (zero_more (rounded size))
 total_one false overlaid size = ap (λ n. min size_cap n) (max_zero size)
@@ -72,7 +80,8 @@ total_one false overlaid size = ap (λ n. min size_cap n) (max_zero size)
 
 abbrev pub total_from : Option ℕ → List ℕ → Option Total
 total_from None sizes = None
-total_from (Some attributes) sizes = Some (record { attributes = flags_of attributes; size = min size_cap (total attributes sizes) })
+total_from (Some attributes) sizes =
+    Some (record { attributes = flags_of attributes; size = min size_cap (total attributes sizes) })
 
 -- the attributes of a section's first entry, if it has one
 abbrev pub attributes_found : List Part → ℕ × ℕ → Option ℕ
@@ -91,14 +100,17 @@ abbrev pub totals_in : List Part → List ((ℕ × ℕ) × Total)
 totals_in parts = map (λ name. (name, total_in parts name)) (section_names parts)
 
 sized : (attributes one other : ℕ) → one ≡ other
-    → ◌≡◌ {A = Option Total} (Some (record { attributes = flags_of attributes; size = one })) (Some (record { attributes = flags_of attributes; size = other }))
+    → ◌≡◌ {A = Option Total} (Some (record { attributes = flags_of attributes; size = one }))
+    (Some (record { attributes = flags_of attributes; size = other }))
 sized attributes one other e = ap (λ n. Some (record { attributes = flags_of attributes; size = n })) e
 
 -- an entry more
 total_joined : (found : Option ℕ) (sizes : List ℕ) (attributes size : ℕ) → (found ≡ None → sizes ≡ [])
-    → total_from (option_or found (Some attributes)) (sizes ++ size ∷ []) ≡ Some (total_behind (total_from found sizes) attributes size)
+    → total_from (option_or found (Some attributes)) (sizes ++ size ∷ [])
+    ≡ Some (total_behind (total_from found sizes) attributes size)
 total_joined None sizes attributes size h =
-    let P : List ℕ → Type 0 = λ before. total_from (Some attributes) (before ++ size ∷ []) ≡ Some (total_behind None attributes size) in
+    let P : List ℕ → Type 0 = λ before. total_from (Some attributes) (before ++ size ∷ [])
+    ≡ Some (total_behind None attributes size) in
     subst P (sym (h refl)) (sized attributes _ _ (total_one (is_relocatable attributes) (is_overlaid attributes) size))
 total_joined (Some first) sizes attributes size h =
     sized first _ _ (total_more (is_relocatable first) (is_overlaid first) sizes size)
@@ -114,9 +126,11 @@ entry_no_sizes : (kind : GsdKind) (entry : GsdEntry) (name : ℕ × ℕ) (told s
     → lookup (is_name name) (cons_option (attributes_by kind entry) told) ≡ None
     → filter_map (size_under name) (cons_option (section_by kind entry) sizes) ≡ []
 entry_no_sizes ControlSection entry name told sizes h e =
-    none_sized (is_name name entry.name) (control_attributes entry.name) entry.value (lookup (is_name name) told) (filter_map (size_under name) sizes) h e
+    none_sized (is_name name entry.name) (control_attributes entry.name) entry.value (lookup (is_name name) told)
+    (filter_map (size_under name) sizes) h e
 entry_no_sizes ProgramSection entry name told sizes h e =
-    none_sized (is_name name entry.name) (bit_and entry.flags attribute_bits) entry.value (lookup (is_name name) told) (filter_map (size_under name) sizes) h e
+    none_sized (is_name name entry.name) (bit_and entry.flags attribute_bits) entry.value
+    (lookup (is_name name) told) (filter_map (size_under name) sizes) h e
 entry_no_sizes ModuleName entry name told sizes h e = h e
 entry_no_sizes InternalSymbol entry name told sizes h e = h e
 entry_no_sizes TransferAddress entry name told sizes h e = h e
@@ -128,7 +142,8 @@ unfolding sizes_of sections_in
 no_sizes [] name e = refl
 no_sizes (Directory ∷ parts) name e = no_sizes parts name e
 no_sizes (Entry entry ∷ parts) name e =
-    entry_no_sizes entry.kind entry name (filter_map attributes_in parts) (filter_map section_in parts) (no_sizes parts name) e
+    entry_no_sizes entry.kind entry name (filter_map attributes_in parts) (filter_map section_in parts)
+    (no_sizes parts name) e
 no_sizes (EndOfDirectory ∷ parts) name e = no_sizes parts name e
 no_sizes (Text address bytes ∷ parts) name e = no_sizes parts name e
 no_sizes (Relocations ∷ parts) name e = no_sizes parts name e
@@ -139,19 +154,22 @@ no_sizes (EndOfFile ∷ parts) name e = no_sizes parts name e
 -- ---- behind one more part
 
 pub attributes_more : (before : List Part) (part : Part) (name : ℕ × ℕ)
-    → attributes_found (before ++ part ∷ []) name ≡ option_or (attributes_found before name) (lookup (is_name name) (filter_map attributes_in (part ∷ [])))
+    → attributes_found (before ++ part ∷ []) name ≡ option_or (attributes_found before name)
+    (lookup (is_name name) (filter_map attributes_in (part ∷ [])))
 attributes_more before part name =
     ap (λ told. lookup (is_name name) told) (filter_map-append attributes_in before (part ∷ []))
     ∙ lookup_append (is_name name) (filter_map attributes_in before) (filter_map attributes_in (part ∷ []))
 
 pub sizes_more : (before : List Part) (part : Part) (name : ℕ × ℕ)
-    → sizes_of (before ++ part ∷ []) name ≡ sizes_of before name ++ filter_map (size_under name) (filter_map section_in (part ∷ []))
+    → sizes_of (before ++ part ∷ []) name ≡ sizes_of before name ++ filter_map (size_under name)
+    (filter_map section_in (part ∷ []))
 unfolding sizes_of sections_in
 sizes_more before part name =
     ap (λ entered. filter_map (size_under name) entered) (filter_map-append section_in before (part ∷ []))
     ∙ filter_map-append (size_under name) (filter_map section_in before) (filter_map section_in (part ∷ []))
 
-both_more : (found found' : Option ℕ) (sizes sizes' : List ℕ) → found ≡ found' → sizes ≡ sizes' → total_from found sizes ≡ total_from found' sizes'
+both_more : (found found' : Option ℕ) (sizes sizes' : List ℕ) → found ≡ found' → sizes ≡ sizes'
+    → total_from found sizes ≡ total_from found' sizes'
 both_more found found' sizes sizes' e f = λ j. total_from (e j) (f j)
 
 pub or_none : {X : Type 0} (found : Option X) → option_or found None ≡ found
@@ -163,26 +181,34 @@ pub total_kept : (before : List Part) (part : Part) (name : ℕ × ℕ) → filt
     → filter_map section_in (part ∷ []) ≡ [] → total_of (before ++ part ∷ []) name ≡ total_of before name
 total_kept before part name e f =
     both_more _ _ _ _
-    (attributes_more before part name ∙ ap (λ told. option_or (attributes_found before name) (lookup (is_name name) told)) e ∙ or_none (attributes_found before name))
-    (sizes_more before part name ∙ ap (λ entered. sizes_of before name ++ filter_map (size_under name) entered) f ∙ append-nil (sizes_of before name))
+    (attributes_more before part name
+    ∙ ap (λ told. option_or (attributes_found before name) (lookup (is_name name) told)) e
+    ∙ or_none (attributes_found before name))
+    (sizes_more before part name ∙ ap (λ entered. sizes_of before name ++ filter_map (size_under name) entered) f
+    ∙ append-nil (sizes_of before name))
 
 -- a part that enters one
 entered_by : (b : Bool) (before : List Part) (name entered : ℕ × ℕ) (attributes size : ℕ) → is_name name entered ≡ b
-    → total_from (option_or (attributes_found before name) (cond b (Some attributes) None)) (sizes_of before name ++ cons_option (if b then Some size else None) [])
+    → total_from (option_or (attributes_found before name) (cond b (Some attributes) None))
+    (sizes_of before name ++ cons_option (if b then Some size else None) [])
     ≡ cond b (Some (total_behind (total_of before entered) attributes size)) (total_of before name)
 entered_by true before name entered attributes size e =
-    let P : ℕ × ℕ → Type 0 = λ k. total_from (option_or (attributes_found before name) (Some attributes)) (sizes_of before name ++ size ∷ [])
+    let P : ℕ × ℕ → Type 0 = λ k. total_from (option_or (attributes_found before name) (Some attributes))
+    (sizes_of before name ++ size ∷ [])
     ≡ Some (total_behind (total_of before k) attributes size) in
-    subst P (is_name_same name entered e) (total_joined (attributes_found before name) (sizes_of before name) attributes size (no_sizes before name))
+    subst P (is_name_same name entered e) (total_joined (attributes_found before name)
+    (sizes_of before name) attributes size (no_sizes before name))
 entered_by false before name entered attributes size e =
     both_more _ _ _ _ (or_none (attributes_found before name)) (append-nil (sizes_of before name))
 
 pub total_entered : (before : List Part) (part : Part) (name entered : ℕ × ℕ) (attributes size : ℕ)
-    → filter_map attributes_in (part ∷ []) ≡ (entered, attributes) ∷ [] → filter_map section_in (part ∷ []) ≡ (entered, size) ∷ []
+    → filter_map attributes_in (part ∷ []) ≡ (entered, attributes) ∷ []
+    → filter_map section_in (part ∷ []) ≡ (entered, size) ∷ []
     → total_of (before ++ part ∷ []) name
     ≡ cond (is_name name entered) (Some (total_behind (total_of before entered) attributes size)) (total_of before name)
 total_entered before part name entered attributes size e f =
     both_more _ _ _ _
-    (attributes_more before part name ∙ ap (λ told. option_or (attributes_found before name) (lookup (is_name name) told)) e)
+    (attributes_more before part name
+    ∙ ap (λ told. option_or (attributes_found before name) (lookup (is_name name) told)) e)
     (sizes_more before part name ∙ ap (λ these. sizes_of before name ++ filter_map (size_under name) these) f)
     ∙ entered_by (is_name name entered) before name entered attributes size refl

@@ -29,10 +29,12 @@ both_none (Some fault) rest e = search
 joined_none : (first rest : Option ModuleFault) → first ≡ None → rest ≡ None → option_or first rest ≡ None
 joined_none first rest e f = let P : Option ModuleFault → Type 0 = λ o. option_or o rest ≡ None in subst P (sym e) f
 
-pub sound_behind : (done before parts : List Part) → first_fault done before ≡ None → first_fault (done ++ before) parts ≡ None
+pub sound_behind : (done before parts : List Part) → first_fault done before ≡ None
+    → first_fault (done ++ before) parts ≡ None
     → first_fault done (before ++ parts) ≡ None
 unfolding first_fault
-sound_behind done [] parts e f = let P : List Part → Type 0 = λ all. first_fault all parts ≡ None in subst P (append-nil done) f
+sound_behind done [] parts e f =
+    let P : List Part → Type 0 = λ all. first_fault all parts ≡ None in subst P (append-nil done) f
 sound_behind done (part ∷ before) parts e f =
     let n = both_none (fault_of done part) (first_fault (done ++ part ∷ []) before) e in
     let P : List Part → Type 0 = λ all. first_fault all parts ≡ None in
@@ -40,7 +42,8 @@ sound_behind done (part ∷ before) parts e f =
     (sound_behind (done ++ part ∷ []) before parts n.1 (subst P (sym (append_snoc done part before)) f))
 
 pub gathered_append : (bottom : ℕ) (g : Gathered) (before parts : List Part)
-    → gathered_behind_all bottom g (before ++ parts) ≡ gathered_behind_all bottom (gathered_behind_all bottom g before) parts
+    → gathered_behind_all bottom g (before ++ parts)
+    ≡ gathered_behind_all bottom (gathered_behind_all bottom g before) parts
 gathered_append bottom g [] parts = refl
 gathered_append bottom g (part ∷ before) parts = gathered_append bottom (gathered_behind bottom g part) before parts
 
@@ -57,7 +60,8 @@ goes_on bottom before parts old new s t g b f =
     record {
       sound = sound_behind [] before parts s.sound t.0;
       known = t.1;
-      gathered = subst R (sym (gathered_append bottom nothing_gathered before parts)) (subst Q s.gathered (subst P s.bottom_is g));
+      gathered = subst R (sym (gathered_append bottom nothing_gathered before parts))
+          (subst Q s.gathered (subst P s.bottom_is g));
       bottom_is = subst S s.bottom_is b;
       fault = subst T s.fault f;
     }
@@ -70,11 +74,13 @@ same_bytes (Ok c) items bytes e = search
 same_bytes (Err fault) items bytes e = search
 
 -- a record's bytes are those of its block
-pub record_is : (items bytes : List ℕ) → ◌≡◌ {A = Result (List ℕ) RecordFault} (Ok bytes) (record_of items) → bytes ≡ items
+pub record_is : (items bytes : List ℕ) → ◌≡◌ {A = Result (List ℕ) RecordFault} (Ok bytes) (record_of items)
+    → bytes ≡ items
 record_is items bytes e = same_bytes (content_of items) items bytes e
 
 -- a block that is a record was taken
-pub block_taken : {seen new : Reading} (bottom : ℕ) (before : List Part) (old : Reading) (items bytes : List ℕ) → seen ≡ old
+pub block_taken : {seen new : Reading} (bottom : ℕ) (before : List Part) (old : Reading) (items bytes : List ℕ)
+    → seen ≡ old
     → ◌≡◌ {A = Result (List ℕ) RecordFault} (Ok bytes) (record_of items) → Stands bottom before old
     → (seen.known ≡ known_of before → TakesBehind before new.known (record_parts bytes) (Ok tt))
     → new.gathered ≡ gathered_behind_all seen.bottom seen.gathered (record_parts bytes)
@@ -93,11 +99,14 @@ nothing_noted : (bottom : ℕ) (g : Gathered) → g ≡ gathered_behind_all bott
 unfolding gathered_behind
 nothing_noted bottom g = refl
 
-pub end_taken : {seen new : Reading} (bottom : ℕ) (before : List Part) (old : Reading) → seen ≡ old → Stands bottom before old
+pub end_taken : {seen new : Reading} (bottom : ℕ) (before : List Part) (old : Reading) → seen ≡ old
+    → Stands bottom before old
     → (seen.known ≡ known_of before → TakesBehind before new.known (EndOfFile ∷ []) (Ok tt))
-    → new.gathered ≡ seen.gathered → new.bottom ≡ seen.bottom → new.fault ≡ seen.fault → Stands bottom (before ++ EndOfFile ∷ []) new
+    → new.gathered ≡ seen.gathered → new.bottom ≡ seen.bottom → new.fault ≡ seen.fault
+    → Stands bottom (before ++ EndOfFile ∷ []) new
 end_taken {seen} {new} bottom before old is s t g b f =
     let P : Reading → Type 0 = λ reading. Stands bottom before reading in
     let Q : Gathered → Type 0 = λ h. new.gathered ≡ h in
     let s' = subst P (sym is) s in
-    goes_on bottom before (EndOfFile ∷ []) seen new s' (t s'.known) (subst Q (nothing_noted seen.bottom seen.gathered) g) b f
+    goes_on bottom before (EndOfFile ∷ []) seen new s' (t s'.known)
+    (subst Q (nothing_noted seen.bottom seen.gathered) g) b f

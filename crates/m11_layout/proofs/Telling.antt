@@ -16,13 +16,16 @@ module _ {X : Type 0} (tell : List Part → Part → Option X) where
   cons_append (Some x) xs ys = refl
 
   behind_more : (done before : List Part) (part : Part)
-      → told_behind tell done (before ++ part ∷ []) ≡ told_behind tell done before ++ cons_option (tell (done ++ before) part) []
+      → told_behind tell done (before ++ part ∷ [])
+      ≡ told_behind tell done before ++ cons_option (tell (done ++ before) part) []
   behind_more done [] part = ap (λ all. cons_option (tell all part) []) (sym (append-nil done))
   behind_more done (first ∷ before) part =
       let rest = behind_more (done ++ first ∷ []) before part
-      ∙ ap (λ all. told_behind tell (done ++ first ∷ []) before ++ cons_option (tell all part) []) (append_snoc done first before) in
+      ∙ ap (λ all. told_behind tell (done ++ first ∷ []) before ++ cons_option (tell all part) [])
+      (append_snoc done first before) in
       ap (λ these. cons_option (tell done first) these) rest
-      ∙ cons_append (tell done first) (told_behind tell (done ++ first ∷ []) before) (cons_option (tell (done ++ first ∷ before) part) [])
+      ∙ cons_append (tell done first) (told_behind tell (done ++ first ∷ []) before)
+      (cons_option (tell (done ++ first ∷ before) part) [])
 
   pub told_more : (before : List Part) (part : Part)
       → told_behind tell [] (before ++ part ∷ []) ≡ told_behind tell [] before ++ cons_option (tell before part) []
@@ -38,4 +41,5 @@ pub names_more : {X : Type 0} (pairs : List ((ℕ × ℕ) × X)) (pair : (ℕ ×
     → distinct (keys_of (pairs ++ pair ∷ [])) ≡ insert_key is_name (distinct (keys_of pairs)) pair.0
 unfolding distinct
 names_more pairs pair =
-    ap (λ names. distinct_behind [] names) (map-append (λ e. e.0) pairs (pair ∷ [])) ∙ distinct_more [] (keys_of pairs) pair.0
+    ap (λ names. distinct_behind [] names) (map-append (λ e. e.0) pairs (pair ∷ []))
+    ∙ distinct_more [] (keys_of pairs) pair.0

@@ -32,13 +32,16 @@ known_here : (later now known : Bool) → now ≡ true → known ≡ true → (l
 known_here true now known n k = refl
 known_here false now known n k = let P : Bool → Type 0 = λ b. (b && known) ≡ true in subst P (sym n) k
 
-pub transfer_entered : (bottom : ℕ) (before : List Part) (g : Gathered) (entry : GsdEntry) (part : Part) → modules_in (before ++ part ∷ []) ≡ modules_in before
-    → transfer_in before part ≡ Some (record { module_index = modules_in before; section = entry.name; value = entry.value })
+pub transfer_entered : (bottom : ℕ) (before : List Part) (g : Gathered) (entry : GsdEntry) (part : Part)
+    → modules_in (before ++ part ∷ []) ≡ modules_in before
+    → transfer_in before part
+    ≡ Some (record { module_index = modules_in before; section = entry.name; value = entry.value })
     → (is_some (entered_at before (modules_in before) entry.name) || is_name entry.name absolute_name) ≡ true
     → length g.names ≡ modules_in before → SectionsOf before g.sections → ContributionsOf before g.contributions
     → ((assumed : Bool) → Possible (before ++ part ∷ []) assumed → Possible before assumed)
     → TransfersOf bottom before g.transfer g.moved
-    → TransfersOf bottom (before ++ part ∷ []) (with_transfer bottom entry g).transfer (with_transfer bottom entry g).moved
+    → TransfersOf bottom (before ++ part ∷ []) (with_transfer bottom entry g).transfer
+    (with_transfer bottom entry g).moved
 transfer_entered bottom before g entry part m e k l s c p t =
     let all = before ++ part ∷ [] in
     let index = modules_in before in
@@ -46,13 +49,15 @@ transfer_entered bottom before g entry part m e k l s c p t =
     let same = transfers_more before part ∙ ap (λ found. transfers_of before ++ cons_option found []) e in
     let known_one = known_here (nat_lt index index) (nat_eq index index) _ (itself index) k in
     let P : List Transfer → Type 0 = λ these. AllKnown all these in
-    let now : Bool → Bool = λ assumed. is_even_behind (is_relocated (entered_total g entry.name) assumed) bottom entry.value in
+    let now : Bool → Bool = λ assumed. is_even_behind
+    (is_relocated (entered_total g entry.name) assumed) bottom entry.value in
     record {
       known = subst P (sym same) (one_known all (transfers_of before) one
           (all_known before all (transfers_of before) (λ other k. known_goes_on before part other m k) t.known)
           (known_goes_on before part one m known_one));
       first = λ assumed possible.
-          in_both assumed g.transfer g.moved now (record { module_index = length g.names; section = entry.name; value = entry.value })
+          in_both assumed g.transfer g.moved now
+          (record { module_index = length g.names; section = entry.name; value = entry.value })
           ∙ (λ j. transfer_behind (earlier_first bottom before part g.transfer g.moved assumed m t possible j)
           (is_even_behind ((relocated_is before g entry.name assumed l s c
           ∙ this_under before part entry.name entry.value assumed m k (p assumed possible)) j) bottom entry.value)
@@ -63,10 +68,14 @@ transfer_entered bottom before g entry part m e k l s c p t =
 
 -- ---- what is settled
 
-absolute_relocated : (before : List Part) (g : Gathered) → length g.names ≡ modules_in before → SectionsOf before g.sections
-    → ContributionsOf before g.contributions → is_relocated (entered_total g absolute_name) false ≡ relocated_at before (modules_in before) absolute_name
+absolute_relocated : (before : List Part) (g : Gathered) → length g.names ≡ modules_in before
+    → SectionsOf before g.sections
+    → ContributionsOf before g.contributions → is_relocated (entered_total g absolute_name) false
+    ≡ relocated_at before (modules_in before) absolute_name
 absolute_relocated before g l s c =
-    relocated_is before g absolute_name false l s c ∙ either (is_some (entered_at before (modules_in before) absolute_name)) (is_relocatable (first_attributes before absolute_name))
+    relocated_is before g absolute_name false l s c
+    ∙ either (is_some (entered_at before (modules_in before) absolute_name))
+    (is_relocatable (first_attributes before absolute_name))
   where
     either : (b r : Bool) → (if b then r else false) ≡ (b && r)
     either true r = refl
@@ -76,12 +85,15 @@ same_number : (a b : ℕ) → nat_eq a b ≡ true → a ≡ b
 same_number a b e = grind (arith, nat_tests)
 
 -- where `. ABS.` of this module is as it is, so is each section
-under_settled : (before : List Part) (assumed : Bool) (one : Transfer) → assumed ≡ relocated_at before (modules_in before) absolute_name
+under_settled : (before : List Part) (assumed : Bool) (one : Transfer)
+    → assumed ≡ relocated_at before (modules_in before) absolute_name
     → relocated_under before assumed one ≡ relocated_at before one.module_index one.section
-under_settled before assumed one a = by (nat_eq one.module_index (modules_in before)) (is_name one.section absolute_name) refl refl
+under_settled before assumed one a =
+    by (nat_eq one.module_index (modules_in before)) (is_name one.section absolute_name) refl refl
   where
     by : (n b : Bool) → nat_eq one.module_index (modules_in before) ≡ n → is_name one.section absolute_name ≡ b
-        → (if n && b then assumed else relocated_at before one.module_index one.section) ≡ relocated_at before one.module_index one.section
+        → (if n && b then assumed else relocated_at before one.module_index one.section)
+        ≡ relocated_at before one.module_index one.section
     by true true e f =
         let index = same_number one.module_index (modules_in before) e in
         let name = is_name_same one.section absolute_name f in
@@ -89,15 +101,19 @@ under_settled before assumed one a = by (nat_eq one.module_index (modules_in bef
     by true false e f = refl
     by false b e f = refl
 
-pub settled_is : (bottom : ℕ) (before : List Part) (g : Gathered) → length g.names ≡ modules_in before → SectionsOf before g.sections
+pub settled_is : (bottom : ℕ) (before : List Part) (g : Gathered) → length g.names ≡ modules_in before
+    → SectionsOf before g.sections
     → ContributionsOf before g.contributions → TransfersOf bottom before g.transfer g.moved
-    → settled g ≡ find (λ one. is_even_behind (relocated_at before one.module_index one.section) bottom one.value) (transfers_of before)
+    → settled g ≡ find (λ one. is_even_behind (relocated_at before one.module_index one.section) bottom one.value)
+    (transfers_of before)
 settled_is bottom before g l s c t =
     let assumed = is_relocated (entered_total g absolute_name) false in
     let is = absolute_relocated before g l s c in
     t.first assumed (λ e. is ∙ ap (λ b. b && is_relocatable (first_attributes before absolute_name)) e)
-    ∙ find_same before (even_under bottom before assumed) (λ one. is_even_behind (relocated_at before one.module_index one.section) bottom one.value)
-    (transfers_of before) t.known (λ one k. ap (λ b. is_even_behind b bottom one.value) (under_settled before assumed one is))
+    ∙ find_same before (even_under bottom before assumed)
+    (λ one. is_even_behind (relocated_at before one.module_index one.section) bottom one.value)
+    (transfers_of before) t.known (λ one k. ap (λ b. is_even_behind b bottom one.value)
+    (under_settled before assumed one is))
 
 -- ---- an end
 
@@ -107,7 +123,8 @@ not_equal index modules e = grind (arith, nat_tests)
 under_ended : (before : List Part) (assumed : Bool) (one : Transfer) → known_at before one ≡ true
     → relocated_under (before ++ EndOfModule ∷ []) assumed one ≡ relocated_at before one.module_index one.section
 under_ended before assumed one k =
-    ap (λ b. if b && is_name one.section absolute_name then assumed else relocated_at (before ++ EndOfModule ∷ []) one.module_index one.section)
+    ap (λ b. if b && is_name one.section absolute_name then assumed else relocated_at
+    (before ++ EndOfModule ∷ []) one.module_index one.section)
     (not_equal one.module_index (modules_in (before ++ EndOfModule ∷ [])) (known_below before one k))
     ∙ ended_relocated before one.module_index one.section
 
@@ -115,7 +132,8 @@ same_slot : (assumed : Bool) (transfer : Option Transfer) → slot assumed trans
 same_slot true transfer = refl
 same_slot false transfer = refl
 
-pub transfers_ended : (bottom : ℕ) (before : List Part) (g : Gathered) → length g.names ≡ modules_in before → SectionsOf before g.sections
+pub transfers_ended : (bottom : ℕ) (before : List Part) (g : Gathered) → length g.names ≡ modules_in before
+    → SectionsOf before g.sections
     → ContributionsOf before g.contributions → TransfersOf bottom before g.transfer g.moved
     → TransfersOf bottom (before ++ EndOfModule ∷ []) (settled g) (settled g)
 transfers_ended bottom before g l s c t =
@@ -123,9 +141,12 @@ transfers_ended bottom before g l s c t =
     let same = no_transfer before EndOfModule refl in
     let P : List Transfer → Type 0 = λ these. AllKnown all these in
     record {
-      known = subst P (sym same) (all_known before all (transfers_of before) (λ one k. known_ended before one k) t.known);
+      known = subst P (sym same) (all_known before all (transfers_of before)
+          (λ one k. known_ended before one k) t.known);
       first = λ assumed possible. same_slot assumed (settled g) ∙ settled_is bottom before g l s c t
-          ∙ find_same before (λ one. is_even_behind (relocated_at before one.module_index one.section) bottom one.value) (even_under bottom all assumed)
-          (transfers_of before) t.known (λ one k. ap (λ b. is_even_behind b bottom one.value) (sym (under_ended before assumed one k)))
+          ∙ find_same before (λ one. is_even_behind
+          (relocated_at before one.module_index one.section) bottom one.value) (even_under bottom all assumed)
+          (transfers_of before) t.known (λ one k. ap (λ b. is_even_behind b bottom one.value)
+          (sym (under_ended before assumed one k)))
           ∙ ap (λ these. find (even_under bottom all assumed) these) (sym same);
     }

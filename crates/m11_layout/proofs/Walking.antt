@@ -38,6 +38,7 @@ grown_behind P step before [] p = subst P (sym (append-nil before)) p
 grown_behind P step before (part ∷ parts) p =
     subst P (append_snoc before part parts) (grown_behind P step (before ++ part ∷ []) parts (step before part p))
 
-pub grown : (P : List Part → Type 0) → ((before : List Part) (part : Part) → P before → P (before ++ part ∷ [])) → (parts : List Part)
+pub grown : (P : List Part → Type 0) → ((before : List Part) (part : Part) → P before → P (before ++ part ∷ []))
+    → (parts : List Part)
     → P [] → P parts
 grown P step parts p = grown_behind P step [] parts p

@@ -93,7 +93,8 @@ with_section entry attributes g = with_section_behind (lookup (is_name entry.nam
 
 abbrev pub with_reference : ℕ × ℕ → Bool → Gathered → Gathered
 with_reference name is_strong g = record g {
-  references = insert_entry is_name g.references name (unwrap_or (lookup (is_name name) g.references) false || is_strong);
+  references = insert_entry is_name g.references name
+      (unwrap_or (lookup (is_name name) g.references) false || is_strong);
 }
 
 -- a pair counts where it is the first of its name

@@ -1,5 +1,5 @@
--- What a plan tells of what was gathered. (This project's own. That it is what Sections.antt and Globals.antt say of all
--- parts is proved.)
+-- What a plan tells of what was gathered. (This project's own. That it is what Sections.antt and Globals.antt say of
+-- all parts is proved.)
 use Rattle.std.specs.Prelude.{◌≡◌, get_or, map, min, option_and_then, true, false, ℕ, ◌+◌, ◌%◌, nat_lt, List, [], ◌∷◌, ⊤, Option, Some, None, Result, Ok, Err, if◌then◌else◌}
 use Rattle.std.specs.Map.{keys_of, lookup}
 use Rattle.std.specs.Option.{unwrap_or}

@@ -29,7 +29,8 @@ pub record Stands (bottom : ℕ) (parts : List Part) (reading : Reading) : Type 
 -- the first fault of parts behind others, told as that of the link
 abbrev pub FirstFault : List Part → List Part → LinkFault → Type 0
 FirstFault before parts NoMemory = ⊤
-FirstFault before parts told = (fault : ModuleFault) × (first_fault before parts ≡ Some fault) × (told ≡ of_module fault)
+FirstFault before parts told =
+    (fault : ModuleFault) × (first_fault before parts ≡ Some fault) × (told ≡ of_module fault)
 
 -- parts were taken, or their first fault was answered
 abbrev pub TakesParts : ℕ → List Part → Reading → List Part → Result (Unit {0}) LinkFault → Type 0

@@ -3,4 +3,6 @@ use Rattle.m11_layout.proofs.Standing.{end_taken}
 use Rattle.m11_layout.proofs.layout.Layout.take_end.Goals as goal
 
 pub returns-clause-takes : goal.returns-clause-takes
-returns-clause-takes c = λ bottom before s. end_taken bottom before c.args.self.now c.self.view_is s (c.in_ok-end_of_file.ensures before) refl refl refl
+returns-clause-takes c =
+    λ bottom before s. end_taken bottom before c.args.self.now c.self.view_is s
+    (c.in_ok-end_of_file.ensures before) refl refl refl

@@ -5,5 +5,6 @@ use Rattle.m11_layout.specs.Gathering.{gathered_behind_all}
 use Rattle.m11_layout.proofs.tables.Tables.note_entries.Given as goal
 
 abbrev pub invariant-entries : goal.invariant-entries
-invariant-entries l = gathered_behind_all l.bottom l.self (map (λ entry. Entry entry) (drop l.index (record_entries l.record)))
+invariant-entries l =
+    gathered_behind_all l.bottom l.self (map (λ entry. Entry entry) (drop l.index (record_entries l.record)))
     ≡ gathered_behind_all l.bottom l.initial.self (map (λ entry. Entry entry) (record_entries l.record))

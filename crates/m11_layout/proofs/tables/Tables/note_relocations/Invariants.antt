@@ -5,5 +5,7 @@ use Rattle.m11_layout.specs.Gathering.{gathered_behind_all}
 use Rattle.m11_layout.proofs.tables.Tables.note_relocations.Given as goal
 
 abbrev pub invariant-relocations : goal.invariant-relocations
-invariant-relocations l = gathered_behind_all l.bottom l.self (map (λ relocation. Relocated relocation) l.relocation-iterator)
-    ≡ gathered_behind_all l.bottom l.initial.self (map (λ relocation. Relocated relocation) (record_relocations l.record))
+invariant-relocations l =
+    gathered_behind_all l.bottom l.self (map (λ relocation. Relocated relocation) l.relocation-iterator)
+    ≡ gathered_behind_all l.bottom l.initial.self (map (λ relocation. Relocated relocation)
+    (record_relocations l.record))
