@@ -4,7 +4,7 @@ use Rattle.std.specs.Prelude.{ℕ, ◌==◌, if◌then◌else◌, List, [], ◌�
 use Rattle.std.specs.List.{list_all}
 use Rattle.m11_base.specs.Octal.{octal_text}
 use Rattle.m11_base.specs.Rad50.{name_text}
-use Rattle.m11_link.specs.Bits.{has_bits}
+use Rattle.m11_modules.specs.Rules.{has_bits}
 
 -- without the blanks that stand last
 unfoldable pub without_last_blanks : List ℕ → List ℕ
