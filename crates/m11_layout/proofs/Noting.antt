@@ -1,18 +1,12 @@
 -- Records whose parts are noted one behind another.
 use Rattle.std.proofs.Common.{◌≡◌, ℕ, ◌+◌, ◌≤◌, List, [], ◌∷◌, length, map, drop, slice_get, Some, sym, subst}
-use Rattle.std.proofs.lemmas.List.{drop_more, drop_all}
-use Rattle.std.proofs.lemmas.Option.{slice_get_within, get_or_from_slice_get}
+use Rattle.std.proofs.lemmas.List.{drop_all}
 use Rattle.m11_obj.specs.declared.gsd.GsdEntry.{GsdEntry}
 use Rattle.m11_obj.specs.declared.relocations.Relocation.{Relocation}
 use Rattle.m11_modules.specs.Parts.{Part, Entry, Relocated}
 use Rattle.m11_modules.specs.Places.{global_of}
+use Rattle.m11_modules.proofs.Indexing.{drop_at}
 use Rattle.m11_layout.specs.Gathering.{Gathered, gathered_behind, gathered_behind_all, with_entry, with_relocated}
-
-pub drop_at : {X : Type 0} (xs : List X) (index : ℕ) (x : X) → slice_get xs index ≡ Some x
-    → drop index xs ≡ x ∷ drop (index + 1) xs
-drop_at {X} xs index x e =
-    let P : X → Type 0 = λ y. drop index xs ≡ y ∷ drop (index + 1) xs in
-    subst P (get_or_from_slice_get xs index x x e) (drop_more xs index x (slice_get_within xs index x e))
 
 module _ {X : Type 0} (bottom : ℕ) (make : X → Part) where
   pub walk_noted : (old now later : Gathered) (items rest behind : List X) (item : X) → rest ≡ item ∷ behind

@@ -5,7 +5,7 @@ use Rattle.m11_layout.specs.Planning.{Bases, Places, bases_onto, placed}
 use Rattle.m11_layout.specs.declared.definition.Total.{Total}
 use Rattle.m11_layout.specs.declared.fault.LinkFault.{LinkFault}
 use Rattle.m11_layout.specs.declared.fault.LinkFault.TheVariants as fault
-use Rattle.m11_layout.proofs.Noting.{drop_at}
+use Rattle.m11_modules.proofs.Indexing.{drop_at}
 
 abbrev pub Based : Type 0
 Based = List ((ℕ × ℕ) × ℕ)

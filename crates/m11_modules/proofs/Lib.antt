@@ -1,3 +1,4 @@
+pub mod Indexing
 pub mod Taking
 pub mod KnownBehind
 pub mod GrammarOrder

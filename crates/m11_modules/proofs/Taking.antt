@@ -1,7 +1,6 @@
 -- Parts that are taken one behind another.
 use Rattle.std.proofs.Common.{◌≡◌, ℕ, ◌+◌, ◌≤◌, List, [], ◌∷◌, length, map, drop, slice_get, Option, Some, None, Result, Ok, Err, refl, sym, subst}
-use Rattle.std.proofs.lemmas.List.{drop_more, drop_all}
-use Rattle.std.proofs.lemmas.Option.{slice_get_within, get_or_from_slice_get}
+use Rattle.std.proofs.lemmas.List.{drop_all}
 use Rattle.std.specs.Option.{option_or}
 use Rattle.m11_modules.specs.declared.fault.ModuleFault.{ModuleFault}
 use Rattle.m11_modules.specs.declared.fault.ModuleFault.TheVariants.{BadOrder, NoText, BadDisplacement, UnknownSection, TextOutside, TooManyGlobals, TooManySections, TooManyModules, NoMemory}
@@ -10,6 +9,7 @@ use Rattle.m11_modules.specs.Parts.{Part, Relocated}
 use Rattle.m11_modules.specs.Places.{Known}
 use Rattle.m11_modules.specs.Rules.{answered, fault_known, relocation_fault}
 use Rattle.m11_modules.specs.Steps.{Takes, TakesOne, known_behind, known_behind_all, first_known_fault}
+use Rattle.m11_modules.proofs.Indexing.{drop_at}
 
 abbrev pub Answer : Type 0
 Answer = Result (Unit {0}) ModuleFault
@@ -116,11 +116,6 @@ relocation_refused {seen} old new relocation fault is e =
     subst P is (refused seen new (Relocated relocation) fault (opened seen relocation fault e))
 
 -- ---- loops over the items of a record, each of which is one part
-
-drop_at : {X : Type 0} (xs : List X) (index : ℕ) (x : X) → slice_get xs index ≡ Some x → drop index xs ≡ x ∷ drop (index + 1) xs
-drop_at {X} xs index x e =
-    let P : X → Type 0 = λ y. drop index xs ≡ y ∷ drop (index + 1) xs in
-    subst P (get_or_from_slice_get xs index x x e) (drop_more xs index x (slice_get_within xs index x e))
 
 module _ {X : Type 0} (make : X → Part) where
   -- items that are left, one of which is taken
