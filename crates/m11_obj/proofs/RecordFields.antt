@@ -207,6 +207,16 @@ text_read bytes back text some is read =
     let same : t.0 ≡ text = cc in
     t.1 ∙ ap (λ (x : ℕ × List ℕ). Some x) same
 
+pub text_within : (bytes back : List ℕ) (text : ℕ × List ℕ) → back ≡ drop 2 bytes → first_word back ≡ Ok text
+    → length text.1 ≤ length bytes
+text_within bytes back text is read = omega (
+  arith,
+  ap length (word_takes back text read).behind,
+  length-drop 2 back,
+  ap length is,
+  length-drop 2 bytes,
+)
+
 pub text_is_read : (bytes back : List ℕ) (fault : RecordFault) → IsSome (record_text bytes) → back ≡ drop 2 bytes
     → first_word back ≡ Err fault → ⊥
 text_is_read bytes back fault some is read =

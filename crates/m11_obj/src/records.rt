@@ -174,7 +174,8 @@ fn entry_at(bytes: &[u8], index: usize) -> GsdEntry
 // The load address and the bytes of a text record.
 fn text_at(bytes: &[u8]) -> (u16, &[u8])
     requires { IsSome (record_text bytes.now) }
-    ensures { record_text bytes.now ≡ Some (result.0, result.1.now) }
+    ensures text { record_text bytes.now ≡ Some (result.0, result.1.now) }
+    ensures fits { length result.1.now ≤ length bytes.now }
 {
     let (_, rest) = bytes.split_at(2);
     match first_word(rest) {
@@ -235,10 +236,11 @@ impl Record {
         text_at(self.content.as_slice()).0
     }
 
-    /// The bytes of a text record. Needs a text record.
+    /// The bytes of a text record, at most 512. Needs a text record.
     pub fn text_bytes(&self) -> &[u8]
         requires { IsSome (record_text self.now) }
-        ensures { option_map (λ text. text.1) (record_text self.now) ≡ Some result.now }
+        ensures bytes { option_map (λ text. text.1) (record_text self.now) ≡ Some result.now }
+        ensures fits { length result.now ≤ content_limit }
     {
         text_at(self.content.as_slice()).1
     }
