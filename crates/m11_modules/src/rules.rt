@@ -65,6 +65,13 @@ impl Rules {
         }
     }
 
+    /// How many modules have ended: the index of the module that comes or goes on.
+    pub fn modules(&self) -> usize
+        ensures { result ≡ self.now.modules }
+    {
+        self.modules
+    }
+
     /// The section that the texts of this module go to.
     pub fn section(&self) -> Name
         ensures { result ≡ self.now.section }
