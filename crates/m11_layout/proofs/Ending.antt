@@ -140,7 +140,7 @@ inside Between said e = search
 inside InDirectory said e = (search, refl)
 inside InBody said e = (search, refl)
 
-end_fault : (before : List Part) (said : ModuleFault) → first_fault before (EndOfFile ∷ []) ≡ Some said
+pub end_fault : (before : List Part) (said : ModuleFault) → first_fault before (EndOfFile ∷ []) ≡ Some said
     → (said ≡ rule.BadOrder) × (fault_of before EndOfFile ≡ Some rule.BadOrder)
 unfolding first_fault fault_known
 end_fault before said e = inside (known_of before).stage said e

@@ -2,6 +2,7 @@
 //! Reference Manual, ".PSECT directive"; RT-11 Volume and File Formats Manual, "Object file format".)
 #![tactic(auto)]
 
+mod attributes;
 mod bases;
 mod definition;
 mod fault;
@@ -10,6 +11,7 @@ mod plan;
 mod planned;
 mod tables;
 
+pub use attributes::section_attributes;
 pub use fault::{LinkFault, LinkOutput};
 pub use layout::Layout;
 pub use plan::Plan;

@@ -12,6 +12,7 @@ ghost use Rattle.m11_layout.specs.Gathering.{Keeps, is_contribution, contributed
 ghost use Rattle.m11_layout.specs.Globals.{place_of};
 ghost use Rattle.m11_layout.specs.Sections.{control_attributes, is_overlaid, is_relocatable};
 
+use crate::attributes::{attributes_in, control_attributes};
 use crate::definition::{Definition, GlobalPlace, Total, Transfer};
 use bitflags::Flags;
 use indexmap::{IndexMap, IndexSet};
@@ -91,21 +92,6 @@ fn joined(attributes: SectionFlags, before: u32, size: u16) -> u32
 
 // No size is told that is greater: it is past all addresses.
 const SIZE_CAP: u32 = 0o200000;
-
-// The attributes of a control section.
-fn control_attributes(name: Name) -> SectionFlags
-    ensures { result.0 ≡ control_attributes name }
-{
-    if name == absolute_section() {
-        SectionFlags::GLOBAL.union(SectionFlags::OVERLAID)
-    } else if name.words() == (0, 0) {
-        SectionFlags::RELOCATABLE
-    } else {
-        SectionFlags::GLOBAL
-            .union(SectionFlags::RELOCATABLE)
-            .union(SectionFlags::OVERLAID)
-    }
-}
 
 // A section behind one more entry.
 fn total_behind(found: Option<Total>, attributes: SectionFlags, size: u16) -> Total
@@ -517,16 +503,6 @@ impl Tables {
         self.weak.clear();
         Ok(())
     }
-}
-
-// The bits of a flags byte that are attributes.
-const ATTRIBUTES: u8 = 0o365;
-
-// The attributes in a flags byte.
-fn attributes_in(flags: u8) -> SectionFlags
-    ensures { result.0 ≡ bit_and flags 245 }
-{
-    SectionFlags::from_bits_retain(flags & ATTRIBUTES)
 }
 
 // The name of a module that tells none.
