@@ -8,7 +8,7 @@ use Rattle.m11_obj.specs.declared.relocations.Relocation.{Relocation}
 use Rattle.m11_obj.specs.declared.relocations.Target.{Target}
 use Rattle.m11_obj.specs.declared.relocations.Target.TheVariants as target
 use Rattle.m11_modules.specs.Rules.{lies_within}
-use Rattle.m11_layout.specs.Planning.{Planned, planned_base, planned_value}
+use Rattle.m11_link.specs.Findings.{Findings}
 
 -- addresses and words are told modulo 200000
 abbrev pub modulo : ℕ → ℕ
@@ -21,30 +21,30 @@ less number other = (number + (0o200000 - other)) % 0o200000
 -- ---- what is stored
 
 -- a global that is defined nowhere counts as 0
-abbrev pub symbol : Planned → ℕ × ℕ → ℕ
-symbol plan name = unwrap_or (planned_value plan name) 0
+abbrev pub symbol : Findings → ℕ × ℕ → ℕ
+symbol found name = unwrap_or (found.value name) 0
 
 -- the address behind the stored word, from which a displacement is counted
 abbrev pub behind : ℕ → ℕ
 behind location = modulo (location + 2)
 
 -- the value of a target at a location, in the module of this index, whose text stands behind this base
-abbrev pub value_of : Planned → ℕ → ℕ → ℕ → Target → ℕ
-value_of plan module_index own location (target.Internal constant) = modulo (own + constant)
-value_of plan module_index own location (target.Global name) = symbol plan name
-value_of plan module_index own location (target.InternalDisplaced constant) = less constant (behind location)
-value_of plan module_index own location (target.GlobalDisplaced name) = less (symbol plan name) (behind location)
-value_of plan module_index own location (target.GlobalAdditive name constant) = modulo (symbol plan name + constant)
-value_of plan module_index own location (target.GlobalAdditiveDisplaced name constant) =
-    less (modulo (symbol plan name + constant)) (behind location)
-value_of plan module_index own location (target.Section name) = planned_base plan module_index name
-value_of plan module_index own location (target.SectionDisplaced name) =
-    less (planned_base plan module_index name) (behind location)
-value_of plan module_index own location (target.SectionAdditive name constant) =
-    modulo (planned_base plan module_index name + constant)
-value_of plan module_index own location (target.SectionAdditiveDisplaced name constant) =
-    less (modulo (planned_base plan module_index name + constant)) (behind location)
-value_of plan module_index own location other = 0
+abbrev pub value_of : Findings → ℕ → ℕ → ℕ → Target → ℕ
+value_of found module_index own location (target.Internal constant) = modulo (own + constant)
+value_of found module_index own location (target.Global name) = symbol found name
+value_of found module_index own location (target.InternalDisplaced constant) = less constant (behind location)
+value_of found module_index own location (target.GlobalDisplaced name) = less (symbol found name) (behind location)
+value_of found module_index own location (target.GlobalAdditive name constant) = modulo (symbol found name + constant)
+value_of found module_index own location (target.GlobalAdditiveDisplaced name constant) =
+    less (modulo (symbol found name + constant)) (behind location)
+value_of found module_index own location (target.Section name) = found.base module_index name
+value_of found module_index own location (target.SectionDisplaced name) =
+    less (found.base module_index name) (behind location)
+value_of found module_index own location (target.SectionAdditive name constant) =
+    modulo (found.base module_index name + constant)
+value_of found module_index own location (target.SectionAdditiveDisplaced name constant) =
+    less (modulo (found.base module_index name + constant)) (behind location)
+value_of found module_index own location other = 0
 
 -- a byte is the low byte of the value
 abbrev pub value_bytes : Bool → ℕ → List ℕ
@@ -52,12 +52,12 @@ value_bytes is_byte value = if is_byte then (value % 256) ∷ [] else word_bytes
 
 -- the bytes that a relocation stores: the two limits of the program, no bytes for the commands that only select a
 -- place, and else those of the value
-abbrev pub stored_bytes : Planned → ℕ → ℕ → ℕ → Bool → Target → List ℕ
-stored_bytes plan module_index own location is_byte target.ProgramLimits = word_bytes plan.bottom ++ word_bytes plan.top
-stored_bytes plan module_index own location is_byte (target.LocationCounterDefinition name constant) = []
-stored_bytes plan module_index own location is_byte (target.LocationCounterModification constant) = []
-stored_bytes plan module_index own location is_byte other =
-    value_bytes is_byte (value_of plan module_index own location other)
+abbrev pub stored_bytes : Findings → ℕ → ℕ → ℕ → Bool → Target → List ℕ
+stored_bytes found module_index own location is_byte target.ProgramLimits = word_bytes found.bottom ++ word_bytes found.top
+stored_bytes found module_index own location is_byte (target.LocationCounterDefinition name constant) = []
+stored_bytes found module_index own location is_byte (target.LocationCounterModification constant) = []
+stored_bytes found module_index own location is_byte other =
+    value_bytes is_byte (value_of found module_index own location other)
 
 -- ---- where
 
@@ -67,9 +67,9 @@ replaced text index bytes = take index text ++ bytes ++ drop (index + length byt
 
 -- a text that stands at an address, behind this base, with a relocation: its first byte has the displacement 4. One
 -- that doesn't lie within the text, which is refused before, changes nothing
-abbrev pub relocated : Planned → ℕ → ℕ → ℕ → Relocation → List ℕ → List ℕ
-relocated plan module_index own address relocation text =
+abbrev pub relocated : Findings → ℕ → ℕ → ℕ → Relocation → List ℕ → List ℕ
+relocated found module_index own address relocation text =
     let index = relocation.displacement - 4 in
     let location = modulo (address + index) in
-    let bytes = stored_bytes plan module_index own location relocation.is_byte relocation.target in
+    let bytes = stored_bytes found module_index own location relocation.is_byte relocation.target in
     if lies_within relocation (length text) then replaced text index bytes else text

@@ -3,6 +3,7 @@
 ghost use Rattle.std.specs.Prelude.{◌≡◌, ◌≤◌, ◌<◌, ◌+◌, ◌-◌, ◌++◌, length, if◌then◌else◌};
 ghost use Rattle.m11_obj.specs.Frames.{word_bytes};
 ghost use Rattle.arrayvec.specs.ArrayVec.{array_vec_len};
+ghost use Rattle.m11_link.specs.Findings.{planned};
 ghost use Rattle.m11_link.specs.Storing as spec;
 ghost use Rattle.m11_modules.specs.Rules.{width_of};
 
@@ -22,7 +23,7 @@ pub(crate) struct Origin {
 
 // The value of a global; 0 where it is defined nowhere.
 fn symbol(plan: &Plan, name: Name) -> u16
-    ensures { result ≡ spec.symbol plan.now name }
+    ensures { result ≡ spec.symbol (planned plan.now) name }
 {
     plan.value(name).unwrap_or(0)
 }
@@ -36,7 +37,7 @@ fn displaced(value: u16, location: u16) -> u16
 
 // The value of a target at a location.
 fn value_of(plan: &Plan, origin: Origin, location: u16, target: Target) -> u16
-    ensures { result ≡ spec.value_of plan.now origin.module_index origin.base location target }
+    ensures { result ≡ spec.value_of (planned plan.now) origin.module_index origin.base location target }
 {
     let index = origin.module_index;
     match target {
@@ -103,7 +104,7 @@ fn stored_bytes(
     location: u16,
     relocation: &Relocation,
 ) -> ArrayVec<u8, 4>
-    ensures bytes { result.items ≡ spec.stored_bytes plan.now origin.module_index origin.base location
+    ensures bytes { result.items ≡ spec.stored_bytes (planned plan.now) origin.module_index origin.base location
         relocation.now.is_byte relocation.now.target }
     ensures width { array_vec_len result ≤ width_of relocation.now.is_byte relocation.now.target }
 {
@@ -134,7 +135,7 @@ pub fn relocate(
     relocation: &Relocation,
     text: &mut [u8],
 )
-    ensures { text.new ≡ spec.relocated plan.now module_index base address relocation.now text.old }
+    ensures { text.new ≡ spec.relocated (planned plan.now) module_index base address relocation.now text.old }
 {
     if lies_within(relocation, text.len()) {
         let index = relocation.displacement - 4;

@@ -1,0 +1,29 @@
+use Rattle.std.proofs.Common.{◌∙◌, ap, [], ◌∷◌, None, Ok}
+use Rattle.m11_obj.specs.Tapes.{tape_block}
+use Rattle.m11_link.specs.Findings.{planned}
+use Rattle.m11_link.specs.Writes.{output_of, to_tape}
+use Rattle.m11_link.specs.declared.emit.LinkDone.{LinkDone}
+use Rattle.m11_link.proofs.Emitted.{telling_after, transfer_then}
+use Rattle.m11_link.proofs.Writing.{stopped_first, stopped_alone}
+use Rattle.m11_link.proofs.emit.Emit.write_transfer.Goals as goal
+
+pub returns-in_err-begin-clause-writes : goal.returns-in_err-begin-clause-writes
+returns-in_err-begin-clause-writes g c =
+    stopped_first _ _ _ _ _ _ (c.in_err-begin.ensures _) c.from_residual.ensures.1
+
+pub returns-in_err-put_transfer-clause-writes : goal.returns-in_err-put_transfer-clause-writes
+returns-in_err-put_transfer-clause-writes g c = transfer_then c.args.self.now c.begin.new.self _ _ _
+    (λ p. to_tape (tape_block (planned p).transfer []) ∷ []) _ c.self.view_is (c.in_ok-begin.ensures _)
+    (stopped_alone _ _ _ _ _ (c.in_err-put_transfer.ensures _ _) c.from_residual-in_err-put_transfer.ensures.1)
+
+pub returns-clause-writes : goal.returns-clause-writes
+returns-clause-writes g c =
+    let done : LinkDone = record { messages = c.messages.result } in
+    transfer_then c.args.self.now c.begin.new.self _ _ _
+    (λ p. to_tape (tape_block (planned p).transfer []) ∷ []) (Ok done) c.self.view_is (c.in_ok-begin.ensures _)
+    (c.in_ok-put_transfer.ensures _ _)
+
+pub returns-clause-count : goal.returns-clause-count
+returns-clause-count g c = c.messages.ensures
+    ∙ ap (λ t. t.messages) (telling_after c.args.self.now c.begin.new.self c.self.view_is
+    (c.in_ok-begin.ensures (output_of None 0)).1)

@@ -1,0 +1,8 @@
+use Rattle.std.proofs.Common.{◌≡◌, false, drop}
+use Rattle.m11_link.specs.Findings.{planned}
+use Rattle.m11_link.specs.MapText.{is_empty, name_writes}
+use Rattle.m11_link.proofs.front.has_weak_name.Given as goal
+
+abbrev pub invariant-references : goal.invariant-references
+invariant-references l = is_empty (name_writes (planned l.plan) false (drop l.index l.plan.gathered.references))
+    ≡ is_empty (name_writes (planned l.plan) false l.plan.gathered.references)

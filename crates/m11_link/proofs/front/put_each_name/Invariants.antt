@@ -1,0 +1,13 @@
+use Rattle.std.proofs.Common.{drop}
+use Rattle.m11_link.specs.Findings.{planned}
+use Rattle.m11_link.specs.MapText.{name_writes}
+use Rattle.m11_link.specs.Writes.{Output, optional_output, outputs}
+use Rattle.m11_link.proofs.Looping.{Leads}
+use Rattle.m11_link.proofs.front.put_each_name.Given as goal
+
+abbrev pub invariant-references : goal.invariant-references
+invariant-references g l = (tape messages : Output) → Leads (Unit {0})
+    (outputs tape (optional_output g.T.Sink.text g.T.Sink.faults l.initial.map) messages)
+    (outputs tape (optional_output g.T.Sink.text g.T.Sink.faults l.map) messages)
+    (name_writes (planned l.plan) l.is_strong (drop l.index l.plan.gathered.references))
+    (name_writes (planned l.plan) l.is_strong l.plan.gathered.references)

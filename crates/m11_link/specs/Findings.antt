@@ -1,0 +1,71 @@
+-- What the definitions of tape, map and messages need of all parts of a link: where sections and contributions lie, what
+-- globals are worth, and what the map lists. (This project's own: a name for what Sections.antt, Globals.antt and
+-- Transfers.antt of the layout say.)
+use Rattle.std.specs.Prelude.{◌≡◌, ℕ, Bool, List, Option}
+use Rattle.m11_modules.specs.Parts.{Part}
+use Rattle.m11_layout.specs.Globals.{global_value, globals_of, referred}
+use Rattle.m11_layout.specs.Modules.{name_at}
+use Rattle.m11_layout.specs.Planning.{Planned, planned_base, planned_value, planned_transfer, planned_attributes, planned_module, planned_sections, planned_globals}
+use Rattle.m11_layout.specs.Sections.{first_attributes, module_base, sections_of, top}
+use Rattle.m11_layout.specs.Transfers.{transfer_address}
+use Rattle.m11_layout.specs.declared.planned.PlannedGlobal.{PlannedGlobal}
+use Rattle.m11_layout.specs.declared.planned.PlannedSection.{PlannedSection}
+
+pub record Findings : Type 0 where
+  -- the base of a module's contribution to a section, and the value of a global
+  pub base : ℕ → ℕ × ℕ → ℕ
+  pub value : ℕ × ℕ → Option ℕ
+  -- the attributes of a section's first entry, and the name of a module
+  pub attributes : ℕ × ℕ → ℕ
+  pub module_name : ℕ → ℕ × ℕ
+  -- sections and globals, and the names referred to, each with whether a reference is strong
+  pub sections : List PlannedSection
+  pub globals : List PlannedGlobal
+  pub references : List ((ℕ × ℕ) × Bool)
+  -- the transfer address, and the addresses between which relocatable sections lie
+  pub transfer : ℕ
+  pub bottom : ℕ
+  pub top : ℕ
+
+-- by the definitions, over the parts of all objects
+unfoldable pub findings_of : ℕ → List Part → Findings
+findings_of bottom parts = record {
+  base = λ module_index name. module_base bottom parts module_index name;
+  value = λ name. global_value bottom parts name;
+  attributes = λ name. first_attributes parts name;
+  module_name = λ module_index. name_at parts module_index;
+  sections = sections_of bottom parts;
+  globals = globals_of bottom parts;
+  references = referred parts;
+  transfer = transfer_address bottom parts;
+  bottom = bottom;
+  top = top bottom parts;
+}
+
+-- the same by a plan
+abbrev pub planned : Planned → Findings
+planned plan = record {
+  base = λ module_index name. planned_base plan module_index name;
+  value = λ name. planned_value plan name;
+  attributes = λ name. planned_attributes plan name;
+  module_name = λ module_index. planned_module plan module_index;
+  sections = planned_sections plan;
+  globals = planned_globals plan;
+  references = plan.gathered.references;
+  transfer = planned_transfer plan;
+  bottom = plan.bottom;
+  top = plan.top;
+}
+
+-- two agree in all that they tell
+pub record Agree (some others : Findings) : Type 0 where
+  pub base : (module_index : ℕ) (name : ℕ × ℕ) → some.base module_index name ≡ others.base module_index name
+  pub value : (name : ℕ × ℕ) → some.value name ≡ others.value name
+  pub attributes : (name : ℕ × ℕ) → some.attributes name ≡ others.attributes name
+  pub module_name : (module_index : ℕ) → some.module_name module_index ≡ others.module_name module_index
+  pub sections : some.sections ≡ others.sections
+  pub globals : some.globals ≡ others.globals
+  pub references : some.references ≡ others.references
+  pub transfer : some.transfer ≡ others.transfer
+  pub bottom : some.bottom ≡ others.bottom
+  pub top : some.top ≡ others.top

@@ -1,0 +1,151 @@
+-- What a link writes, in order: each text of a module as a block of the tape, with all its relocations; a message for
+-- each entry that says otherwise than an earlier one; the transfer block last. (RT-11 Volume and File Formats Manual,
+-- "Object file format", TXT and RLD blocks; "Absolute binary file format". The messages, and the order between
+-- outputs, are this project's own.)
+use Rattle.std.specs.Prelude.{ℕ, ◌+◌, ◌%◌, ◌==◌, ◌&&◌, not, min, Bool, true, false, List, [], ◌∷◌, ◌++◌, length, Option, Some, None, if◌then◌else◌}
+use Rattle.std.specs.Map.{keys_of}
+use Rattle.indexmap.specs.IndexSet.{insert_key}
+use Rattle.m11_obj.specs.Tapes.{tape_block}
+use Rattle.m11_obj.specs.declared.gsd.GsdEntry.{GsdEntry}
+use Rattle.m11_obj.specs.declared.gsd.GsdKind.{GsdKind}
+use Rattle.m11_obj.specs.declared.gsd.GsdKind.TheVariants.{ControlSection, GlobalSymbol, ProgramSection}
+use Rattle.m11_obj.specs.declared.relocations.Relocation.{Relocation}
+use Rattle.m11_modules.specs.Names.{is_among, is_name}
+use Rattle.m11_modules.specs.Parts.{Part, Entry, Text, Relocations, Relocated}
+use Rattle.m11_modules.specs.Places.{current_section, distinct, modules_in, this_module}
+use Rattle.m11_modules.specs.Rules.{defines}
+use Rattle.m11_layout.specs.Globals.{definitions_of}
+use Rattle.m11_layout.specs.Sections.{attributes_by}
+use Rattle.m11_layout.specs.declared.fault.LinkOutput.{LinkOutput}
+use Rattle.m11_layout.specs.declared.fault.LinkOutput.TheVariants.{Tape, Map, Messages}
+use Rattle.m11_link.specs.Findings.{Findings}
+use Rattle.m11_link.specs.Lines.{different_line, multiple_line}
+use Rattle.m11_link.specs.MapText.{front_writes}
+use Rattle.m11_link.specs.Storing.{modulo, relocated}
+use Rattle.m11_link.specs.Writes.{Write, to_messages, to_tape}
+
+-- ---- texts
+
+-- a text at its address: the module that it is in, and the base of its section there, count for relocations
+pub record PlacedText : Type 0 where
+  pub module_index : ℕ
+  pub base : ℕ
+  pub address : ℕ
+  pub bytes : List ℕ
+
+-- a text that counts from the base of a section in a module
+abbrev pub placed_text : Findings → ℕ → ℕ × ℕ → ℕ → List ℕ → PlacedText
+placed_text found module_index section address bytes = record {
+  module_index = module_index;
+  base = found.base module_index section;
+  address = modulo (found.base module_index section + address);
+  bytes = bytes;
+}
+
+abbrev pub with_relocation : Findings → PlacedText → Relocation → PlacedText
+with_relocation found text relocation = record text {
+  bytes = relocated found text.module_index text.base text.address relocation text.bytes;
+}
+
+-- relocations are stored in order
+abbrev pub with_relocations : Findings → PlacedText → List Relocation → PlacedText
+with_relocations found text [] = text
+with_relocations found text (relocation ∷ relocations) =
+    with_relocations found (with_relocation found text relocation) relocations
+
+-- a text with data is a block of the tape
+abbrev pub block_at : ℕ → List ℕ → List Write
+block_at address [] = []
+block_at address (byte ∷ bytes) = to_tape (tape_block address (byte ∷ bytes)) ∷ []
+
+abbrev pub text_writes : PlacedText → List Write
+text_writes text = block_at text.address text.bytes
+
+-- the relocations of a text stand behind it, before any other part
+abbrev pub relocations_behind : List Part → List Relocation
+relocations_behind [] = []
+relocations_behind (Relocations ∷ parts) = relocations_behind parts
+relocations_behind (Relocated relocation ∷ parts) = relocation ∷ relocations_behind parts
+relocations_behind (part ∷ parts) = []
+
+-- it has ended where another part stands behind it: in a whole module each text has
+abbrev pub has_ended : List Part → Bool
+has_ended [] = false
+has_ended (Relocations ∷ parts) = has_ended parts
+has_ended (Relocated relocation ∷ parts) = has_ended parts
+has_ended (part ∷ parts) = true
+
+abbrev pub ended_writes : Findings → PlacedText → List Part → List Write
+ended_writes found text behind =
+    if has_ended behind then text_writes (with_relocations found text (relocations_behind behind)) else []
+
+-- ---- messages
+
+-- a section has the attributes of its first entry; another entry that says otherwise is told
+abbrev pub different_writes : Findings → ℕ → Option ((ℕ × ℕ) × ℕ) → List Write
+different_writes found module_index None = []
+different_writes found module_index (Some section) =
+    if section.1 == found.attributes section.0 then []
+    else to_messages (different_line section.0 (found.module_name module_index)) ∷ []
+
+-- the names that are defined
+unfoldable pub defined_names : List Part → List (ℕ × ℕ)
+defined_names parts = distinct (keys_of (definitions_of parts))
+
+-- a definition of a name that was defined before is told
+abbrev pub symbol_writes : Findings → ℕ → List (ℕ × ℕ) → GsdEntry → List Write
+symbol_writes found module_index defined entry =
+    if defines entry && is_among defined entry.name
+    then to_messages (multiple_line entry.name (found.module_name module_index)) ∷ [] else []
+
+-- the messages of an entry in a module, these names being defined before it
+abbrev pub writes_by : GsdKind → Findings → ℕ → List (ℕ × ℕ) → GsdEntry → List Write
+writes_by GlobalSymbol found module_index defined entry = symbol_writes found module_index defined entry
+writes_by kind found module_index defined entry = different_writes found module_index (attributes_by kind entry)
+
+abbrev pub entry_writes : Findings → ℕ → List (ℕ × ℕ) → GsdEntry → List Write
+entry_writes found module_index defined entry = writes_by entry.kind found module_index defined entry
+
+-- ---- in order
+
+-- what a part makes, by the parts before it and behind it
+unfoldable pub writes_at : Findings → List Part → Part → List Part → List Write
+writes_at found before (Entry entry) behind = entry_writes found (modules_in before) (defined_names before) entry
+writes_at found before (Text address bytes) behind = ended_writes found
+    (placed_text found (modules_in before) (current_section (this_module before)) address bytes) behind
+writes_at found before part behind = []
+
+abbrev pub writes_behind : Findings → List Part → List Part → List Write
+writes_behind found before [] = []
+writes_behind found before (part ∷ parts) =
+    writes_at found before part parts ++ writes_behind found (before ++ part ∷ []) parts
+
+-- the parts of one module after another
+unfoldable pub parts_writes : Findings → List Part → List Write
+parts_writes found parts = writes_behind found [] parts
+
+-- the whole link: messages on undefined globals and the map, the parts, the transfer block
+abbrev pub link_writes : Findings → List Part → List Write
+link_writes found parts = (front_writes found ++ parts_writes found parts) ++ to_tape (tape_block found.transfer []) ∷ []
+
+-- ---- how many messages
+
+abbrev pub is_to_messages : LinkOutput → Bool
+is_to_messages Messages = true
+is_to_messages output = false
+
+abbrev pub is_message : Write → Bool
+is_message write = is_to_messages write.output
+
+-- no link is told to have more
+abbrev pub most_messages : ℕ
+most_messages = 4294967295
+
+abbrev pub one_more : ℕ → Bool → ℕ
+one_more count true = min (count + 1) most_messages
+one_more count false = count
+
+-- the count behind more writes: one more for each message
+abbrev pub counted : ℕ → List Write → ℕ
+counted count [] = count
+counted count (write ∷ writes) = counted (one_more count (is_message write)) writes

@@ -1,0 +1,245 @@
+//! What goes out before the tape: the messages on undefined globals, and the map.
+
+ghost use Rattle.std.specs.Prelude.{◌≡◌, [], ◌∷◌, ◌++◌, true, false, not, codes, IfOk};
+ghost use Rattle.m11_link.specs.Findings.{planned};
+ghost use Rattle.m11_link.specs.MapText.{front_writes, global_writes, is_empty, last_writes, map_writes, name_write, name_writes, section_writes, undefined_by, undefined_write, undefined_writes, weak_writes, written_if};
+ghost use Rattle.m11_link.specs.Writes.{Output, Writes, optional_output, output_of, outputs, to_map};
+ghost use Rattle.m11_link.specs.Written.{counted};
+
+use crate::lines::undefined_line;
+use crate::map_lines::{global_line, limit_line, name_line, section_line, transfer_line};
+use crate::outputs::{put_map, put_message};
+use m11_base::{Name, Sink};
+use m11_layout::{LinkFault, Plan};
+
+/// The messages on undefined globals, and then the map; answers how many messages there are, so many being there before.
+pub(crate) fn put_front<T: Sink, U: Sink>(
+    plan: &Plan,
+    map: &mut Option<T>,
+    messages: &mut U,
+    count: u32,
+) -> Result<u32, LinkFault>
+    ensures writes { (tape : Output) → Writes
+        (outputs tape (optional_output T.text T.faults map.old) (output_of (U.text messages.old) (U.faults messages.old)))
+        (outputs tape (optional_output T.text T.faults map.new) (output_of (U.text messages.new) (U.faults messages.new)))
+        (front_writes (planned plan.now)) result }
+    ensures count { IfOk result (λ n. n ≡ counted count (front_writes (planned plan.now))) }
+{
+    let told = put_undefined(plan, messages, count)?;
+    put_map_lines(plan, map)?;
+    Ok(told)
+}
+
+// The name of a reference to a global that is defined nowhere, where the reference is of this strength.
+fn undefined(plan: &Plan, reference: (Name, bool), is_strong: bool) -> Option<Name>
+    ensures { result ≡ undefined_by (planned plan.now) is_strong reference }
+{
+    let (name, strength) = reference;
+    if plan.value(name).is_none() && strength == is_strong {
+        Some(name)
+    } else {
+        None
+    }
+}
+
+// A message for each global with a strong reference that is defined nowhere; answers how many there are, so many
+// being there before.
+fn put_undefined<U: Sink>(plan: &Plan, messages: &mut U, count: u32) -> Result<u32, LinkFault>
+    ensures writes { (tape map : Output) → Writes
+        (outputs tape map (output_of (U.text messages.old) (U.faults messages.old)))
+        (outputs tape map (output_of (U.text messages.new) (U.faults messages.new)))
+        (undefined_writes (planned plan.now) plan.now.gathered.references) result }
+    ensures count { IfOk result (λ n. n ≡ counted count (undefined_writes (planned plan.now) plan.now.gathered.references)) }
+{
+    let mut told = count;
+    'references: for index in 0..plan.reference_count() {
+        match put_if_undefined(plan, plan.reference_at(index), messages, told) {
+            Ok(behind) => told = behind,
+            Err(fault) => return Err(fault),
+        }
+    }
+    Ok(told)
+}
+
+// The message on a reference, where it is strong and its global is defined nowhere; answers the count of messages, so
+// many being there before.
+fn put_if_undefined<U: Sink>(
+    plan: &Plan,
+    reference: (Name, bool),
+    messages: &mut U,
+    count: u32,
+) -> Result<u32, LinkFault>
+    ensures writes { (tape map : Output) → Writes
+        (outputs tape map (output_of (U.text messages.old) (U.faults messages.old)))
+        (outputs tape map (output_of (U.text messages.new) (U.faults messages.new)))
+        (written_if undefined_write (undefined_by (planned plan.now) true reference)) result }
+    ensures count { IfOk result
+        (λ n. n ≡ counted count (written_if undefined_write (undefined_by (planned plan.now) true reference))) }
+{
+    match undefined(plan, reference, true) {
+        Some(name) => match put_message(messages, undefined_line(name).as_slice()) {
+            Ok(()) => Ok(count.saturating_add(1)),
+            Err(fault) => Err(fault),
+        },
+        None => Ok(count),
+    }
+}
+
+// The map.
+fn put_map_lines<T: Sink>(plan: &Plan, map: &mut Option<T>) -> Result<(), LinkFault>
+    ensures { (tape messages : Output) → Writes
+        (outputs tape (optional_output T.text T.faults map.old) messages)
+        (outputs tape (optional_output T.text T.faults map.new) messages) (map_writes (planned plan.now)) result }
+{
+    put_sections(plan, map)?;
+    put_globals(plan, map)?;
+    put_undefined_names(plan, map)?;
+    put_weak_names(plan, map)?;
+    put_last_lines(plan, map)
+}
+
+// The sections, under their word.
+fn put_sections<T: Sink>(plan: &Plan, map: &mut Option<T>) -> Result<(), LinkFault>
+    ensures { (tape messages : Output) → Writes
+        (outputs tape (optional_output T.text T.faults map.old) messages)
+        (outputs tape (optional_output T.text T.faults map.new) messages)
+        (to_map (codes "SECTIONS\n") ∷ section_writes (planned plan.now).sections) result }
+{
+    put_map(map, b"SECTIONS\n")?;
+    put_each_section(plan, map)
+}
+
+// A line for each section.
+fn put_each_section<T: Sink>(plan: &Plan, map: &mut Option<T>) -> Result<(), LinkFault>
+    ensures { (tape messages : Output) → Writes
+        (outputs tape (optional_output T.text T.faults map.old) messages)
+        (outputs tape (optional_output T.text T.faults map.new) messages)
+        (section_writes (planned plan.now).sections) result }
+{
+    'sections: for index in 0..plan.section_count() {
+        let section = plan.section_at(index);
+        let line = section_line(section.name, section.base, section.size, section.attributes);
+        match put_map(map, line.as_slice()) {
+            Ok(()) => {}
+            Err(fault) => return Err(fault),
+        }
+    }
+    Ok(())
+}
+
+// The globals that are defined, under their word.
+fn put_globals<T: Sink>(plan: &Plan, map: &mut Option<T>) -> Result<(), LinkFault>
+    ensures { (tape messages : Output) → Writes
+        (outputs tape (optional_output T.text T.faults map.old) messages)
+        (outputs tape (optional_output T.text T.faults map.new) messages)
+        (to_map (codes "GLOBALS\n") ∷ global_writes (planned plan.now).globals) result }
+{
+    put_map(map, b"GLOBALS\n")?;
+    put_each_global(plan, map)
+}
+
+// A line for each global that is defined.
+fn put_each_global<T: Sink>(plan: &Plan, map: &mut Option<T>) -> Result<(), LinkFault>
+    ensures { (tape messages : Output) → Writes
+        (outputs tape (optional_output T.text T.faults map.old) messages)
+        (outputs tape (optional_output T.text T.faults map.new) messages)
+        (global_writes (planned plan.now).globals) result }
+{
+    'globals: for index in 0..plan.global_count() {
+        let global = plan.global_at(index);
+        let line = global_line(global.name, global.value, global.module_name);
+        match put_map(map, line.as_slice()) {
+            Ok(()) => {}
+            Err(fault) => return Err(fault),
+        }
+    }
+    Ok(())
+}
+
+// The globals that are defined nowhere and referred to strongly, under their word.
+fn put_undefined_names<T: Sink>(plan: &Plan, map: &mut Option<T>) -> Result<(), LinkFault>
+    ensures { (tape messages : Output) → Writes
+        (outputs tape (optional_output T.text T.faults map.old) messages)
+        (outputs tape (optional_output T.text T.faults map.new) messages)
+        (to_map (codes "UNDEFINED\n") ∷ name_writes (planned plan.now) true plan.now.gathered.references) result }
+{
+    put_map(map, b"UNDEFINED\n")?;
+    put_each_name(plan, true, map)
+}
+
+// The globals that are defined nowhere and referred to weakly alone, under their word where there are any.
+fn put_weak_names<T: Sink>(plan: &Plan, map: &mut Option<T>) -> Result<(), LinkFault>
+    ensures { (tape messages : Output) → Writes
+        (outputs tape (optional_output T.text T.faults map.old) messages)
+        (outputs tape (optional_output T.text T.faults map.new) messages)
+        (weak_writes (name_writes (planned plan.now) false plan.now.gathered.references)) result }
+{
+    if !has_weak_name(plan) {
+        return Ok(());
+    }
+    put_map(map, b"WEAK\n")?;
+    put_each_name(plan, false, map)
+}
+
+// Whether a global is defined nowhere and referred to weakly alone.
+fn has_weak_name(plan: &Plan) -> bool
+    ensures { result ≡ not (is_empty (name_writes (planned plan.now) false plan.now.gathered.references)) }
+{
+    'references: for index in 0..plan.reference_count() {
+        match undefined(plan, plan.reference_at(index), false) {
+            Some(_) => return true,
+            None => {}
+        }
+    }
+    false
+}
+
+// A line for each global that is defined nowhere, where its references are of this strength.
+fn put_each_name<T: Sink>(
+    plan: &Plan,
+    is_strong: bool,
+    map: &mut Option<T>,
+) -> Result<(), LinkFault>
+    ensures { (tape messages : Output) → Writes
+        (outputs tape (optional_output T.text T.faults map.old) messages)
+        (outputs tape (optional_output T.text T.faults map.new) messages)
+        (name_writes (planned plan.now) is_strong plan.now.gathered.references) result }
+{
+    'references: for index in 0..plan.reference_count() {
+        match put_if_of_strength(plan, plan.reference_at(index), is_strong, map) {
+            Ok(()) => {}
+            Err(fault) => return Err(fault),
+        }
+    }
+    Ok(())
+}
+
+// The line of a reference, where it is of this strength and its global is defined nowhere.
+fn put_if_of_strength<T: Sink>(
+    plan: &Plan,
+    reference: (Name, bool),
+    is_strong: bool,
+    map: &mut Option<T>,
+) -> Result<(), LinkFault>
+    ensures { (tape messages : Output) → Writes
+        (outputs tape (optional_output T.text T.faults map.old) messages)
+        (outputs tape (optional_output T.text T.faults map.new) messages)
+        (written_if name_write (undefined_by (planned plan.now) is_strong reference)) result }
+{
+    match undefined(plan, reference, is_strong) {
+        Some(name) => put_map(map, name_line(name).as_slice()),
+        None => Ok(()),
+    }
+}
+
+// The transfer address and the limits.
+fn put_last_lines<T: Sink>(plan: &Plan, map: &mut Option<T>) -> Result<(), LinkFault>
+    ensures { (tape messages : Output) → Writes
+        (outputs tape (optional_output T.text T.faults map.old) messages)
+        (outputs tape (optional_output T.text T.faults map.new) messages)
+        (last_writes (planned plan.now)) result }
+{
+    let (bottom, top) = plan.limits();
+    put_map(map, transfer_line(plan.transfer()).as_slice())?;
+    put_map(map, limit_line(bottom, top).as_slice())
+}

@@ -1,0 +1,89 @@
+//! The text that is held until all of its relocations have come.
+
+ghost use Rattle.std.specs.Prelude.{◌≡◌, ◌≤◌, [], ◌∷◌, length};
+ghost use Rattle.m11_link.specs.Findings.{planned};
+ghost use Rattle.m11_link.specs.Writes.{Output, Writes, output_of, outputs};
+ghost use Rattle.m11_link.specs.Written.{placed_text, text_writes, with_relocation};
+
+use crate::outputs::put_tape;
+use crate::storing::relocate;
+use arrayvec::ArrayVec;
+use m11_base::{Name, Sink};
+use m11_layout::{LinkFault, Plan};
+use m11_obj::{Relocation, tape_block};
+use std::alloc::Global;
+use std::marker::Model;
+
+/// Where a record stands: the index of its module, and the section that texts go to.
+#[derive(Clone, Copy, Debug, PartialEq, Eq)]
+pub(crate) struct Location {
+    pub(crate) module_index: usize,
+    pub(crate) section: Name,
+}
+
+/// A text at its address, in the module of this index, and the base of its section there.
+#[derive(Drop)]
+pub(crate) struct HeldText {
+    module_index: usize,
+    base: u16,
+    address: u16,
+    bytes: ArrayVec<u8, 512>,
+}
+
+impl Model for HeldText {
+    ghost use Rattle.m11_link.specs.Written.{PlacedText};
+
+    ghost Value = { PlacedText };
+
+    ghost view = { λ t. record {
+      module_index = t.module_index;
+      base = t.base;
+      address = t.address;
+      bytes = t.bytes.items;
+    } };
+}
+
+impl HeldText {
+    /// A text whose address counts from the base of its section in its module.
+    pub(crate) fn new(plan: &Plan, location: Location, address: u16, bytes: &[u8]) -> HeldText
+        requires { length bytes.now ≤ 512 }
+        ensures { result ≡ placed_text (planned plan.now) location.module_index location.section address bytes.now }
+    {
+        let base = plan.base(location.module_index, location.section);
+        let mut held = ArrayVec::new();
+        held.try_extend_from_slice(bytes).unwrap();
+        HeldText {
+            module_index: location.module_index,
+            base,
+            address: base.wrapping_add(address),
+            bytes: held,
+        }
+    }
+
+    /// Stores one more relocation.
+    pub(crate) fn relocate(&mut self, plan: &Plan, relocation: &Relocation)
+        ensures { self.new ≡ with_relocation (planned plan.now) self.old relocation.now }
+    {
+        relocate(
+            plan,
+            self.module_index,
+            self.base,
+            self.address,
+            relocation,
+            self.bytes.as_mut_slice(),
+        );
+    }
+
+    /// The text as a block of the tape; without data it gives none.
+    pub(crate) fn put<S: Sink>(&self, alloc: Global, tape: &mut S) -> Result<(), LinkFault>
+        ensures { (map messages : Output) → Writes
+            (outputs (output_of (S.text tape.old) (S.faults tape.old)) map messages)
+            (outputs (output_of (S.text tape.new) (S.faults tape.new)) map messages) (text_writes self.now) result }
+    {
+        if self.bytes.is_empty() {
+            return Ok(());
+        }
+        let block = tape_block(alloc, self.address, self.bytes.as_slice())?;
+        put_tape(tape, block.as_slice())
+    }
+}
