@@ -12,6 +12,7 @@ pub mod Loads
 pub mod MemoryKept
 pub mod Parts
 pub mod PlacesStored
+pub mod QuickDone
 pub mod RegistersPut
 pub mod RunsDone
 pub mod RunsJoined

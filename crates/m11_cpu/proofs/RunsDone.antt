@@ -1,11 +1,13 @@
 -- Runs, step by step.
-use Rattle.std.proofs.Common.{◌≡◌, ℕ, suc, ◌+◌, ◌-◌, ◌<◌, refl, sym, subst, arith}
+use Rattle.std.proofs.Common.{◌≡◌, ℕ, zero, suc, ◌+◌, ◌-◌, ◌<◌, ◌≤◌, refl, sym, subst, arith}
 use Rattle.m11_cpu.specs.declared.machine.Machine.{Machine}
 use Rattle.m11_cpu.specs.declared.runs.Ran.{Ran}
 use Rattle.m11_cpu.specs.declared.stop.Stop.{Stop}
 use Rattle.m11_cpu.specs.declared.stop.Stop.TheVariants.{Limit}
+use Rattle.m11_cpu.specs.declared.stop.Turn.{Turn}
 use Rattle.m11_cpu.specs.declared.stop.Turn.TheVariants.{Next, Stopped}
-use Rattle.m11_cpu.specs.Dialogue.{Devices, Does}
+use Rattle.m11_cpu.specs.Dialogue.{Comes, Devices, Dialogue, Does}
+use Rattle.m11_cpu.specs.Quick.{StepsAtOnce}
 use Rattle.m11_cpu.specs.Runs.{run, run_counted}
 use Rattle.m11_cpu.specs.Steps.{step}
 use Rattle.m11_cpu.proofs.Dialogues.{comes, then_does}
@@ -56,6 +58,34 @@ goes_on limit done m m' m'' old middle later lt i h stop steps new n k =
     let Q : ℕ → Type 0 = λ all. Does (run_counted limit m) old new (ran stop all, n) in
     let f : done + (steps + 1) ≡ done + 1 + steps = omega arith in
     subst Q f whole
+
+at_once_does : (m n : Machine) (d : Devices) → step m ≡ Comes (Next, n) → Does (step m) d d (Next, n)
+at_once_does m n d e =
+    let P : Dialogue (Turn × Machine) → Type 0 = λ x. Does x d d (Next, n) in subst P (sym e) (comes d _ _ refl)
+
+-- the same over steps that are made at once
+pub quick_goes_on : (limit done quick : ℕ) (m m' m'' : Machine) (old middle : Devices) → done + quick ≤ limit
+    → GoesOn limit done m m' old middle → StepsAtOnce quick m' m'' → GoesOn limit (done + quick) m m'' old middle
+unfolding StepsAtOnce
+quick_goes_on limit done zero m m' m'' old middle le i s =
+    let P : ℕ → Type 0 = λ k. GoesOn limit k m m'' old middle in
+    let Q : Machine → Type 0 = λ x. GoesOn limit done m x old middle in
+    let e : done ≡ done + zero = omega arith in
+    subst P e (subst Q (sym s) i)
+quick_goes_on limit done (suc quick) m m' m'' old middle le i s =
+    let P : ℕ → Type 0 = λ k. GoesOn limit k m m'' old middle in
+    let e : done + quick + 1 ≡ done + suc quick = omega arith in
+    let below : done + quick < limit = omega arith in
+    let most : done + quick ≤ limit = omega arith in
+    let before = quick_goes_on limit done quick m m' s.0 old middle most i s.1 in
+    subst P e (goes_on limit (done + quick) m s.0 m'' old middle middle below before (at_once_does s.0 m'' middle s.2))
+
+pub begins_quickly : (limit quick : ℕ) (m m' : Machine) (old : Devices) → quick ≤ limit → StepsAtOnce quick m m'
+    → GoesOn limit quick m m' old old
+begins_quickly limit quick m m' old le s =
+    let P : ℕ → Type 0 = λ k. GoesOn limit k m m' old old in
+    let e : 0 + quick ≡ quick = omega arith in
+    subst P e (quick_goes_on limit 0 quick m m m' old old (omega (arith, le)) (begins limit m old) s)
 
 pub stops : (limit done : ℕ) (m m' m'' : Machine) (old middle new : Devices) (stop : Stop) → done < limit
     → GoesOn limit done m m' old middle → Does (step m') middle new (Stopped stop, m'')

@@ -14,7 +14,9 @@ pub mod Loading
 pub mod Machine
 pub mod Memory
 pub mod Messages
+pub mod Near
 pub mod Places
+pub mod Quick
 pub mod Returns
 pub mod Runs
 pub mod Simulation

@@ -187,7 +187,7 @@ impl Machine {
 
 // A byte as a word of the same number with a sign.
 #[inline(always)]
-fn sign_extended(byte: u16) -> u16
+pub(crate) fn sign_extended(byte: u16) -> u16
     ensures { result ≡ sign_extended byte }
 {
     let low = byte % 256;

@@ -140,7 +140,7 @@ impl Machine {
 
 // The address so many words from another one, modulo 200000.
 #[inline(always)]
-fn words_on(address: u16, words: i8) -> u16
+pub(crate) fn words_on(address: u16, words: i8) -> u16
     ensures { result ≡ words_on address words }
 {
     address.wrapping_add((i16::from(words) * 2).cast_unsigned())

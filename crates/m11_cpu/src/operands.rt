@@ -202,7 +202,7 @@ impl Machine {
 
 // A word with 0 for its low byte.
 #[inline(always)]
-fn without_low_byte(word: u16) -> u16
+pub(crate) fn without_low_byte(word: u16) -> u16
     ensures high { result ≡ without_low_byte word }
     ensures room { result + 255 < 0o200000 }
 {
@@ -211,7 +211,7 @@ fn without_low_byte(word: u16) -> u16
 
 // How many bytes modes 2 and 4 step a register.
 #[inline(always)]
-fn step_of(size: Size, register: Register) -> u16
+pub(crate) fn step_of(size: Size, register: Register) -> u16
     ensures { result ≡ step_of size register }
 {
     match (size, register) {

@@ -40,7 +40,8 @@ impl Machine {
             (both (F.text feed.new) (F.faults feed.new) (S.text sink.new) (S.faults sink.new))
             (result, self.new) }
     {
-        'steps: for done in 0..limit {
+        let mut done = self.quick_steps(limit);
+        'steps: while done < limit {
             match self.step(feed, sink) {
                 Turn::Next => {}
                 Turn::Stopped(stop) => return Ran {
@@ -48,6 +49,8 @@ impl Machine {
                     steps: done + 1,
                 },
             }
+            let quick = self.quick_steps(limit - (done + 1));
+            done = done + 1 + quick;
         }
         Ran {
             stop: Stop::Limit,

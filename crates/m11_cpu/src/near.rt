@@ -1,0 +1,205 @@
+//! What an instruction finds near: operands in registers and in memory, without the console. (PDP-11/40 Processor
+//! Handbook, "Addressing modes".)
+
+ghost use Rattle.std.specs.Prelude.{◌≡◌, ◌<◌, IfSome, None, true};
+ghost use Rattle.m11_arithmetic.specs.Sizes.{size_limit};
+ghost use Rattle.m11_base.specs.declared.operand.Mode.TheVariants as mode;
+ghost use Rattle.m11_cpu.specs.declared.operands.Place.TheVariants.{InMemory, InRegister};
+ghost use Rattle.m11_cpu.specs.Near.{ChangesRegisters, ComesTo, Ends, Keeps, is_near, is_plain, plain_at};
+ghost use Rattle.m11_cpu.specs.Places.{fetch, fetch_operand, indexed, place_of, store};
+
+use crate::machine::Machine;
+use crate::operands::{Place, step_of, without_low_byte};
+use m11_base::{Mode, Operand, Register, Size};
+
+impl Machine {
+    // Whether a word or byte lies in memory.
+    #[inline(always)]
+    pub(crate) fn is_plain(&self, size: Size, address: u16) -> bool
+        ensures { result ≡ is_plain size address self.now.memory }
+    {
+        match size {
+            Size::Word => address % 2 != 1 && self.memory.holds(address),
+            Size::Byte => self.memory.holds(address),
+        }
+    }
+
+    // The word or byte at an address in memory.
+    #[inline(always)]
+    pub(crate) fn plain(&self, size: Size, address: u16) -> u16
+        requires { is_plain size address self.now.memory ≡ true }
+        ensures value { result ≡ plain_at size address self.now.memory }
+        ensures fits { result < size_limit size }
+    {
+        match size {
+            Size::Word => self.memory.word(address),
+            Size::Byte => u16::from(self.memory.byte(address)),
+        }
+    }
+
+    // Puts a word or byte at an address in memory.
+    #[tactic(auto, using(crate::proofs::QuickDone::word_stored, crate::proofs::QuickDone::byte_stored))]
+    #[inline(always)]
+    pub(crate) fn set_plain(&mut self, size: Size, address: u16, value: u16)
+        requires plain { is_plain size address self.old.memory ≡ true }
+        ensures stored { Ends (store (InMemory address) size value) self.old self.new }
+        ensures keeps { Keeps self.old self.new }
+    {
+        match size {
+            Size::Word => self.memory.set_word(address, value),
+            Size::Byte => self.memory.set_byte(address, (value % 256) as u8),
+        }
+    }
+
+    // The place in memory that an operand means. Where it isn't one, nothing changes.
+    #[tactic(auto, using(crate::proofs::QuickDone::by_register, crate::proofs::QuickDone::by_increment, crate::proofs::QuickDone::by_decrement, crate::proofs::QuickDone::by_index))]
+    #[inline(always)]
+    pub(crate) fn plain_place(&mut self, operand: Operand, size: Size) -> Option<u16>
+        ensures some { IfSome result (λ address. ComesTo (place_of operand size) self.old (InMemory address) self.new) }
+        ensures plain { IfSome result (λ address. is_plain size address self.new.memory ≡ true) }
+        ensures registers { ChangesRegisters self.old self.new }
+        ensures none { result ≡ None → self.new ≡ self.old }
+    {
+        let register = operand.register;
+        let address = self.register(register);
+        match operand.mode {
+            Mode::RegisterDeferred => if self.is_plain(size, address) {
+                Some(address)
+            } else {
+                None
+            },
+            Mode::Autoincrement => {
+                if !self.is_plain(size, address) {
+                    return None;
+                }
+                self.advance(register, step_of(size, register));
+                Some(address)
+            }
+            Mode::Autodecrement => {
+                let below = address.wrapping_sub(step_of(size, register));
+                if !self.is_plain(size, below) {
+                    return None;
+                }
+                self.set_register(register, below);
+                Some(below)
+            }
+            Mode::AutoincrementDeferred => self.plain_pointer(operand, size),
+            Mode::Index => self.plain_index(operand, size),
+            _ => None,
+        }
+    }
+
+    // The same by a pointer, in mode 3. It and the next one aren't inlined, so that what calls them can be.
+    #[tactic(auto, using(crate::proofs::QuickDone::by_pointer))]
+    #[inline(never)]
+    fn plain_pointer(&mut self, operand: Operand, size: Size) -> Option<u16>
+        requires { operand.mode ≡ mode.AutoincrementDeferred }
+        ensures some { IfSome result (λ address. ComesTo (place_of operand size) self.old (InMemory address) self.new) }
+        ensures plain { IfSome result (λ address. is_plain size address self.new.memory ≡ true) }
+        ensures registers { ChangesRegisters self.old self.new }
+        ensures none { result ≡ None → self.new ≡ self.old }
+    {
+        let pointer = self.register(operand.register);
+        if !self.is_plain(Size::Word, pointer) {
+            return None;
+        }
+        let address = self.plain(Size::Word, pointer);
+        if !self.is_plain(size, address) {
+            return None;
+        }
+        self.advance(operand.register, 2);
+        Some(address)
+    }
+
+    // The same by the word behind the code, in mode 6.
+    #[tactic(auto, using(crate::proofs::QuickDone::index_at, crate::proofs::QuickDone::counter_back))]
+    #[inline(never)]
+    fn plain_index(&mut self, operand: Operand, size: Size) -> Option<u16>
+        ensures some { IfSome result (λ address. ComesTo (indexed operand.register) self.old address self.new) }
+        ensures plain { IfSome result (λ address. is_plain size address self.new.memory ≡ true) }
+        ensures registers { ChangesRegisters self.old self.new }
+        ensures none { result ≡ None → self.new ≡ self.old }
+    {
+        let counter = self.register(Register::Pc);
+        if !self.is_plain(Size::Word, counter) {
+            return None;
+        }
+        let index = self.plain(Size::Word, counter);
+        self.advance(Register::Pc, 2);
+        let address = index.wrapping_add(self.register(operand.register));
+        if !self.is_plain(size, address) {
+            self.set_register(Register::Pc, counter);
+            return None;
+        }
+        Some(address)
+    }
+
+    // The word or byte in a place.
+    #[tactic(auto, using(crate::proofs::QuickDone::plain_fetched), unfolding(crate::specs::Places::fetch))]
+    #[inline(always)]
+    pub(crate) fn near_value(&self, place: Place, size: Size) -> u16
+        requires { is_near size place self.now ≡ true }
+        ensures fetched { ComesTo (fetch place size) self.now result self.now }
+        ensures fits { result < size_limit size }
+    {
+        match (place, size) {
+            (Place::InRegister(register), Size::Word) => self.register(register),
+            (Place::InRegister(register), Size::Byte) => self.register(register) % 256,
+            (Place::InMemory(address), _) => self.plain(size, address),
+        }
+    }
+
+    // Puts a word or byte into a place.
+    #[tactic(auto, unfolding(crate::specs::Places::store))]
+    #[inline(always)]
+    pub(crate) fn put_near(&mut self, place: Place, size: Size, value: u16)
+        requires { is_near size place self.old ≡ true }
+        ensures stored { Ends (store place size value) self.old self.new }
+        ensures keeps { Keeps self.old self.new }
+    {
+        match (place, size) {
+            (Place::InRegister(register), Size::Word) => self.set_register(register, value),
+            (Place::InRegister(register), Size::Byte) => {
+                let high = without_low_byte(self.register(register));
+                self.set_register(register, high + value % 256);
+            }
+            (Place::InMemory(address), _) => self.set_plain(size, address, value),
+        }
+    }
+
+    // The word or byte that an operand means.
+    #[tactic(auto, using(crate::proofs::QuickDone::in_register, crate::proofs::QuickDone::place_fetched, crate::proofs::QuickDone::plain_fetched))]
+    #[inline(always)]
+    pub(crate) fn near_operand(&mut self, operand: Operand, size: Size) -> Option<u16>
+        ensures some { IfSome result (λ value. ComesTo (fetch_operand operand size) self.old value self.new) }
+        ensures fits { IfSome result (λ value. value < size_limit size) }
+        ensures registers { ChangesRegisters self.old self.new }
+        ensures none { result ≡ None → self.new ≡ self.old }
+    {
+        match operand.mode {
+            Mode::Register => Some(self.near_value(Place::InRegister(operand.register), size)),
+            _ => {
+                let address = self.plain_place(operand, size)?;
+                Some(self.plain(size, address))
+            }
+        }
+    }
+
+    // The place of an operand.
+    #[tactic(auto, using(crate::proofs::QuickDone::in_register))]
+    #[inline(always)]
+    pub(crate) fn near_place(&mut self, operand: Operand, size: Size) -> Option<Place>
+        ensures some { IfSome result (λ place. ComesTo (place_of operand size) self.old place self.new) }
+        ensures near { IfSome result (λ place. is_near size place self.new ≡ true) }
+        ensures registers { ChangesRegisters self.old self.new }
+        ensures none { result ≡ None → self.new ≡ self.old }
+    {
+        match operand.mode {
+            Mode::Register => Some(Place::InRegister(operand.register)),
+            _ => {
+                let address = self.plain_place(operand, size)?;
+                Some(Place::InMemory(address))
+            }
+        }
+    }
+}
