@@ -461,18 +461,31 @@ impl Machine {
             0o00 => self.low_word(word, counter),
             0o01 => self.move_word(Size::Word, word),
             0o02 => self.compare_word(DoubleOp::Cmp, Size::Word, word),
-            0o03 => self.compare_word(DoubleOp::Bit, Size::Word, word),
-            0o04 => self.change_word(DoubleOp::Bic, Size::Word, word),
-            0o05 => self.change_word(DoubleOp::Bis, Size::Word, word),
             0o06 => self.change_word(DoubleOp::Add, Size::Word, word),
             0o07 => self.extended_word(word),
             0o10 => self.high_word(word, counter),
             0o11 => self.move_word(Size::Byte, word),
             0o12 => self.compare_word(DoubleOp::Cmp, Size::Byte, word),
+            0o16 => self.change_word(DoubleOp::Sub, Size::Word, word),
+            _ => self.bits_word(word),
+        }
+    }
+
+    // A word of BIT, BIC or BIS. It and those for single operands aren't inlined, so that the others can be.
+    #[tactic(auto, unfolding(m11_base::specs::Dispatch::doubles))]
+    #[inline(never)]
+    fn bits_word(&mut self, word: u16) -> Option<u16>
+        ensures some { IfSome result (λ next. Executed (meaning (operation_by_tables word) word) next self.old self.new) }
+        ensures keeps { Keeps self.old self.new }
+        ensures none { result ≡ None → self.new ≡ self.old }
+    {
+        match word / 0o10000 {
+            0o03 => self.compare_word(DoubleOp::Bit, Size::Word, word),
+            0o04 => self.change_word(DoubleOp::Bic, Size::Word, word),
+            0o05 => self.change_word(DoubleOp::Bis, Size::Word, word),
             0o13 => self.compare_word(DoubleOp::Bit, Size::Byte, word),
             0o14 => self.change_word(DoubleOp::Bic, Size::Byte, word),
             0o15 => self.change_word(DoubleOp::Bis, Size::Byte, word),
-            0o16 => self.change_word(DoubleOp::Sub, Size::Word, word),
             _ => None,
         }
     }
@@ -535,6 +548,7 @@ impl Machine {
 
     // A word 00xxxx of an operation on one word.
     #[tactic(auto, unfolding(m11_base::specs::Dispatch::low))]
+    #[inline(never)]
     fn low_single(&mut self, word: u16) -> Option<u16>
         ensures some { IfSome result (λ next. Executed (meaning (with_next_digits (word / 0o100) word) word) next self.old self.new) }
         ensures keeps { Keeps self.old self.new }
@@ -605,6 +619,7 @@ impl Machine {
 
     // A word 10xxxx of an operation on one byte.
     #[tactic(auto, unfolding(m11_base::specs::Dispatch::high))]
+    #[inline(never)]
     fn high_single(&mut self, word: u16) -> Option<u16>
         ensures some { IfSome result (λ next. Executed (meaning (slice_index_or high (word / 0o100 % 0o100) None) word) next self.old self.new) }
         ensures keeps { Keeps self.old self.new }
