@@ -189,6 +189,12 @@ pub counter_back : (old : ℕ) (m n k : Machine) → old ≡ register_of Pc m �
     → k ≡ with_register Pc old n → k ≡ m
 counter_back old m n k e f g = put_back Pc ((register_of Pc m + 2) % 0o200000) old m n k e f g
 
+-- registers that are put back
+pub restored : (m n k : Machine) → n ≡ record m { registers = n.registers }
+    → k ≡ record n { registers = m.registers } → k ≡ m
+restored m n k e f =
+    let to : Machine → Machine = λ x. record x { registers = m.registers } in f ∙ ap to e
+
 -- ---- operands
 
 pub place_fetched : (operand : Operand) (size : Size) (place : Place) (v : ℕ) (m n : Machine)

@@ -12,7 +12,7 @@ ghost use Rattle.m11_base.specs.declared.operand.Mode.TheVariants as mode;
 ghost use Rattle.m11_base.specs.declared.operand.Register.TheVariants.{Pc};
 ghost use Rattle.m11_cpu.specs.DestinationUse.{use_by_double, use_by_single};
 ghost use Rattle.m11_cpu.specs.Dialogue.{Comes};
-ghost use Rattle.m11_cpu.specs.DoubleOperands.{change_double, compare, double, move_to, store_moved};
+ghost use Rattle.m11_cpu.specs.DoubleOperands.{change_double, compare, double, double_at, move_to, store_moved};
 ghost use Rattle.m11_cpu.specs.Jumps.{branched, counted_down};
 ghost use Rattle.m11_cpu.specs.Machine.{register_of};
 ghost use Rattle.m11_cpu.specs.Near.{Ends, Keeps, is_near};
@@ -23,6 +23,7 @@ ghost use Rattle.m11_cpu.specs.Steps.{step};
 ghost use Rattle.m11_cpu.specs.declared.destination_use.DestinationUse.TheVariants.{Writes, Reads, Changes};
 ghost use Rattle.m11_cpu.specs.declared.stop.Turn.TheVariants.{Next};
 
+use crate::destination_use::{DestinationUse, use_by_double};
 use crate::double_operands::sign_extended;
 use crate::jumps::words_on;
 use crate::machine::Machine;
@@ -114,6 +115,51 @@ impl Machine {
         self.put_computed(place, size, computed);
     }
 
+    // An operation on a source that was fetched, and a place.
+    #[tactic(auto, unfolding(crate::specs::DoubleOperands::double_at))]
+    #[inline(always)]
+    fn double_near(&mut self, operation: DoubleOp, size: Size, source: u16, place: Place)
+        requires near { is_near size place self.old ≡ true }
+        requires fits { source < size_limit size }
+        ensures done { Ends (double_at operation size source place) self.old self.new }
+        ensures keeps { Keeps self.old self.new }
+    {
+        match use_by_double(operation) {
+            DestinationUse::Writes => self.move_near(place, size, source),
+            DestinationUse::Reads => self.compare_near(operation, place, size, source),
+            DestinationUse::Changes => self.change_near(operation, place, size, source),
+        }
+    }
+
+    // An operation on operands of any modes: the program counter behind it. It is for two operands in memory.
+    #[tactic(auto, using(crate::proofs::QuickDone::bind_comes, crate::proofs::QuickDone::restored), unfolding(crate::specs::DoubleOperands::double))]
+    #[inline(never)]
+    fn double_in_memory(
+        &mut self,
+        operation: DoubleOp,
+        size: Size,
+        source: Operand,
+        destination: Operand,
+    ) -> Option<u16>
+        ensures some { IfSome result (λ _. Ends (double operation size source destination) self.old self.new) }
+        ensures counter { IfSome result (λ counter. counter ≡ register_of Pc self.new) }
+        ensures keeps { Keeps self.old self.new }
+        ensures none { result ≡ None → self.new ≡ self.old }
+    {
+        let before = self.registers;
+        let value = self.near_operand(source, size)?;
+        match self.plain_place(destination, size) {
+            Some(address) => {
+                self.double_near(operation, size, value, Place::InMemory(address));
+                Some(self.register(Register::Pc))
+            }
+            None => {
+                self.registers = before;
+                None
+            }
+        }
+    }
+
     // MOV, to a register: the program counter behind it.
     #[inline(always)]
     fn move_to_register(&mut self, size: Size, source: Operand, destination: Operand) -> Option<u16>
@@ -148,7 +194,7 @@ impl Machine {
         Some(self.register(Register::Pc))
     }
 
-    // The same by a word, where one operand is a register.
+    // The same by a word.
     #[tactic(auto, using(crate::proofs::QuickDone::bind_comes, crate::proofs::QuickDone::comes_at), unfolding(crate::specs::Execution::execute))]
     #[inline(always)]
     fn move_word(&mut self, size: Size, word: u16) -> Option<u16>
@@ -161,7 +207,7 @@ impl Machine {
         match (source.mode, destination.mode) {
             (_, Mode::Register) => self.move_to_register(size, source, destination),
             (Mode::Register, _) => self.move_from_register(size, source, destination),
-            _ => None,
+            _ => self.double_in_memory(DoubleOp::Mov, size, source, destination),
         }
     }
 
@@ -213,7 +259,7 @@ impl Machine {
         Some(self.register(Register::Pc))
     }
 
-    // The same by a word, where one operand is a register.
+    // The same by a word.
     #[tactic(auto, using(crate::proofs::QuickDone::bind_comes, crate::proofs::QuickDone::comes_at), unfolding(crate::specs::Execution::execute))]
     #[inline(always)]
     fn compare_word(&mut self, operation: DoubleOp, size: Size, word: u16) -> Option<u16>
@@ -227,7 +273,7 @@ impl Machine {
         match (source.mode, destination.mode) {
             (_, Mode::Register) => self.compare_to_register(operation, size, source, destination),
             (Mode::Register, _) => self.compare_from_register(operation, size, source, destination),
-            _ => None,
+            _ => self.double_in_memory(operation, size, source, destination),
         }
     }
 
@@ -279,7 +325,7 @@ impl Machine {
         Some(self.register(Register::Pc))
     }
 
-    // The same by a word, where one operand is a register.
+    // The same by a word.
     #[tactic(auto, using(crate::proofs::QuickDone::bind_comes, crate::proofs::QuickDone::comes_at), unfolding(crate::specs::Execution::execute))]
     #[inline(always)]
     fn change_word(&mut self, operation: DoubleOp, size: Size, word: u16) -> Option<u16>
@@ -293,7 +339,7 @@ impl Machine {
         match (source.mode, destination.mode) {
             (_, Mode::Register) => self.change_to_register(operation, size, source, destination),
             (Mode::Register, _) => self.change_from_register(operation, size, source, destination),
-            _ => None,
+            _ => self.double_in_memory(operation, size, source, destination),
         }
     }
 
