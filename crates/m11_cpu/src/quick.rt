@@ -264,7 +264,8 @@ impl Machine {
     #[inline(always)]
     fn compare_word(&mut self, operation: DoubleOp, size: Size, word: u16) -> Option<u16>
         requires { use_by_double operation ≡ Reads }
-        ensures some { IfSome result (λ next. Executed (with_fields (op.Double operation size) word) next self.old self.new) }
+        ensures some { IfSome result (λ next. Executed (with_fields (op.Double operation size) word)
+            next self.old self.new) }
         ensures keeps { Keeps self.old self.new }
         ensures none { result ≡ None → self.new ≡ self.old }
     {
@@ -330,7 +331,8 @@ impl Machine {
     #[inline(always)]
     fn change_word(&mut self, operation: DoubleOp, size: Size, word: u16) -> Option<u16>
         requires { use_by_double operation ≡ Changes }
-        ensures some { IfSome result (λ next. Executed (with_fields (op.Double operation size) word) next self.old self.new) }
+        ensures some { IfSome result (λ next. Executed (with_fields (op.Double operation size) word)
+            next self.old self.new) }
         ensures keeps { Keeps self.old self.new }
         ensures none { result ≡ None → self.new ≡ self.old }
     {
@@ -439,7 +441,8 @@ impl Machine {
     #[inline(always)]
     fn single_write(&mut self, operation: SingleOp, size: Size, word: u16) -> Option<u16>
         requires { use_by_single operation ≡ Some Writes }
-        ensures some { IfSome result (λ next. Executed (with_fields (op.Single operation size) word) next self.old self.new) }
+        ensures some { IfSome result (λ next. Executed (with_fields (op.Single operation size) word)
+            next self.old self.new) }
         ensures keeps { Keeps self.old self.new }
         ensures none { result ≡ None → self.new ≡ self.old }
     {
@@ -451,7 +454,8 @@ impl Machine {
     #[inline(always)]
     fn single_test(&mut self, operation: SingleOp, size: Size, word: u16) -> Option<u16>
         requires { use_by_single operation ≡ Some Reads }
-        ensures some { IfSome result (λ next. Executed (with_fields (op.Single operation size) word) next self.old self.new) }
+        ensures some { IfSome result (λ next. Executed (with_fields (op.Single operation size) word)
+            next self.old self.new) }
         ensures keeps { Keeps self.old self.new }
         ensures none { result ≡ None → self.new ≡ self.old }
     {
@@ -463,7 +467,8 @@ impl Machine {
     #[inline(always)]
     fn single_change(&mut self, operation: SingleOp, size: Size, word: u16) -> Option<u16>
         requires { use_by_single operation ≡ Some Changes }
-        ensures some { IfSome result (λ next. Executed (with_fields (op.Single operation size) word) next self.old self.new) }
+        ensures some { IfSome result (λ next. Executed (with_fields (op.Single operation size) word)
+            next self.old self.new) }
         ensures keeps { Keeps self.old self.new }
         ensures none { result ≡ None → self.new ≡ self.old }
     {
@@ -475,7 +480,8 @@ impl Machine {
     #[inline(always)]
     fn branch_word(&mut self, operation: BranchOp, word: u16, counter: u16) -> Option<u16>
         requires { counter ≡ register_of Pc self.old }
-        ensures some { IfSome result (λ next. Executed (with_fields (op.Branch operation) word) next self.old self.new) }
+        ensures some { IfSome result (λ next. Executed (with_fields (op.Branch operation) word)
+            next self.old self.new) }
         ensures keeps { Keeps self.old self.new }
         ensures none { result ≡ None → self.new ≡ self.old }
     {
@@ -499,7 +505,8 @@ impl Machine {
     #[inline(always)]
     fn quick_word(&mut self, word: u16, counter: u16) -> Option<u16>
         requires { counter ≡ register_of Pc self.old }
-        ensures some { IfSome result (λ next. Executed (meaning (operation_by_tables word) word) next self.old self.new) }
+        ensures some { IfSome result (λ next. Executed (meaning (operation_by_tables word) word)
+            next self.old self.new) }
         ensures keeps { Keeps self.old self.new }
         ensures none { result ≡ None → self.new ≡ self.old }
     {
@@ -521,7 +528,8 @@ impl Machine {
     #[tactic(auto, unfolding(m11_base::specs::Dispatch::doubles))]
     #[inline(never)]
     fn bits_word(&mut self, word: u16) -> Option<u16>
-        ensures some { IfSome result (λ next. Executed (meaning (operation_by_tables word) word) next self.old self.new) }
+        ensures some { IfSome result (λ next. Executed (meaning (operation_by_tables word) word)
+            next self.old self.new) }
         ensures keeps { Keeps self.old self.new }
         ensures none { result ≡ None → self.new ≡ self.old }
     {
@@ -540,7 +548,8 @@ impl Machine {
     #[tactic(auto, unfolding(m11_base::specs::Dispatch::extended))]
     #[inline(always)]
     fn extended_word(&mut self, word: u16) -> Option<u16>
-        ensures some { IfSome result (λ next. Executed (meaning (slice_index_or extended (word / 0o1000 % 0o10) None) word) next self.old self.new) }
+        ensures some { IfSome result (λ next. Executed (meaning (slice_index_or extended (word / 0o1000 % 0o10) None) word)
+            next self.old self.new) }
         ensures keeps { Keeps self.old self.new }
         ensures none { result ≡ None → self.new ≡ self.old }
     {
@@ -555,7 +564,8 @@ impl Machine {
     #[inline(always)]
     fn low_word(&mut self, word: u16, counter: u16) -> Option<u16>
         requires counter { counter ≡ register_of Pc self.old }
-        ensures some { IfSome result (λ next. Executed (meaning (with_next_digits (word / 0o100) word) word) next self.old self.new) }
+        ensures some { IfSome result (λ next. Executed (meaning (with_next_digits (word / 0o100) word) word)
+            next self.old self.new) }
         ensures keeps { Keeps self.old self.new }
         ensures none { result ≡ None → self.new ≡ self.old }
     {
@@ -596,7 +606,8 @@ impl Machine {
     #[tactic(auto, unfolding(m11_base::specs::Dispatch::low))]
     #[inline(never)]
     fn low_single(&mut self, word: u16) -> Option<u16>
-        ensures some { IfSome result (λ next. Executed (meaning (with_next_digits (word / 0o100) word) word) next self.old self.new) }
+        ensures some { IfSome result (λ next. Executed (meaning (with_next_digits (word / 0o100) word) word)
+            next self.old self.new) }
         ensures keeps { Keeps self.old self.new }
         ensures none { result ≡ None → self.new ≡ self.old }
     {
@@ -622,7 +633,8 @@ impl Machine {
     #[inline(always)]
     fn high_word(&mut self, word: u16, counter: u16) -> Option<u16>
         requires { counter ≡ register_of Pc self.old }
-        ensures some { IfSome result (λ next. Executed (meaning (slice_index_or high (word / 0o100 % 0o100) None) word) next self.old self.new) }
+        ensures some { IfSome result (λ next. Executed (meaning (slice_index_or high (word / 0o100 % 0o100) None) word)
+            next self.old self.new) }
         ensures keeps { Keeps self.old self.new }
         ensures none { result ≡ None → self.new ≡ self.old }
     {
@@ -667,7 +679,8 @@ impl Machine {
     #[tactic(auto, unfolding(m11_base::specs::Dispatch::high))]
     #[inline(never)]
     fn high_single(&mut self, word: u16) -> Option<u16>
-        ensures some { IfSome result (λ next. Executed (meaning (slice_index_or high (word / 0o100 % 0o100) None) word) next self.old self.new) }
+        ensures some { IfSome result (λ next. Executed (meaning (slice_index_or high (word / 0o100 % 0o100) None) word)
+            next self.old self.new) }
         ensures keeps { Keeps self.old self.new }
         ensures none { result ≡ None → self.new ≡ self.old }
     {
