@@ -1,8 +1,9 @@
 -- A layout that stands behind parts, and behind more of them.
 use Rattle.std.proofs.Common.{◌≡◌, ℕ, List, [], ◌∷◌, ◌++◌, append-nil, Option, Some, None, Result, Ok, Err, refl, sym, subst}
 use Rattle.std.specs.Option.{option_or}
+use Rattle.std.specs.Prelude.{is_ok, true}
 use Rattle.std.proofs.Math.Seq.{append_snoc}
-use Rattle.m11_obj.specs.Reading.{◌>>=◌, content_of, record_of}
+use Rattle.m11_obj.specs.Reading.{◌>>=◌, IsRecord, content_of, record_of}
 use Rattle.m11_obj.specs.Records.{Content}
 use Rattle.m11_obj.specs.declared.fault.RecordFault.{RecordFault}
 use Rattle.m11_modules.specs.declared.fault.ModuleFault.{ModuleFault}
@@ -77,6 +78,16 @@ same_bytes (Err fault) items bytes e = search
 pub record_is : (items bytes : List ℕ) → ◌≡◌ {A = Result (List ℕ) RecordFault} (Ok bytes) (record_of items)
     → bytes ≡ items
 record_is items bytes e = same_bytes (content_of items) items bytes e
+
+there : (content : Result Content RecordFault) (items bytes : List ℕ)
+    → ◌≡◌ {A = Result (List ℕ) RecordFault} (Ok bytes) (content >>= λ c. Ok items) → is_ok content ≡ true
+there (Ok c) items bytes e = refl
+there (Err fault) items bytes e = absurd cc
+
+-- a block that was read is a record
+pub record_there : (items bytes : List ℕ) → ◌≡◌ {A = Result (List ℕ) RecordFault} (Ok bytes) (record_of items)
+    → IsRecord items
+record_there items bytes e = there (content_of items) items bytes e
 
 -- a block that is a record was taken
 pub block_taken : {seen new : Reading} (bottom : ℕ) (before : List Part) (old : Reading) (items bytes : List ℕ)

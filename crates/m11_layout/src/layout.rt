@@ -1,6 +1,7 @@
 //! The first reading of a link: what it gathers, record by record.
 
-ghost use Rattle.std.specs.Prelude.{◌≡◌, ◌∷◌, [], ℕ, List, Some, Err};
+ghost use Rattle.std.specs.Prelude.{◌≡◌, ◌∷◌, [], ℕ, List, Some, Err, IfOk};
+ghost use Rattle.m11_obj.specs.Reading.{IsRecord};
 ghost use Rattle.m11_modules.specs.Parts.{Part, EndOfFile};
 ghost use Rattle.m11_layout.specs.Planning.{Ends};
 ghost use Rattle.m11_layout.specs.declared.fault.LinkFault.{LinkFault};
@@ -53,6 +54,7 @@ impl Layout {
     pub fn block(&mut self, block: &Block) -> Result<(), LinkFault>
         ensures takes { (bottom : ℕ) (before : List Part) → Stands bottom before self.old
             → TakesBlock bottom before self.new block.now.items result }
+        ensures is_record { IfOk result (λ _. IsRecord block.now.items) }
         ensures again { FailsAgain self.old self.new result }
         ensures kept { KeepsFault self.new result }
     {
@@ -119,6 +121,7 @@ impl Layout {
     fn take_block(&mut self, block: &Block) -> Result<(), LinkFault>
         ensures takes { (bottom : ℕ) (before : List Part) → Stands bottom before self.old
             → TakesBlock bottom before self.new block.now.items result }
+        ensures is_record { IfOk result (λ _. IsRecord block.now.items) }
         ensures kept { self.new.fault ≡ self.old.fault }
     {
         let record = read_record(block)?;
