@@ -8,6 +8,7 @@ mod held;
 mod lines;
 mod map_lines;
 mod outputs;
+mod run;
 mod storing;
 mod telling;
 

@@ -1,0 +1,192 @@
+-- Items taken one after another.
+use Rattle.std.proofs.Common.{◌≡◌, ◌∙◌, ℕ, List, [], ◌∷◌, ◌++◌, append-nil, Option, Some, None, Result, Ok, Err, refl, sym, ap, subst}
+use Rattle.std.specs.Prelude.{is_ok, true, ⊤}
+use Rattle.std.proofs.Math.Seq.{append_snoc}
+use Rattle.m11_obj.specs.Reading.{content_of, IsRecord}
+use Rattle.m11_obj.specs.Records.{Content}
+use Rattle.m11_obj.specs.declared.fault.RecordFault.{RecordFault}
+use Rattle.m11_modules.specs.declared.fault.ModuleFault.{ModuleFault}
+use Rattle.m11_modules.specs.declared.fault.ModuleFault.TheVariants as rule
+use Rattle.m11_modules.specs.Parts.{Part, EndOfFile, parts_in, parts_of, record_parts}
+use Rattle.m11_modules.specs.Places.{Known, known_of, stage_behind}
+use Rattle.m11_modules.specs.Rules.{fault_known, fault_of, first_fault}
+use Rattle.m11_modules.specs.Steps.{known_behind}
+use Rattle.m11_modules.proofs.KnownBehind.{known_behind_part}
+use Rattle.m11_layout.specs.Faults.{of_module}
+use Rattle.m11_layout.specs.Reading.{FirstFault, Reading, TakesBlock, TakesParts}
+use Rattle.m11_layout.specs.declared.fault.LinkFault.{LinkFault}
+use Rattle.m11_layout.specs.declared.fault.LinkFault.TheVariants as fault
+use Rattle.m11_layout.proofs.Walking.{head_none, rest_none}
+use Rattle.m11_link.specs.Objects.{◌>>=◌, Item, BlockOf, ObjectEnds, parts_or_fault, parts_by, taken, taken_item, taken_parts, unless_fault}
+
+abbrev pub Answer : Type 0
+Answer = Result (List Part) LinkFault
+
+pub bind_ok : (r : Answer) (f : List Part → Answer) (parts : List Part) → (r >>= f) ≡ Ok parts
+    → (middle : List Part) × (r ≡ Ok middle) × (f middle ≡ Ok parts)
+bind_ok (Ok middle) f parts e = (middle, refl, e)
+bind_ok (Err stopped) f parts e = absurd cc
+
+pub bind_on : (r : Answer) (f : List Part → Answer) (middle : List Part) → r ≡ Ok middle → (r >>= f) ≡ f middle
+bind_on r f middle e = ap (λ (a : Answer). a >>= f) e
+
+pub bind_stops : (r : Answer) (f : List Part → Answer) (stopped : LinkFault) → r ≡ Err stopped
+    → (r >>= f) ≡ Err stopped
+bind_stops r f stopped e = ap (λ (a : Answer). a >>= f) e
+
+-- ---- more items
+
+same_parts : (xs ys : List Part) → ◌≡◌ {A = Answer} (Ok xs) (Ok ys) → xs ≡ ys
+same_parts xs ys e = cc
+
+pub taken_behind : (before : List Part) (xs ys : List Item) (parts : List Part) → taken before xs ≡ Ok parts
+    → taken before (xs ++ ys) ≡ taken parts ys
+taken_behind before [] ys parts e = ap (λ (these : List Part). taken these ys) (same_parts before parts e)
+taken_behind before (x ∷ xs) ys parts e =
+    let first = bind_ok (taken_item before x) (λ these. taken these xs) parts e in
+    bind_on (taken_item before x) (λ these. taken these (xs ++ ys)) first.0 first.1
+    ∙ taken_behind first.0 xs ys parts first.2
+
+split_fault : (r : Answer) (f g : List Part → Answer) (stopped : LinkFault) → (r >>= f) ≡ Err stopped
+    → ((middle : List Part) → f middle ≡ Err stopped → g middle ≡ Err stopped) → (r >>= g) ≡ Err stopped
+split_fault (Ok middle) f g stopped e h = h middle e
+split_fault (Err other) f g stopped e h = e
+
+-- what comes behind a fault tells nothing
+pub fault_behind : (before : List Part) (xs ys : List Item) (stopped : LinkFault) → taken before xs ≡ Err stopped
+    → taken before (xs ++ ys) ≡ Err stopped
+fault_behind before [] ys stopped e = absurd cc
+fault_behind before (x ∷ xs) ys stopped e =
+    split_fault (taken_item before x) (λ these. taken these xs) (λ these. taken these (xs ++ ys)) stopped e
+    (λ middle h. fault_behind middle xs ys stopped h)
+
+pub one_taken : (before : List Part) (item : Item) (answer : Answer) → taken_item before item ≡ answer
+    → taken before (item ∷ []) ≡ answer
+one_taken before item answer e = alone (taken_item before item) ∙ e
+  where
+    alone : (r : Answer) → (r >>= λ these. taken these []) ≡ r
+    alone (Ok parts) = refl
+    alone (Err stopped) = refl
+
+-- ---- one item
+
+-- parts that have no fault behind those before them
+pub rest_sound : (done before parts : List Part) → first_fault done (before ++ parts) ≡ None
+    → first_fault (done ++ before) parts ≡ None
+unfolding first_fault
+rest_sound done [] parts e = let P : List Part → Type 0 = λ all. first_fault all parts ≡ None in
+    subst P (sym (append-nil done)) e
+rest_sound done (part ∷ before) parts e =
+    let P : List Part → Type 0 = λ all. first_fault all parts ≡ None in
+    subst P (append_snoc done part before) (rest_sound (done ++ part ∷ []) before parts
+    (rest_none (fault_of done part) (first_fault (done ++ part ∷ []) (before ++ parts)) e))
+
+parts_taken : (before parts : List Part) → first_fault [] (before ++ parts) ≡ None
+    → taken_parts before parts ≡ Ok (before ++ parts)
+parts_taken before parts e =
+    ap (λ (o : Option ModuleFault). unless_fault o (before ++ parts)) (rest_sound [] before parts e)
+
+record_read : (content : Result Content RecordFault) → is_ok content ≡ true
+    → parts_or_fault content ≡ Ok (parts_in content)
+record_read (Ok content) e = refl
+record_read (Err inner) e = absurd cc
+
+pub block_taken : (before : List Part) (bytes : List ℕ) → IsRecord bytes
+    → first_fault [] (before ++ record_parts bytes) ≡ None
+    → taken_item before (BlockOf bytes) ≡ Ok (before ++ record_parts bytes)
+block_taken before bytes is e =
+    bind_on (parts_by (BlockOf bytes)) (taken_parts before) (record_parts bytes) (record_read (content_of bytes) is)
+    ∙ parts_taken before (record_parts bytes) e
+
+pub end_taken : (before : List Part) → first_fault [] (before ++ EndOfFile ∷ []) ≡ None
+    → taken_item before ObjectEnds ≡ Ok (before ++ EndOfFile ∷ [])
+end_taken before e = parts_taken before (EndOfFile ∷ []) e
+
+-- behind the end of an object another one may stand
+end_sound : (before : List Part) → first_fault before (EndOfFile ∷ []) ≡ None → fault_of before EndOfFile ≡ None
+unfolding first_fault
+end_sound before e = head_none (fault_of before EndOfFile) None e
+
+known_again : (before : List Part) → fault_of before EndOfFile ≡ None → known_of (before ++ EndOfFile ∷ []) ≡ known_of before
+unfolding known_behind
+known_again before e = known_behind_part before EndOfFile e
+
+pub ends_again : (before : List Part) → first_fault [] (before ++ EndOfFile ∷ []) ≡ None
+    → fault_of (before ++ EndOfFile ∷ []) EndOfFile ≡ None
+ends_again before e =
+    let sound = end_sound before (rest_sound [] before (EndOfFile ∷ []) e) in
+    ap (λ (known : Known). fault_known known EndOfFile) (known_again before sound) ∙ sound
+
+pub ends_first : fault_of [] EndOfFile ≡ None
+unfolding fault_known known_of stage_behind
+ends_first = refl
+
+-- ---- the fault of an item
+
+-- a fault that items have, whatever follows them; want of memory isn't theirs
+abbrev pub Decides : List Part → List Item → LinkFault → Type 0
+Decides before items fault.Read = ⊥
+Decides before items fault.NoMemory = ⊤
+Decides before items stopped = taken before items ≡ Err stopped
+
+decided : (before : List Part) (items : List Item) (broken : ModuleFault)
+    → taken before items ≡ Err (of_module broken) → Decides before items (of_module broken)
+decided before items rule.NoMemory e = tt
+decided before items broken e = e
+
+module _ (before : List Part) (item : Item) (parts : List Part)
+    (comes : (broken : ModuleFault) → first_fault before parts ≡ Some broken → taken_item before item ≡ Err (of_module broken))
+  where
+    first_decides : (stopped : LinkFault) (broken : ModuleFault) → first_fault before parts ≡ Some broken
+        → stopped ≡ of_module broken → Decides before (item ∷ []) stopped
+    first_decides stopped broken e told =
+        let P : LinkFault → Type 0 = λ these. Decides before (item ∷ []) these in
+        subst P (sym told) (decided before (item ∷ []) broken
+        (one_taken before item (Err (of_module broken)) (comes broken e)))
+
+    fault_decides : (stopped : LinkFault) → FirstFault before parts stopped → Decides before (item ∷ []) stopped
+    fault_decides fault.NoMemory h = tt
+    fault_decides stopped h = first_decides stopped h.0 h.1 h.2
+
+parts_refused : (before parts : List Part) (broken : ModuleFault) → first_fault before parts ≡ Some broken
+    → taken_parts before parts ≡ Err (of_module broken)
+parts_refused before parts broken e = ap (λ (o : Option ModuleFault). unless_fault o (before ++ parts)) e
+
+nothing_refused : (before : List Part) (broken : ModuleFault) → first_fault before [] ≡ Some broken → ⊥
+unfolding first_fault
+nothing_refused before broken e = cc
+
+record_refused : (before : List Part) (content : Result Content RecordFault) (broken : ModuleFault)
+    → first_fault before (parts_in content) ≡ Some broken
+    → (parts_or_fault content >>= taken_parts before) ≡ Err (of_module broken)
+record_refused before (Ok content) broken e = parts_refused before (parts_of content) broken e
+record_refused before (Err inner) broken e = absurd (nothing_refused before broken e)
+
+pub block_decides : (bottom : ℕ) (before : List Part) (layout : Reading) (bytes : List ℕ) (stopped : LinkFault)
+    → TakesBlock bottom before layout bytes (Err stopped) → Decides before (BlockOf bytes ∷ []) stopped
+block_decides bottom before layout bytes (fault.Record inner) h =
+    one_taken before (BlockOf bytes) (Err (fault.Record inner))
+    (bind_stops (parts_by (BlockOf bytes)) (taken_parts before) (fault.Record inner) (ap parts_or_fault h))
+block_decides bottom before layout bytes stopped h =
+    fault_decides before (BlockOf bytes) (record_parts bytes)
+    (λ broken e. record_refused before (content_of bytes) broken e) stopped h
+
+pub end_decides : (bottom : ℕ) (before : List Part) (layout : Reading) (stopped : LinkFault)
+    → TakesParts bottom before layout (EndOfFile ∷ []) (Err stopped) → Decides before (ObjectEnds ∷ []) stopped
+end_decides bottom before layout stopped h =
+    fault_decides before ObjectEnds (EndOfFile ∷ []) (λ broken e. parts_refused before (EndOfFile ∷ []) broken e)
+    stopped h
+
+-- ---- behind other items
+
+pub decides_then : (before parts : List Part) (done items : List Item) (stopped : LinkFault) → taken before done ≡ Ok parts
+    → Decides parts items stopped → Decides before (done ++ items) stopped
+decides_then before parts done items fault.Read e h = absurd h
+decides_then before parts done items fault.NoMemory e h = tt
+decides_then before parts done items stopped e h = taken_behind before done items parts e ∙ h
+
+pub decides_more : (before : List Part) (items more : List Item) (stopped : LinkFault)
+    → Decides before items stopped → Decides before (items ++ more) stopped
+decides_more before items more fault.Read h = absurd h
+decides_more before items more fault.NoMemory h = tt
+decides_more before items more stopped h = fault_behind before items more stopped h
