@@ -25,7 +25,8 @@ use Rattle.m11_link.proofs.ObjectsRead.{Walked, StopsObject, walk_begins, walk_e
 -- ---- one object
 
 -- the feed has come behind blocks, whose parts the layout has taken
-pub record Laid (text text' : Option Text) (faults faults' room : ℕ) (bottom : ℕ) (before : List Part) (layout : Reading) : Type 0 where
+pub record Laid (text text' : Option Text) (faults faults' room bottom : ℕ) (before : List Part) (layout : Reading)
+    : Type 0 where
   pub done : List Item
   pub walked : Walked text text' faults faults' room done
   pub parts : List Part
@@ -99,7 +100,7 @@ module _ (text text1 : Option Text) (faults faults1 room1 bottom : ℕ) (before 
       let end = walk_ends text text1 faults faults1 room1 l.done l.walked text2 faults2 room2 s in
       object_decided text faults faults2 bottom before layout2 (l.done ++ ObjectEnds ∷ []) stopped end.1 end.0
       (decides_then before l.parts l.done (ObjectEnds ∷ []) stopped l.taken-is
-      (end_decides bottom l.parts layout2 stopped t))
+      (end_decides l.parts stopped t))
 
   stopped_so : (stopped : LinkFault)
       → StopsObject text text1 faults faults1 room1 l.done l.walked text2 faults2 room2 stopped
@@ -124,7 +125,7 @@ module _ (text text1 : Option Text) (faults faults1 room1 bottom : ℕ) (before 
 
 -- ---- objects one after another
 
-are_behind : (sources others : List (List ℕ)) (items more : List Item) → AreItems sources items → AreItems others more
+pub are_behind : (sources others : List (List ℕ)) (items more : List Item) → AreItems sources items → AreItems others more
     → AreItems (sources ++ others) (items ++ more)
 are_behind _ others _ more objects.AreItems.Nothing h = h
 are_behind _ others _ more (objects.AreItems.Object {source = source} {sources = sources} {own = own} {items = items} o a) h =
@@ -132,7 +133,7 @@ are_behind _ others _ more (objects.AreItems.Object {source = source} {sources =
     subst P (sym (append_assoc own items more))
     (objects.AreItems.Object o (are_behind sources others items more a h))
 
-one_object : (source : List ℕ) (own : List Item) → ObjectItems most_bytes source own → AreItems (source ∷ []) own
+pub one_object : (source : List ℕ) (own : List Item) → ObjectItems most_bytes source own → AreItems (source ∷ []) own
 one_object source own o =
     let P : List Item → Type 0 = λ these. AreItems (source ∷ []) these in
     subst P (append-nil own) (objects.AreItems.Object o objects.AreItems.Nothing)

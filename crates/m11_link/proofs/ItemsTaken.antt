@@ -13,7 +13,7 @@ use Rattle.m11_modules.specs.Rules.{fault_known, fault_of, first_fault}
 use Rattle.m11_modules.specs.Steps.{known_behind}
 use Rattle.m11_modules.proofs.KnownBehind.{known_behind_part}
 use Rattle.m11_layout.specs.Faults.{of_module}
-use Rattle.m11_layout.specs.Reading.{FirstFault, Reading, TakesBlock, TakesParts}
+use Rattle.m11_layout.specs.Reading.{FirstFault, Reading, TakesBlock}
 use Rattle.m11_layout.specs.declared.fault.LinkFault.{LinkFault}
 use Rattle.m11_layout.specs.declared.fault.LinkFault.TheVariants as fault
 use Rattle.m11_layout.proofs.Walking.{head_none, rest_none}
@@ -162,20 +162,28 @@ record_refused : (before : List Part) (content : Result Content RecordFault) (br
 record_refused before (Ok content) broken e = parts_refused before (parts_of content) broken e
 record_refused before (Err inner) broken e = absurd (nothing_refused before broken e)
 
-pub block_decides : (bottom : ℕ) (before : List Part) (layout : Reading) (bytes : List ℕ) (stopped : LinkFault)
-    → TakesBlock bottom before layout bytes (Err stopped) → Decides before (BlockOf bytes ∷ []) stopped
-block_decides bottom before layout bytes (fault.Record inner) h =
+pub no_record_decides : (before : List Part) (bytes : List ℕ) (inner : RecordFault) → content_of bytes ≡ Err inner
+    → Decides before (BlockOf bytes ∷ []) (fault.Record inner)
+no_record_decides before bytes inner e =
     one_taken before (BlockOf bytes) (Err (fault.Record inner))
-    (bind_stops (parts_by (BlockOf bytes)) (taken_parts before) (fault.Record inner) (ap parts_or_fault h))
-block_decides bottom before layout bytes stopped h =
+    (bind_stops (parts_by (BlockOf bytes)) (taken_parts before) (fault.Record inner) (ap parts_or_fault e))
+
+pub parts_decide : (before : List Part) (bytes : List ℕ) (stopped : LinkFault)
+    → FirstFault before (record_parts bytes) stopped → Decides before (BlockOf bytes ∷ []) stopped
+parts_decide before bytes stopped h =
     fault_decides before (BlockOf bytes) (record_parts bytes)
     (λ broken e. record_refused before (content_of bytes) broken e) stopped h
 
-pub end_decides : (bottom : ℕ) (before : List Part) (layout : Reading) (stopped : LinkFault)
-    → TakesParts bottom before layout (EndOfFile ∷ []) (Err stopped) → Decides before (ObjectEnds ∷ []) stopped
-end_decides bottom before layout stopped h =
+pub end_decides : (before : List Part) (stopped : LinkFault) → FirstFault before (EndOfFile ∷ []) stopped
+    → Decides before (ObjectEnds ∷ []) stopped
+end_decides before stopped h =
     fault_decides before ObjectEnds (EndOfFile ∷ []) (λ broken e. parts_refused before (EndOfFile ∷ []) broken e)
     stopped h
+
+pub block_decides : (bottom : ℕ) (before : List Part) (layout : Reading) (bytes : List ℕ) (stopped : LinkFault)
+    → TakesBlock bottom before layout bytes (Err stopped) → Decides before (BlockOf bytes ∷ []) stopped
+block_decides bottom before layout bytes (fault.Record inner) h = no_record_decides before bytes inner h
+block_decides bottom before layout bytes stopped h = parts_decide before bytes stopped h
 
 -- ---- behind other items
 
