@@ -44,8 +44,8 @@ laid_first text faults bottom before layout s = record {
 }
 
 -- items that decide, and what comes behind them
-object_decided : (text : Option Text) (faults faults' bottom : ℕ) (before : List Part) (layout : Reading) (items : List Item)
-    (stopped : LinkFault) → faults' ≡ faults → GivesItems text items → Decides before items stopped
+object_decided : (text : Option Text) (faults faults' bottom : ℕ) (before : List Part) (layout : Reading)
+    (items : List Item) (stopped : LinkFault) → faults' ≡ faults → GivesItems text items → Decides before items stopped
     → LaysOutObject text faults faults' bottom before layout (Err stopped)
 object_decided text faults faults' bottom before layout items fault.Read same g d = absurd d
 object_decided text faults faults' bottom before layout items fault.NoMemory same g d = same
@@ -125,10 +125,12 @@ module _ (text text1 : Option Text) (faults faults1 room1 bottom : ℕ) (before 
 
 -- ---- objects one after another
 
-pub are_behind : (sources others : List (List ℕ)) (items more : List Item) → AreItems sources items → AreItems others more
+pub are_behind : (sources others : List (List ℕ)) (items more : List Item) → AreItems sources items
+    → AreItems others more
     → AreItems (sources ++ others) (items ++ more)
 are_behind _ others _ more objects.AreItems.Nothing h = h
-are_behind _ others _ more (objects.AreItems.Object {source = source} {sources = sources} {own = own} {items = items} o a) h =
+are_behind _ others _ more
+    (objects.AreItems.Object {source = source} {sources = sources} {own = own} {items = items} o a) h =
     let P : List Item → Type 0 = λ these. AreItems (source ∷ (sources ++ others)) these in
     subst P (sym (append_assoc own items more))
     (objects.AreItems.Object o (are_behind sources others items more a h))
@@ -191,7 +193,8 @@ module _ {F : Type 0} (text : F → Option Text) (faults : F → ℕ) where
       record {
         sources = l.sources;
         beginning = h.2.beginning;
-        failed = failed_here text faults initial now index l.sources l.feeds inside d x z x-is h.2.beginning h.2.has h.0;
+        failed = failed_here text faults initial now index l.sources l.feeds inside d x z x-is
+            h.2.beginning h.2.has h.0;
         before = l.items;
         own = h.1;
         are = l.are;

@@ -107,7 +107,8 @@ end_sound : (before : List Part) → first_fault before (EndOfFile ∷ []) ≡ N
 unfolding first_fault
 end_sound before e = head_none (fault_of before EndOfFile) None e
 
-known_again : (before : List Part) → fault_of before EndOfFile ≡ None → known_of (before ++ EndOfFile ∷ []) ≡ known_of before
+known_again : (before : List Part) → fault_of before EndOfFile ≡ None
+    → known_of (before ++ EndOfFile ∷ []) ≡ known_of before
 unfolding known_behind
 known_again before e = known_behind_part before EndOfFile e
 
@@ -135,7 +136,8 @@ decided before items rule.NoMemory e = tt
 decided before items broken e = e
 
 module _ (before : List Part) (item : Item) (parts : List Part)
-    (comes : (broken : ModuleFault) → first_fault before parts ≡ Some broken → taken_item before item ≡ Err (of_module broken))
+    (comes : (broken : ModuleFault) → first_fault before parts ≡ Some broken
+    → taken_item before item ≡ Err (of_module broken))
   where
     first_decides : (stopped : LinkFault) (broken : ModuleFault) → first_fault before parts ≡ Some broken
         → stopped ≡ of_module broken → Decides before (item ∷ []) stopped
@@ -187,7 +189,8 @@ block_decides bottom before layout bytes stopped h = parts_decide before bytes s
 
 -- ---- behind other items
 
-pub decides_then : (before parts : List Part) (done items : List Item) (stopped : LinkFault) → taken before done ≡ Ok parts
+pub decides_then : (before parts : List Part) (done items : List Item) (stopped : LinkFault)
+    → taken before done ≡ Ok parts
     → Decides parts items stopped → Decides before (done ++ items) stopped
 decides_then before parts done items fault.Read e h = absurd h
 decides_then before parts done items fault.NoMemory e h = tt

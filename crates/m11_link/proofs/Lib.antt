@@ -11,3 +11,4 @@ pub mod FeedsRead
 pub mod ItemsTaken
 pub mod ObjectsRead
 pub mod FirstRead
+pub mod Sole

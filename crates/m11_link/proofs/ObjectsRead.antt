@@ -85,7 +85,8 @@ reads_on false answer h = refl
 reads_on {X} true answer h = absurd (let bad = h.0 refl in cc)
 
 -- each block takes some of the room
-pub block_falls : (here there : Place) (content : List ℕ) → Reads first_block here there content → there.room < here.room
+pub block_falls : (here there : Place) (content : List ℕ) → Reads first_block here there content
+    → there.room < here.room
 block_falls here there content r =
     omega (arith, block_shorter (r.given ++ []) content [] (r.is []), length-append r.given [], r.took.room)
 

@@ -57,10 +57,10 @@ module _ {A B : Type 0} (first : List ℕ → Read BlockFault A) (then : A × Li
 
 -- ---- the parts of a block
 
-abbrev refuse : {A : Type 0} → BlockFault → List ℕ → Read BlockFault A
+abbrev pub refuse : {A : Type 0} → BlockFault → List ℕ → Read BlockFault A
 refuse inner rest = Err (Refused inner rest)
 
-stop_is : {A : Type 0} (a b : BlockFault) (xs ys : List ℕ) → refuse {A = A} a xs ≡ refuse b ys → (a ≡ b) × (xs ≡ ys)
+pub stop_is : {A : Type 0} (a b : BlockFault) (xs ys : List ℕ) → refuse {A = A} a xs ≡ refuse b ys → (a ≡ b) × (xs ≡ ys)
 stop_is a b xs ys e = (cc, cc)
 
 refused_same : {A : Type 0} (a b : BlockFault) (xs ys q : List ℕ) → refuse {A = A} a xs ≡ refuse b ys
@@ -104,7 +104,7 @@ start_refused (byte ∷ p) q inner rest e =
       ]
     ]
 
-second_steady : Steady second
+pub second_steady : Steady second
 second_steady = record {
   ok = λ p q x rest e. second_ok p q x rest e;
   refused = λ p q inner rest e. second_refused p q inner rest e;
@@ -167,7 +167,7 @@ count_of_refused n p q inner rest e =
           ]
     ]
 
-count_steady : Steady count
+pub count_steady : Steady count
 count_steady = record {
   ok = λ p q x rest e. count_ok p q x rest e;
   refused = λ p q inner rest e. count_refused p q inner rest e;
@@ -191,7 +191,7 @@ count_steady = record {
     count_shorter (low ∷ high ∷ p) x rest e = omega (arith, (count_of_ok (low + 256 * high) p [] x rest e).1)
 
 -- the content
-content_again : (xs rest : List ℕ) → content_of (length xs) (xs ++ rest) ≡ Ok (xs, rest)
+pub content_again : (xs rest : List ℕ) → content_of (length xs) (xs ++ rest) ≡ Ok (xs, rest)
 content_again xs rest =
     let long : ltb (length (xs ++ rest)) (length xs) ≡ false = le-ltb _ _ (omega (arith, length-append xs rest)) in
     rw (long, take-append_seam xs rest, drop-append_seam xs rest) refl
@@ -207,14 +207,15 @@ module _ (n : ℕ) where
   content_shorter p xs rest e =
       omega (arith, ap length (content_takes n p xs rest e).1, length-append xs rest)
 
-  content_refused : (p : List ℕ) (inner : BlockFault) (rest : List ℕ) → content_of n p ≡ Err (Refused inner rest) → ⊥
+  pub content_refused : (p : List ℕ) (inner : BlockFault) (rest : List ℕ) → content_of n p ≡ Err (Refused inner rest)
+      → ⊥
   content_refused p inner rest e =
       elim (chosen (ltb (length p) n) (Err Inside) (done (take n p) (drop n p)) (refuse inner rest) e) [
         | inl short ↦ (let bad = short.1 in cc)
         | inr enough ↦ (let bad = enough.1 in cc)
       ]
 
-  content_steady : Steady (content_of n)
+  pub content_steady : Steady (content_of n)
   content_steady = record {
     ok = content_ok;
     refused = λ p q inner rest e. absurd (content_refused p inner rest e);
@@ -262,7 +263,7 @@ content_then n = steady_then (content_of n) behind_content (content_steady n) su
 count_then : Steady (λ rest. behind_second (tt, rest))
 count_then = steady_then count behind_count count_steady content_then
 
-start_steady : Steady start
+pub start_steady : Steady start
 start_steady = record {
   ok = λ p q x rest e. (start_ok p q x rest e).0;
   refused = start_refused;
@@ -308,7 +309,13 @@ come_by bound room bytes more (Ok x) e =
     let front : length (take room bytes) ≤ room = omega (arith, length-take room bytes) in
     let left : ℕ = length (x.1 ++ drop room bytes) + room - length bytes in
     let fits : length bytes + left ≡ length (x.1 ++ drop room bytes) + room =
-    omega (arith, front, length-append x.1 (drop room bytes), length-append (take room bytes) (drop room bytes), ap length (take-append-drop room bytes)) in
+    omega (
+      arith,
+      front,
+      length-append x.1 (drop room bytes),
+      length-append (take room bytes) (drop room bytes),
+      ap length (take-append-drop room bytes),
+    ) in
     let others = more left (x.1 ++ drop room bytes) fewer in
     (objects.BlockOf x.0 ∷ others.0, objects.Begins is fits others.1)
 come_by bound room bytes more (Err Between) e = past_or room bytes objects.ObjectEnds

@@ -1,6 +1,7 @@
 //! The run: objects in, tape, map and messages out.
 
 ghost use Rattle.std.specs.Prelude.{◌≡◌, ℕ, List};
+ghost use Rattle.m11_link.specs.Objects.{AreItems, Item};
 ghost use Rattle.m11_link.specs.FirstReading.{LaysOut, LaysOutObject, ReadsFirst, StandsBetween, of_block};
 ghost use Rattle.m11_layout.specs.Reading.{Stands};
 ghost use Rattle.m11_modules.specs.Parts.{Part};
@@ -9,6 +10,14 @@ use m11_base::Feed;
 use m11_layout::{Layout, LinkFault, Plan};
 use m11_obj::{BlockFault, BlockReader};
 use std::alloc::Global;
+
+/// Whatever the bytes of objects are, they come to items, and to no others.
+#[tactic(auto, using(crate::proofs::Steady::objects_come, crate::proofs::Sole::objects_same))]
+pub fn objects_come_to_items()
+    ensures come { (sources : List (List ℕ)) → (items : List Item) × AreItems sources items }
+    ensures same { (sources : List (List ℕ)) (items others : List Item)
+        → AreItems sources items → AreItems sources others → items ≡ others }
+{}
 
 // The fault of a block as that of the link.
 fn block_fault(fault: BlockFault) -> LinkFault
