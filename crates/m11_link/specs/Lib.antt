@@ -7,3 +7,4 @@ pub mod Objects
 pub mod Storing
 pub mod Writes
 pub mod Written
+pub mod SecondReading

@@ -1,6 +1,7 @@
 //! The second reading of a link: it writes tape, map and messages while blocks come.
 
-ghost use Rattle.std.specs.Prelude.{◌≡◌, ◌∷◌, ◌++◌, [], ℕ, List, Some, None, Err, IfOk};
+ghost use Rattle.std.specs.Prelude.{◌≡◌, ◌∷◌, ◌++◌, [], ℕ, List, Some, None, Err, IfOk, false};
+ghost use Rattle.m11_obj.specs.Reading.{IsRecord};
 ghost use Rattle.m11_obj.specs.Tapes.{tape_block};
 ghost use Rattle.m11_modules.specs.Parts.{Part, EndOfFile, record_parts};
 ghost use Rattle.m11_layout.specs.Planning.{Planned};
@@ -45,7 +46,8 @@ impl Model for Emit {
 impl Emit {
     /// No block came so far, and nothing is written.
     pub fn new(alloc: Global, plan: Plan) -> Emit
-        ensures { Stands plan [] result }
+        ensures stands { Stands plan [] result }
+        ensures fresh { result.has_begun ≡ false }
     {
         Emit {
             rules: Rules::new(alloc),
@@ -79,6 +81,7 @@ impl Emit {
             (output_of (U.text messages.old) (U.faults messages.old)))
             (outputs (output_of (S.text tape.new) (S.faults tape.new)) (optional_output T.text T.faults map.new)
             (output_of (U.text messages.new) (U.faults messages.new))) result }
+        ensures is_record { IfOk result (λ _. IsRecord block.now.items) }
         ensures kept { KeepsFault self.new result }
     {
         match self.fault {
@@ -170,6 +173,7 @@ impl Emit {
             (outputs (output_of (S.text tape.new) (S.faults tape.new)) (optional_output T.text T.faults map.new)
             (output_of (U.text messages.new) (U.faults messages.new)))
             self.old self.new block.now.items result }
+        ensures is_record { IfOk result (λ _. IsRecord block.now.items) }
         ensures kept { IfOk result (λ _. self.new.fault ≡ self.old.fault) }
     {
         let record = read_record(block)?;

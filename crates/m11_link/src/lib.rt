@@ -16,7 +16,7 @@ pub use emit::{Emit, LinkDone};
 pub use lines::{Line, different_line, multiple_line, undefined_line};
 pub use m11_layout::{Layout, LinkFault, LinkOutput, Plan};
 pub use map_lines::{global_line, limit_line, name_line, section_line, transfer_line};
-pub use run::objects_come_to_items;
+pub use run::{link_run, objects_come_to_items};
 pub use storing::relocate;
 
 #[cfg(test)]

@@ -1,15 +1,50 @@
 //! The run: objects in, tape, map and messages out.
 
-ghost use Rattle.std.specs.Prelude.{◌≡◌, ℕ, List};
+ghost use Rattle.std.specs.Prelude.{◌≡◌, None, ℕ, List};
 ghost use Rattle.m11_link.specs.Objects.{AreItems, Item};
 ghost use Rattle.m11_link.specs.FirstReading.{LaysOut, LaysOutObject, ReadsFirst, StandsBetween, of_block};
 ghost use Rattle.m11_layout.specs.Reading.{Stands};
-ghost use Rattle.m11_modules.specs.Parts.{Part};
+ghost use Rattle.m11_layout.specs.Planning.{Planned};
+ghost use Rattle.m11_modules.specs.Parts.{Part, EndOfFile};
+ghost use Rattle.m11_modules.specs.Rules.{fault_of};
+ghost use Rattle.m11_link.specs.Emitting.{written};
+ghost use Rattle.m11_link.specs.Emitting as emitting;
+ghost use Rattle.m11_link.specs.SecondReading.{Emits, EmitsObject, ReadsSecond, Runs};
+ghost use Rattle.m11_link.specs.Writes.{Gains, Outputs, optional_output, output_of, outputs};
 
-use m11_base::Feed;
+use crate::emit::{Emit, LinkDone};
+use m11_base::{Feed, Sink};
 use m11_layout::{Layout, LinkFault, Plan};
 use m11_obj::{BlockFault, BlockReader};
 use std::alloc::Global;
+
+/// Links objects, each read twice, into an absolute loader tape, a map and messages.
+///
+/// `first` and `second` give the same objects for two readings, of which only the second one writes. Relocatable
+/// sections lie from `bottom` on. Faults, the first in the order of the input: `Read`; `Block`, `TooMuch` and
+/// `Record`; the rules of modules; `TooLarge` behind the last block. Where the first reading is refused nothing was
+/// written. Then `Write`, after which nothing more is written, and the same faults again where the second reading
+/// gives other bytes. `NoMemory` wherever memory is refused.
+pub fn link_run<F: Feed, S: Sink, T: Sink, U: Sink>(
+    alloc: Global,
+    first: &mut [F],
+    second: &mut [F],
+    bottom: u16,
+    tape: &mut S,
+    map: &mut Option<T>,
+    messages: &mut U,
+) -> Result<LinkDone, LinkFault>
+    ensures { Runs F.text F.faults first.old first.new second.old second.new bottom
+        (outputs (output_of (S.text tape.old) (S.faults tape.old)) (optional_output T.text T.faults map.old)
+        (output_of (U.text messages.old) (U.faults messages.old)))
+        (outputs (output_of (S.text tape.new) (S.faults tape.new)) (optional_output T.text T.faults map.new)
+        (output_of (U.text messages.new) (U.faults messages.new))) result }
+{
+    match read_first(alloc, first, bottom) {
+        Ok(plan) => read_second(alloc, second, plan, tape, map, messages),
+        Err(fault) => Err(fault),
+    }
+}
 
 /// Whatever the bytes of objects are, they come to items, and to no others.
 #[tactic(auto, using(crate::proofs::Steady::objects_come, crate::proofs::Sole::objects_same))]
@@ -68,6 +103,85 @@ fn lay_out_object<F: Feed>(feed: &mut F, layout: &mut Layout) -> Result<(), Link
                 Err(fault) => return Err(fault),
             },
             Ok(None) => return layout.end_file(),
+            Err(fault) => return Err(block_fault(fault)),
+        }
+    }
+}
+
+// The second reading: all that the link writes.
+fn read_second<F: Feed, S: Sink, T: Sink, U: Sink>(
+    alloc: Global,
+    feeds: &mut [F],
+    plan: Plan,
+    tape: &mut S,
+    map: &mut Option<T>,
+    messages: &mut U,
+) -> Result<LinkDone, LinkFault>
+    ensures { ReadsSecond F.text F.faults feeds.old feeds.new plan
+        (outputs (output_of (S.text tape.old) (S.faults tape.old)) (optional_output T.text T.faults map.old)
+        (output_of (U.text messages.old) (U.faults messages.old)))
+        (outputs (output_of (S.text tape.new) (S.faults tape.new)) (optional_output T.text T.faults map.new)
+        (output_of (U.text messages.new) (U.faults messages.new))) result }
+{
+    let mut emit = Emit::new(alloc, plan);
+    match emit_all(feeds, &mut emit, tape, map, messages) {
+        Ok(()) => emit.end(tape, map, messages),
+        Err(fault) => Err(fault),
+    }
+}
+
+// The objects of the second reading, one after another.
+fn emit_all<F: Feed, S: Sink, T: Sink, U: Sink>(
+    feeds: &mut [F],
+    emit: &mut Emit,
+    tape: &mut S,
+    map: &mut Option<T>,
+    messages: &mut U,
+) -> Result<(), LinkFault>
+    ensures { (plan : Planned) (before : List Part) (first : Outputs) → emitting.Stands plan before emit.old
+        → fault_of before EndOfFile ≡ None
+        → Gains first
+        (outputs (output_of (S.text tape.old) (S.faults tape.old)) (optional_output T.text T.faults map.old)
+        (output_of (U.text messages.old) (U.faults messages.old)))
+        (written plan emit.old.has_begun before)
+        → Emits F.text F.faults feeds.old feeds.new plan before first
+        (outputs (output_of (S.text tape.new) (S.faults tape.new)) (optional_output T.text T.faults map.new)
+        (output_of (U.text messages.new) (U.faults messages.new))) emit.new result }
+{
+    'feeds: for feed in feeds.iter_mut() {
+        match emit_object(feed, emit, tape, map, messages) {
+            Ok(()) => {}
+            Err(fault) => return Err(fault),
+        }
+    }
+    Ok(())
+}
+
+// One object of the second reading.
+fn emit_object<F: Feed, S: Sink, T: Sink, U: Sink>(
+    feed: &mut F,
+    emit: &mut Emit,
+    tape: &mut S,
+    map: &mut Option<T>,
+    messages: &mut U,
+) -> Result<(), LinkFault>
+    ensures { (plan : Planned) (before : List Part) (first : Outputs) → emitting.Stands plan before emit.old
+        → Gains first
+        (outputs (output_of (S.text tape.old) (S.faults tape.old)) (optional_output T.text T.faults map.old)
+        (output_of (U.text messages.old) (U.faults messages.old)))
+        (written plan emit.old.has_begun before)
+        → EmitsObject (F.text feed.old) (F.faults feed.old) (F.faults feed.new) plan before first
+        (outputs (output_of (S.text tape.new) (S.faults tape.new)) (optional_output T.text T.faults map.new)
+        (output_of (U.text messages.new) (U.faults messages.new))) emit.new result }
+{
+    let mut reader = BlockReader::new();
+    'items: loop {
+        match reader.next(feed) {
+            Ok(Some(block)) => match emit.feed(&block, tape, map, messages) {
+                Ok(()) => {}
+                Err(fault) => return Err(fault),
+            },
+            Ok(None) => return emit.end_file(tape, map, messages),
             Err(fault) => return Err(block_fault(fault)),
         }
     }
