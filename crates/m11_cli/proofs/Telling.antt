@@ -9,7 +9,7 @@ use Rattle.clap.specs.Words.{Text}
 use Rattle.m11_cli.specs.Driver.{Carries, ComesTo, Streams, Tells}
 use Rattle.m11_cli.specs.Tasks.{Plans}
 use Rattle.m11_cli.specs.declared.outcome.Outcome.{Outcome}
-use Rattle.m11_cli.specs.declared.outcome.Outcome.TheVariants.{Usage, Asm, Sim, NotOpened}
+use Rattle.m11_cli.specs.declared.outcome.Outcome.TheVariants.{Usage, Asm, Link, Sim, NotOpened}
 use Rattle.m11_cli.specs.declared.tasks.Task.{Task}
 use Rattle.m11_cli.specs.declared.tasks.Task.TheVariants as task
 
@@ -36,6 +36,7 @@ pub carried : (words : List Text) (t : Task) (outcome : Outcome) (old new : Stre
 carried words (task.Asm asm) (Usage fault) old new planned h = absurd h
 carried words (task.Sim sim) (Usage fault) old new planned h = absurd h
 carried words t (Asm answer) old new planned h = (t, planned, h)
+carried words t (Link answer) old new planned h = (t, planned, h)
 carried words t (Sim answer) old new planned h = (t, planned, h)
 carried words t NotOpened old new planned h = (t, planned, h)
 

@@ -10,9 +10,16 @@ use Rattle.m11_asm.specs.declared.fault.AsmFault.TheVariants as asm
 use Rattle.m11_cpu.specs.Faults.{sim_fault_name, sim_fault_number}
 use Rattle.m11_cpu.specs.declared.fault.SimFault.{SimFault}
 use Rattle.m11_cpu.specs.declared.fault.SimFault.TheVariants as sim
+use Rattle.m11_layout.specs.Faults.{link_fault_name, link_fault_number}
+use Rattle.m11_layout.specs.declared.fault.LinkFault.{LinkFault}
+use Rattle.m11_layout.specs.declared.fault.LinkFault.TheVariants as link
+use Rattle.m11_layout.specs.declared.fault.LinkOutput.{LinkOutput}
+use Rattle.m11_layout.specs.declared.fault.LinkOutput.TheVariants.{Tape, Map, Messages}
+use Rattle.m11_obj.specs.Blocks.{block_fault_name, block_fault_number}
+use Rattle.m11_obj.specs.Fault.{record_fault_name, record_fault_number}
 use Rattle.m11_cli.specs.Usage.{usage_name, usage_number}
 use Rattle.m11_cli.specs.declared.outcome.Outcome.{Outcome}
-use Rattle.m11_cli.specs.declared.outcome.Outcome.TheVariants.{Usage, Asm, Sim, NotOpened}
+use Rattle.m11_cli.specs.declared.outcome.Outcome.TheVariants.{Usage, Asm, Link, Sim, NotOpened}
 use Rattle.m11_cli.specs.declared.usage.UsageFault.{UsageFault}
 use Rattle.m11_cli.specs.declared.usage.UsageFault.TheVariants.{Help, Words}
 
@@ -37,6 +44,36 @@ added asm.NoMemory = []
 abbrev pub asm_line : AsmFault → List ℕ
 asm_line fault = line_for (codes "ASM") (number_of fault) (name_of fault) (added fault)
 
+-- the name of an output of a link
+abbrev pub link_output_name : LinkOutput → List ℕ
+link_output_name Tape = codes "TAPE"
+link_output_name Map = codes "MAP"
+link_output_name Messages = codes "MESSAGES"
+
+-- what a fault of a link adds: the output that could not be written, or the number and the name of
+-- what is wrong with a block or with a record
+abbrev pub link_added : LinkFault → List (List ℕ)
+link_added link.Read = []
+link_added (link.Write output) = link_output_name output ∷ []
+link_added (link.Block inner) = decimal (block_fault_number inner) ∷ block_fault_name inner ∷ []
+link_added (link.Record inner) = decimal (record_fault_number inner) ∷ record_fault_name inner ∷ []
+link_added link.BadOrder = []
+link_added link.NoText = []
+link_added link.BadDisplacement = []
+link_added link.UnknownSection = []
+link_added link.TooLarge = []
+link_added link.TooManyGlobals = []
+link_added link.TooManySections = []
+link_added link.TooManyModules = []
+link_added link.TooMuch = []
+link_added link.TextOutside = []
+link_added link.NoMemory = []
+
+-- the line of a fault of a link
+abbrev pub link_line : LinkFault → List ℕ
+link_line fault =
+    line_for (codes "LINK") (link_fault_number fault) (link_fault_name fault) (link_added fault)
+
 -- what a fault of a run adds: the messages, where they could not be written
 abbrev pub sim_added : SimFault → List (List ℕ)
 sim_added (sim.Load fault) = []
@@ -60,6 +97,8 @@ abbrev pub line_of : Outcome → List ℕ
 line_of (Usage fault) = usage_line fault
 line_of (Asm (Ok done)) = []
 line_of (Asm (Err fault)) = asm_line fault
+line_of (Link (Ok done)) = []
+line_of (Link (Err fault)) = link_line fault
 line_of (Sim (Ok done)) = []
 line_of (Sim (Err fault)) = sim_line fault
 line_of NotOpened = []

@@ -1,6 +1,6 @@
 -- What a command came to, and the status that it leaves. (This project's own: 0 done, 1 flagged
--- lines or a stop other than HALT, 2 words that are refused, 3 a device, 4 a malformed tape or one
--- that does not fit the memory, 5 no memory, 6 a limit.)
+-- lines, messages of a link or a stop other than HALT, 2 words that are refused, 3 a device, 4 a
+-- malformed object or tape or one that does not fit the memory, 5 no memory, 6 a limit.)
 use Rattle.std.specs.Prelude.{◌≡◌, ⊤, ℕ, Ok, Err, ◌==◌, if◌then◌else◌}
 use Rattle.m11_asm.specs.declared.fault.AsmFault.{AsmFault}
 use Rattle.m11_asm.specs.declared.fault.AsmFault.TheVariants as asm
@@ -10,10 +10,12 @@ use Rattle.m11_cpu.specs.declared.fault.SimFault.{SimFault}
 use Rattle.m11_cpu.specs.declared.fault.SimFault.TheVariants as sim
 use Rattle.m11_cpu.specs.declared.stop.Stop.{Stop}
 use Rattle.m11_cpu.specs.declared.stop.Stop.TheVariants as stop
+use Rattle.m11_layout.specs.declared.fault.LinkFault.{LinkFault}
+use Rattle.m11_layout.specs.declared.fault.LinkFault.TheVariants as link
 use Rattle.m11_obj.specs.declared.tape_fault.TapeFault.{TapeFault}
 use Rattle.m11_obj.specs.declared.tape_fault.TapeFault.TheVariants as tape
 use Rattle.m11_cli.specs.declared.outcome.Outcome.{Outcome}
-use Rattle.m11_cli.specs.declared.outcome.Outcome.TheVariants.{Usage, Asm, Sim, NotOpened}
+use Rattle.m11_cli.specs.declared.outcome.Outcome.TheVariants.{Usage, Asm, Link, Sim, NotOpened}
 use Rattle.m11_cli.specs.declared.usage.UsageFault.{UsageFault}
 use Rattle.m11_cli.specs.declared.usage.UsageFault.TheVariants.{Help, Words, BadOctal, OddAddress, BadAddress, NoMemory}
 
@@ -33,6 +35,24 @@ asm_status (asm.Write output) = 3
 asm_status asm.TooMuchSource = 6
 asm_status asm.NotYet = 6
 asm_status asm.NoMemory = 5
+
+-- the status of a link that ended early
+abbrev pub link_status : LinkFault → ℕ
+link_status link.Read = 3
+link_status (link.Write output) = 3
+link_status (link.Block inner) = 4
+link_status (link.Record inner) = 4
+link_status link.BadOrder = 4
+link_status link.NoText = 4
+link_status link.BadDisplacement = 4
+link_status link.UnknownSection = 4
+link_status link.TooLarge = 6
+link_status link.TooManyGlobals = 6
+link_status link.TooManySections = 6
+link_status link.TooManyModules = 6
+link_status link.TooMuch = 6
+link_status link.TextOutside = 4
+link_status link.NoMemory = 5
 
 -- the status of a run that stopped
 abbrev pub stop_status : Stop → ℕ
@@ -70,6 +90,8 @@ abbrev pub status_of : Outcome → ℕ
 status_of (Usage fault) = usage_status fault
 status_of (Asm (Ok done)) = if done.flagged == 0 then 0 else 1
 status_of (Asm (Err fault)) = asm_status fault
+status_of (Link (Ok done)) = if done.messages == 0 then 0 else 1
+status_of (Link (Err fault)) = link_status fault
 status_of (Sim (Ok done)) = stop_status done.stop
 status_of (Sim (Err fault)) = sim_status fault
 status_of NotOpened = 3

@@ -6,17 +6,20 @@ ghost use Rattle.m11_base.specs.Devices.{Rises};
 ghost use Rattle.m11_base.specs.Sink.{AppendsBeginning};
 ghost use Rattle.m11_cpu.specs.declared.fault.LoadFault.TheVariants.{Tape};
 ghost use Rattle.m11_cpu.specs.declared.fault.SimFault.TheVariants.{Load};
-ghost use Rattle.m11_cli.specs.FaultLines.{asm_line, line_of, open_line, sim_line, usage_line};
+ghost use Rattle.m11_layout.specs.declared.fault.LinkFault.TheVariants.{Block, Record};
+ghost use Rattle.m11_cli.specs.FaultLines.{asm_line, line_of, link_line, open_line, sim_line, usage_line};
 
 use crate::outcome::Outcome;
 use crate::usage::UsageFault;
 use m11_asm::{AsmFault, AsmOutput};
 use m11_base::{PutFault, Sink, put_all};
 use m11_cpu::{LoadFault, SimFault};
-use m11_obj::TapeFault;
+use m11_link::{LinkFault, LinkOutput};
+use m11_obj::{BlockFault, RecordFault, TapeFault};
 
 /// Puts the line of the outcome's fault: `?M11`, the command, the fault's number and its name, and
-/// for a write the output's name, as `?M11 ASM 2 Write OBJECT`. Nothing where there is no fault,
+/// for a write the output's name, as `?M11 ASM 2 Write OBJECT`, or for a block or a record of an
+/// object what is wrong with it, as `?M11 LINK 3 Block 3 BadSum`. Nothing where there is no fault,
 /// and nothing for help, refused words and a file that does not open, which have texts of their own.
 ///
 /// `Device` where the sink fails; it has then taken a beginning of the line. No memory is taken.
@@ -53,8 +56,9 @@ fn fault_text(outcome: &Outcome) -> &'static str
     match outcome {
         Outcome::Usage(fault) => usage_text(fault),
         Outcome::Asm(Err(fault)) => asm_text(*fault),
+        Outcome::Link(Err(fault)) => link_text(*fault),
         Outcome::Sim(Err(fault)) => sim_text(*fault),
-        Outcome::Asm(Ok(_)) | Outcome::Sim(Ok(_)) | Outcome::NotOpened => "",
+        Outcome::Asm(Ok(_)) | Outcome::Link(Ok(_)) | Outcome::Sim(Ok(_)) | Outcome::NotOpened => "",
     }
 }
 
@@ -85,6 +89,65 @@ fn asm_text(fault: AsmFault) -> &'static str
         AsmFault::TooMuchSource => "?M11 ASM 6 TooMuchSource\n",
         AsmFault::NotYet => "?M11 ASM 7 NotYet\n",
         AsmFault::NoMemory => "?M11 ASM 90 NoMemory\n",
+    }
+}
+
+// The line of a fault of a link.
+#[tactic(auto, unfolding(crate::proofs::Decimals::decimals))]
+fn link_text(fault: LinkFault) -> &'static str
+    ensures { result.now ≡ link_line fault }
+{
+    match fault {
+        LinkFault::Read => "?M11 LINK 1 Read\n",
+        LinkFault::Write(LinkOutput::Tape) => "?M11 LINK 2 Write TAPE\n",
+        LinkFault::Write(LinkOutput::Map) => "?M11 LINK 2 Write MAP\n",
+        LinkFault::Write(LinkOutput::Messages) => "?M11 LINK 2 Write MESSAGES\n",
+        LinkFault::Block(fault) => block_text(fault),
+        LinkFault::Record(fault) => record_text(fault),
+        LinkFault::BadOrder => "?M11 LINK 5 BadOrder\n",
+        LinkFault::NoText => "?M11 LINK 6 NoText\n",
+        LinkFault::BadDisplacement => "?M11 LINK 7 BadDisplacement\n",
+        LinkFault::UnknownSection => "?M11 LINK 8 UnknownSection\n",
+        LinkFault::TooLarge => "?M11 LINK 9 TooLarge\n",
+        LinkFault::TooManyGlobals => "?M11 LINK 10 TooManyGlobals\n",
+        LinkFault::TooManySections => "?M11 LINK 11 TooManySections\n",
+        LinkFault::TooManyModules => "?M11 LINK 12 TooManyModules\n",
+        LinkFault::TooMuch => "?M11 LINK 13 TooMuch\n",
+        LinkFault::TextOutside => "?M11 LINK 14 TextOutside\n",
+        LinkFault::NoMemory => "?M11 LINK 90 NoMemory\n",
+    }
+}
+
+// The line of a fault of an object's block.
+#[tactic(auto, unfolding(crate::proofs::Decimals::decimals))]
+fn block_text(fault: BlockFault) -> &'static str
+    ensures { result.now ≡ link_line (Block fault) }
+{
+    match fault {
+        BlockFault::Device => "?M11 LINK 3 Block 1 Device\n",
+        BlockFault::Truncated => "?M11 LINK 3 Block 2 Truncated\n",
+        BlockFault::BadSum => "?M11 LINK 3 Block 3 BadSum\n",
+        BlockFault::TooLong => "?M11 LINK 3 Block 4 TooLong\n",
+        BlockFault::BadStart => "?M11 LINK 3 Block 5 BadStart\n",
+        BlockFault::TooShort => "?M11 LINK 3 Block 6 TooShort\n",
+        BlockFault::Failed => "?M11 LINK 3 Block 7 Failed\n",
+        BlockFault::TooMuch => "?M11 LINK 3 Block 8 TooMuch\n",
+    }
+}
+
+// The line of a fault of an object's record.
+#[tactic(auto, unfolding(crate::proofs::Decimals::decimals))]
+fn record_text(fault: RecordFault) -> &'static str
+    ensures { result.now ≡ link_line (Record fault) }
+{
+    match fault {
+        RecordFault::UnknownType => "?M11 LINK 4 Record 1 UnknownType\n",
+        RecordFault::BadLength => "?M11 LINK 4 Record 2 BadLength\n",
+        RecordFault::Library => "?M11 LINK 4 Record 3 Library\n",
+        RecordFault::MappedArray => "?M11 LINK 4 Record 4 MappedArray\n",
+        RecordFault::Complex => "?M11 LINK 4 Record 5 Complex\n",
+        RecordFault::UnknownRelocation => "?M11 LINK 4 Record 6 UnknownRelocation\n",
+        RecordFault::BadName => "?M11 LINK 4 Record 7 BadName\n",
     }
 }
 

@@ -1,11 +1,12 @@
 //! What a command came to, and the status that it leaves.
 
 ghost use Rattle.std.specs.Prelude.{◌≡◌};
-ghost use Rattle.m11_cli.specs.Outcomes.{sim_status, status_of, stop_status};
+ghost use Rattle.m11_cli.specs.Outcomes.{link_status, sim_status, status_of, stop_status};
 
 use crate::usage::UsageFault;
 use m11_asm::{AsmDone, AsmFault};
 use m11_cpu::{LoadFault, SimDone, SimFault, Stop};
+use m11_link::{LinkDone, LinkFault};
 use m11_obj::TapeFault;
 
 /// What a command came to.
@@ -15,15 +16,17 @@ pub enum Outcome {
     Usage(UsageFault),
     /// An assembly ran.
     Asm(Result<AsmDone, AsmFault>),
+    /// A link ran.
+    Link(Result<LinkDone, LinkFault>),
     /// A tape was run.
     Sim(Result<SimDone, SimFault>),
     /// A file could not be opened, so nothing ran.
     NotOpened,
 }
 
-/// The status that a command leaves: 0 done, halted or helped, 1 done with flagged lines or stopped
-/// otherwise, 2 words that are refused, 3 a device or a file that does not open, 4 a malformed tape
-/// or one that does not fit the memory, 5 no memory, 6 a limit.
+/// The status that a command leaves: 0 done, halted or helped, 1 done with flagged lines or messages
+/// or stopped otherwise, 2 words that are refused, 3 a device or a file that does not open, 4 a
+/// malformed object or tape or one that does not fit the memory, 5 no memory, 6 a limit.
 pub fn status(outcome: &Outcome) -> u8
     ensures { result ≡ status_of outcome.now }
 {
@@ -41,9 +44,34 @@ pub fn status(outcome: &Outcome) -> u8
         Outcome::Asm(Err(AsmFault::Read | AsmFault::Write(_))) => 3,
         Outcome::Asm(Err(AsmFault::TooMuchSource | AsmFault::NotYet)) => 6,
         Outcome::Asm(Err(AsmFault::NoMemory)) => 5,
+        Outcome::Link(Ok(done)) if done.messages == 0 => 0,
+        Outcome::Link(Ok(_)) => 1,
+        Outcome::Link(Err(fault)) => link_status(*fault),
         Outcome::Sim(Ok(done)) => stop_status(done.stop),
         Outcome::Sim(Err(fault)) => sim_status(*fault),
         Outcome::NotOpened => 3,
+    }
+}
+
+// The status of a link that ended early.
+fn link_status(fault: LinkFault) -> u8
+    ensures { result ≡ link_status fault }
+{
+    match fault {
+        LinkFault::Read | LinkFault::Write(_) => 3,
+        LinkFault::Block(_)
+        | LinkFault::Record(_)
+        | LinkFault::BadOrder
+        | LinkFault::NoText
+        | LinkFault::BadDisplacement
+        | LinkFault::UnknownSection
+        | LinkFault::TextOutside => 4,
+        LinkFault::NoMemory => 5,
+        LinkFault::TooLarge
+        | LinkFault::TooManyGlobals
+        | LinkFault::TooManySections
+        | LinkFault::TooManyModules
+        | LinkFault::TooMuch => 6,
     }
 }
 

@@ -8,6 +8,7 @@ use std::io::ErrorKind;
 use std::test::Fail;
 use std::{fs, io};
 
+mod link;
 mod sim;
 
 #[test]
