@@ -1,9 +1,9 @@
 -- Which command was entered, where one is required.
-use Rattle.std.proofs.Common.{◌≡◌, ◌∙◌, ◌⊎◌, sym, ap, refl, inl, inr, Bool, true, false, List, [], ◌∷◌, map, Option, Some, None, option_map, unwrap_or, is_some, IsSome}
+use Rattle.std.proofs.Common.{◌≡◌, ◌∙◌, ◌⊎◌, sym, ap, refl, subst, inl, inr, Bool, true, false, List, [], ◌∷◌, map, Option, Some, None, option_map, unwrap_or, is_some, IsSome}
 use Rattle.std.specs.Prelude.{Box, find}
 use Rattle.std.specs.Box.{box_value}
 use Rattle.std.specs.declared.alloc.Global.{Global}
-use Rattle.clap.specs.Words.{App, HasMatchesOf, IsParsedFrom, Row, Shape, Text, app_of, built, found_of, is_simple, rows_of, subcommand_name_of, subcommand_of, subcommand_rows, subcommand_rows_of}
+use Rattle.clap.specs.Words.{App, HasMatchesOf, IsParsedFrom, Row, Shape, Text, app_of, built, fault_of, found_of, is_simple, rows_of, subcommand_name_of, subcommand_of, subcommand_rows, subcommand_rows_of}
 use Rattle.clap.specs.Simple.{entered, label_of, rows_at}
 use Rattle.clap.specs.Walk.{answers_to}
 use Rattle.clap.specs.declared.builder.command.Command.{Command}
@@ -63,10 +63,13 @@ pub excluded : {X : Type 0} (o : Option X) → IsSome o → ((x : X) → o ≡ S
 excluded None some none = cc
 excluded (Some x) some none = none x refl
 
--- the words enter the command whose name and entries the parse has
-pub entered_by : (c : Command) (m : ArgMatches) (a : App) (words : List Text) (name : Text) (rows : List Row)
-    → app_of c ≡ a → HasMatchesOf (app_of c) words m → is_simple a ≡ true → subcommand_name_of m ≡ Some name
-    → option_map (λ p. p.1) (subcommand_rows_of m) ≡ Some rows → Some (name, rows) ≡ subcommand_of a words
-entered_by c m a words name rows app matches simple named has =
-    sym (entered_is m name rows named has)
-    ∙ ((matches (ap is_simple app ∙ simple)).1 ∙ ap (λ (x : App). subcommand_of x words) app)
+-- a parse of a simple command that refuses nothing enters the command whose name and entries it has
+pub entered_free : (c : Command) (m : ArgMatches) (a : App) (words : List Text) (name : Text) (rows : List Row)
+    → app_of c ≡ a → is_simple a ≡ true → fault_of (app_of c) words ≡ [] → HasMatchesOf (app_of c) words m
+    → subcommand_name_of m ≡ Some name → option_map (λ p. p.1) (subcommand_rows_of m) ≡ Some rows
+    → (fault_of a words ≡ []) × (Some (name, rows) ≡ subcommand_of a words)
+entered_free c m a words name rows app simple free matches named has = (
+  subst (λ x. fault_of x words ≡ []) app free,
+  sym (entered_is m name rows named has)
+      ∙ ((matches (ap is_simple app ∙ simple)).1 ∙ ap (λ (x : App). subcommand_of x words) app),
+)

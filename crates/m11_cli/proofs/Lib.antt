@@ -1,8 +1,9 @@
+pub mod Addresses
+pub mod Commanded
 pub mod Decimals
 pub mod Entered
 pub mod Entries
 pub mod Numbers
+pub mod Paths
 pub mod Sources
-pub mod Starts
-pub mod TaskPaths
 pub mod Telling

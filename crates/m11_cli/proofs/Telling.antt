@@ -34,6 +34,7 @@ then_at_error (Err e) P Q f p = f p
 pub carried : (words : List Text) (t : Task) (outcome : Outcome) (old new : Streams) → Plans words (Ok t)
     → Carries t outcome old new → ComesTo words outcome old new
 carried words (task.Asm asm) (Usage fault) old new planned h = absurd h
+carried words (task.Link link) (Usage fault) old new planned h = absurd h
 carried words (task.Sim sim) (Usage fault) old new planned h = absurd h
 carried words t (Asm answer) old new planned h = (t, planned, h)
 carried words t (Link answer) old new planned h = (t, planned, h)

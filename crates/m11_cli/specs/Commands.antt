@@ -28,6 +28,52 @@ sources_rule = record (new_rule (codes "sources")) {
 abbrev pub asm_shape : Shape
 asm_shape = record (new_shape (codes "asm")) { rules = object_rule ∷ sources_rule ∷ [] }
 
+-- `-o TAPE`, `--output TAPE`: the tape to write
+abbrev pub linked_tape_rule : Rule
+linked_tape_rule = record (new_rule (codes "output")) {
+  short = Some 111;
+  long = Some (codes "output");
+  value_names = 1;
+  action = Some Set;
+  required = true;
+}
+
+-- `-m MAP`, `--map MAP`: the map to write, if one is
+abbrev pub map_rule : Rule
+map_rule = record (new_rule (codes "map")) {
+  short = Some 109;
+  long = Some (codes "map");
+  value_names = 1;
+  action = Some Set;
+}
+
+-- where the relocatable sections of a link begin, where nothing is said
+abbrev pub default_bottom : ℕ
+default_bottom = 0o1000
+
+-- `-b OCTAL`, `--bottom OCTAL`: where they begin
+abbrev pub bottom_rule : Rule
+bottom_rule = record (new_rule (codes "bottom")) {
+  short = Some 98;
+  long = Some (codes "bottom");
+  value_names = 1;
+  action = Some Set;
+}
+
+-- `OBJECT...`: the objects, in order
+abbrev pub objects_rule : Rule
+objects_rule = record (new_rule (codes "objects")) {
+  value_names = 1;
+  action = Some Append;
+  required = true;
+}
+
+-- `link -o TAPE [-m MAP] [-b OCTAL] OBJECT...`
+abbrev pub link_shape : Shape
+link_shape = record (new_shape (codes "link")) {
+  rules = linked_tape_rule ∷ map_rule ∷ bottom_rule ∷ objects_rule ∷ [];
+}
+
 -- the steps of a run: how many may be allowed, and how many are where nothing is said
 abbrev pub most_steps : ℕ
 most_steps = 1000000000
@@ -97,4 +143,4 @@ bare = record {
 
 -- `m11` with its commands
 abbrev pub application : App
-application = with_subcommand (with_subcommand bare asm_shape) sim_shape
+application = with_subcommand (with_subcommand (with_subcommand bare asm_shape) link_shape) sim_shape

@@ -1,5 +1,5 @@
 -- What a command line makes of the three streams of its process, and of the files of its task. (This project's own.)
-use Rattle.std.specs.Prelude.{◌≡◌, ◌⊎◌, ℕ, List, Option, None, Any, Result, Ok, Err, length}
+use Rattle.std.specs.Prelude.{◌≡◌, ◌⊎◌, ℕ, List, Option, None, Any, IsSomeAnd, Result, Ok, Err, length}
 use Rattle.std.specs.Io.KnownBytes.{Appends}
 use Rattle.clap.specs.Words.{Text}
 use Rattle.m11_base.specs.Devices.{Rises}
@@ -15,7 +15,7 @@ use Rattle.m11_cpu.specs.Simulation.{Simulates}
 use Rattle.m11_cli.specs.FaultLines.{line_of, open_line}
 use Rattle.m11_cli.specs.Tasks.{Plans}
 use Rattle.m11_cli.specs.declared.outcome.Outcome.{Outcome}
-use Rattle.m11_cli.specs.declared.outcome.Outcome.TheVariants.{Usage, Asm, Sim, NotOpened}
+use Rattle.m11_cli.specs.declared.outcome.Outcome.TheVariants.{Usage, Asm, Link, Sim, NotOpened}
 use Rattle.m11_cli.specs.declared.tasks.Task.{Task}
 use Rattle.m11_cli.specs.declared.tasks.Task.TheVariants as task
 use Rattle.m11_cli.specs.declared.usage.UsageFault.{UsageFault}
@@ -48,6 +48,8 @@ Explains fault printed printed' told told' = (printed' ≡ printed) × (told' �
 -- the path is one of the task's
 abbrev pub IsPathOf : Task → List ℕ → Type 0
 IsPathOf (task.Asm asm) path = (path ≡ asm.object.now) ⊎ Any (λ source. path ≡ source.now) asm.sources.items
+IsPathOf (task.Link link) path = (path ≡ link.tape.now)
+    ⊎ (IsSomeAnd link.map (λ map. path ≡ map.now) ⊎ Any (λ object. path ≡ object.now) link.objects.items)
 IsPathOf (task.Sim sim) path = path ≡ sim.tape.now
 
 -- an assembly of so many sources: by texts that they gave, it wrote to the object and told what it is to
@@ -66,13 +68,14 @@ abbrev pub MayAssemble : ℕ → Output → Output → Result AsmDone AsmFault �
 MayAssemble count told told' answer =
     Assembles count told told' answer ⊎ ((answer ≡ Err asm.NoMemory) × (told' ≡ told))
 
--- what becomes of a task: one of its files does not open, and is told; or it is an assembly of its sources; or it is a
--- run of a tape by what the task says, which has the console
+-- what becomes of a task: one of its files does not open, and is told; or it is an assembly of its sources; or a link;
+-- or it is a run of a tape by what the task says, which has the console
 abbrev pub Carries : Task → Outcome → Streams → Streams → Type 0
 Carries task NotOpened old new = (new.input ≡ old.input) × (new.printed ≡ old.printed)
     × (path : List ℕ) × IsPathOf task path × Tells (open_line path) old.told new.told
 Carries (task.Asm asm) (Asm answer) old new = (new.input ≡ old.input) × (new.printed ≡ old.printed)
     × MayAssemble (length asm.sources.items) old.told new.told answer
+Carries (task.Link link) (Link answer) old new = (new.input ≡ old.input) × (new.printed ≡ old.printed)
 Carries (task.Sim sim) (Sim answer) old new = (tape : Input) × (tape' : Input)
     × Simulates sim.start sim.words sim.limit tape tape'
     (both old.input.text old.input.faults old.printed.text old.printed.faults)

@@ -3,7 +3,7 @@
 ghost use Rattle.std.specs.Prelude.{◌≡◌, IfOk, false};
 ghost use Rattle.clap.specs.Words.{app_of, rule_of, shape_of};
 ghost use Rattle.clap.specs.declared.builder.command.Command.TheViews.{out-Command as fields_of};
-ghost use Rattle.m11_cli.specs.Commands.{application, asm_shape, object_rule, sim_shape, sources_rule, start_rule, steps_rule, tape_rule, words_rule};
+ghost use Rattle.m11_cli.specs.Commands.{application, asm_shape, bare, bottom_rule, link_shape, linked_tape_rule, map_rule, object_rule, objects_rule, sim_shape, sources_rule, start_rule, steps_rule, tape_rule, words_rule};
 
 use clap::{Arg, ArgAction, Command, value_parser};
 use std::alloc::{AllocError, Global};
@@ -13,12 +13,21 @@ pub(crate) fn application_command<'a>(alloc: Global) -> Result<Command<'a>, Allo
     ensures app { IfOk result (λ c. app_of c ≡ application) }
     ensures local { IfOk result (λ c. (fields_of c).has_globals ≡ false) }
 {
+    bare_command(alloc)
+        .subcommand(asm_command(alloc)?)?
+        .subcommand(link_command(alloc)?)?
+        .subcommand(sim_command(alloc)?)
+}
+
+/// `m11`, before its commands.
+fn bare_command<'a>(alloc: Global) -> Command<'a>
+    ensures app { app_of result ≡ bare }
+    ensures local { (fields_of result).has_globals ≡ false }
+{
     Command::new(alloc, "m11")
-        .about("A MACRO-11 assembler and a PDP-11/40 simulator")
+        .about("A MACRO-11 assembler, a linker and a PDP-11/40 simulator")
         .disable_help_subcommand(true)
         .subcommand_required(true)
-        .subcommand(asm_command(alloc)?)?
-        .subcommand(sim_command(alloc)?)
 }
 
 /// `asm -o OBJ SOURCE...`.
@@ -54,6 +63,71 @@ fn sources_argument<'a>(alloc: Global) -> Arg<'a>
     Arg::new(alloc, "sources")
         .value_name("SOURCE")
         .help("The sources to assemble, in order")
+        .required(true)
+        .action(ArgAction::Append)
+}
+
+/// `link -o TAPE [-m MAP] [-b OCTAL] OBJECT...`.
+fn link_command<'a>(alloc: Global) -> Result<Command<'a>, AllocError>
+    ensures shape { IfOk result (λ c. shape_of c ≡ link_shape) }
+    ensures local { IfOk result (λ c. (fields_of c).has_globals ≡ false) }
+{
+    Command::new(alloc, "link")
+        .about("Link objects into a tape")
+        .arg(linked_tape_argument(alloc))?
+        .arg(map_argument(alloc))?
+        .arg(bottom_argument(alloc))?
+        .arg(objects_argument(alloc))
+}
+
+/// `-o TAPE`.
+fn linked_tape_argument<'a>(alloc: Global) -> Arg<'a>
+    ensures rule { rule_of result ≡ linked_tape_rule }
+    ensures local { result.global ≡ false }
+{
+    Arg::new(alloc, "output")
+        .short('o')
+        .long("output")
+        .value_name("TAPE")
+        .help("The tape to write")
+        .required(true)
+        .action(ArgAction::Set)
+}
+
+/// `-m MAP`.
+fn map_argument<'a>(alloc: Global) -> Arg<'a>
+    ensures rule { rule_of result ≡ map_rule }
+    ensures local { result.global ≡ false }
+{
+    Arg::new(alloc, "map")
+        .short('m')
+        .long("map")
+        .value_name("MAP")
+        .help("The map to write")
+        .action(ArgAction::Set)
+}
+
+/// `-b OCTAL`.
+fn bottom_argument<'a>(alloc: Global) -> Arg<'a>
+    ensures rule { rule_of result ≡ bottom_rule }
+    ensures local { result.global ≡ false }
+{
+    Arg::new(alloc, "bottom")
+        .short('b')
+        .long("bottom")
+        .value_name("OCTAL")
+        .help("Where relocatable sections begin: even, at most 157776 [default: 1000]")
+        .action(ArgAction::Set)
+}
+
+/// `OBJECT...`.
+fn objects_argument<'a>(alloc: Global) -> Arg<'a>
+    ensures rule { rule_of result ≡ objects_rule }
+    ensures local { result.global ≡ false }
+{
+    Arg::new(alloc, "objects")
+        .value_name("OBJECT")
+        .help("The objects to link, in order")
         .required(true)
         .action(ArgAction::Append)
 }

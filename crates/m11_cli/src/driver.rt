@@ -10,18 +10,19 @@ ghost use Rattle.m11_cli.specs.Outcomes.{LeavesConsole, status_of};
 ghost use Rattle.m11_cli.specs.Tasks.{IsDoable};
 ghost use Rattle.m11_cli.specs.declared.outcome.Outcome.{Outcome};
 ghost use Rattle.m11_cli.specs.declared.outcome.Outcome.TheVariants.{NotOpened, Usage};
-ghost use Rattle.m11_cli.specs.declared.tasks.Task.TheVariants.{Asm, Sim};
+ghost use Rattle.m11_cli.specs.declared.tasks.Task.TheVariants.{Asm, Link, Sim};
 ghost use Rattle.m11_cli.specs.declared.usage.UsageFault.TheVariants.{NoMemory};
 
 use crate::fault_lines::{fault_line, not_opened_line};
-use crate::opened::{AsmFiles, OpenFault, open_files, open_source};
+use crate::opened::{AsmFiles, LinkFiles, OpenFault, open_asm_files, open_link_files, open_source};
 use crate::outcome::{Outcome, status};
-use crate::tasks::{AsmTask, SimTask, Task, plan};
+use crate::tasks::{AsmTask, LinkTask, SimTask, Task, plan};
 use crate::texts::TextTo;
 use crate::usage::UsageFault;
 use m11_asm::{AsmDone, AsmFault, asm_run};
 use m11_base::{Feed, Sink};
 use m11_cpu::{SimDone, SimFault, sim_run};
+use m11_link::{LinkDone, LinkFault, link_run};
 use std::alloc::Global;
 use std::convert::AsStr;
 use std::fmt::Write;
@@ -33,10 +34,10 @@ use std::rt::Files;
 /// is the program's name.
 ///
 /// Help goes to `out`; refused words, a file that does not open, messages and the line of a fault go
-/// to `err`. The inputs are opened first, in order, each twice; then the outputs are created. The
-/// first file that does not open ends the command, and leaves outputs that were created before it
-/// empty. `input` is what a program that is run reads and `out` takes what it prints, each byte at
-/// once; an assembly reads nothing of `input`.
+/// to `err`. The inputs are opened first, in order, each twice; then the outputs are created, a tape
+/// before its map. The first file that does not open ends the command, and leaves outputs that were
+/// created before it empty. `input` is what a program that is run reads and `out` takes what it
+/// prints, each byte at once; an assembly and a link read nothing of `input`.
 pub fn command<'a, R, I, O, E, S>(
     rt: &R,
     input: &mut I,
@@ -114,6 +115,7 @@ where
 {
     match plan(rt.alloc(), words) {
         Ok(Task::Asm(task)) => assemble(rt, err, &task),
+        Ok(Task::Link(task)) => link(rt, err, &task),
         Ok(Task::Sim(task)) => simulate(rt, input, out, err, &task),
         Err(fault) => {
             explain(&fault, out, err);
@@ -155,7 +157,7 @@ fn assemble<R: Files + AllocGlobal, E: Sink>(rt: &R, err: &mut E, task: &AsmTask
         (record { input = input; printed = printed; told = output_of (E.text err.old) (E.faults err.old) })
         (record { input = input; printed = printed; told = output_of (E.text err.new) (E.faults err.new) }) }
 {
-    match open_files(rt, task) {
+    match open_asm_files(rt, task) {
         Ok(files) => Outcome::Asm(run_asm(rt.alloc(), files, err)),
         Err(OpenFault::NotOpened(path)) => not_opened(err, path),
         Err(OpenFault::NoMemory) => Outcome::Asm(Err(AsmFault::NoMemory)),
@@ -169,17 +171,49 @@ fn run_asm<F: Feed + Drop, S: Sink + Drop, E: Sink>(
     files: AsmFiles<F, S>,
     err: &mut E,
 ) -> Result<AsmDone, AsmFault>
-    ensures { Assembles (vec_len files.first)
+    ensures { Assembles (vec_len files.sources.first)
         (output_of (E.text err.old) (E.faults err.old)) (output_of (E.text err.new) (E.faults err.new)) result }
 {
     let mut files = files;
     let mut listing: Option<S> = None;
     asm_run(
         alloc,
-        files.first.as_mut_slice(),
-        files.second.as_mut_slice(),
+        files.sources.first.as_mut_slice(),
+        files.sources.second.as_mut_slice(),
         &mut files.object,
         &mut listing,
+        err,
+    )
+}
+
+// A link, where its files open.
+fn link<R: Files + AllocGlobal, E: Sink>(rt: &R, err: &mut E, task: &LinkTask<'_>) -> Outcome
+    ensures { (input : Input) → (printed : Output) → Carries (Link task.now) result
+        (record { input = input; printed = printed; told = output_of (E.text err.old) (E.faults err.old) })
+        (record { input = input; printed = printed; told = output_of (E.text err.new) (E.faults err.new) }) }
+{
+    match open_link_files(rt, task) {
+        Ok(files) => Outcome::Link(run_link(rt.alloc(), files, task.bottom, err)),
+        Err(OpenFault::NotOpened(path)) => not_opened(err, path),
+        Err(OpenFault::NoMemory) => Outcome::Link(Err(LinkFault::NoMemory)),
+    }
+}
+
+// A link of open files, whose messages go to `err`.
+fn run_link<F: Feed + Drop, S: Sink + Drop, E: Sink>(
+    alloc: Global,
+    files: LinkFiles<F, S>,
+    bottom: u16,
+    err: &mut E,
+) -> Result<LinkDone, LinkFault> {
+    let mut files = files;
+    link_run(
+        alloc,
+        files.objects.first.as_mut_slice(),
+        files.objects.second.as_mut_slice(),
+        bottom,
+        &mut files.tape,
+        &mut files.map,
         err,
     )
 }

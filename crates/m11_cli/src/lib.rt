@@ -13,7 +13,7 @@ mod usage;
 pub use driver::{command, command_without_words};
 pub use fault_lines::fault_line;
 pub use outcome::{Outcome, status};
-pub use tasks::{AsmTask, Task, plan};
+pub use tasks::{AsmTask, LinkTask, SimTask, Task, plan};
 pub use usage::UsageFault;
 
 #[cfg(test)]

@@ -1,11 +1,11 @@
 //! The files of a task, opened.
 
 ghost use Rattle.std.specs.IoError.{error_kind};
-ghost use Rattle.std.specs.Prelude.{◌≡◌, ◌≢◌, IfErr, IfOk, vec_len};
-ghost use Rattle.m11_cli.specs.Opened.{IsTaskPath, NamesPath};
+ghost use Rattle.std.specs.Prelude.{◌≡◌, ◌≢◌, IfErr, IfOk, is_some, length, vec_len};
+ghost use Rattle.m11_cli.specs.Opened.{IsAsmPath, IsLinkPath, NamesOneOf, NamesPath, NamesSome};
 ghost use Rattle.m11_cli.specs.declared.opened.OpenFault.TheVariants.{NotOpened, NoMemory};
 
-use crate::tasks::AsmTask;
+use crate::tasks::{AsmTask, LinkTask};
 use m11_base::{ReaderFeed, WriterSink};
 use std::alloc::AllocFailed;
 use std::io::{BufReader, ErrorKind};
@@ -29,43 +29,84 @@ impl<T: Drop> From<AllocFailed<T>> for OpenFault<'_> {
     }
 }
 
-/// A source or a tape, read through a buffer.
+/// A source, an object or a tape, read through a buffer.
 pub(crate) type Source<F> = ReaderFeed<BufReader<F>>;
 
-/// The sources and the object of an assembly. Each source is there twice, since it is read twice.
+/// Inputs that are read twice: each is there for either reading.
 #[derive(Drop)]
-pub(crate) struct AsmFiles<F, S> {
+pub(crate) struct Inputs<F> {
     pub(crate) first: Vec<F>,
     pub(crate) second: Vec<F>,
+}
+
+/// The sources and the object of an assembly.
+#[derive(Drop)]
+pub(crate) struct AsmFiles<F, S> {
+    pub(crate) sources: Inputs<F>,
     pub(crate) object: S,
 }
 
-/// Opens the sources, in order, each twice before the next, and then creates the object.
-#[tactic(auto, using(crate::proofs::TaskPaths::object_path, crate::proofs::TaskPaths::source_path))]
-pub(crate) fn open_files<'a, R: Files + AllocGlobal>(
+/// The objects of a link, its tape, and its map if one is asked for.
+#[derive(Drop)]
+pub(crate) struct LinkFiles<F, S> {
+    pub(crate) objects: Inputs<F>,
+    pub(crate) tape: S,
+    pub(crate) map: Option<S>,
+}
+
+/// Opens the sources, and then creates the object.
+#[tactic(auto, using(crate::proofs::Paths::object_path, crate::proofs::Paths::source_path))]
+pub(crate) fn open_asm_files<'a, R: Files + AllocGlobal>(
     rt: &R,
     task: &AsmTask<'a>,
 ) -> Result<AsmFiles<Source<R::File>, WriterSink<R::File>>, OpenFault<'a>>
-    ensures first { IfOk result (λ files. vec_len files.first ≡ vec_len task.now.sources) }
-    ensures second { IfOk result (λ files. vec_len files.second ≡ vec_len task.now.sources) }
-    ensures path { IfErr result (IsTaskPath task.now) }
+    ensures first { IfOk result (λ files. vec_len files.sources.first ≡ vec_len task.now.sources) }
+    ensures second { IfOk result (λ files. vec_len files.sources.second ≡ vec_len task.now.sources) }
+    ensures path { IfErr result (IsAsmPath task.now) }
+{
+    let sources = open_inputs(rt, task.sources.as_slice())?;
+    let object = create(rt, task.object)?;
+    Ok(AsmFiles { sources, object })
+}
+
+/// Opens the objects, then creates the tape, and then the map if one is asked for.
+#[tactic(auto, using(crate::proofs::Paths::object_of, crate::proofs::Paths::map_of, crate::proofs::Paths::tape_of))]
+pub(crate) fn open_link_files<'a, R: Files + AllocGlobal>(
+    rt: &R,
+    task: &LinkTask<'a>,
+) -> Result<LinkFiles<Source<R::File>, WriterSink<R::File>>, OpenFault<'a>>
+    ensures first { IfOk result (λ files. vec_len files.objects.first ≡ vec_len task.now.objects) }
+    ensures second { IfOk result (λ files. vec_len files.objects.second ≡ vec_len task.now.objects) }
+    ensures map { IfOk result (λ files. is_some files.map ≡ is_some task.now.map) }
+    ensures path { IfErr result (IsLinkPath task.now) }
+{
+    let objects = open_inputs(rt, task.objects.as_slice())?;
+    let tape = create(rt, task.tape)?;
+    let map = create_some(rt, task.map)?;
+    Ok(LinkFiles { objects, tape, map })
+}
+
+// Inputs, in order, each opened twice before the next.
+#[tactic(auto, using(crate::proofs::Paths::input_path))]
+fn open_inputs<'a, R: Files + AllocGlobal>(
+    rt: &R,
+    paths: &[&'a str],
+) -> Result<Inputs<Source<R::File>>, OpenFault<'a>>
+    ensures first { IfOk result (λ inputs. vec_len inputs.first ≡ length paths.now) }
+    ensures second { IfOk result (λ inputs. vec_len inputs.second ≡ length paths.now) }
+    ensures path { IfErr result (NamesOneOf paths.now) }
 {
     let mut first = Vec::new(rt.alloc());
     let mut second = Vec::new(rt.alloc());
-    for path in &task.sources {
+    for path in paths {
         let (once, again) = open_twice(rt, *path)?;
         first.push(once)?;
         second.push(again)?;
     }
-    let object = create(rt, task.object)?;
-    Ok(AsmFiles {
-        first,
-        second,
-        object,
-    })
+    Ok(Inputs { first, second })
 }
 
-// A source that is read twice.
+// An input that is read twice.
 fn open_twice<'a, R: Files + AllocGlobal>(
     rt: &R,
     path: &'a str,
@@ -77,7 +118,7 @@ fn open_twice<'a, R: Files + AllocGlobal>(
     Ok((once, again))
 }
 
-/// Opens a source or a tape, to be read once.
+/// Opens an input, to be read once.
 pub(crate) fn open_source<'a, R: Files + AllocGlobal>(
     rt: &R,
     path: &'a str,
@@ -91,6 +132,20 @@ pub(crate) fn open_source<'a, R: Files + AllocGlobal>(
     match BufReader::new(rt.alloc(), file) {
         Ok(reader) => Ok(ReaderFeed::new(reader)),
         Err(_) => Err(OpenFault::NoMemory),
+    }
+}
+
+// The output of a path, if there is one.
+fn create_some<'a, R: Files>(
+    rt: &R,
+    path: Option<&'a str>,
+) -> Result<Option<WriterSink<R::File>>, OpenFault<'a>>
+    ensures made { IfOk result (λ output. is_some output ≡ is_some path.entry) }
+    ensures path { IfErr result (NamesSome path.entry) }
+{
+    match path {
+        Some(path) => Ok(Some(create(rt, path)?)),
+        None => Ok(None),
     }
 }
 

@@ -1,9 +1,10 @@
 //! What a command line asks for.
 
-ghost use Rattle.std.specs.Prelude.{◌≡◌, ◌≤◌, [], Err, IfErr, IfOk, codes, map, unwrap_or};
+ghost use Rattle.std.specs.Prelude.{◌≡◌, ◌≤◌, ◌⊎◌, [], Err, IfErr, IfOk, codes, map, option_map, unwrap_or};
 ghost use Rattle.clap.specs.Words.{all_of, first_of, found_of, one_of, rows_of};
-ghost use Rattle.m11_cli.specs.declared.tasks.Task.TheVariants.{Sim};
-ghost use Rattle.m11_cli.specs.Tasks.{IsAsmTask, IsDoable, IsSimTask, Plans, address_of, number_or, start_of};
+ghost use Rattle.m11_cli.specs.declared.tasks.Task.TheVariants.{Link, Sim};
+ghost use Rattle.m11_cli.specs.declared.usage.UsageFault.TheVariants.{NoMemory};
+ghost use Rattle.m11_cli.specs.Tasks.{IsAsmTask, IsDoable, IsLinkTask, IsSimTask, Plans, address_of, bottom_of, number_or, start_of};
 
 use crate::commands::application_command;
 use crate::usage::UsageFault;
@@ -19,6 +20,19 @@ pub struct AsmTask<'a> {
     pub object: &'a str,
     /// The sources, one text after the other.
     pub sources: Vec<&'a str>,
+}
+
+/// What a link is to do.
+#[derive(Debug, Drop)]
+pub struct LinkTask<'a> {
+    /// Where the tape goes.
+    pub tape: &'a str,
+    /// Where the map goes, if one is asked for.
+    pub map: Option<&'a str>,
+    /// Where relocatable sections begin: an even address up to 0o157776.
+    pub bottom: u16,
+    /// The objects, in order.
+    pub objects: Vec<&'a str>,
 }
 
 /// What a run of a tape is to do.
@@ -39,9 +53,14 @@ pub struct SimTask<'a> {
 pub enum Task<'a> {
     /// `asm`: to assemble.
     Asm(AsmTask<'a>),
+    /// `link`: to link.
+    Link(LinkTask<'a>),
     /// `sim`: to run a tape.
     Sim(SimTask<'a>),
 }
+
+/// Where relocatable sections begin where the words do not say.
+const DEFAULT_BOTTOM: u16 = 0o1000;
 
 /// The most steps that may be allowed.
 const MOST_STEPS: u32 = 1_000_000_000;
@@ -61,7 +80,8 @@ const LAST_ADDRESS: u16 = 0o157776;
 /// Reads a command line, whose first word is the program's name.
 ///
 /// `Help` where help is asked for and `Words` where the parser refuses the words; where it takes
-/// them, `BadOctal`, `OddAddress` and `BadAddress` for a start, in this order; and `NoMemory`.
+/// them, `BadOctal`, `OddAddress` and `BadAddress` for a bottom or a start, in this order; and
+/// `NoMemory`.
 pub fn plan<'a, S: AsStr>(alloc: Global, words: &'a [S]) -> Result<Task<'a>, UsageFault>
     ensures planned { Plans (map S.text words.entry.now) result }
     ensures doable { IfOk result IsDoable }
@@ -70,6 +90,9 @@ pub fn plan<'a, S: AsStr>(alloc: Global, words: &'a [S]) -> Result<Task<'a>, Usa
     let matches = command.try_get_matches_from(words)?;
     if let Some(entries) = matches.subcommand_matches("asm") {
         return Ok(Task::Asm(asm_task(alloc, entries)?));
+    }
+    if let Some(entries) = matches.subcommand_matches("link") {
+        return Ok(Task::Link(link_task(alloc, entries)?));
     }
     if let Some(entries) = matches.subcommand_matches("sim") {
         return Ok(Task::Sim(sim_task(entries)?));
@@ -86,6 +109,32 @@ fn asm_task<'a>(alloc: Global, entries: &ArgMatches<'a>) -> Result<AsmTask<'a>, 
         object: first_text(entries, "output"),
         sources: all_texts(alloc, entries, "sources")?,
     })
+}
+
+// The task that the entries of `link` state, or the fault of their bottom, or want of memory.
+fn link_task<'a>(alloc: Global, entries: &ArgMatches<'a>) -> Result<LinkTask<'a>, UsageFault>
+    ensures task { IfOk result (IsLinkTask (rows_of (found_of entries.now))) }
+    ensures doable { IfOk result (λ task. IsDoable (Link task)) }
+    ensures fault { IfErr result (λ fault. (fault ≡ NoMemory)
+        ⊎ (bottom_of (first_of (codes "bottom") (rows_of (found_of entries.now))) ≡ Err fault)) }
+{
+    Ok(LinkTask {
+        tape: first_text(entries, "output"),
+        map: text_given(entries, "map"),
+        bottom: bottom_given(entries)?,
+        objects: all_texts(alloc, entries, "objects")?,
+    })
+}
+
+// Where relocatable sections begin: where the entries say, else at the default.
+#[tactic(auto, using(crate::proofs::Entries::first_given))]
+fn bottom_given(entries: &ArgMatches<'_>) -> Result<u16, UsageFault>
+    ensures { result ≡ bottom_of (first_of (codes "bottom") (rows_of (found_of entries.now))) }
+{
+    match entries.get_str("bottom") {
+        Some(text) => address(text),
+        None => Ok(DEFAULT_BOTTOM),
+    }
 }
 
 // The task that the entries of `sim` state, or the fault of their start.
@@ -139,6 +188,14 @@ fn number_given(entries: &ArgMatches<'_>, id: &str, least: u32, most: u32, other
         Some(number) if least <= number && number <= most => number,
         _ => other,
     }
+}
+
+// The first value of an argument, if there is one.
+#[tactic(auto, using(crate::proofs::Entries::first_given))]
+fn text_given<'a>(entries: &ArgMatches<'a>, id: &str) -> Option<&'a str>
+    ensures { option_map (λ text. text.now) result ≡ first_of id.now (rows_of (found_of entries.now)) }
+{
+    entries.get_str(id)
 }
 
 // The first value of an argument; the empty text where there is none.

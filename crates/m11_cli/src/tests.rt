@@ -24,12 +24,20 @@ fn asm_takes_an_object_and_sources(rt: HostRuntime) -> Result<(), Fail> {
 }
 
 // Words that no command takes.
-const REFUSED: [&[&str]; 14] = [
+const REFUSED: [&[&str]; 18] = [
     &["m11"],
     &["m11", "help"],
-    &["m11", "link", "A.OBJ"],
     &["m11", "asm", "A.MAC"],
     &["m11", "asm", "-o", "A.OBJ", "-o", "B.OBJ", "A.MAC"],
+    &["m11", "link", "A.OBJ"],
+    &["m11", "link", "-o", "A.TAP"],
+    &["m11", "link", "-o", "A.TAP", "-o", "B.TAP", "A.OBJ"],
+    &[
+        "m11", "link", "-o", "A.TAP", "-m", "A.MAP", "-m", "B.MAP", "A.OBJ",
+    ],
+    &[
+        "m11", "link", "-o", "A.TAP", "-b", "1000", "-b", "1000", "A.OBJ",
+    ],
     &["m11", "sim"],
     &["m11", "sim", "A.TAP", "B.TAP"],
     &["m11", "sim", "-n", "1000000001", "A.TAP"],
@@ -42,10 +50,11 @@ const REFUSED: [&[&str]; 14] = [
 ];
 
 // Words that ask for help.
-const HELPED: [&[&str]; 4] = [
+const HELPED: [&[&str]; 5] = [
     &["m11", "--help"],
     &["m11", "asm", "-h"],
     &["m11", "asm", "-o", "A.OBJ", "--help"],
+    &["m11", "link", "-b", "18", "--help"],
     &["m11", "sim", "-s", "18", "--help"],
 ];
 
@@ -217,14 +226,14 @@ fn help_is_printed_and_refused_words_are_told(rt: HostRuntime) {
         (
             &["m11", "--help"],
             0,
-            b"A MACRO-11 assembler and a PDP-11/40 simulator\n",
+            b"A MACRO-11 assembler, a linker and a PDP-11/40 simulator\n",
             b"",
         ),
         (
-            &["m11", "link"],
+            &["m11", "print"],
             2,
             b"",
-            b"error: unrecognized subcommand 'link'\n",
+            b"error: unrecognized subcommand 'print'\n",
         ),
     ];
     for (words, status, printed, told) in texts {
@@ -261,6 +270,14 @@ fn remove(rt: &HostRuntime, files: &[&str]) -> Result<(), Fail> {
         fs::remove_file(rt, *file)?;
     }
     Ok(())
+}
+
+// Whether a file is there, and empty.
+fn is_empty(rt: &HostRuntime, file: &str) -> bool {
+    match fs::read(rt, file) {
+        Ok(bytes) => bytes.is_empty(),
+        Err(_) => false,
+    }
 }
 
 // The object of a program whose one word is 000001: the names and the sizes, their end, the place

@@ -1,8 +1,103 @@
-use crate::{Outcome, fault_line, status};
-use m11_base::MemorySink;
+use super::{ONE_WORD, is_empty, remove};
+use crate::{Outcome, Task, UsageFault, command, fault_line, plan, status};
+use m11_base::{MemoryFeed, MemorySink};
 use m11_link::{LinkDone, LinkFault, LinkOutput};
 use m11_obj::{BlockFault, RecordFault};
+use std::fs;
 use std::test::Fail;
+
+// Words that ask for a link of two objects, with the map and the bottom that they ask for.
+const LINKS: [(&[&str], Option<&str>, u16); 4] = [
+    (
+        &["m11", "link", "-o", "P.TAP", "A.OBJ", "B.OBJ"],
+        None,
+        0o1000,
+    ),
+    (
+        &[
+            "m11", "link", "A.OBJ", "-m", "P.MAP", "-b", "0", "B.OBJ", "-o", "P.TAP",
+        ],
+        Some("P.MAP"),
+        0,
+    ),
+    (
+        &[
+            "m11", "link", "--bottom", "157776", "--output", "P.TAP", "--map", "", "A.OBJ", "B.OBJ",
+        ],
+        Some(""),
+        0o157776,
+    ),
+    (
+        &[
+            "m11",
+            "link",
+            "-b=002000",
+            "-oP.TAP",
+            "--",
+            "A.OBJ",
+            "B.OBJ",
+        ],
+        None,
+        0o2000,
+    ),
+];
+
+#[test]
+fn link_takes_a_tape_a_map_a_bottom_and_objects(rt: HostRuntime) -> Result<(), Fail> {
+    for (words, map, bottom) in LINKS {
+        let task = plan(rt.alloc(), words)?;
+        let Task::Link(task) = task else {
+            return Err(Fail::new("no link"));
+        };
+        assert_eq!(rt; task.tape, "P.TAP");
+        assert_eq!(rt; task.map, map, "{words:?}");
+        assert_eq!(rt; task.bottom, bottom, "{words:?}");
+        assert_eq!(rt; task.objects.as_slice(), ["A.OBJ", "B.OBJ"].as_slice());
+    }
+    Ok(())
+}
+
+// Texts of a bottom that are refused, and the number of the fault of each.
+const BAD_BOTTOMS: [(&str, u8); 7] = [
+    ("", 3),
+    ("18", 3),
+    ("200000", 3),
+    ("1001", 4),
+    ("160001", 4),
+    ("160000", 5),
+    ("177776", 5),
+];
+
+#[test]
+fn a_bottom_is_octal_then_even_then_at_most_157776(rt: HostRuntime) {
+    for (text, number) in BAD_BOTTOMS {
+        let words = ["m11", "link", "-o", "A.TAP", "-b", text, "A.OBJ"];
+        match plan(rt.alloc(), words.as_slice()) {
+            Ok(_) => assert!(rt; false, "{text}"),
+            Err(fault) => assert_eq!(rt; fault.number(), number, "{text}"),
+        }
+    }
+}
+
+#[test]
+fn a_refused_bottom_is_told_before_a_file_is_opened(rt: HostRuntime) {
+    let lines = [
+        ("18", "?M11 USAGE 3 BadOctal\n"),
+        ("1001", "?M11 USAGE 4 OddAddress\n"),
+        ("160000", "?M11 USAGE 5 BadAddress\n"),
+    ];
+    for (text, told) in lines {
+        let words = ["m11", "link", "-o", "BOTTOM.TAP", "-b", text, "NONE.OBJ"];
+        assert_eq!(rt; linked(&rt, words.as_slice(), told), Some(2));
+    }
+}
+
+#[test]
+fn the_parser_refuses_before_a_bottom_is_looked_at(rt: HostRuntime) {
+    let words = ["m11", "link", "-b", "1001", "A.OBJ"];
+    let answer = plan(rt.alloc(), words.as_slice());
+    assert!(rt; matches!(answer, Err(UsageFault::Words(_))));
+}
 
 #[test]
 fn a_link_with_a_message_leaves_status_1(rt: HostRuntime) {
@@ -122,4 +217,102 @@ fn a_malformed_record_is_told_by_its_fault(rt: HostRuntime) -> Result<(), Fail> 
         assert!(rt; ends(&rt, LinkFault::Record(fault), 4, line)?, "{line}");
     }
     Ok(())
+}
+
+// The status of a command; `None` where it prints anything, or tells anything but `told`.
+fn linked(rt: &HostRuntime, words: &[&str], told: &str) -> Option<u8> {
+    let mut out = MemorySink::new(rt.alloc());
+    let mut err = MemorySink::new(rt.alloc());
+    let status = command(rt, &mut MemoryFeed::new(b""), &mut out, &mut err, words);
+    let is_told = out.bytes().is_empty() && err.bytes() == told.as_bytes();
+    is_told.then_some(status)
+}
+
+#[test]
+fn an_object_that_does_not_open_leaves_the_outputs_alone(rt: HostRuntime) -> Result<(), Fail> {
+    fs::write(&rt, "THERE.OBJ", ONE_WORD.as_slice())?;
+    let words = [
+        "m11",
+        "link",
+        "-o",
+        "THERE.TAP",
+        "-m",
+        "THERE.MAP",
+        "THERE.OBJ",
+        "NONE.OBJ",
+    ];
+    let told = "?M11 OPEN NONE.OBJ\n";
+    assert_eq!(rt; linked(&rt, words.as_slice(), told), Some(3));
+    assert!(rt; !fs::exists(&rt, "THERE.TAP")?);
+    assert!(rt; !fs::exists(&rt, "THERE.MAP")?);
+    remove(&rt, &["THERE.OBJ"])
+}
+
+#[test]
+fn a_tape_is_created_before_its_map(rt: HostRuntime) -> Result<(), Fail> {
+    fs::write(&rt, "ORDER.OBJ", ONE_WORD.as_slice())?;
+    let words = [
+        "m11",
+        "link",
+        "-o",
+        "NOWHERE/P.TAP",
+        "-m",
+        "ORDER.MAP",
+        "ORDER.OBJ",
+    ];
+    let told = "?M11 OPEN NOWHERE/P.TAP\n";
+    assert_eq!(rt; linked(&rt, words.as_slice(), told), Some(3));
+    assert!(rt; !fs::exists(&rt, "ORDER.MAP")?);
+    let words = [
+        "m11",
+        "link",
+        "-o",
+        "ORDER.TAP",
+        "-m",
+        "NOWHERE/P.MAP",
+        "ORDER.OBJ",
+    ];
+    let told = "?M11 OPEN NOWHERE/P.MAP\n";
+    assert_eq!(rt; linked(&rt, words.as_slice(), told), Some(3));
+    assert!(rt; is_empty(&rt, "ORDER.TAP"));
+    remove(&rt, &["ORDER.OBJ", "ORDER.TAP"])
+}
+
+#[test]
+fn a_refused_link_leaves_its_outputs_empty(rt: HostRuntime) -> Result<(), Fail> {
+    fs::write(&rt, "CUT.OBJ", &ONE_WORD[..78])?;
+    fs::write(&rt, "CUT.TAP", "a tape")?;
+    fs::write(&rt, "CUT.MAP", "a map")?;
+    let words = ["m11", "link", "-o", "CUT.TAP", "-m", "CUT.MAP", "CUT.OBJ"];
+    let told = "?M11 LINK 3 Block 2 Truncated\n";
+    assert_eq!(rt; linked(&rt, words.as_slice(), told), Some(4));
+    assert!(rt; is_empty(&rt, "CUT.TAP"));
+    assert!(rt; is_empty(&rt, "CUT.MAP"));
+    remove(&rt, &["CUT.OBJ", "CUT.TAP", "CUT.MAP"])
+}
+
+#[test]
+fn a_folder_as_an_object_cannot_be_read(rt: HostRuntime) -> Result<(), Fail> {
+    fs::create_dir(&rt, "OBJECTS")?;
+    let words = ["m11", "link", "-o", "FOLDER.TAP", "OBJECTS"];
+    let told = "?M11 LINK 1 Read\n";
+    assert_eq!(rt; linked(&rt, words.as_slice(), told), Some(3));
+    assert!(rt; is_empty(&rt, "FOLDER.TAP"));
+    remove(&rt, &["FOLDER.TAP"])?;
+    Ok(fs::remove_dir(&rt, "OBJECTS")?)
+}
+
+#[test]
+fn the_bottom_is_the_one_that_is_asked_for(rt: HostRuntime) -> Result<(), Fail> {
+    fs::write(&rt, "HIGH.OBJ", ONE_WORD.as_slice())?;
+    let words = ["m11", "link", "-o", "HIGH.TAP", "-b", "157776", "HIGH.OBJ"];
+    assert_eq!(rt; linked(&rt, words.as_slice(), ""), Some(0));
+    // Two of them end past 160000.
+    let words = [
+        "m11", "link", "-o", "HIGH.TAP", "-b", "157776", "HIGH.OBJ", "HIGH.OBJ",
+    ];
+    let told = "?M11 LINK 9 TooLarge\n";
+    assert_eq!(rt; linked(&rt, words.as_slice(), told), Some(6));
+    assert!(rt; is_empty(&rt, "HIGH.TAP"));
+    remove(&rt, &["HIGH.OBJ", "HIGH.TAP"])
 }

@@ -9,7 +9,7 @@ pub returns : goal.returns
 returns g c =
     let text = g.F.Feed.text in
     let faults = g.F.Feed.faults in
-    let sources = c.args.files.first.items in
+    let sources = c.args.files.sources.first.items in
     let ran : Runs text faults sources c.asm_run.new.first
     (texts (g.S.Sink.text c.args.files.object) None (g.E.Sink.text c.args.err.now))
     (texts (g.S.Sink.text c.asm_run.new.object) None (g.E.Sink.text c.asm_run.new.messages)) c.asm_run.result =
@@ -19,7 +19,7 @@ returns g c =
       sources' = seen text faults c.asm_run.new.first;
       object = output_of (g.S.Sink.text c.args.files.object) (g.S.Sink.faults c.args.files.object);
       object' = output_of (g.S.Sink.text c.asm_run.new.object) (g.S.Sink.faults c.asm_run.new.object);
-      counted = seen_count text faults sources ∙ sym c.args.files.first.ok.0;
+      counted = seen_count text faults sources ∙ sym c.args.files.sources.first.ok.0;
       runs = runs text faults _ _ _ _ c.asm_run.result ran;
       failures = c.asm_run.ensures.counted;
     }

@@ -1,6 +1,6 @@
 use Rattle.std.proofs.Common.{◌∙◌, codes}
 use Rattle.clap.specs.Words.{found_of}
-use Rattle.m11_cli.proofs.Starts.{err_is, start_refused}
+use Rattle.m11_cli.proofs.Addresses.{err_is, start_refused}
 use Rattle.m11_cli.proofs.tasks.start_given.Goals as goal
 
 pub returns-in_err-address-in-Some : goal.returns-in_err-address-in-Some
