@@ -1,0 +1,38 @@
+"""Runs a command and measures it, for the programs of this folder."""
+
+import os
+import re
+import subprocess
+import tempfile
+import time
+from collections import namedtuple
+from pathlib import Path
+
+# What a command printed, on both streams; its exit status; its seconds of the processor; and its highest resident
+# memory in KiB.
+Run = namedtuple("Run", "printed status seconds peak")
+
+
+def peak_of(pid):
+    """The highest resident memory so far, in KiB; 0 where the process has ended."""
+    try:
+        status = Path(f"/proc/{pid}/status").read_text(encoding="ascii")
+    except OSError:
+        return 0
+    found = re.search(r"VmHWM:\s*(\d+)", status)
+    return int(found.group(1)) if found else 0
+
+
+def measured(command, interval):
+    """The run of a command, whose memory is looked at once in so many seconds."""
+    with tempfile.TemporaryFile() as printed:
+        process = subprocess.Popen(command, stdin=subprocess.DEVNULL, stdout=printed, stderr=printed)
+        peak, ended = 0, 0
+        while not ended:
+            peak = max(peak, peak_of(process.pid))
+            time.sleep(interval)
+            ended, status, used = os.wait4(process.pid, os.WNOHANG)
+        process.returncode = os.waitstatus_to_exitcode(status)
+        printed.seek(0)
+        text = printed.read().decode("ascii", "replace")
+        return Run(text, process.returncode, used.ru_utime + used.ru_stime, peak)
