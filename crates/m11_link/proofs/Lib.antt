@@ -14,3 +14,4 @@ pub mod FirstRead
 pub mod Sole
 pub mod WritesLeft
 pub mod SecondRead
+pub mod Agreeing

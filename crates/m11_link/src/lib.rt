@@ -5,6 +5,7 @@
 mod emit;
 mod front;
 mod held;
+mod laws;
 mod lines;
 mod map_lines;
 mod outputs;
@@ -13,6 +14,7 @@ mod storing;
 mod telling;
 
 pub use emit::{Emit, LinkDone};
+pub use laws::plans_write_by_definition;
 pub use lines::{Line, different_line, multiple_line, undefined_line};
 pub use m11_layout::{Layout, LinkFault, LinkOutput, Plan};
 pub use map_lines::{global_line, limit_line, name_line, section_line, transfer_line};
