@@ -316,3 +316,59 @@ fn the_bottom_is_the_one_that_is_asked_for(rt: HostRuntime) -> Result<(), Fail> 
     assert!(rt; is_empty(&rt, "HIGH.TAP"));
     remove(&rt, &["HIGH.OBJ", "HIGH.TAP"])
 }
+
+// The tape of `ONE_WORD` at 1000: the word, and a transfer block that says no start.
+const ONE_WORD_TAPE: [u8; 16] = [
+    0o001, 0o000, 0o010, 0o000, 0o000, 0o002, 0o001, 0o000, 0o364, 0o001, 0o000, 0o006, 0o000,
+    0o001, 0o000, 0o370,
+];
+
+#[test]
+fn a_link_writes_its_tape_and_its_map(rt: HostRuntime) -> Result<(), Fail> {
+    fs::write(&rt, "ONE.OBJ", ONE_WORD.as_slice())?;
+    let words = ["m11", "link", "-o", "ONE.TAP", "-m", "ONE.MAP", "ONE.OBJ"];
+    assert_eq!(rt; linked(&rt, words.as_slice(), ""), Some(0));
+    assert_eq!(rt;
+        fs::read(&rt, "ONE.TAP")?.as_slice(),
+        ONE_WORD_TAPE.as_slice()
+    );
+    assert!(rt; !is_empty(&rt, "ONE.MAP"));
+    remove(&rt, &["ONE.OBJ", "ONE.TAP", "ONE.MAP"])
+}
+
+#[test]
+fn two_objects_of_one_module_name_are_linked(rt: HostRuntime) -> Result<(), Fail> {
+    fs::write(&rt, "TWICE.OBJ", ONE_WORD.as_slice())?;
+    let words = ["m11", "link", "-o", "TWICE.TAP", "TWICE.OBJ", "TWICE.OBJ"];
+    assert_eq!(rt; linked(&rt, words.as_slice(), ""), Some(0));
+    let run = ["m11", "sim", "-s", "1000", "-n", "0", "TWICE.TAP"];
+    let mut out = MemorySink::new(rt.alloc());
+    let mut err = MemorySink::new(rt.alloc());
+    let mut input = MemoryFeed::new(b"");
+    assert_eq!(rt;
+        command(&rt, &mut input, &mut out, &mut err, run.as_slice()),
+        1
+    );
+    assert!(rt; err.bytes().starts_with(b"LIMIT AFTER 0 STEPS\n"));
+    remove(&rt, &["TWICE.OBJ", "TWICE.TAP"])
+}
+
+// An object whose one word is that of the global G, which is defined nowhere.
+const UNDEFINED: [u8; 84] = [
+    0x01, 0x00, 0x1E, 0x00, 0x01, 0x00, 0x40, 0x51, 0x00, 0x00, 0x00, 0x00, 0x00, 0x00, 0x1C, 0x15,
+    0x40, 0x1F, 0x20, 0x05, 0x02, 0x00, 0xC0, 0x2B, 0x00, 0x00, 0x00, 0x04, 0x00, 0x00, 0xA9, 0x01,
+    0x00, 0x06, 0x00, 0x02, 0x00, 0xF7, 0x01, 0x00, 0x0E, 0x00, 0x04, 0x00, 0x07, 0x00, 0x1C, 0x15,
+    0x40, 0x1F, 0x00, 0x00, 0x56, 0x01, 0x00, 0x0A, 0x00, 0x03, 0x00, 0x00, 0x00, 0x01, 0x00, 0xF1,
+    0x01, 0x00, 0x0C, 0x00, 0x04, 0x00, 0x02, 0x04, 0xC0, 0x2B, 0x00, 0x00, 0xFE, 0x01, 0x00, 0x06,
+    0x00, 0x06, 0x00, 0xF3,
+];
+
+#[test]
+fn an_undefined_global_is_told_and_leaves_status_1(rt: HostRuntime) -> Result<(), Fail> {
+    fs::write(&rt, "UNDEF.OBJ", UNDEFINED.as_slice())?;
+    let words = ["m11", "link", "-o", "UNDEF.TAP", "UNDEF.OBJ"];
+    let told = "UNDEFINED GLOBAL G\n";
+    assert_eq!(rt; linked(&rt, words.as_slice(), told), Some(1));
+    assert!(rt; !is_empty(&rt, "UNDEF.TAP"));
+    remove(&rt, &["UNDEF.OBJ", "UNDEF.TAP"])
+}
