@@ -293,3 +293,6 @@ impl Emit {
         Ok(())
     }
 }
+
+#[cfg(test)]
+mod tests;
