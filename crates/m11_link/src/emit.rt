@@ -293,6 +293,3 @@ impl Emit {
         Ok(())
     }
 }
-
-#[cfg(test)]
-mod tests;
