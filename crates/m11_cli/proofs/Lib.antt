@@ -3,6 +3,7 @@ pub mod Commanded
 pub mod Decimals
 pub mod Entered
 pub mod Entries
+pub mod Linked
 pub mod Numbers
 pub mod Paths
 pub mod Sources

@@ -17,19 +17,19 @@ module _ {F : Type 0} (text : F → Option Text) (faults : F → ℕ) where
   seen_count [] = refl
   seen_count (x ∷ xs) = ap suc (seen_count xs)
 
-  give : (feeds : List F) (ss : List (List ℕ)) → GiveAll text feeds ss → GiveAll (λ s. s.text) (seen feeds) ss
+  pub give : (feeds : List F) (ss : List (List ℕ)) → GiveAll text feeds ss → GiveAll (λ s. s.text) (seen feeds) ss
   give [] [] g = tt
   give [] (s ∷ ss) g = absurd g
   give (x ∷ xs) [] g = absurd g
   give (x ∷ xs) (s ∷ ss) g = (g.0, give xs ss g.1)
 
-  none : (olds news : List F) → NoneFailed faults olds news → NoneFailed (λ s. s.faults) (seen olds) (seen news)
+  pub none : (olds news : List F) → NoneFailed faults olds news → NoneFailed (λ s. s.faults) (seen olds) (seen news)
   none [] [] n = tt
   none [] (y ∷ ys) n = absurd n
   none (x ∷ xs) [] n = absurd n
   none (x ∷ xs) (y ∷ ys) n = (n.0, none xs ys n.1)
 
-  one : (olds news : List F) (ss : List (List ℕ)) (beginning : List ℕ) → OneFailed text faults olds news ss beginning
+  pub one : (olds news : List F) (ss : List (List ℕ)) (beginning : List ℕ) → OneFailed text faults olds news ss beginning
       → OneFailed (λ s. s.text) (λ s. s.faults) (seen olds) (seen news) ss beginning
   one [] news ss beginning h = absurd h
   one (x ∷ xs) [] ss beginning h = absurd h

@@ -1,5 +1,5 @@
 -- What a command line makes of the three streams of its process, and of the files of its task. (This project's own.)
-use Rattle.std.specs.Prelude.{◌≡◌, ◌⊎◌, ℕ, List, Option, None, Any, IsSomeAnd, Result, Ok, Err, length}
+use Rattle.std.specs.Prelude.{◌≡◌, ◌⊎◌, ℕ, Bool, List, Option, None, Any, IsSomeAnd, Result, Ok, Err, is_some, length}
 use Rattle.std.specs.Io.KnownBytes.{Appends}
 use Rattle.clap.specs.Words.{Text}
 use Rattle.m11_base.specs.Devices.{Rises}
@@ -12,6 +12,11 @@ use Rattle.m11_asm.specs.declared.fault.AsmFault.TheVariants as asm
 use Rattle.m11_asm.specs.declared.run.AsmDone.{AsmDone}
 use Rattle.m11_cpu.specs.Dialogue.{Input, Output, both, input_of, output_of}
 use Rattle.m11_cpu.specs.Simulation.{Simulates}
+use Rattle.m11_layout.specs.declared.fault.LinkFault.{LinkFault}
+use Rattle.m11_layout.specs.declared.fault.LinkFault.TheVariants as link
+use Rattle.m11_link.specs.SecondReading as linking
+use Rattle.m11_link.specs.Writes as linked
+use Rattle.m11_link.specs.declared.emit.LinkDone.{LinkDone}
 use Rattle.m11_cli.specs.FaultLines.{line_of, open_line}
 use Rattle.m11_cli.specs.Tasks.{Plans}
 use Rattle.m11_cli.specs.declared.outcome.Outcome.{Outcome}
@@ -68,14 +73,44 @@ abbrev pub MayAssemble : ℕ → Output → Output → Result AsmDone AsmFault �
 MayAssemble count told told' answer =
     Assembles count told told' answer ⊎ ((answer ≡ Err asm.NoMemory) × (told' ≡ told))
 
--- what becomes of a task: one of its files does not open, and is told; or it is an assembly of its sources; or a link;
--- or it is a run of a tape by what the task says, which has the console
+-- the tape, the map if there is one, and the messages of a link
+abbrev pub link_outputs : Output → Option Output → Output → linked.Outputs
+link_outputs tape map told = linked.outputs (linked.output_of tape.text tape.faults)
+    (linked.optional_output (λ output. output.text) (λ output. output.faults) map)
+    (linked.output_of told.text told.faults)
+
+-- a link of so many objects, with a map or without one, from this bottom on: by texts that they gave in two readings, it
+-- wrote to the tape and to the map, and told what it is to
+pub record Links (count : ℕ) (has_map : Bool) (bottom : ℕ) (told told' : Output) (answer : Result LinkDone LinkFault)
+    : Type 0 where
+  pub first : List Input
+  pub first' : List Input
+  pub second : List Input
+  pub second' : List Input
+  pub tape : Output
+  pub tape' : Output
+  pub map : Option Output
+  pub map' : Option Output
+  pub counted : length first ≡ count
+  pub counted-again : length second ≡ count
+  pub asked : is_some map ≡ has_map
+  pub runs : linking.Runs (λ s. s.text) (λ s. s.faults) first first' second second' bottom
+      (link_outputs tape map told) (link_outputs tape' map' told') answer
+
+-- a link of so many objects, if memory is not refused while they are opened
+abbrev pub MayLink : ℕ → Bool → ℕ → Output → Output → Result LinkDone LinkFault → Type 0
+MayLink count has_map bottom told told' answer =
+    Links count has_map bottom told told' answer ⊎ ((answer ≡ Err link.NoMemory) × (told' ≡ told))
+
+-- what becomes of a task: one of its files does not open, and is told; or it is an assembly of its sources, or a link of
+-- its objects; or it is a run of a tape by what the task says, which has the console
 abbrev pub Carries : Task → Outcome → Streams → Streams → Type 0
 Carries task NotOpened old new = (new.input ≡ old.input) × (new.printed ≡ old.printed)
     × (path : List ℕ) × IsPathOf task path × Tells (open_line path) old.told new.told
 Carries (task.Asm asm) (Asm answer) old new = (new.input ≡ old.input) × (new.printed ≡ old.printed)
     × MayAssemble (length asm.sources.items) old.told new.told answer
 Carries (task.Link link) (Link answer) old new = (new.input ≡ old.input) × (new.printed ≡ old.printed)
+    × MayLink (length link.objects.items) (is_some link.map) link.bottom old.told new.told answer
 Carries (task.Sim sim) (Sim answer) old new = (tape : Input) × (tape' : Input)
     × Simulates sim.start sim.words sim.limit tape tape'
     (both old.input.text old.input.faults old.printed.text old.printed.faults)

@@ -1,10 +1,10 @@
 //! All of the program's work, over whatever opens files, feeds and takes bytes.
 
-ghost use Rattle.std.specs.Prelude.{◌≡◌, ◌≢◌, map, vec_len};
+ghost use Rattle.std.specs.Prelude.{◌≡◌, ◌≢◌, is_some, map, vec_len};
 ghost use Rattle.std.specs.IoError.{error_kind};
 ghost use Rattle.m11_cpu.specs.Dialogue.{Input, Output, both, input_of, output_of};
 ghost use Rattle.m11_cpu.specs.Simulation.{Simulates};
-ghost use Rattle.m11_cli.specs.Driver.{Assembles, Carries, ComesTo, Explains, Obeys, Tells, streams};
+ghost use Rattle.m11_cli.specs.Driver.{Assembles, Carries, ComesTo, Explains, Links, Obeys, Tells, streams};
 ghost use Rattle.m11_cli.specs.FaultLines.{line_of, open_line};
 ghost use Rattle.m11_cli.specs.Outcomes.{LeavesConsole, status_of};
 ghost use Rattle.m11_cli.specs.Tasks.{IsDoable};
@@ -200,12 +200,17 @@ fn link<R: Files + AllocGlobal, E: Sink>(rt: &R, err: &mut E, task: &LinkTask<'_
 }
 
 // A link of open files, whose messages go to `err`.
+#[tactic(auto, using(crate::proofs::Linked::link_runs, crate::proofs::Sources::seen_count))]
 fn run_link<F: Feed + Drop, S: Sink + Drop, E: Sink>(
     alloc: Global,
     files: LinkFiles<F, S>,
     bottom: u16,
     err: &mut E,
-) -> Result<LinkDone, LinkFault> {
+) -> Result<LinkDone, LinkFault>
+    requires { vec_len files.objects.second ≡ vec_len files.objects.first }
+    ensures { Links (vec_len files.objects.first) (is_some files.map) bottom
+        (output_of (E.text err.old) (E.faults err.old)) (output_of (E.text err.new) (E.faults err.new)) result }
+{
     let mut files = files;
     link_run(
         alloc,

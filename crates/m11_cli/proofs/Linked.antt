@@ -1,0 +1,99 @@
+-- What a link says of its feeds it says of their texts and counts of failures.
+use Rattle.std.proofs.Common.{◌≡◌, ℕ, List, inl, inr, refl, ap, option_map, Option, Some, None, Result, Ok, Err}
+use Rattle.std.specs.Option.{is_some}
+use Rattle.m11_base.specs.Feed.{Text}
+use Rattle.m11_cpu.specs.Dialogue.{Output, output_of}
+use Rattle.m11_layout.specs.Planning.{Planned}
+use Rattle.m11_layout.specs.declared.fault.LinkFault.{LinkFault}
+use Rattle.m11_layout.specs.declared.fault.LinkFault.TheVariants as fault
+use Rattle.m11_link.specs.FirstReading.{ReadsFirst}
+use Rattle.m11_link.specs.Objects.{Item, GiveItems, FailBehind}
+use Rattle.m11_link.specs.SecondReading.{ReadsSecond, Runs}
+use Rattle.m11_link.specs.Writes.{Outputs, optional_output}
+use Rattle.m11_link.specs.declared.emit.LinkDone.{LinkDone}
+use Rattle.m11_cli.proofs.Sources.{give, none, one, seen}
+
+-- an output that may be left out, as what it has taken and its count of failures
+abbrev pub seen_output : {S : Type 0} → (S → Option (List ℕ)) → (S → ℕ) → Option S → Option Output
+seen_output text faults map = option_map (λ s. output_of (text s) (faults s)) map
+
+pub same_output : {S : Type 0} (text : S → Option (List ℕ)) (faults : S → ℕ) (map : Option S)
+    → optional_output text faults map ≡ optional_output (λ o. o.text) (λ o. o.faults) (seen_output text faults map)
+same_output text faults None = refl
+same_output text faults (Some s) = refl
+
+pub same_presence : {S : Type 0} (text : S → Option (List ℕ)) (faults : S → ℕ) (map : Option S)
+    → is_some (seen_output text faults map) ≡ is_some map
+same_presence text faults None = refl
+same_presence text faults (Some s) = refl
+
+module _ {F : Type 0} (text : F → Option Text) (faults : F → ℕ) where
+  given : (feeds : List F) (items : List Item) → GiveItems text feeds items
+      → GiveItems (λ s. s.text) (seen text faults feeds) items
+  given feeds items h =
+      record { sources = h.sources; given = give text faults feeds h.sources h.given; are = h.are }
+
+  failed : (olds news : List F) (items : List Item) → FailBehind text faults olds news items
+      → FailBehind (λ s. s.text) (λ s. s.faults) (seen text faults olds) (seen text faults news) items
+  failed olds news items h = record {
+    sources = h.sources;
+    beginning = h.beginning;
+    failed = one text faults olds news h.sources h.beginning h.failed;
+    before = h.before;
+    own = h.own;
+    are = h.are;
+    begun = h.begun;
+    items-are = h.items-are;
+  }
+
+  first : (olds news : List F) (bottom : ℕ) (answer : Result Planned LinkFault)
+      → ReadsFirst text faults olds news bottom answer
+      → ReadsFirst (λ s. s.text) (λ s. s.faults) (seen text faults olds) (seen text faults news) bottom answer
+  first olds news bottom (Ok plan) h = (none text faults olds news h.0, h.1, given olds h.1 h.2, h.3, h.4, h.5)
+  first olds news bottom (Err fault.Read) h = (h.0, failed olds news h.0 h.1, h.2)
+  first olds news bottom (Err (fault.Block inner)) h = (none text faults olds news h.0, h.1, given olds h.1 h.2, h.3)
+  first olds news bottom (Err (fault.Record inner)) h = (none text faults olds news h.0, h.1, given olds h.1 h.2, h.3)
+  first olds news bottom (Err fault.BadOrder) h = (none text faults olds news h.0, h.1, given olds h.1 h.2, h.3)
+  first olds news bottom (Err fault.NoText) h = (none text faults olds news h.0, h.1, given olds h.1 h.2, h.3)
+  first olds news bottom (Err fault.BadDisplacement) h = (none text faults olds news h.0, h.1, given olds h.1 h.2, h.3)
+  first olds news bottom (Err fault.UnknownSection) h = (none text faults olds news h.0, h.1, given olds h.1 h.2, h.3)
+  first olds news bottom (Err fault.TooLarge) h = (none text faults olds news h.0, h.1, given olds h.1 h.2, h.3)
+  first olds news bottom (Err fault.TooManyGlobals) h = (none text faults olds news h.0, h.1, given olds h.1 h.2, h.3)
+  first olds news bottom (Err fault.TooManySections) h = (none text faults olds news h.0, h.1, given olds h.1 h.2, h.3)
+  first olds news bottom (Err fault.TooManyModules) h = (none text faults olds news h.0, h.1, given olds h.1 h.2, h.3)
+  first olds news bottom (Err fault.TooMuch) h = (none text faults olds news h.0, h.1, given olds h.1 h.2, h.3)
+  first olds news bottom (Err fault.TextOutside) h = (none text faults olds news h.0, h.1, given olds h.1 h.2, h.3)
+  first olds news bottom (Err (fault.Write output)) h = (none text faults olds news h.0, h.1, given olds h.1 h.2, h.3)
+  first olds news bottom (Err fault.NoMemory) h = none text faults olds news h
+
+  second : (olds news : List F) (plan : Planned) (old new : Outputs) (answer : Result LinkDone LinkFault)
+      → ReadsSecond text faults olds news plan old new answer
+      → ReadsSecond (λ s. s.text) (λ s. s.faults) (seen text faults olds) (seen text faults news) plan old new answer
+  second olds news plan old new (Ok done) h =
+      (none text faults olds news h.0, h.1, given olds h.1 h.2, h.3, h.4, h.5, h.6)
+  second olds news plan old new (Err fault.Read) h = (h.0, failed olds news h.0 h.1, h.2, h.3)
+  second olds news plan old new (Err (fault.Block inner)) h = (none text faults olds news h.0, h.1, given olds h.1 h.2, h.3, h.4)
+  second olds news plan old new (Err (fault.Record inner)) h = (none text faults olds news h.0, h.1, given olds h.1 h.2, h.3, h.4)
+  second olds news plan old new (Err fault.BadOrder) h = (none text faults olds news h.0, h.1, given olds h.1 h.2, h.3, h.4)
+  second olds news plan old new (Err fault.NoText) h = (none text faults olds news h.0, h.1, given olds h.1 h.2, h.3, h.4)
+  second olds news plan old new (Err fault.BadDisplacement) h = (none text faults olds news h.0, h.1, given olds h.1 h.2, h.3, h.4)
+  second olds news plan old new (Err fault.UnknownSection) h = (none text faults olds news h.0, h.1, given olds h.1 h.2, h.3, h.4)
+  second olds news plan old new (Err fault.TooLarge) h = (none text faults olds news h.0, h.1, given olds h.1 h.2, h.3, h.4)
+  second olds news plan old new (Err fault.TooManyGlobals) h = (none text faults olds news h.0, h.1, given olds h.1 h.2, h.3, h.4)
+  second olds news plan old new (Err fault.TooManySections) h = (none text faults olds news h.0, h.1, given olds h.1 h.2, h.3, h.4)
+  second olds news plan old new (Err fault.TooManyModules) h = (none text faults olds news h.0, h.1, given olds h.1 h.2, h.3, h.4)
+  second olds news plan old new (Err fault.TooMuch) h = (none text faults olds news h.0, h.1, given olds h.1 h.2, h.3, h.4)
+  second olds news plan old new (Err fault.TextOutside) h = (none text faults olds news h.0, h.1, given olds h.1 h.2, h.3, h.4)
+  second olds news plan old new (Err (fault.Write output)) h = (none text faults olds news h.0, h.1, given olds h.1 h.2, h.3, h.4)
+  second olds news plan old new (Err fault.NoMemory) h = (none text faults olds news h.0, h.1, given olds h.1 h.2, h.3, h.4)
+
+  pub link_runs : (olds news again later : List F) (bottom : ℕ) (old new : Outputs) (answer : Result LinkDone LinkFault)
+      → Runs text faults olds news again later bottom old new answer
+      → Runs (λ s. s.text) (λ s. s.faults) (seen text faults olds) (seen text faults news) (seen text faults again)
+      (seen text faults later) bottom old new answer
+  link_runs olds news again later bottom old new (Ok done) h =
+      (h.0, first olds news bottom (Ok h.0) h.1, second again later h.0 old new (Ok done) h.2)
+  link_runs olds news again later bottom old new (Err stopped) (inl h) =
+      inl (first olds news bottom (Err stopped) h.0, ap (seen text faults) h.1, h.2)
+  link_runs olds news again later bottom old new (Err stopped) (inr h) =
+      inr (h.0, first olds news bottom (Ok h.0) h.1, second again later h.0 old new (Err stopped) h.2)
