@@ -1,3 +1,7 @@
 //! Laws of links: what the definitions of the linker come to, in words of their own. Each is the contract of a
 //! function that does nothing; no other crate names them.
 #![tactic(auto)]
+
+mod places;
+
+pub use places::relocatable_sections_lie_in_order;
