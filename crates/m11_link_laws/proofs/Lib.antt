@@ -1,1 +1,2 @@
 pub mod LyingInOrder
+pub mod Contributions

@@ -1,9 +1,12 @@
--- Sections that lie one behind another. (MACRO-11 Language Reference Manual, ".PSECT directive": REL. That they lie in
--- the order of their first entries, without gaps, is this project's own.)
-use Rattle.std.specs.Prelude.{ℕ, ◌+◌, List, [], ◌∷◌, Bool}
+-- Sections that lie one behind another, and what modules enter of them. (MACRO-11 Language Reference Manual, ".PSECT
+-- directive": REL. That they lie in the order of their first entries, without gaps, is this project's own.)
+use Rattle.std.specs.Prelude.{ℕ, ◌+◌, Bool, List, [], ◌∷◌, Option}
 use Rattle.std.specs.List.{filter}
+use Rattle.std.specs.Map.{lookup}
+use Rattle.m11_modules.specs.Names.{is_name}
 use Rattle.m11_modules.specs.Parts.{Part}
-use Rattle.m11_modules.specs.Places.{section_names}
+use Rattle.m11_modules.specs.Places.{section_names, sections_in}
+use Rattle.m11_layout.specs.Modules.{module_at}
 use Rattle.m11_layout.specs.Sections.{first_attributes, is_relocatable, section_base, section_size}
 
 -- addresses from a base on, as many as the size tells
@@ -27,3 +30,7 @@ relocatable_names parts = filter (lies_from_bottom parts) (section_names parts)
 -- where a section lies
 abbrev pub span_of : ℕ → List Part → ℕ × ℕ → Span
 span_of bottom parts name = record { base = section_base bottom parts name; size = section_size parts name }
+
+-- the size of a section in the module of an index, if that module enters it
+abbrev pub size_entered : List Part → ℕ → ℕ × ℕ → Option ℕ
+size_entered parts index name = lookup (is_name name) (sections_in (module_at parts index))

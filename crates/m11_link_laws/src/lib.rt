@@ -4,4 +4,7 @@
 
 mod places;
 
-pub use places::relocatable_sections_lie_in_order;
+pub use places::{
+    contributions_lie_in_order, overlaid_contributions_begin_together,
+    relocatable_sections_lie_in_order,
+};
