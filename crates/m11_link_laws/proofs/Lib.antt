@@ -1,2 +1,3 @@
 pub mod LyingInOrder
 pub mod Contributions
+pub mod PlainTextsWritten

@@ -3,8 +3,13 @@
 #![tactic(auto)]
 
 mod places;
+mod texts;
 
 pub use places::{
     contributions_lie_in_order, overlaid_contributions_begin_together,
     relocatable_sections_lie_in_order,
 };
+pub use texts::unrelocated_texts_are_the_tape;
+
+#[cfg(test)]
+mod tests;

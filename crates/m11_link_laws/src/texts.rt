@@ -1,0 +1,23 @@
+//! Texts that no relocation changes.
+
+ghost use Rattle.std.specs.Prelude.{◌≡◌, false, List, [], ◌++◌, None};
+ghost use Rattle.std.specs.List.{flat_map, list_any};
+ghost use Rattle.m11_obj.specs.Tapes.{tape_block};
+ghost use Rattle.m11_modules.specs.Parts.{Part, EndOfFile};
+ghost use Rattle.m11_modules.specs.Rules.{fault_of, first_fault};
+ghost use Rattle.m11_layout.specs.declared.fault.LinkOutput.TheVariants.{Tape};
+ghost use Rattle.m11_link.specs.Findings.{Findings};
+ghost use Rattle.m11_link.specs.Writes.{gained};
+ghost use Rattle.m11_link.specs.Written.{link_writes};
+ghost use Rattle.m11_link_laws.specs.PlainTexts.{block_of, stores, texts_of};
+
+/// Where no relocation stores, the tape of whole modules has, text by text in their order, a block of the text's own
+/// bytes at the base of the section that it counts from plus its address, and behind them the transfer block. A text
+/// without data is no block.
+#[tactic(auto, using(crate::proofs::PlainTextsWritten::tape_of_texts))]
+pub fn unrelocated_texts_are_the_tape()
+    ensures { (found : Findings) (parts : List Part) → first_fault [] parts ≡ None → fault_of parts EndOfFile ≡ None
+        → list_any stores parts ≡ false
+        → gained Tape (link_writes found parts)
+        ≡ flat_map block_of (texts_of found parts) ++ tape_block found.transfer [] }
+{}
