@@ -42,16 +42,13 @@ told_later true true part name h = omega arith
 told_later true false part name h = absurd (true≢false (sym (h refl)))
 told_later false later part name h = omega arith
 
--- a size that is found is one of the sizes
 head_size : (first total rest : ℕ) → total ≡ 0 + (first + first % 2) + rest → first ≤ total
 head_size first total rest e = omega arith
-
-tail_size : (size more total rest : ℕ) → total ≡ 0 + more + rest → size ≤ rest → size ≤ total
-tail_size size more total rest e h = omega arith
 
 same_some : (a b : ℕ) → Some a ≡ Some b → a ≡ b
 same_some a b e = cc
 
+-- a size that is found is part of the sum
 sizes_found : (name : Name) (told : List (Name × ℕ)) (size : ℕ) → lookup (is_name name) told ≡ Some size
     → size ≤ rounded_sum (filter_map (size_under name) told)
 sizes_found name [] size e = absurd cc
@@ -67,6 +64,7 @@ sizes_found name (first ∷ told) size e = by (is_name name first.0) e (sizes_fo
         (head_size first.1 (rounded_sum (first.1 ∷ rest)) (rounded_sum rest) (sum_more (first.1 ∷ []) rest))
     by false e h = h e
 
+-- and no greater than the greatest
 greatest_found : (name : Name) (told : List (Name × ℕ)) (size : ℕ) → lookup (is_name name) told ≡ Some size
     → size ≤ greatest (map rounded (filter_map (size_under name) told))
 greatest_found name [] size e = absurd cc
