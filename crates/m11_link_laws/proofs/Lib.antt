@@ -1,3 +1,6 @@
 pub mod LyingInOrder
 pub mod Contributions
 pub mod PlainTextsWritten
+pub mod JoiningEnds
+pub mod JoiningFindings
+pub mod JoiningWrites

@@ -1,0 +1,125 @@
+-- The ends of files left out of parts in order: what a link writes of the parts stays.
+use Rattle.std.proofs.Common.{◌≡◌, ◌∙◌, ℕ, true, if◌then◌else◌, List, [], ◌∷◌, ◌++◌, Some, refl, sym, ap, ap₂, subst}
+use Rattle.std.specs.List.{cons_option}
+use Rattle.std.proofs.lemmas.Bool.{false≢true}
+use Rattle.m11_obj.specs.Tapes.{tape_block}
+use Rattle.m11_modules.specs.declared.stage.Stage.{Stage}
+use Rattle.m11_modules.specs.declared.stage.Stage.TheVariants.{Between, InBody}
+use Rattle.m11_modules.specs.Parts.{Part, Entry, Text, Relocations, Relocated, EndOfFile}
+use Rattle.m11_modules.specs.Places.{stage_from}
+use Rattle.m11_modules.specs.Rules.{may_stand}
+use Rattle.m11_link.specs.Findings.{Findings, findings_of}
+use Rattle.m11_link.specs.MapText.{front_writes}
+use Rattle.m11_link.specs.Writes.{to_tape}
+use Rattle.m11_link.specs.Written.{entry_writes, has_ended, link_writes, parts_writes, placed_text, relocations_behind, text_writes, with_relocations, writes_at, writes_behind}
+use Rattle.m11_link_laws.proofs.JoiningEnds.{current_same, end_left, kept, modules_same, without_append, without_ends}
+use Rattle.m11_link_laws.proofs.JoiningFindings.{defined_same, findings_same}
+
+-- ---- the order of records
+
+-- parts that stand where they may, from a stage on
+abbrev pub InOrder : Stage → List Part → Type 0
+InOrder stage [] = Unit {0}
+InOrder stage (part ∷ parts) = (may_stand part stage ≡ true) × InOrder (stage_from stage (part ∷ [])) parts
+
+text_in_body : (stage : Stage) (address : ℕ) (bytes : List ℕ) → may_stand (Text address bytes) stage ≡ true
+    → stage ≡ InBody
+text_in_body InBody address bytes h = refl
+text_in_body stage address bytes h = absurd (false≢true h)
+
+-- ---- texts, behind which no file ends in their module
+
+ended_same : (parts : List Part) → InOrder InBody parts → has_ended (without_ends parts) ≡ has_ended parts
+ended_same [] h = refl
+ended_same (Relocations ∷ parts) h = ended_same parts h.1
+ended_same (Relocated relocation ∷ parts) h = ended_same parts h.1
+ended_same (EndOfFile ∷ parts) h = absurd (false≢true h.0)
+ended_same (part ∷ parts) h = refl
+
+behind_same : (parts : List Part) → InOrder InBody parts
+    → relocations_behind (without_ends parts) ≡ relocations_behind parts
+behind_same [] h = refl
+behind_same (Relocations ∷ parts) h = behind_same parts h.1
+behind_same (Relocated relocation ∷ parts) h = ap (λ these. relocation ∷ these) (behind_same parts h.1)
+behind_same (EndOfFile ∷ parts) h = absurd (false≢true h.0)
+behind_same (part ∷ parts) h = refl
+
+-- ---- part by part
+
+module _ (found : Findings) where
+  text_same : (before parts : List Part) (address : ℕ) (bytes : List ℕ) → InOrder InBody parts
+      → writes_at found (without_ends before) (Text address bytes) (without_ends parts)
+      ≡ writes_at found before (Text address bytes) parts
+  unfolding writes_at
+  text_same before parts address bytes h = λ j.
+      if ended_same parts h j
+      then text_writes (with_relocations found
+      (placed_text found (modules_same before j) (current_same before j) address bytes) (behind_same parts h j))
+      else []
+
+  at_same : (stage : Stage) (before : List Part) (part : Part) (parts : List Part) → InOrder stage (part ∷ parts)
+      → writes_at found (without_ends before) part (without_ends parts) ≡ writes_at found before part parts
+  unfolding writes_at
+  at_same stage before (Entry entry) parts h = λ j.
+      entry_writes found (modules_same before j) (defined_same before j) entry
+  at_same stage before (Text address bytes) parts h =
+      text_same before parts address bytes
+      (let P : Stage → Type 0 = λ s. InOrder s parts in subst P (text_in_body stage address bytes h.0) h.1)
+  at_same stage before part parts h = refl
+
+  end_writes : (before parts : List Part)
+      → writes_behind found (before ++ EndOfFile ∷ []) parts ≡ writes_behind found before (EndOfFile ∷ parts)
+  unfolding writes_at
+  end_writes before parts = refl
+
+  more_written : (stage : Stage) (before : List Part) (part : Part) (parts : List Part) → kept part ≡ Some part
+      → InOrder stage (part ∷ parts)
+      → writes_behind found (without_ends (before ++ part ∷ [])) (without_ends parts)
+      ≡ writes_behind found (before ++ part ∷ []) parts
+      → writes_behind found (without_ends before) (part ∷ without_ends parts)
+      ≡ writes_behind found before (part ∷ parts)
+  more_written stage before part parts is h same =
+      ap (λ all. writes_at found (without_ends before) part (without_ends parts)
+      ++ writes_behind found all (without_ends parts))
+      (sym (without_append before (part ∷ []) ∙ ap (λ these. without_ends before ++ cons_option these []) is))
+      ∙ ap₂ (λ xs ys. xs ++ ys) (at_same stage before part parts h) same
+
+  behind_written : (stage : Stage) (before parts : List Part) → InOrder stage parts
+      → writes_behind found (without_ends before) (without_ends parts) ≡ writes_behind found before parts
+  behind_written stage before [] h = refl
+  behind_written stage before (EndOfFile ∷ parts) h =
+      ap (λ all. writes_behind found all (without_ends parts)) (sym (end_left before))
+      ∙ behind_written stage (before ++ EndOfFile ∷ []) parts h.1
+      ∙ end_writes before parts
+  behind_written stage before (part ∷ parts) h =
+      more_written stage before part parts refl h
+      (behind_written (stage_from stage (part ∷ [])) (before ++ part ∷ []) parts h.1)
+
+  parts_written : (parts : List Part) → InOrder Between parts
+      → parts_writes found (without_ends parts) ≡ parts_writes found parts
+  unfolding parts_writes
+  parts_written parts h = behind_written Between [] parts h
+
+link_written : (found : Findings) (parts : List Part) → InOrder Between parts
+    → link_writes found (without_ends parts) ≡ link_writes found parts
+link_written found parts h = ap (λ ws. (front_writes found ++ ws) ++ to_tape (tape_block found.transfer []) ∷ [])
+    (parts_written found parts h)
+
+-- ---- a whole link
+
+-- parts in order write what they write without the ends of files
+all_written : (bottom : ℕ) (parts : List Part) → InOrder Between parts
+    → link_writes (findings_of bottom (without_ends parts)) (without_ends parts)
+    ≡ link_writes (findings_of bottom parts) parts
+all_written bottom parts h =
+    ap (λ found. link_writes found (without_ends parts)) (findings_same bottom parts)
+    ∙ link_written (findings_of bottom parts) parts h
+
+-- parts that are the same but for the ends of files write the same
+pub written_alike : (bottom : ℕ) (parts others : List Part) → InOrder Between parts → InOrder Between others
+    → without_ends parts ≡ without_ends others
+    → link_writes (findings_of bottom parts) parts ≡ link_writes (findings_of bottom others) others
+written_alike bottom parts others h k same =
+    sym (all_written bottom parts h)
+    ∙ ap (λ these. link_writes (findings_of bottom these) these) same
+    ∙ all_written bottom others k
