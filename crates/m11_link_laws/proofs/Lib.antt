@@ -4,3 +4,5 @@ pub mod PlainTextsWritten
 pub mod JoiningEnds
 pub mod JoiningFindings
 pub mod JoiningWrites
+pub mod JoiningItems
+pub mod JoiningBytes

@@ -1,2 +1,3 @@
 pub mod Lying
 pub mod PlainTexts
+pub mod Joining

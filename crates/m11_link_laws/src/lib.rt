@@ -2,9 +2,11 @@
 //! function that does nothing; no other crate names them.
 #![tactic(auto)]
 
+mod joining;
 mod places;
 mod texts;
 
+pub use joining::joined_objects_link_alike;
 pub use places::{
     contributions_lie_in_order, overlaid_contributions_begin_together,
     relocatable_sections_lie_in_order,

@@ -1,16 +1,17 @@
-//! The laws as calls: each does nothing.
+//! Each law is a call that does nothing.
 
 use crate::{
-    contributions_lie_in_order, overlaid_contributions_begin_together,
+    contributions_lie_in_order, joined_objects_link_alike, overlaid_contributions_begin_together,
     relocatable_sections_lie_in_order, unrelocated_texts_are_the_tape,
 };
 use std::test::Fail;
 
 #[test]
-fn laws_of_places_and_texts_are_called(_rt: HostRuntime) -> Result<(), Fail> {
+fn each_law_is_a_call(_rt: HostRuntime) -> Result<(), Fail> {
     relocatable_sections_lie_in_order();
     contributions_lie_in_order();
     overlaid_contributions_begin_together();
     unrelocated_texts_are_the_tape();
+    joined_objects_link_alike();
     Ok(())
 }

@@ -1,0 +1,202 @@
+-- The bytes of files one behind another hold the blocks of each in order.
+use Rattle.std.proofs.Common.{◌≡◌, ◌∙◌, ℕ, ◌+◌, ◌*◌, ◌-◌, ◌≤◌, cond, ltb, eqb, List, [], ◌∷◌, ◌++◌, length, take, drop, append_assoc, append-nil, Ok, Err, refl, sym, ap, subst, arith, inl, inr}
+use Rattle.std.specs.List.{AllByRecursion, concat}
+use Rattle.std.proofs.lemmas.List.{map-append}
+use Rattle.m11_obj.specs.declared.block_fault.BlockFault.{BlockFault}
+use Rattle.m11_obj.specs.declared.block_fault.BlockFault.TheVariants as fault
+use Rattle.m11_obj.specs.Frames.{content_limit, header, sum_byte}
+use Rattle.m11_obj.specs.Limited.{Between, Inside, Read, ◌>>=◌, most_bytes}
+use Rattle.m11_obj.specs.Blocks.{AreRead, content_of, count, count_of, first_block, second, summed}
+use Rattle.m11_obj.proofs.BlockFrames.{begun, nothing_read, zero_in_front}
+use Rattle.m11_obj.proofs.BlockParts.{behind_content, behind_count, behind_second, behind_start}
+use Rattle.m11_obj.proofs.ReadSteps.{bind_err, chosen, done}
+use Rattle.m11_modules.specs.Parts.{Part}
+use Rattle.m11_link.specs.Objects.{AreItems, BlockOf, Item, ObjectEnds, ObjectItems, outcome, taken, taken_item}
+use Rattle.m11_link.specs.Objects as objects
+use Rattle.m11_link.proofs.ItemsTaken.{bind_ok}
+use Rattle.m11_link.proofs.Sole.{objects_same}
+use Rattle.m11_link.proofs.Steady.{block_shorter, block_steady, refuse}
+use Rattle.m11_link_laws.specs.Joining.{AreModules, LinkAlike}
+use Rattle.m11_link_laws.proofs.JoiningItems.{IsWhole, blocks, files_alike, files_items, joined_items}
+
+-- ---- inside a block the bytes don't end between blocks
+
+abbrev Begun : {A : Type 0} → (List ℕ → Read BlockFault A) → Type 0
+Begun read = (bytes : List ℕ) → read bytes ≡ Err Between → ⊥
+
+begun_then : {A B : Type 0} (first : List ℕ → Read BlockFault A) (then : A × List ℕ → Read BlockFault B)
+    → Begun first → ((x : A) → Begun (λ rest. then (x, rest))) → Begun (λ bytes. first bytes >>= then)
+begun_then first then f t bytes e =
+    elim (bind_err (first bytes) then Between e) [
+      | inl early ↦ f bytes early
+      | inr x ↦ t x.0.0 x.0.1 x.2
+    ]
+
+second_begun : Begun second
+second_begun [] e = cc
+second_begun (byte ∷ bytes) e =
+    elim (chosen (eqb byte 0) (done tt bytes) (refuse fault.BadStart bytes) (Err Between) e) [
+      | inl hit ↦ (let bad = hit.1 in cc)
+      | inr miss ↦ (let bad = miss.1 in cc)
+    ]
+
+count_of_begun : (n : ℕ) → Begun (count_of n)
+count_of_begun n bytes e =
+    elim (chosen (ltb n 4) (refuse fault.TooShort bytes)
+    (cond (ltb (content_limit + 4) n) (refuse fault.TooLong bytes) (done (n - 4) bytes)) (Err Between) e) [
+      | inl short ↦ (let bad = short.1 in cc)
+      | inr enough ↦ elim (chosen (ltb (content_limit + 4) n) (refuse fault.TooLong bytes) (done (n - 4) bytes)
+          (Err Between) enough.1) [
+            | inl long ↦ (let bad = long.1 in cc)
+            | inr fits ↦ (let bad = fits.1 in cc)
+          ]
+    ]
+
+count_begun : Begun count
+count_begun [] e = cc
+count_begun (low ∷ []) e = cc
+count_begun (low ∷ high ∷ bytes) e = count_of_begun (low + 256 * high) bytes e
+
+content_begun : (n : ℕ) → Begun (content_of n)
+content_begun n bytes e =
+    elim (chosen (ltb (length bytes) n) (Err Inside) (done (take n bytes) (drop n bytes)) (Err Between) e) [
+      | inl short ↦ (let bad = short.1 in cc)
+      | inr enough ↦ (let bad = enough.1 in cc)
+    ]
+
+summed_begun : (content : List ℕ) → Begun (summed content)
+summed_begun content [] e = cc
+summed_begun content (byte ∷ bytes) e =
+    elim (chosen (eqb byte (sum_byte (header (length content) ++ content))) (done content bytes)
+    (refuse fault.BadSum bytes) (Err Between) e) [
+      | inl hit ↦ (let bad = hit.1 in cc)
+      | inr miss ↦ (let bad = miss.1 in cc)
+    ]
+
+start_begun : Begun (λ rest. behind_start (tt, rest))
+start_begun = begun_then second behind_second second_begun
+    (λ x. begun_then count behind_count count_begun
+    (λ n. begun_then (content_of n) behind_content (content_begun n) summed_begun))
+
+-- ---- bytes behind others
+
+-- bytes that end between blocks are skipped
+skipped : (bytes behind : List ℕ) → first_block bytes ≡ Err Between → first_block (bytes ++ behind) ≡ first_block behind
+skipped [] behind e = refl
+skipped (byte ∷ bytes) behind e =
+    elim (begun byte bytes) [
+      | inl nul ↦
+          let P : ℕ → Type 0 = λ first. first_block (first ∷ (bytes ++ behind)) ≡ first_block behind in
+          subst P (sym nul.0) (zero_in_front (bytes ++ behind) ∙ skipped bytes behind (sym nul.1 ∙ e))
+      | inr other ↦ elim other [
+        | inl one ↦ absurd (start_begun bytes (sym one.1 ∙ e))
+        | inr refused ↦ absurd (let bad = sym refused ∙ e in cc)
+      ]
+    ]
+
+same_read : (contents : List (List ℕ)) (bytes others : List ℕ) → first_block others ≡ first_block bytes
+    → AreRead contents bytes → AreRead contents others
+same_read [] bytes others same h = same ∙ h
+same_read (content ∷ contents) bytes others same h = (h.0, same ∙ h.1, h.2)
+
+-- the blocks of bytes, and of others behind them
+read_then : (contents more : List (List ℕ)) (bytes behind : List ℕ) → AreRead contents bytes → AreRead more behind
+    → AreRead (contents ++ more) (bytes ++ behind)
+read_then [] more bytes behind h k = same_read more behind (bytes ++ behind) (skipped bytes behind h) k
+read_then (content ∷ contents) more bytes behind h k = (
+  h.0 ++ behind,
+  block_steady.ok bytes behind content h.0 h.1,
+  read_then contents more h.0 behind h.2 k,
+)
+
+-- ---- blocks as items
+
+-- the items of blocks, all within the limit
+within_items : (contents : List (List ℕ)) (room : ℕ) (bytes : List ℕ) → AreRead contents bytes → length bytes ≤ room
+    → ObjectItems room bytes (blocks contents ++ ObjectEnds ∷ [])
+within_items [] room bytes h le = objects.ObjectItems.Ends h le
+within_items (content ∷ contents) room bytes h le =
+    let shorter = block_shorter bytes content h.0 h.1 in
+    let left : ℕ = length h.0 + room - length bytes in
+    objects.ObjectItems.Begins {left = left} h.1 (omega (arith, shorter, le))
+    (within_items contents left h.0 h.2 (omega (arith, shorter, le)))
+
+-- what an object comes to where its items have no fault
+record Found (bytes : List ℕ) (items : List Item) : Type 0 where
+  pub contents : List (List ℕ)
+  pub read : AreRead contents bytes
+  pub is : items ≡ blocks contents ++ ObjectEnds ∷ []
+
+found : (room : ℕ) (bytes : List ℕ) (items : List Item) → ObjectItems room bytes items
+    → (before parts : List Part) → taken before items ≡ Ok parts → Found bytes items
+found room bytes _ (objects.ObjectItems.Begins {left = left} {rest = rest} {content = content} {items = items} e f h)
+    before parts t =
+    let first = bind_ok (taken_item before (BlockOf content)) (λ these. taken these items) parts t in
+    let more = found left rest items h first.0 parts first.2 in
+    record {
+      contents = content ∷ more.contents;
+      read = (rest, e, more.read);
+      is = ap (λ (these : List Item). BlockOf content ∷ these) more.is;
+    }
+found room bytes _ (objects.ObjectItems.Ends e le) before parts t = record { contents = []; read = e; is = refl }
+found room bytes _ (objects.ObjectItems.IsCut e le) before parts t = absurd cc
+found room bytes _ (objects.ObjectItems.IsBad e le) before parts t = absurd cc
+found room bytes _ (objects.ObjectItems.Passes lt short) before parts t = absurd cc
+
+-- ---- files
+
+abbrev all_contents : List (List (List ℕ)) → List (List ℕ)
+all_contents [] = []
+all_contents (contents ∷ files) = contents ++ all_contents files
+
+joined_blocks : (files : List (List (List ℕ))) → blocks (all_contents files) ++ ObjectEnds ∷ [] ≡ joined_items files
+joined_blocks [] = refl
+joined_blocks (contents ∷ files) =
+    ap (λ (these : List Item). these ++ ObjectEnds ∷ [])
+    (map-append (λ content. BlockOf content) contents (all_contents files))
+    ∙ append_assoc (blocks contents) (blocks (all_contents files)) (ObjectEnds ∷ [])
+    ∙ ap (λ (these : List Item). blocks contents ++ these) (joined_blocks files)
+
+-- the contents of the blocks of each file
+record Files (sources : List (List ℕ)) : Type 0 where
+  pub files : List (List (List ℕ))
+  pub whole : AllByRecursion IsWhole files
+  pub are : AreItems sources (files_items files)
+  pub joined : AreRead (all_contents files) (concat sources)
+
+files_of : (sources : List (List ℕ)) → AllByRecursion AreModules sources → Files sources
+files_of [] h = record { files = []; whole = tt; are = objects.Nothing; joined = nothing_read }
+files_of (source ∷ sources) h =
+    let f = found most_bytes source h.0.0 h.0.1 [] h.0.2 h.0.3 in
+    let more = files_of sources h.1 in
+    let P : List Item → Type 0 = λ items. AreItems (source ∷ sources) items in
+    record {
+      files = f.contents ∷ more.files;
+      whole = ((h.0.2, ap (λ (items : List Item). taken [] items) (sym f.is) ∙ h.0.3), more.whole);
+      are = subst P (ap (λ (items : List Item). items ++ files_items more.files) f.is
+          ∙ append_assoc (blocks f.contents) (ObjectEnds ∷ []) (files_items more.files))
+          (objects.Object h.0.1 more.are);
+      joined = read_then f.contents (all_contents more.files) source (concat sources) f.read more.joined;
+    }
+
+-- the items of the one file of all bytes
+joined_are : (sources : List (List ℕ)) (f : Files sources) → length (concat sources) ≤ most_bytes
+    → AreItems (concat sources ∷ []) (joined_items f.files)
+joined_are sources f le =
+    let P : List Item → Type 0 = λ items. AreItems (concat sources ∷ []) items in
+    subst P (append-nil (blocks (all_contents f.files) ++ ObjectEnds ∷ []) ∙ joined_blocks f.files)
+    (objects.Object (within_items (all_contents f.files) most_bytes (concat sources) f.joined le) objects.Nothing)
+
+-- a link of files, each of which is whole modules, is that of the one file of their bytes
+pub joined_alike : (bottom : ℕ) (sources : List (List ℕ)) (items joined : List Item)
+    → AllByRecursion AreModules sources → length (concat sources) ≤ most_bytes
+    → AreItems sources items → AreItems (concat sources ∷ []) joined
+    → LinkAlike bottom (outcome bottom items) (outcome bottom joined)
+joined_alike bottom sources items joined h le a b =
+    let f = files_of sources h in
+    let first = objects_same sources (files_items f.files) items f.are a in
+    let second = objects_same (concat sources ∷ []) (joined_items f.files) joined (joined_are sources f le) b in
+    let of_files = outcome bottom (files_items f.files) in
+    let P : List Item → Type 0 = λ these. LinkAlike bottom (outcome bottom these) (outcome bottom joined) in
+    let Q : List Item → Type 0 = λ these. LinkAlike bottom of_files (outcome bottom these) in
+    subst P first (subst Q second (files_alike bottom f.files f.whole))
