@@ -1,3 +1,4 @@
+pub mod Fronts
 pub mod Characters
 pub mod Digits
 pub mod Fuses

@@ -2,6 +2,7 @@
 //! devices that give and take bytes.
 #![tactic(auto)]
 
+mod buffered;
 mod decoding;
 mod encoding;
 mod fault;
@@ -18,6 +19,7 @@ mod rad50;
 mod sink;
 mod stream;
 
+pub use buffered::BufferedFeed;
 pub use decoding::{decode, decode_by_list};
 pub use encoding::encode;
 pub use fault::{DeviceFault, OctalFault, PutFault};

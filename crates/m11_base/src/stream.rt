@@ -86,8 +86,8 @@ fn read_byte<R: Read>(reader: &mut R) -> Result<Option<u8>, DeviceFault>
     Err(DeviceFault)
 }
 
-// A signal came in between, and the call may be made again.
-fn is_interrupted(error: &io::Error) -> bool {
+/// A signal came in between, and the call may be made again.
+pub(crate) fn is_interrupted(error: &io::Error) -> bool {
     matches!(error.kind(), ErrorKind::Interrupted)
 }
 

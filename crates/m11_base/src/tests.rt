@@ -1,6 +1,6 @@
 use super::*;
 use std::io;
-use std::io::{ErrorKind, Read, Write};
+use std::io::{BufReader, ErrorKind, Read, Write};
 use std::test::Fail;
 
 // A reader or writer whose second call answers an error and touches nothing.
@@ -87,6 +87,35 @@ fn an_interrupted_read_is_tried_again_and_a_failed_one_is_not(rt: HostRuntime) {
     assert_eq!(rt; feed.next(), Ok(Some(b'a')));
     assert_eq!(rt; feed.next(), Err(DeviceFault));
     assert_eq!(rt; feed.next(), Ok(Some(b'b')));
+}
+
+#[test]
+fn a_buffered_feed_gives_its_bytes_and_then_its_end(rt: HostRuntime) -> Result<(), Fail> {
+    let bytes: &[u8] = b"abc";
+    let mut feed = BufferedFeed::new(BufReader::with_capacity(rt.alloc(), 2, bytes)?);
+    assert_eq!(rt; feed.next(), Ok(Some(b'a')));
+    assert_eq!(rt; feed.next(), Ok(Some(b'b')));
+    assert_eq!(rt; feed.next(), Ok(Some(b'c')));
+    assert_eq!(rt; feed.next(), Ok(None));
+    assert_eq!(rt; feed.next(), Ok(None));
+    Ok(())
+}
+
+#[test]
+fn an_interrupted_filling_is_tried_again_and_a_failed_one_is_not(
+    rt: HostRuntime,
+) -> Result<(), Fail> {
+    let bytes: &[u8] = b"ab";
+    let interrupted = SecondCallFails::new(bytes, ErrorKind::Interrupted);
+    let mut feed = BufferedFeed::new(BufReader::with_capacity(rt.alloc(), 1, interrupted)?);
+    assert_eq!(rt; feed.next(), Ok(Some(b'a')));
+    assert_eq!(rt; feed.next(), Ok(Some(b'b')));
+    let failing = SecondCallFails::new(bytes, ErrorKind::Other);
+    let mut feed = BufferedFeed::new(BufReader::with_capacity(rt.alloc(), 1, failing)?);
+    assert_eq!(rt; feed.next(), Ok(Some(b'a')));
+    assert_eq!(rt; feed.next(), Err(DeviceFault));
+    assert_eq!(rt; feed.next(), Ok(Some(b'b')));
+    Ok(())
 }
 
 #[test]

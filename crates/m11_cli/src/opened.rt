@@ -6,7 +6,7 @@ ghost use Rattle.m11_cli.specs.Opened.{IsAsmPath, IsLinkPath, NamesOneOf, NamesP
 ghost use Rattle.m11_cli.specs.declared.opened.OpenFault.TheVariants.{NotOpened, NoMemory};
 
 use crate::tasks::{AsmTask, LinkTask};
-use m11_base::{ReaderFeed, WriterSink};
+use m11_base::{BufferedFeed, WriterSink};
 use std::alloc::AllocFailed;
 use std::io::{BufReader, ErrorKind};
 use std::rt::Files;
@@ -30,7 +30,7 @@ impl<T: Drop> From<AllocFailed<T>> for OpenFault<'_> {
 }
 
 /// A source, an object or a tape, read through a buffer.
-pub(crate) type Source<F> = ReaderFeed<BufReader<F>>;
+pub(crate) type Source<F> = BufferedFeed<F>;
 
 /// Inputs that are read twice: each is there for either reading.
 #[derive(Drop)]
@@ -130,7 +130,7 @@ pub(crate) fn open_source<'a, R: Files + AllocGlobal>(
         Err(error) => return Err(open_fault(&error, path)),
     };
     match BufReader::new(rt.alloc(), file) {
-        Ok(reader) => Ok(ReaderFeed::new(reader)),
+        Ok(reader) => Ok(BufferedFeed::new(reader)),
         Err(_) => Err(OpenFault::NoMemory),
     }
 }

@@ -1,0 +1,131 @@
+//! A feed over the buffered reader of the standard library.
+
+ghost use Rattle.std.specs.Prelude.{◌≡◌, MatchResult, MatchOption, OnSome, [], ◌∷◌};
+ghost use Rattle.std.specs.Io.Buffered.{reader_remaining};
+ghost use Rattle.std.specs.Io.KnownBytes.{Consumes, IsAtEnd, Keeps};
+ghost use Rattle.m11_base.specs.Feed.{text_of_reader};
+
+use crate::fault::DeviceFault;
+use crate::feed::Feed;
+use crate::stream::is_interrupted;
+use std::io;
+use std::io::{BufRead, BufReader, Read};
+
+/// Gives the bytes of a buffered reader, a byte from its buffer a call. The reader reads ahead, so this is
+/// for files, not for someone who types. A read that a signal interrupted is tried again. After
+/// 18,446,744,073,709,551,615 bytes it fails at each call.
+#[derive(Drop)]
+pub struct BufferedFeed<R> {
+    reader: BufReader<R>,
+    budget: u64,
+    faults: u64,
+}
+
+impl<R: Read> BufferedFeed<R> {
+    /// A feed of what is left in `reader`.
+    pub fn new(reader: BufReader<R>) -> BufferedFeed<R>
+        ensures text { ⟦<BufferedFeed<R> as Feed>⟧.text result ≡ text_of_reader (reader_remaining R.remaining reader) }
+        ensures unfailed { ⟦<BufferedFeed<R> as Feed>⟧.faults result ≡ 0 }
+    {
+        BufferedFeed {
+            reader,
+            budget: u64::MAX,
+            faults: 0,
+        }
+    }
+}
+
+impl<R: Read> Feed for BufferedFeed<R> {
+    ghost text = { λ s. text_of_reader (reader_remaining R.remaining s.reader) };
+
+    ghost faults = { λ s. s.faults };
+
+    ghost left = { λ s. s.budget };
+
+    #[inline]
+    fn next(&mut self) -> Result<Option<u8>, DeviceFault> {
+        if self.faults == u64::MAX {
+            return Err(DeviceFault);
+        }
+        if self.budget == 0 {
+            self.faults += 1;
+            return Err(DeviceFault);
+        }
+        match take_byte(&mut self.reader) {
+            Ok(Some(byte)) => {
+                self.budget -= 1;
+                Ok(Some(byte))
+            }
+            Ok(None) => Ok(None),
+            Err(_) => {
+                self.faults += 1;
+                Err(DeviceFault)
+            }
+        }
+    }
+}
+
+// The next byte, or `None` at the end: most are in the buffer.
+#[tactic(auto, using(crate::proofs::Fronts::front_taken))]
+#[inline(always)]
+fn take_byte<R: Read>(reader: &mut BufReader<R>) -> Result<Option<u8>, DeviceFault>
+    ensures { MatchResult result
+        (λ byte. MatchOption byte
+        (Consumes (reader_remaining R.remaining reader.old) (reader_remaining R.remaining reader.new) []
+        × OnSome (reader_remaining R.remaining reader.old) (IsAtEnd (reader_remaining R.remaining reader.new)))
+        (λ b. Consumes (reader_remaining R.remaining reader.old) (reader_remaining R.remaining reader.new) (b ∷ [])))
+        (λ _. Keeps (reader_remaining R.remaining reader.old) (reader_remaining R.remaining reader.new)) }
+{
+    match reader.buffer().first().copied() {
+        Some(byte) => {
+            reader.consume(1);
+            Ok(Some(byte))
+        }
+        None => fill_and_take(reader),
+    }
+}
+
+// The same where the buffer may be empty. It isn't inlined, so that what calls it can be.
+#[inline(never)]
+fn fill_and_take<R: Read>(reader: &mut BufReader<R>) -> Result<Option<u8>, DeviceFault>
+    ensures { MatchResult result
+        (λ byte. MatchOption byte
+        (Consumes (reader_remaining R.remaining reader.old) (reader_remaining R.remaining reader.new) []
+        × OnSome (reader_remaining R.remaining reader.old) (IsAtEnd (reader_remaining R.remaining reader.new)))
+        (λ b. Consumes (reader_remaining R.remaining reader.old) (reader_remaining R.remaining reader.new) (b ∷ [])))
+        (λ _. Keeps (reader_remaining R.remaining reader.old) (reader_remaining R.remaining reader.new)) }
+{
+    'tries: for _ in 0..u64::MAX {
+        match take_front(reader) {
+            Ok(byte) => return Ok(byte),
+            Err(error) => {
+                if !is_interrupted(&error) {
+                    return Err(DeviceFault);
+                }
+            }
+        }
+    }
+    Err(DeviceFault)
+}
+
+// One try at the first byte of the buffer, which is filled where it is empty.
+fn take_front<R: BufRead>(reader: &mut R) -> io::Result<Option<u8>>
+    ensures { MatchResult result
+        (λ byte. MatchOption byte
+        (Consumes (R.Read.remaining reader.old) (R.Read.remaining reader.new) []
+        × OnSome (R.Read.remaining reader.old) (IsAtEnd (R.Read.remaining reader.new)))
+        (λ b. Consumes (R.Read.remaining reader.old) (R.Read.remaining reader.new) (b ∷ [])))
+        (λ _. Keeps (R.Read.remaining reader.old) (R.Read.remaining reader.new)) }
+{
+    let front = match reader.fill_buf() {
+        Ok(available) => available.first().copied(),
+        Err(error) => return Err(error),
+    };
+    match front {
+        Some(byte) => {
+            reader.consume(1);
+            Ok(Some(byte))
+        }
+        None => Ok(None),
+    }
+}
