@@ -6,3 +6,11 @@ pub mod JoiningFindings
 pub mod JoiningWrites
 pub mod JoiningItems
 pub mod JoiningBytes
+pub mod MovingNumbers
+pub mod MovingFindings
+pub mod MovingStored
+pub mod MovingLaws
+pub mod MovingFront
+pub mod MovingShapes
+pub mod MovingWithin
+pub mod MovingBytes

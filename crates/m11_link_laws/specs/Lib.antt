@@ -1,3 +1,4 @@
 pub mod Lying
 pub mod PlainTexts
 pub mod Joining
+pub mod Moving

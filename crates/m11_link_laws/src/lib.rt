@@ -3,10 +3,17 @@
 #![tactic(auto)]
 
 mod joining;
+mod moving;
 mod places;
 mod texts;
 
 pub use joining::joined_objects_link_alike;
+pub use moving::{
+    moving_the_bottom_moves_blocks, moving_the_bottom_moves_stored_values,
+    moving_the_bottom_moves_texts, moving_the_bottom_moves_the_link,
+    moving_the_bottom_moves_what_is_relocated, moving_the_bottom_wraps_no_base,
+    what_moves_together_stays,
+};
 pub use places::{
     contributions_lie_in_order, overlaid_contributions_begin_together,
     relocatable_sections_lie_in_order,

@@ -1,0 +1,242 @@
+-- What moves where the bottom of a link moves: all that counts from the contribution of a module to a relocatable
+-- section, by the distance; nothing else. (RT-11 Volume and File Formats Manual, "Object file format", GSD and RLD
+-- blocks. What moves how far is this project's own: it names what Sections.antt, Globals.antt and Transfers.antt of the
+-- layout and Storing.antt of the linker come to.)
+use Rattle.std.specs.Prelude.{◌≡◌, ℕ, ◌+◌, ◌-◌, ◌%◌, Bool, true, false, ◌&&◌, ◌||◌, not, nat_le, nat_lt, List, [], ◌∷◌, ◌++◌, length, map, option_map, is_some, Option, Some, None, if◌then◌else◌}
+use Rattle.std.specs.List.{find, list_all}
+use Rattle.std.specs.Map.{lookup}
+use Rattle.m11_obj.specs.Frames.{word_bytes}
+use Rattle.m11_obj.specs.declared.relocations.Relocation.{Relocation}
+use Rattle.m11_obj.specs.declared.relocations.Target.{Target}
+use Rattle.m11_obj.specs.declared.relocations.Target.TheVariants as target
+use Rattle.m11_modules.specs.Names.{is_name}
+use Rattle.m11_modules.specs.Parts.{Part, Text}
+use Rattle.m11_modules.specs.Places.{current_section, modules_in, sections_in, this_module}
+use Rattle.m11_modules.specs.Rules.{lies_within, width_of}
+use Rattle.m11_layout.specs.Globals.{first_definition}
+use Rattle.m11_layout.specs.Modules.{module_at}
+use Rattle.m11_layout.specs.Sections.{first_attributes, is_relocatable}
+use Rattle.m11_layout.specs.Transfers.{is_even, transfer_value, transfers_of}
+use Rattle.m11_layout.specs.declared.definition.Definition.{Definition}
+use Rattle.m11_layout.specs.declared.definition.GlobalPlace.{GlobalPlace}
+use Rattle.m11_layout.specs.declared.definition.GlobalPlace.TheVariants.{Absolute, In}
+use Rattle.m11_layout.specs.declared.definition.Transfer.{Transfer}
+use Rattle.m11_layout.specs.declared.fault.LinkOutput.{LinkOutput}
+use Rattle.m11_layout.specs.declared.planned.PlannedGlobal.{PlannedGlobal}
+use Rattle.m11_layout.specs.declared.planned.PlannedSection.{PlannedSection}
+use Rattle.m11_link.specs.Findings.{Findings}
+use Rattle.m11_link.specs.Storing.{modulo, replaced, value_bytes, value_of}
+use Rattle.m11_link.specs.Writes.{Write}
+use Rattle.m11_link.specs.Written.{PlacedText, has_ended, placed_text, relocations_behind, text_writes, writes_at}
+
+-- ---- what moves
+
+-- a section, by the attributes of its first entry
+abbrev pub section_moves : List Part → ℕ × ℕ → Bool
+section_moves parts name = is_relocatable (first_attributes parts name)
+
+-- the contribution of the module of an index, where the module enters the section; where it doesn't, it stands at 0
+abbrev pub moves : List Part → ℕ → ℕ × ℕ → Bool
+moves parts index name =
+    is_some (lookup (is_name name) (sections_in (module_at parts index))) && section_moves parts name
+
+-- a global, with the contribution that its first definition stands behind
+abbrev pub place_moves : List Part → ℕ → GlobalPlace → Bool
+place_moves parts index (Absolute value) = false
+place_moves parts index (In section value) = moves parts index section
+
+abbrev pub definition_moves : List Part → Option Definition → Bool
+definition_moves parts None = false
+definition_moves parts (Some definition) = place_moves parts definition.module_index definition.place
+
+unfoldable pub global_moves : List Part → ℕ × ℕ → Bool
+global_moves parts name = definition_moves parts (first_definition parts name)
+
+-- the transfer entry that counts: the first one with an even address
+unfoldable pub counting_transfer : ℕ → List Part → Option Transfer
+counting_transfer bottom parts = find (λ transfer. is_even (transfer_value bottom parts transfer)) (transfers_of parts)
+
+-- the transfer address, with the contribution that this entry names
+abbrev pub transfer_moves : List Part → Option Transfer → Bool
+transfer_moves parts None = false
+transfer_moves parts (Some transfer) = moves parts transfer.module_index transfer.section
+
+-- what a relocation names, in a text of the module of an index, whose own contribution moves or not. The constant of an
+-- internal displaced one is an absolute address
+abbrev pub target_moves : List Part → ℕ → Bool → Target → Bool
+target_moves parts index own (target.Internal constant) = own
+target_moves parts index own (target.Global name) = global_moves parts name
+target_moves parts index own (target.GlobalDisplaced name) = global_moves parts name
+target_moves parts index own (target.GlobalAdditive name constant) = global_moves parts name
+target_moves parts index own (target.GlobalAdditiveDisplaced name constant) = global_moves parts name
+target_moves parts index own (target.Section name) = moves parts index name
+target_moves parts index own (target.SectionDisplaced name) = moves parts index name
+target_moves parts index own (target.SectionAdditive name constant) = moves parts index name
+target_moves parts index own (target.SectionAdditiveDisplaced name constant) = moves parts index name
+target_moves parts index own other = false
+
+-- whether a value is counted from the place where it is stored
+abbrev pub is_displaced : Target → Bool
+is_displaced (target.InternalDisplaced constant) = true
+is_displaced (target.GlobalDisplaced name) = true
+is_displaced (target.GlobalAdditiveDisplaced name constant) = true
+is_displaced (target.SectionDisplaced name) = true
+is_displaced (target.SectionAdditiveDisplaced name constant) = true
+is_displaced other = false
+
+-- ---- how far
+
+-- the base of a section, which is told as it is
+abbrev pub farther : ℕ → Bool → ℕ → ℕ
+farther distance does_move base = if does_move then base + distance else base
+
+-- an address
+abbrev pub moved : ℕ → Bool → ℕ → ℕ
+moved distance does_move address = if does_move then modulo (address + distance) else address
+
+-- a stored number below a modulus: one more distance where the target moves alone, one less where only the place that
+-- it counts from moves, and the same where both move or neither
+abbrev pub number_moved : ℕ → ℕ → Bool → Bool → ℕ → ℕ
+number_moved modulus distance true true number = number
+number_moved modulus distance true false number = (number + distance) % modulus
+number_moved modulus distance false true number = (number + (modulus - distance % modulus)) % modulus
+number_moved modulus distance false false number = number
+
+-- ---- what is told of the link
+
+abbrev pub section_moved : ℕ → PlannedSection → PlannedSection
+section_moved distance section = record section {
+  base = farther distance (is_relocatable section.attributes.0) section.base;
+}
+
+abbrev pub global_moved : ℕ → List Part → PlannedGlobal → PlannedGlobal
+global_moved distance parts global = record global {
+  value = moved distance (global_moves parts global.name) global.value;
+}
+
+-- the findings of the same parts at two bottoms: names, sizes, attributes and references are the same. An even distance
+-- leaves odd what was odd, so that the same transfer entry counts
+pub record Moved (distance : ℕ) (parts : List Part) (near far : Findings) : Type 0 where
+  pub base : (index : ℕ) (name : ℕ × ℕ)
+      → far.base index name ≡ moved distance (moves parts index name) (near.base index name)
+  pub value : (name : ℕ × ℕ) → far.value name ≡ option_map (moved distance (global_moves parts name)) (near.value name)
+  pub attributes : (name : ℕ × ℕ) → far.attributes name ≡ near.attributes name
+  pub module_name : (index : ℕ) → far.module_name index ≡ near.module_name index
+  pub sections : far.sections ≡ map (section_moved distance) near.sections
+  pub globals : far.globals ≡ map (global_moved distance parts) near.globals
+  pub references : far.references ≡ near.references
+  pub transfer : distance % 2 ≡ 0
+      → far.transfer ≡ moved distance (transfer_moves parts (counting_transfer near.bottom parts)) near.transfer
+  pub bottom : far.bottom ≡ near.bottom + distance
+  pub top : far.top ≡ near.top + distance
+
+-- the same as one answer, for an even distance
+abbrev pub findings_moved : ℕ → List Part → Findings → Findings
+findings_moved distance parts near = record {
+  base = λ index name. moved distance (moves parts index name) (near.base index name);
+  value = λ name. option_map (moved distance (global_moves parts name)) (near.value name);
+  attributes = near.attributes;
+  module_name = near.module_name;
+  sections = map (section_moved distance) near.sections;
+  globals = map (global_moved distance parts) near.globals;
+  references = near.references;
+  transfer = moved distance (transfer_moves parts (counting_transfer near.bottom parts)) near.transfer;
+  bottom = near.bottom + distance;
+  top = near.top + distance;
+}
+
+-- ---- texts, and what is stored in them
+
+abbrev pub text_moved : ℕ → Bool → PlacedText → PlacedText
+text_moved distance does_move text = record text {
+  base = moved distance does_move text.base;
+  address = moved distance does_move text.address;
+}
+
+-- the value of a target at a location, behind this base, that moves with its text or not
+abbrev pub value_moved : ℕ → List Part → Findings → ℕ → ℕ → ℕ → Bool → Target → ℕ
+value_moved distance parts near index own location does_move named =
+    number_moved 0o200000 distance (target_moves parts index does_move named) (is_displaced named && does_move)
+    (value_of near index own location named)
+
+-- the bytes that a relocation stores then
+abbrev pub bytes_moved : ℕ → List Part → Findings → ℕ → ℕ → ℕ → Bool → Bool → Target → List ℕ
+bytes_moved distance parts near index own location does_move is_byte target.ProgramLimits =
+    word_bytes (near.bottom + distance) ++ word_bytes (near.top + distance)
+bytes_moved distance parts near index own location does_move is_byte (target.LocationCounterDefinition name constant) =
+    []
+bytes_moved distance parts near index own location does_move is_byte (target.LocationCounterModification constant) = []
+bytes_moved distance parts near index own location does_move is_byte other =
+    value_bytes is_byte (value_moved distance parts near index own location does_move other)
+
+-- a text with relocations, each of which stores what it stores then
+abbrev pub relocation_moved : ℕ → List Part → Findings → Bool → PlacedText → Relocation → PlacedText
+relocation_moved distance parts near does_move text relocation =
+    let index = relocation.displacement - 4 in
+    let location = modulo (text.address + index) in
+    let bytes = bytes_moved distance parts near text.module_index text.base location does_move relocation.is_byte
+    relocation.target in
+    record text {
+      bytes = if lies_within relocation (length text.bytes) then replaced text.bytes index bytes else text.bytes;
+    }
+
+abbrev pub relocations_moved : ℕ → List Part → Findings → Bool → PlacedText → List Relocation → PlacedText
+relocations_moved distance parts near does_move text [] = text
+relocations_moved distance parts near does_move text (relocation ∷ relocations) =
+    relocations_moved distance parts near does_move (relocation_moved distance parts near does_move text relocation)
+    relocations
+
+-- ---- the writes of parts
+
+-- a text that has ended is a block at the moved address
+abbrev pub ended_moved : ℕ → List Part → Findings → Bool → PlacedText → List Part → List Write
+ended_moved distance parts near does_move text behind =
+    if has_ended behind
+    then text_writes (text_moved distance does_move
+    (relocations_moved distance parts near does_move text (relocations_behind behind))) else []
+
+-- a part in its place; messages stay
+unfoldable pub part_moved : ℕ → List Part → Findings → List Part → Part → List Part → List Write
+part_moved distance parts near before (Text address bytes) behind =
+    let index = modules_in before in
+    let section = current_section (this_module before) in
+    ended_moved distance parts near (moves parts index section) (placed_text near index section address bytes) behind
+part_moved distance parts near before other behind = writes_at near before other behind
+
+abbrev pub moved_behind : ℕ → List Part → Findings → List Part → List Part → List Write
+moved_behind distance parts near before [] = []
+moved_behind distance parts near before (part ∷ others) =
+    part_moved distance parts near before part others ++ moved_behind distance parts near (before ++ part ∷ []) others
+
+-- the output of a write, and how many bytes it has
+abbrev pub shape_of : Write → LinkOutput × ℕ
+shape_of write = (write.output, length write.bytes)
+
+-- ---- what stays
+
+abbrev pub stores_limits : Target → Bool
+stores_limits target.ProgramLimits = true
+stores_limits other = false
+
+-- a relocation stores the same where what it names moves and so does the place that it counts from, or neither moves
+abbrev pub is_alike : Bool → Bool → Bool
+is_alike true other = other
+is_alike false other = not other
+
+abbrev pub target_stays : List Part → ℕ → Bool → Target → Bool
+target_stays parts index does_move named = not (stores_limits named)
+    && is_alike (target_moves parts index does_move named) (is_displaced named && does_move)
+
+abbrev pub all_stay : List Part → ℕ → Bool → List Relocation → Bool
+all_stay parts index does_move relocations =
+    list_all (λ relocation. target_stays parts index does_move relocation.target) relocations
+
+-- whether a relocation stores a byte at a place in the text, counted from its first byte
+abbrev pub covers : ℕ → Relocation → Bool
+covers place relocation = nat_le relocation.displacement (4 + place)
+    && nat_lt (4 + place) (relocation.displacement + width_of relocation.is_byte relocation.target)
+
+-- the byte at a place stays where no relocation covers it but those that store the same
+abbrev pub byte_stays : List Part → ℕ → Bool → List Relocation → ℕ → Bool
+byte_stays parts index does_move relocations place = list_all (λ relocation.
+    target_stays parts index does_move relocation.target || not (covers place relocation)) relocations
