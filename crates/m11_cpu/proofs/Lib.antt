@@ -13,6 +13,7 @@ pub mod MemoryKept
 pub mod Parts
 pub mod PlacesStored
 pub mod QuickDone
+pub mod QuickJumps
 pub mod RegistersPut
 pub mod RunsDone
 pub mod RunsJoined

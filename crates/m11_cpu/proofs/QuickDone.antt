@@ -52,7 +52,7 @@ chosen true inside a b c e = absurd (false≢true e)
 first : {A : Type 0} (inside : Bool) (b c : A) → inside ≡ true → cond inside b c ≡ b
 first {A = A} inside b c e = ap (λ (t : Bool). cond t b c) e
 
-word_loads : (address : ℕ) (m : Machine) → is_plain Word address m.memory ≡ true
+pub word_loads : (address : ℕ) (m : Machine) → is_plain Word address m.memory ≡ true
     → load_word address m ≡ Comes (Ok (word_at m.memory address), m)
 unfolding load_word
 word_loads address m e = chosen (is_odd address) (nat_lt address (length m.memory)) _ _ _ e
@@ -177,11 +177,12 @@ by_index operand size a m n e f =
     placed operand size m mode.Index e ∙ bind_at (indexed operand.register) _ m n a f
 
 -- a register that is put back
-put_back : (register : Register) (v old : ℕ) (m n k : Machine) → old ≡ register_of register m
+pub put_back : (register : Register) (v old : ℕ) (m n k : Machine) → old ≡ register_of register m
     → n ≡ with_register register v m → k ≡ with_register register old n → k ≡ m
 put_back register v old m n k e f g =
     let i = register_number register in
-    let again = set-set m.registers i v old ∙ ap (λ (x : ℕ). slice_set m.registers i x) e ∙ set-get_or m.registers i 0 in
+    let again = set-set m.registers i v old ∙ ap (λ (x : ℕ). slice_set m.registers i x) e
+    ∙ set-get_or m.registers i 0 in
     let to : List ℕ → Machine = λ x. record m { registers = x } in
     g ∙ ap (λ (x : Machine). with_register register old x) f ∙ ap to again
 
@@ -259,19 +260,22 @@ double_changes operation size source place m n e f =
     ap (λ (u : DestinationUse). double_by u operation size source place m) e ∙ f
 
 pub single_writes : (operation : SingleOp) (size : Size) (operand : Operand) (m n : Machine)
-    → use_by_single operation ≡ Some Writes → write operation size operand m ≡ Comes (Ok tt, n) → single operation size operand m ≡ Comes (Ok tt, n)
+    → use_by_single operation ≡ Some Writes → write operation size operand m ≡ Comes (Ok tt, n)
+    → single operation size operand m ≡ Comes (Ok tt, n)
 unfolding single
 single_writes operation size operand m n e f =
     ap (λ (u : Option DestinationUse). single_by u operation size operand m) e ∙ f
 
 pub single_reads : (operation : SingleOp) (size : Size) (operand : Operand) (m n : Machine)
-    → use_by_single operation ≡ Some Reads → test operation size operand m ≡ Comes (Ok tt, n) → single operation size operand m ≡ Comes (Ok tt, n)
+    → use_by_single operation ≡ Some Reads → test operation size operand m ≡ Comes (Ok tt, n)
+    → single operation size operand m ≡ Comes (Ok tt, n)
 unfolding single
 single_reads operation size operand m n e f =
     ap (λ (u : Option DestinationUse). single_by u operation size operand m) e ∙ f
 
 pub single_changes : (operation : SingleOp) (size : Size) (operand : Operand) (m n : Machine)
-    → use_by_single operation ≡ Some Changes → change_single operation size operand m ≡ Comes (Ok tt, n) → single operation size operand m ≡ Comes (Ok tt, n)
+    → use_by_single operation ≡ Some Changes → change_single operation size operand m ≡ Comes (Ok tt, n)
+    → single operation size operand m ≡ Comes (Ok tt, n)
 unfolding single
 single_changes operation size operand m n e f =
     ap (λ (u : Option DestinationUse). single_by u operation size operand m) e ∙ f

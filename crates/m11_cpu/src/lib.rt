@@ -19,6 +19,7 @@ mod messages;
 mod near;
 mod operands;
 mod quick;
+mod quick_jumps;
 mod runs;
 mod simulation;
 mod single_operands;

@@ -548,8 +548,8 @@ impl Machine {
     #[tactic(auto, unfolding(m11_base::specs::Dispatch::extended))]
     #[inline(always)]
     fn extended_word(&mut self, word: u16) -> Option<u16>
-        ensures some { IfSome result (λ next. Executed (meaning (slice_index_or extended (word / 0o1000 % 0o10) None) word)
-            next self.old self.new) }
+        ensures some { IfSome result (λ next.
+            Executed (meaning (slice_index_or extended (word / 0o1000 % 0o10) None) word) next self.old self.new) }
         ensures keeps { Keeps self.old self.new }
         ensures none { result ≡ None → self.new ≡ self.old }
     {
@@ -559,7 +559,7 @@ impl Machine {
         }
     }
 
-    // A word 00xxxx: a branch, or an operation on one word.
+    // A word 00xxxx: a branch, a jump, or an operation on one word.
     #[tactic(auto, unfolding(m11_base::specs::Dispatch::low))]
     #[inline(always)]
     fn low_word(&mut self, word: u16, counter: u16) -> Option<u16>
@@ -570,6 +570,8 @@ impl Machine {
         ensures none { result ≡ None → self.new ≡ self.old }
     {
         match word / 0o100 {
+            0o01 => self.jump_word(word),
+            0o02 => self.return_word(word),
             0o04 => self.branch_word(BranchOp::Br, word, counter),
             0o05 => self.branch_word(BranchOp::Br, word, counter),
             0o06 => self.branch_word(BranchOp::Br, word, counter),
@@ -598,6 +600,14 @@ impl Machine {
             0o35 => self.branch_word(BranchOp::Ble, word, counter),
             0o36 => self.branch_word(BranchOp::Ble, word, counter),
             0o37 => self.branch_word(BranchOp::Ble, word, counter),
+            0o40 => self.call_word(word),
+            0o41 => self.call_word(word),
+            0o42 => self.call_word(word),
+            0o43 => self.call_word(word),
+            0o44 => self.call_word(word),
+            0o45 => self.call_word(word),
+            0o46 => self.call_word(word),
+            0o47 => self.call_word(word),
             _ => self.low_single(word),
         }
     }

@@ -1,0 +1,151 @@
+//! Jumps, calls of subroutines and returns from them, made at once: the target and the top of the stack lie in memory.
+//! What is not of these forms is left to the general step. (PDP-11/40 Processor Handbook, "Instruction set": program
+//! control.)
+
+ghost use Rattle.std.specs.Prelude.{◌≡◌, ◌/◌, ◌%◌, IfSome, None, true, slice_index_or};
+ghost use Rattle.m11_base.specs.Dispatch.{last};
+ghost use Rattle.m11_base.specs.Instructions.{meaning, with_fields};
+ghost use Rattle.m11_base.specs.declared.instruction.Op.TheVariants as op;
+ghost use Rattle.m11_base.specs.declared.instruction.RegisterOp.TheVariants.{Jsr};
+ghost use Rattle.m11_base.specs.declared.instruction.SingleOp.TheVariants.{Jmp};
+ghost use Rattle.m11_base.specs.declared.operand.Register.TheVariants.{Pc, Sp};
+ghost use Rattle.m11_base.specs.declared.operand.Size.TheVariants.{Word};
+ghost use Rattle.m11_cpu.specs.Jumps.{call, enter, jump, push, return_by, target};
+ghost use Rattle.m11_cpu.specs.Machine.{register_of};
+ghost use Rattle.m11_cpu.specs.Near.{ChangesRegisters, ComesTo, Ends, Keeps, is_plain};
+ghost use Rattle.m11_cpu.specs.Places.{stepped_back};
+ghost use Rattle.m11_cpu.specs.Quick.{Executed};
+
+use crate::machine::Machine;
+use m11_base::{Operand, Register, Size};
+
+impl Machine {
+    // The address in memory that an operand means. Nothing is read there.
+    #[tactic(auto, using(crate::proofs::QuickDone::bind_comes), unfolding(crate::specs::Jumps::target))]
+    #[inline(always)]
+    fn near_target(&mut self, operand: Operand) -> Option<u16>
+        ensures some { IfSome result (λ address. ComesTo (target operand) self.old address self.new) }
+        ensures registers { ChangesRegisters self.old self.new }
+        ensures none { result ≡ None → self.new ≡ self.old }
+    {
+        self.plain_place(operand, Size::Word)
+    }
+
+    // Pushes a word.
+    #[tactic(auto, using(crate::proofs::QuickJumps::pushed), unfolding(crate::specs::Jumps::push, crate::specs::Places::store))]
+    #[inline(always)]
+    fn push_near(&mut self, value: u16)
+        requires { is_plain Word (stepped_back Sp 2 self.old) self.old.memory ≡ true }
+        ensures pushed { Ends (push value) self.old self.new }
+        ensures keeps { Keeps self.old self.new }
+    {
+        let address = self.back(Register::Sp, 2);
+        self.set_plain(Size::Word, address, value);
+    }
+
+    // Pushes the register; then it has the address behind the call, and the program counter the target.
+    #[tactic(auto, using(crate::proofs::QuickDone::bind_comes), unfolding(crate::specs::Jumps::enter))]
+    #[inline(always)]
+    fn enter_near(&mut self, register: Register, address: u16)
+        requires { is_plain Word (stepped_back Sp 2 self.old) self.old.memory ≡ true }
+        ensures entered { Ends (enter register address) self.old self.new }
+        ensures keeps { Keeps self.old self.new }
+    {
+        self.push_near(self.register(register));
+        self.set_register(register, self.register(Register::Pc));
+        self.set_register(Register::Pc, address);
+    }
+
+    // JMP: the program counter behind it.
+    #[tactic(auto, using(crate::proofs::QuickDone::bind_comes), unfolding(crate::specs::Jumps::jump))]
+    #[inline(always)]
+    fn quick_jump(&mut self, operand: Operand) -> Option<u16>
+        ensures some { IfSome result (λ _. Ends (jump operand) self.old self.new) }
+        ensures counter { IfSome result (λ counter. counter ≡ register_of Pc self.new) }
+        ensures keeps { Keeps self.old self.new }
+        ensures none { result ≡ None → self.new ≡ self.old }
+    {
+        let address = self.near_target(operand)?;
+        self.set_register(Register::Pc, address);
+        Some(self.register(Register::Pc))
+    }
+
+    // JSR: the program counter behind it.
+    #[tactic(auto, using(crate::proofs::QuickDone::bind_comes, crate::proofs::QuickDone::restored), unfolding(crate::specs::Jumps::call))]
+    #[inline(always)]
+    fn quick_call(&mut self, register: Register, operand: Operand) -> Option<u16>
+        ensures some { IfSome result (λ _. Ends (call register operand) self.old self.new) }
+        ensures counter { IfSome result (λ counter. counter ≡ register_of Pc self.new) }
+        ensures keeps { Keeps self.old self.new }
+        ensures none { result ≡ None → self.new ≡ self.old }
+    {
+        let before = self.registers;
+        let address = self.near_target(operand)?;
+        let top = self.register(Register::Sp).wrapping_sub(2);
+        if !self.is_plain(Size::Word, top) {
+            self.registers = before;
+            return None;
+        }
+        self.enter_near(register, address);
+        Some(self.register(Register::Pc))
+    }
+
+    // RTS: the program counter behind it.
+    #[tactic(auto, using(crate::proofs::QuickJumps::returned, crate::proofs::QuickJumps::not_returned), unfolding(crate::specs::Jumps::return_by))]
+    #[inline(always)]
+    fn quick_return(&mut self, register: Register) -> Option<u16>
+        ensures some { IfSome result (λ _. Ends (return_by register) self.old self.new) }
+        ensures counter { IfSome result (λ counter. counter ≡ register_of Pc self.new) }
+        ensures keeps { Keeps self.old self.new }
+        ensures none { result ≡ None → self.new ≡ self.old }
+    {
+        let counter = self.register(Register::Pc);
+        self.set_register(Register::Pc, self.register(register));
+        let top = self.register(Register::Sp);
+        if !self.is_plain(Size::Word, top) {
+            self.set_register(Register::Pc, counter);
+            return None;
+        }
+        let word = self.plain(Size::Word, top);
+        self.advance(Register::Sp, 2);
+        self.set_register(register, word);
+        Some(self.register(Register::Pc))
+    }
+
+    // A word of JMP. It and the next two aren't inlined, so that what is more frequent can be.
+    #[tactic(auto, using(crate::proofs::QuickDone::bind_comes), unfolding(crate::specs::Execution::execute, crate::specs::SingleOperands::single))]
+    #[inline(never)]
+    pub(crate) fn jump_word(&mut self, word: u16) -> Option<u16>
+        ensures some { IfSome result (λ next. Executed (with_fields (op.Single Jmp Word) word) next self.old self.new) }
+        ensures keeps { Keeps self.old self.new }
+        ensures none { result ≡ None → self.new ≡ self.old }
+    {
+        self.quick_jump(Operand::of_bits(word))
+    }
+
+    // A word of JSR.
+    #[tactic(auto, using(crate::proofs::QuickDone::bind_comes), unfolding(crate::specs::Execution::execute, crate::specs::Execution::on_register))]
+    #[inline(never)]
+    pub(crate) fn call_word(&mut self, word: u16) -> Option<u16>
+        ensures some { IfSome result (λ next. Executed (with_fields (op.Register Jsr) word) next self.old self.new) }
+        ensures keeps { Keeps self.old self.new }
+        ensures none { result ≡ None → self.new ≡ self.old }
+    {
+        self.quick_call(Register::of_bits(word / 0o100), Operand::of_bits(word))
+    }
+
+    // A word 0002xx: RTS.
+    #[tactic(auto, using(crate::proofs::QuickDone::bind_comes), unfolding(crate::specs::Execution::execute, m11_base::specs::Dispatch::last))]
+    #[inline(never)]
+    pub(crate) fn return_word(&mut self, word: u16) -> Option<u16>
+        ensures some { IfSome result (λ next. Executed (meaning (slice_index_or last (word / 0o10 % 0o10) None) word)
+            next self.old self.new) }
+        ensures keeps { Keeps self.old self.new }
+        ensures none { result ≡ None → self.new ≡ self.old }
+    {
+        match word / 0o10 % 0o10 {
+            0 => self.quick_return(Register::of_bits(word)),
+            _ => None,
+        }
+    }
+}
