@@ -56,18 +56,6 @@ pub struct Operand {
     pub register: Register,
 }
 
-// The registers, each at the place of its number.
-static REGISTERS: [Register; 8] = [
-    Register::R0,
-    Register::R1,
-    Register::R2,
-    Register::R3,
-    Register::R4,
-    Register::R5,
-    Register::Sp,
-    Register::Pc,
-];
-
 impl Mode {
     // The mode of a code, of which the lower three bits count.
     #[inline(always)]
@@ -93,7 +81,16 @@ impl Register {
     pub fn of_bits(bits: u16) -> Register
         ensures { result ≡ register_of (bits % 8) }
     {
-        REGISTERS[usize::from(bits % 8)]
+        match bits % 8 {
+            0 => Register::R0,
+            1 => Register::R1,
+            2 => Register::R2,
+            3 => Register::R3,
+            4 => Register::R4,
+            5 => Register::R5,
+            6 => Register::Sp,
+            _ => Register::Pc,
+        }
     }
 
     /// The register's number, 0 to 7.
