@@ -53,7 +53,7 @@ impl Machine {
         ensures done { Ends (move_to place size source) self.old self.new }
         ensures keeps { Keeps self.old self.new }
     {
-        let computed = m11_arithmetic::double(DoubleOp::Mov, size, source, 0, self.status.codes);
+        let computed = m11_arithmetic::double(DoubleOp::Mov, size, source, 0, self.codes());
         self.put_moved(place, size, source);
         self.finish(place, computed.codes);
     }
@@ -85,13 +85,7 @@ impl Machine {
         ensures keeps { Keeps self.old self.new }
     {
         let destination = self.near_value(place, size);
-        let computed = m11_arithmetic::double(
-            operation,
-            size,
-            source,
-            destination,
-            self.status.codes,
-        );
+        let computed = m11_arithmetic::double(operation, size, source, destination, self.codes());
         self.set_codes(computed.codes);
     }
 
@@ -105,13 +99,7 @@ impl Machine {
         ensures keeps { Keeps self.old self.new }
     {
         let destination = self.near_value(place, size);
-        let computed = m11_arithmetic::double(
-            operation,
-            size,
-            source,
-            destination,
-            self.status.codes,
-        );
+        let computed = m11_arithmetic::double(operation, size, source, destination, self.codes());
         self.put_computed(place, size, computed);
     }
 
@@ -355,7 +343,7 @@ impl Machine {
         ensures none { result ≡ None → self.new ≡ self.old }
     {
         let place = self.near_place(operand, size)?;
-        let computed = m11_arithmetic::single(operation, size, 0, self.status.codes);
+        let computed = m11_arithmetic::single(operation, size, 0, self.codes());
         self.put_computed(place, size, computed);
         Some(self.register(Register::Pc))
     }
@@ -370,7 +358,7 @@ impl Machine {
         ensures none { result ≡ None → self.new ≡ self.old }
     {
         let value = self.near_operand(operand, size)?;
-        let computed = m11_arithmetic::single(operation, size, value, self.status.codes);
+        let computed = m11_arithmetic::single(operation, size, value, self.codes());
         self.set_codes(computed.codes);
         Some(self.register(Register::Pc))
     }
@@ -384,7 +372,7 @@ impl Machine {
         ensures keeps { Keeps self.old self.new }
     {
         let value = self.near_value(place, size);
-        let computed = m11_arithmetic::single(operation, size, value, self.status.codes);
+        let computed = m11_arithmetic::single(operation, size, value, self.codes());
         self.put_computed(place, size, computed);
     }
 
@@ -411,7 +399,7 @@ impl Machine {
         ensures counter { result ≡ register_of Pc self.new }
         ensures keeps { Keeps self.old self.new }
     {
-        if is_taken(operation, self.status.codes) {
+        if is_taken(operation, self.codes()) {
             let target = words_on(counter, words);
             self.set_register(Register::Pc, target);
             target
