@@ -1,5 +1,5 @@
 -- Steps that are made at once, part by part.
-use Rattle.std.proofs.Common.{◌≡◌, ℕ, ◌+◌, ◌%◌, ◌<◌, Bool, true, false, not, ◌&&◌, cond, List, Option, Some, suc, refl, sym, ◌∙◌, ap, subst, length, arith}
+use Rattle.std.proofs.Common.{◌≡◌, ℕ, ◌+◌, ◌/◌, ◌%◌, ◌<◌, ◌==◌, Bool, true, false, not, ◌&&◌, cond, List, Option, Some, suc, refl, sym, ◌∙◌, ap, subst, length, arith, eqb-true}
 use Rattle.std.proofs.lemmas.Bool.{false≢true}
 use Rattle.std.proofs.lemmas.List.{set-get_or, set-set}
 use Rattle.std.specs.Prelude.{nat_lt, slice_set, Result, Ok}
@@ -7,7 +7,7 @@ use Rattle.m11_arithmetic.specs.declared.results.Computed.{Computed}
 use Rattle.m11_base.proofs.Words.{tables_meaning}
 use Rattle.m11_base.specs.Dispatch.{operation_by_tables}
 use Rattle.m11_base.specs.Instructions.{instruction_of, meaning}
-use Rattle.m11_base.specs.Operands.{register_number}
+use Rattle.m11_base.specs.Operands.{mode_of, register_number}
 use Rattle.m11_base.specs.declared.instruction.ConditionCodes.{ConditionCodes}
 use Rattle.m11_base.specs.declared.instruction.DoubleOp.{DoubleOp}
 use Rattle.m11_base.specs.declared.instruction.Insn.{Insn}
@@ -203,6 +203,12 @@ pub place_fetched : (operand : Operand) (size : Size) (place : Place) (v : ℕ) 
     → fetch_operand operand size m ≡ Comes (Ok v, n)
 unfolding fetch_operand
 place_fetched operand size place v m n e f = bind_at (place_of operand size) _ m n place e ∙ f
+
+pub register_mode : (bits : ℕ) → (bits / 8 % 8 == 0) ≡ true → mode_of (bits % 64 / 8) ≡ mode.Register
+register_mode bits e =
+    let zero = eqb-true (bits / 8 % 8) 0 e in
+    let same : bits % 64 / 8 ≡ 0 = omega (arith, zero) in
+    ap mode_of same
 
 pub in_register : (operand : Operand) (size : Size) (m : Machine) → operand.mode ≡ mode.Register
     → place_of operand size m ≡ Comes (Ok (InRegister operand.register), m)

@@ -20,6 +20,8 @@ mod near;
 mod operands;
 mod quick;
 mod quick_jumps;
+mod quick_rest;
+mod quick_singles;
 mod runs;
 mod simulation;
 mod single_operands;

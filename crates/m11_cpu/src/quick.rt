@@ -6,36 +6,35 @@ ghost use Rattle.std.specs.Prelude.{◌≡◌, ◌<◌, ◌≤◌, ◌/◌, ◌%
 ghost use Rattle.m11_arithmetic.specs.Sizes.{size_limit};
 ghost use Rattle.m11_base.specs.Dispatch.{extended, high, operation_by_tables, with_next_digits};
 ghost use Rattle.m11_base.specs.Instructions.{meaning, with_fields};
+ghost use Rattle.m11_base.specs.Operands.{mode_of};
 ghost use Rattle.m11_base.specs.declared.instruction.DoubleOp.TheVariants.{Mov};
 ghost use Rattle.m11_base.specs.declared.instruction.Op.TheVariants as op;
 ghost use Rattle.m11_base.specs.declared.operand.Mode.TheVariants as mode;
 ghost use Rattle.m11_base.specs.declared.operand.Register.TheVariants.{Pc};
-ghost use Rattle.m11_cpu.specs.DestinationUse.{use_by_double, use_by_single};
+ghost use Rattle.m11_cpu.specs.DestinationUse.{use_by_double};
 ghost use Rattle.m11_cpu.specs.Dialogue.{Comes};
-ghost use Rattle.m11_cpu.specs.DoubleOperands.{change_double, compare, double, double_at, move_to, store_moved};
+ghost use Rattle.m11_cpu.specs.DoubleOperands.{change_double, compare, double, move_to, store_moved};
 ghost use Rattle.m11_cpu.specs.Jumps.{branched, counted_down};
 ghost use Rattle.m11_cpu.specs.Machine.{register_of};
 ghost use Rattle.m11_cpu.specs.Near.{Ends, Keeps, is_near};
 ghost use Rattle.m11_cpu.specs.Places.{put_result};
 ghost use Rattle.m11_cpu.specs.Quick.{Executed, Runs, StepsAtOnce};
-ghost use Rattle.m11_cpu.specs.SingleOperands.{change_at, change_single, test, write};
 ghost use Rattle.m11_cpu.specs.Steps.{step};
-ghost use Rattle.m11_cpu.specs.declared.destination_use.DestinationUse.TheVariants.{Writes, Reads, Changes};
+ghost use Rattle.m11_cpu.specs.declared.destination_use.DestinationUse.TheVariants.{Reads, Changes};
 ghost use Rattle.m11_cpu.specs.declared.stop.Turn.TheVariants.{Next};
 
-use crate::destination_use::{DestinationUse, use_by_double};
 use crate::double_operands::sign_extended;
 use crate::jumps::words_on;
 use crate::machine::Machine;
 use crate::operands::Place;
 use m11_arithmetic::{Computed, is_taken};
-use m11_base::{BranchOp, DoubleOp, Mode, Operand, Register, SingleOp, Size};
+use m11_base::{BranchOp, DoubleOp, Operand, Register, SingleOp, Size};
 
 impl Machine {
     // Puts a result into a place, and then its condition codes.
     #[tactic(auto, using(crate::proofs::QuickDone::bind_comes, crate::proofs::QuickDone::comes_at, crate::proofs::QuickDone::finished_stopped, crate::proofs::QuickDone::finished_trace), unfolding(crate::specs::Places::put_result))]
     #[inline(always)]
-    fn put_computed(&mut self, place: Place, size: Size, computed: Computed)
+    pub(crate) fn put_computed(&mut self, place: Place, size: Size, computed: Computed)
         requires { is_near size place self.old ≡ true }
         ensures done { Ends (put_result place size computed) self.old self.new }
         ensures keeps { Keeps self.old self.new }
@@ -47,7 +46,7 @@ impl Machine {
     // MOV and MOVB.
     #[tactic(auto, using(crate::proofs::QuickDone::bind_comes, crate::proofs::QuickDone::comes_at, crate::proofs::QuickDone::finished_stopped, crate::proofs::QuickDone::finished_trace), unfolding(crate::specs::DoubleOperands::move_to))]
     #[inline(always)]
-    fn move_near(&mut self, place: Place, size: Size, source: u16)
+    pub(crate) fn move_near(&mut self, place: Place, size: Size, source: u16)
         requires near { is_near size place self.old ≡ true }
         requires fits { source < size_limit size }
         ensures done { Ends (move_to place size source) self.old self.new }
@@ -78,7 +77,13 @@ impl Machine {
     // CMP and BIT.
     #[tactic(auto, using(crate::proofs::QuickDone::bind_comes, crate::proofs::QuickDone::comes_at), unfolding(crate::specs::DoubleOperands::compare))]
     #[inline(always)]
-    fn compare_near(&mut self, operation: DoubleOp, place: Place, size: Size, source: u16)
+    pub(crate) fn compare_near(
+        &mut self,
+        operation: DoubleOp,
+        place: Place,
+        size: Size,
+        source: u16,
+    )
         requires near { is_near size place self.old ≡ true }
         requires fits { source < size_limit size }
         ensures done { Ends (compare operation place size source) self.old self.new }
@@ -92,7 +97,7 @@ impl Machine {
     // The destination is read, and the result put in its place.
     #[tactic(auto, using(crate::proofs::QuickDone::bind_comes, crate::proofs::QuickDone::put_result_comes), unfolding(crate::specs::DoubleOperands::change_double))]
     #[inline(always)]
-    fn change_near(&mut self, operation: DoubleOp, place: Place, size: Size, source: u16)
+    pub(crate) fn change_near(&mut self, operation: DoubleOp, place: Place, size: Size, source: u16)
         requires near { is_near size place self.old ≡ true }
         requires fits { source < size_limit size }
         ensures done { Ends (change_double operation place size source) self.old self.new }
@@ -101,51 +106,6 @@ impl Machine {
         let destination = self.near_value(place, size);
         let computed = m11_arithmetic::double(operation, size, source, destination, self.codes());
         self.put_computed(place, size, computed);
-    }
-
-    // An operation on a source that was fetched, and a place.
-    #[tactic(auto, unfolding(crate::specs::DoubleOperands::double_at))]
-    #[inline(always)]
-    fn double_near(&mut self, operation: DoubleOp, size: Size, source: u16, place: Place)
-        requires near { is_near size place self.old ≡ true }
-        requires fits { source < size_limit size }
-        ensures done { Ends (double_at operation size source place) self.old self.new }
-        ensures keeps { Keeps self.old self.new }
-    {
-        match use_by_double(operation) {
-            DestinationUse::Writes => self.move_near(place, size, source),
-            DestinationUse::Reads => self.compare_near(operation, place, size, source),
-            DestinationUse::Changes => self.change_near(operation, place, size, source),
-        }
-    }
-
-    // An operation on operands of any modes: the program counter behind it. It is for two operands in memory.
-    #[tactic(auto, using(crate::proofs::QuickDone::bind_comes, crate::proofs::QuickDone::restored), unfolding(crate::specs::DoubleOperands::double))]
-    #[inline(never)]
-    fn double_in_memory(
-        &mut self,
-        operation: DoubleOp,
-        size: Size,
-        source: Operand,
-        destination: Operand,
-    ) -> Option<u16>
-        ensures some { IfSome result (λ _. Ends (double operation size source destination) self.old self.new) }
-        ensures counter { IfSome result (λ counter. counter ≡ register_of Pc self.new) }
-        ensures keeps { Keeps self.old self.new }
-        ensures none { result ≡ None → self.new ≡ self.old }
-    {
-        let before = self.registers;
-        let value = self.near_operand(source, size)?;
-        match self.plain_place(destination, size) {
-            Some(address) => {
-                self.double_near(operation, size, value, Place::InMemory(address));
-                Some(self.register(Register::Pc))
-            }
-            None => {
-                self.registers = before;
-                None
-            }
-        }
     }
 
     // MOV, to a register: the program counter behind it.
@@ -192,10 +152,12 @@ impl Machine {
     {
         let source = Operand::of_bits(word / 0o100);
         let destination = Operand::of_bits(word);
-        match (source.mode, destination.mode) {
-            (_, Mode::Register) => self.move_to_register(size, source, destination),
-            (Mode::Register, _) => self.move_from_register(size, source, destination),
-            _ => self.double_in_memory(DoubleOp::Mov, size, source, destination),
+        if is_register(word) {
+            self.move_to_register(size, source, destination)
+        } else if is_register(word / 0o100) {
+            self.move_from_register(size, source, destination)
+        } else {
+            None
         }
     }
 
@@ -259,10 +221,12 @@ impl Machine {
     {
         let source = Operand::of_bits(word / 0o100);
         let destination = Operand::of_bits(word);
-        match (source.mode, destination.mode) {
-            (_, Mode::Register) => self.compare_to_register(operation, size, source, destination),
-            (Mode::Register, _) => self.compare_from_register(operation, size, source, destination),
-            _ => self.double_in_memory(operation, size, source, destination),
+        if is_register(word) {
+            self.compare_to_register(operation, size, source, destination)
+        } else if is_register(word / 0o100) {
+            self.compare_from_register(operation, size, source, destination)
+        } else {
+            None
         }
     }
 
@@ -326,68 +290,13 @@ impl Machine {
     {
         let source = Operand::of_bits(word / 0o100);
         let destination = Operand::of_bits(word);
-        match (source.mode, destination.mode) {
-            (_, Mode::Register) => self.change_to_register(operation, size, source, destination),
-            (Mode::Register, _) => self.change_from_register(operation, size, source, destination),
-            _ => self.double_in_memory(operation, size, source, destination),
+        if is_register(word) {
+            self.change_to_register(operation, size, source, destination)
+        } else if is_register(word / 0o100) {
+            self.change_from_register(operation, size, source, destination)
+        } else {
+            None
         }
-    }
-
-    // CLR, CLRB and SXT: the program counter behind it.
-    #[tactic(auto, using(crate::proofs::QuickDone::bind_comes, crate::proofs::QuickDone::put_result_comes), unfolding(crate::specs::SingleOperands::write))]
-    #[inline(always)]
-    fn quick_write(&mut self, operation: SingleOp, size: Size, operand: Operand) -> Option<u16>
-        ensures some { IfSome result (λ _. Ends (write operation size operand) self.old self.new) }
-        ensures counter { IfSome result (λ counter. counter ≡ register_of Pc self.new) }
-        ensures keeps { Keeps self.old self.new }
-        ensures none { result ≡ None → self.new ≡ self.old }
-    {
-        let place = self.near_place(operand, size)?;
-        let computed = m11_arithmetic::single(operation, size, 0, self.codes());
-        self.put_computed(place, size, computed);
-        Some(self.register(Register::Pc))
-    }
-
-    // TST and TSTB: the program counter behind it.
-    #[tactic(auto, using(crate::proofs::QuickDone::bind_comes, crate::proofs::QuickDone::comes_at), unfolding(crate::specs::SingleOperands::test))]
-    #[inline(always)]
-    fn quick_test(&mut self, operation: SingleOp, size: Size, operand: Operand) -> Option<u16>
-        ensures some { IfSome result (λ _. Ends (test operation size operand) self.old self.new) }
-        ensures counter { IfSome result (λ counter. counter ≡ register_of Pc self.new) }
-        ensures keeps { Keeps self.old self.new }
-        ensures none { result ≡ None → self.new ≡ self.old }
-    {
-        let value = self.near_operand(operand, size)?;
-        let computed = m11_arithmetic::single(operation, size, value, self.codes());
-        self.set_codes(computed.codes);
-        Some(self.register(Register::Pc))
-    }
-
-    // What is in a place is read, and the result put there.
-    #[tactic(auto, using(crate::proofs::QuickDone::bind_comes, crate::proofs::QuickDone::put_result_comes), unfolding(crate::specs::SingleOperands::change_at))]
-    #[inline(always)]
-    fn change_single_near(&mut self, operation: SingleOp, size: Size, place: Place)
-        requires near { is_near size place self.old ≡ true }
-        ensures done { Ends (change_at operation size place) self.old self.new }
-        ensures keeps { Keeps self.old self.new }
-    {
-        let value = self.near_value(place, size);
-        let computed = m11_arithmetic::single(operation, size, value, self.codes());
-        self.put_computed(place, size, computed);
-    }
-
-    // An operation that changes its operand: the program counter behind it.
-    #[tactic(auto, using(crate::proofs::QuickDone::bind_comes), unfolding(crate::specs::SingleOperands::change_single))]
-    #[inline(always)]
-    fn quick_change(&mut self, operation: SingleOp, size: Size, operand: Operand) -> Option<u16>
-        ensures some { IfSome result (λ _. Ends (change_single operation size operand) self.old self.new) }
-        ensures counter { IfSome result (λ counter. counter ≡ register_of Pc self.new) }
-        ensures keeps { Keeps self.old self.new }
-        ensures none { result ≡ None → self.new ≡ self.old }
-    {
-        let place = self.near_place(operand, size)?;
-        self.change_single_near(operation, size, place);
-        Some(self.register(Register::Pc))
     }
 
     // A branch: the program counter behind it.
@@ -424,45 +333,6 @@ impl Machine {
         }
     }
 
-    // A word of CLR, CLRB and SXT.
-    #[tactic(auto, using(crate::proofs::QuickDone::bind_comes, crate::proofs::QuickDone::comes_at, crate::proofs::QuickDone::single_writes), unfolding(crate::specs::Execution::execute))]
-    #[inline(always)]
-    fn single_write(&mut self, operation: SingleOp, size: Size, word: u16) -> Option<u16>
-        requires { use_by_single operation ≡ Some Writes }
-        ensures some { IfSome result (λ next. Executed (with_fields (op.Single operation size) word)
-            next self.old self.new) }
-        ensures keeps { Keeps self.old self.new }
-        ensures none { result ≡ None → self.new ≡ self.old }
-    {
-        self.quick_write(operation, size, Operand::of_bits(word))
-    }
-
-    // A word of TST and TSTB.
-    #[tactic(auto, using(crate::proofs::QuickDone::bind_comes, crate::proofs::QuickDone::comes_at, crate::proofs::QuickDone::single_reads), unfolding(crate::specs::Execution::execute))]
-    #[inline(always)]
-    fn single_test(&mut self, operation: SingleOp, size: Size, word: u16) -> Option<u16>
-        requires { use_by_single operation ≡ Some Reads }
-        ensures some { IfSome result (λ next. Executed (with_fields (op.Single operation size) word)
-            next self.old self.new) }
-        ensures keeps { Keeps self.old self.new }
-        ensures none { result ≡ None → self.new ≡ self.old }
-    {
-        self.quick_test(operation, size, Operand::of_bits(word))
-    }
-
-    // A word of an operation that changes its operand.
-    #[tactic(auto, using(crate::proofs::QuickDone::bind_comes, crate::proofs::QuickDone::comes_at, crate::proofs::QuickDone::single_changes), unfolding(crate::specs::Execution::execute))]
-    #[inline(always)]
-    fn single_change(&mut self, operation: SingleOp, size: Size, word: u16) -> Option<u16>
-        requires { use_by_single operation ≡ Some Changes }
-        ensures some { IfSome result (λ next. Executed (with_fields (op.Single operation size) word)
-            next self.old self.new) }
-        ensures keeps { Keeps self.old self.new }
-        ensures none { result ≡ None → self.new ≡ self.old }
-    {
-        self.quick_change(operation, size, Operand::of_bits(word))
-    }
-
     // A word of a branch.
     #[tactic(auto, unfolding(crate::specs::Execution::execute))]
     #[inline(always)]
@@ -488,10 +358,26 @@ impl Machine {
         Some(self.quick_count(Register::of_bits(word / 0o100), (word % 0o100) as u8))
     }
 
-    // A word by its octal digits: the program counter behind it.
-    #[tactic(auto, unfolding(m11_base::specs::Dispatch::doubles, m11_base::specs::Dispatch::extended))]
+    // A word by its octal digits: the program counter behind it. What is called is tried last, so that behind what is
+    // inlined nothing looks at whether it came to something.
     #[inline(always)]
     fn quick_word(&mut self, word: u16, counter: u16) -> Option<u16>
+        requires { counter ≡ register_of Pc self.old }
+        ensures some { IfSome result (λ next. Executed (meaning (operation_by_tables word) word)
+            next self.old self.new) }
+        ensures keeps { Keeps self.old self.new }
+        ensures none { result ≡ None → self.new ≡ self.old }
+    {
+        match self.frequent_word(word, counter) {
+            Some(next) => Some(next),
+            None => self.rarer_word(word),
+        }
+    }
+
+    // A word of a form that is inlined.
+    #[tactic(auto, unfolding(m11_base::specs::Dispatch::doubles, m11_base::specs::Dispatch::extended))]
+    #[inline(always)]
+    fn frequent_word(&mut self, word: u16, counter: u16) -> Option<u16>
         requires { counter ≡ register_of Pc self.old }
         ensures some { IfSome result (λ next. Executed (meaning (operation_by_tables word) word)
             next self.old self.new) }
@@ -508,26 +394,6 @@ impl Machine {
             0o11 => self.move_word(Size::Byte, word),
             0o12 => self.compare_word(DoubleOp::Cmp, Size::Byte, word),
             0o16 => self.change_word(DoubleOp::Sub, Size::Word, word),
-            _ => self.bits_word(word),
-        }
-    }
-
-    // A word of BIT, BIC or BIS. It and those for single operands aren't inlined, so that the others can be.
-    #[tactic(auto, unfolding(m11_base::specs::Dispatch::doubles))]
-    #[inline(never)]
-    fn bits_word(&mut self, word: u16) -> Option<u16>
-        ensures some { IfSome result (λ next. Executed (meaning (operation_by_tables word) word)
-            next self.old self.new) }
-        ensures keeps { Keeps self.old self.new }
-        ensures none { result ≡ None → self.new ≡ self.old }
-    {
-        match word / 0o10000 {
-            0o03 => self.compare_word(DoubleOp::Bit, Size::Word, word),
-            0o04 => self.change_word(DoubleOp::Bic, Size::Word, word),
-            0o05 => self.change_word(DoubleOp::Bis, Size::Word, word),
-            0o13 => self.compare_word(DoubleOp::Bit, Size::Byte, word),
-            0o14 => self.change_word(DoubleOp::Bic, Size::Byte, word),
-            0o15 => self.change_word(DoubleOp::Bis, Size::Byte, word),
             _ => None,
         }
     }
@@ -547,7 +413,7 @@ impl Machine {
         }
     }
 
-    // A word 00xxxx: a branch, a jump, or an operation on one word.
+    // A word 00xxxx: a branch, or an operation on one register.
     #[tactic(auto, unfolding(m11_base::specs::Dispatch::low))]
     #[inline(always)]
     fn low_word(&mut self, word: u16, counter: u16) -> Option<u16>
@@ -558,8 +424,6 @@ impl Machine {
         ensures none { result ≡ None → self.new ≡ self.old }
     {
         match word / 0o100 {
-            0o01 => self.jump_word(word),
-            0o02 => self.return_word(word),
             0o04 => self.branch_word(BranchOp::Br, word, counter),
             0o05 => self.branch_word(BranchOp::Br, word, counter),
             0o06 => self.branch_word(BranchOp::Br, word, counter),
@@ -588,45 +452,15 @@ impl Machine {
             0o35 => self.branch_word(BranchOp::Ble, word, counter),
             0o36 => self.branch_word(BranchOp::Ble, word, counter),
             0o37 => self.branch_word(BranchOp::Ble, word, counter),
-            0o40 => self.call_word(word),
-            0o41 => self.call_word(word),
-            0o42 => self.call_word(word),
-            0o43 => self.call_word(word),
-            0o44 => self.call_word(word),
-            0o45 => self.call_word(word),
-            0o46 => self.call_word(word),
-            0o47 => self.call_word(word),
-            _ => self.low_single(word),
-        }
-    }
-
-    // A word 00xxxx of an operation on one word.
-    #[tactic(auto, unfolding(m11_base::specs::Dispatch::low))]
-    #[inline(never)]
-    fn low_single(&mut self, word: u16) -> Option<u16>
-        ensures some { IfSome result (λ next. Executed (meaning (with_next_digits (word / 0o100) word) word)
-            next self.old self.new) }
-        ensures keeps { Keeps self.old self.new }
-        ensures none { result ≡ None → self.new ≡ self.old }
-    {
-        match word / 0o100 {
-            0o50 => self.single_write(SingleOp::Clr, Size::Word, word),
-            0o51 => self.single_change(SingleOp::Com, Size::Word, word),
-            0o52 => self.single_change(SingleOp::Inc, Size::Word, word),
-            0o53 => self.single_change(SingleOp::Dec, Size::Word, word),
-            0o54 => self.single_change(SingleOp::Neg, Size::Word, word),
-            0o55 => self.single_change(SingleOp::Adc, Size::Word, word),
-            0o56 => self.single_change(SingleOp::Sbc, Size::Word, word),
-            0o57 => self.single_test(SingleOp::Tst, Size::Word, word),
-            0o60 => self.single_change(SingleOp::Ror, Size::Word, word),
-            0o61 => self.single_change(SingleOp::Rol, Size::Word, word),
-            0o62 => self.single_change(SingleOp::Asr, Size::Word, word),
-            0o63 => self.single_change(SingleOp::Asl, Size::Word, word),
+            0o50 => self.register_write(SingleOp::Clr, word),
+            0o52 => self.register_change(SingleOp::Inc, word),
+            0o53 => self.register_change(SingleOp::Dec, word),
+            0o57 => self.register_test(SingleOp::Tst, word),
             _ => None,
         }
     }
 
-    // A word 10xxxx: a branch, or an operation on one byte.
+    // A word 10xxxx: a branch.
     #[tactic(auto, unfolding(m11_base::specs::Dispatch::high))]
     #[inline(always)]
     fn high_word(&mut self, word: u16, counter: u16) -> Option<u16>
@@ -669,32 +503,6 @@ impl Machine {
             0o35 => self.branch_word(BranchOp::Bcs, word, counter),
             0o36 => self.branch_word(BranchOp::Bcs, word, counter),
             0o37 => self.branch_word(BranchOp::Bcs, word, counter),
-            _ => self.high_single(word),
-        }
-    }
-
-    // A word 10xxxx of an operation on one byte.
-    #[tactic(auto, unfolding(m11_base::specs::Dispatch::high))]
-    #[inline(never)]
-    fn high_single(&mut self, word: u16) -> Option<u16>
-        ensures some { IfSome result (λ next. Executed (meaning (slice_index_or high (word / 0o100 % 0o100) None) word)
-            next self.old self.new) }
-        ensures keeps { Keeps self.old self.new }
-        ensures none { result ≡ None → self.new ≡ self.old }
-    {
-        match word / 0o100 % 0o100 {
-            0o50 => self.single_write(SingleOp::Clr, Size::Byte, word),
-            0o51 => self.single_change(SingleOp::Com, Size::Byte, word),
-            0o52 => self.single_change(SingleOp::Inc, Size::Byte, word),
-            0o53 => self.single_change(SingleOp::Dec, Size::Byte, word),
-            0o54 => self.single_change(SingleOp::Neg, Size::Byte, word),
-            0o55 => self.single_change(SingleOp::Adc, Size::Byte, word),
-            0o56 => self.single_change(SingleOp::Sbc, Size::Byte, word),
-            0o57 => self.single_test(SingleOp::Tst, Size::Byte, word),
-            0o60 => self.single_change(SingleOp::Ror, Size::Byte, word),
-            0o61 => self.single_change(SingleOp::Rol, Size::Byte, word),
-            0o62 => self.single_change(SingleOp::Asr, Size::Byte, word),
-            0o63 => self.single_change(SingleOp::Asl, Size::Byte, word),
             _ => None,
         }
     }
@@ -748,4 +556,14 @@ impl Machine {
         }
         limit
     }
+}
+
+// Whether the six bits of an operand mean the register itself. They are looked at, and not the mode that they give, so
+// that a mode is told apart once.
+#[tactic(auto, using(crate::proofs::QuickDone::register_mode))]
+#[inline(always)]
+pub(crate) fn is_register(bits: u16) -> bool
+    ensures { result ≡ true → mode_of (bits % 64 / 8) ≡ mode.Register }
+{
+    bits / 8 % 8 == 0
 }
