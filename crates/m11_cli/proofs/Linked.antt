@@ -2,6 +2,7 @@
 use Rattle.std.proofs.Common.{◌≡◌, ℕ, List, inl, inr, refl, ap, option_map, Option, Some, None, Result, Ok, Err}
 use Rattle.std.specs.Option.{is_some}
 use Rattle.m11_base.specs.Feed.{Text}
+use Rattle.m11_base.specs.declared.sink.Sink.{Ghosts}
 use Rattle.m11_cpu.specs.Dialogue.{Output, output_of}
 use Rattle.m11_layout.specs.Planning.{Planned}
 use Rattle.m11_layout.specs.declared.fault.LinkFault.{LinkFault}
@@ -11,21 +12,25 @@ use Rattle.m11_link.specs.Objects.{Item, GiveItems, FailBehind}
 use Rattle.m11_link.specs.SecondReading.{ReadsSecond, Runs}
 use Rattle.m11_link.specs.Writes.{Outputs, optional_output}
 use Rattle.m11_link.specs.declared.emit.LinkDone.{LinkDone}
+use Rattle.m11_cli.specs.Driver.{known}
 use Rattle.m11_cli.proofs.Sources.{give, none, one, seen}
 
--- an output that may be left out, as what it has taken and its count of failures
-abbrev pub seen_output : {S : Type 0} → (S → Option (List ℕ)) → (S → ℕ) → Option S → Option Output
-seen_output text faults map = option_map (λ s. output_of (text s) (faults s)) map
+-- a sink, as what it has taken and its count of failures
+abbrev pub seen_sink : {S : Type 0} → Ghosts S → S → Output
+seen_sink sinks sink = output_of (sinks.text sink) (sinks.faults sink)
 
-pub same_output : {S : Type 0} (text : S → Option (List ℕ)) (faults : S → ℕ) (map : Option S)
-    → optional_output text faults map ≡ optional_output (λ o. o.text) (λ o. o.faults) (seen_output text faults map)
-same_output text faults None = refl
-same_output text faults (Some s) = refl
+-- one that may be left out
+abbrev pub seen_output : {S : Type 0} → Ghosts S → Option S → Option Output
+seen_output sinks map = option_map (seen_sink sinks) map
 
-pub same_presence : {S : Type 0} (text : S → Option (List ℕ)) (faults : S → ℕ) (map : Option S)
-    → is_some (seen_output text faults map) ≡ is_some map
-same_presence text faults None = refl
-same_presence text faults (Some s) = refl
+pub same_output : {S : Type 0} (sinks : Ghosts S) (map : Option S)
+    → optional_output sinks map ≡ optional_output known (seen_output sinks map)
+same_output sinks None = refl
+same_output sinks (Some s) = refl
+
+pub same_presence : {S : Type 0} (sinks : Ghosts S) (map : Option S) → is_some (seen_output sinks map) ≡ is_some map
+same_presence sinks None = refl
+same_presence sinks (Some s) = refl
 
 module _ {F : Type 0} (text : F → Option Text) (faults : F → ℕ) where
   given : (feeds : List F) (items : List Item) → GiveItems text feeds items

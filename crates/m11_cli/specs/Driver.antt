@@ -5,6 +5,7 @@ use Rattle.clap.specs.Words.{Text}
 use Rattle.m11_base.specs.Devices.{Rises}
 use Rattle.m11_base.specs.Feed as feed
 use Rattle.m11_base.specs.Sink.{AppendsBeginning}
+use Rattle.m11_base.specs.declared.sink.Sink.{Ghosts}
 use Rattle.m11_asm.specs.Run.{Counted, Runs}
 use Rattle.m11_asm.specs.Writes.{texts}
 use Rattle.m11_asm.specs.declared.fault.AsmFault.{AsmFault}
@@ -15,7 +16,7 @@ use Rattle.m11_cpu.specs.Simulation.{Simulates}
 use Rattle.m11_layout.specs.declared.fault.LinkFault.{LinkFault}
 use Rattle.m11_layout.specs.declared.fault.LinkFault.TheVariants as link
 use Rattle.m11_link.specs.SecondReading as linking
-use Rattle.m11_link.specs.Writes as linked
+use Rattle.m11_link.specs.Writes.{Outputs, outputs_of}
 use Rattle.m11_link.specs.declared.emit.LinkDone.{LinkDone}
 use Rattle.m11_cli.specs.FaultLines.{line_of, open_line}
 use Rattle.m11_cli.specs.Tasks.{Plans}
@@ -73,11 +74,13 @@ abbrev pub MayAssemble : ℕ → Output → Output → Result AsmDone AsmFault �
 MayAssemble count told told' answer =
     Assembles count told told' answer ⊎ ((answer ≡ Err asm.NoMemory) × (told' ≡ told))
 
+-- an output, as the sink that a link takes it for
+abbrev pub known : Ghosts Output
+known = record { text = λ output. output.text; faults = λ output. output.faults }
+
 -- the tape, the map if there is one, and the messages of a link
-abbrev pub link_outputs : Output → Option Output → Output → linked.Outputs
-link_outputs tape map told = linked.outputs (linked.output_of tape.text tape.faults)
-    (linked.optional_output (λ output. output.text) (λ output. output.faults) map)
-    (linked.output_of told.text told.faults)
+abbrev pub link_outputs : Output → Option Output → Output → Outputs
+link_outputs tape map told = outputs_of known known known tape map told
 
 -- a link of so many objects, with a map or without one, from this bottom on: by texts that they gave in two readings, it
 -- wrote to the tape and to the map, and told what it is to

@@ -8,7 +8,7 @@ use Rattle.m11_layout.specs.declared.fault.LinkFault.{LinkFault}
 use Rattle.m11_layout.specs.declared.fault.LinkFault.TheVariants as fault
 use Rattle.m11_layout.specs.declared.fault.LinkOutput.{LinkOutput}
 use Rattle.m11_layout.specs.declared.fault.LinkOutput.TheVariants.{Tape, Map, Messages}
-use Rattle.m11_link.specs.Writes.{Output, Outputs, outputs, output_of, output_at, Write, to_output, to_tape, to_map, to_messages, gained, gained_by, GainTexts, Gains, StopsIn, StopsBetween, Stops, Writes, Puts}
+use Rattle.m11_link.specs.Writes.{Output, Outputs, outputs, no_output, output_at, Write, to_output, to_tape, to_map, to_messages, gained, gained_by, GainTexts, Gains, StopsIn, StopsBetween, Stops, Writes, Puts}
 
 -- ---- texts
 
@@ -234,15 +234,15 @@ to_the_messages tape map a b bytes result h = put_writes Messages (outputs tape 
 
 -- a map that is left out takes any write
 no_map : (tape messages : Output) (bytes : List ℕ) (other : LinkOutput)
-    → Appends (output_at other (outputs tape (output_of None 0) messages)).text
-    (output_at other (outputs tape (output_of None 0) messages)).text (gained other (to_map bytes ∷ []))
+    → Appends (output_at other (outputs tape no_output messages)).text
+    (output_at other (outputs tape no_output messages)).text (gained other (to_map bytes ∷ []))
 unfolding gained
 no_map tape messages bytes Tape = keeps tape.text
 no_map tape messages bytes Map = tt
 no_map tape messages bytes Messages = keeps messages.text
 
 pub to_no_map : {A : Type 0} (tape messages : Output) (bytes : List ℕ) (done : A)
-    → Writes (outputs tape (output_of None 0) messages) (outputs tape (output_of None 0) messages) (to_map bytes ∷ []) (Ok done)
+    → Writes (outputs tape no_output messages) (outputs tape no_output messages) (to_map bytes ∷ []) (Ok done)
 to_no_map tape messages bytes done = record {
   texts = λ other. no_map tape messages bytes other;
   faults = λ other. refl;

@@ -4,6 +4,7 @@ use Rattle.std.specs.List.{flat_map}
 use Rattle.std.specs.Io.KnownBytes.{Appends}
 use Rattle.m11_base.specs.Devices.{Rises}
 use Rattle.m11_base.specs.Sink.{AppendsBeginning}
+use Rattle.m11_base.specs.declared.sink.Sink.{Ghosts}
 use Rattle.m11_layout.specs.declared.fault.LinkFault.{LinkFault}
 use Rattle.m11_layout.specs.declared.fault.LinkFault.TheVariants as fault
 use Rattle.m11_layout.specs.declared.fault.LinkOutput.{LinkOutput}
@@ -16,13 +17,17 @@ pub record Output : Type 0 where
   pub text : Option (List ℕ)
   pub faults : ℕ
 
-abbrev pub output_of : Option (List ℕ) → ℕ → Output
-output_of text faults = record { text = text; faults = faults }
+-- the output that a sink is
+abbrev pub output_of : {S : Type 0} → Ghosts S → S → Output
+output_of known sink = record { text = known.text sink; faults = known.faults sink }
 
--- an output that may be left out: nothing is known of one that isn't there, and it doesn't fail
-abbrev pub optional_output : {S : Type 0} → (S → Option (List ℕ)) → (S → ℕ) → Option S → Output
-optional_output text faults None = output_of None 0
-optional_output text faults (Some sink) = output_of (text sink) (faults sink)
+-- nothing is known of an output that isn't there, and it doesn't fail
+abbrev pub no_output : Output
+no_output = record { text = None; faults = 0 }
+
+abbrev pub optional_output : {S : Type 0} → Ghosts S → Option S → Output
+optional_output known None = no_output
+optional_output known (Some sink) = output_of known sink
 
 pub record Outputs : Type 0 where
   pub tape : Output
@@ -31,6 +36,12 @@ pub record Outputs : Type 0 where
 
 abbrev pub outputs : Output → Output → Output → Outputs
 outputs tape map messages = record { tape = tape; map = map; messages = messages }
+
+-- the outputs that three sinks are, of which that of the map may be left out; before them stands what is known of the
+-- sinks of their types
+abbrev pub outputs_of : {S T U : Type 0} → Ghosts S → Ghosts T → Ghosts U → S → Option T → U → Outputs
+outputs_of known_tape known_map known_messages tape map messages =
+    outputs (output_of known_tape tape) (optional_output known_map map) (output_of known_messages messages)
 
 abbrev pub output_at : LinkOutput → Outputs → Output
 output_at Tape all = all.tape

@@ -8,7 +8,7 @@ ghost use Rattle.m11_layout.specs.Planning.{Planned};
 ghost use Rattle.m11_layout.specs.declared.fault.LinkFault.{LinkFault};
 ghost use Rattle.m11_link.specs.Emitting.{Ends, FailsAgain, Goes, KeepsFault, Stands, TakesBlock, TakesParts, begin_writes, begun_telling, bytes_writes, held_writes, with_bytes, with_held, with_telling};
 ghost use Rattle.m11_link.specs.Findings.{planned};
-ghost use Rattle.m11_link.specs.Writes.{Output, Writes, optional_output, output_of, outputs, to_tape};
+ghost use Rattle.m11_link.specs.Writes.{Output, Writes, optional_output, output_of, outputs, outputs_of, to_tape};
 
 use crate::held::Location;
 use crate::telling::Teller;
@@ -71,16 +71,12 @@ impl Emit {
         messages: &mut U,
     ) -> Result<(), LinkFault>
         ensures takes { (plan : Planned) (before : List Part) → Stands plan before self.old → TakesBlock plan before
-            (outputs (output_of (S.text tape.old) (S.faults tape.old)) (optional_output T.text T.faults map.old)
-            (output_of (U.text messages.old) (U.faults messages.old)))
-            (outputs (output_of (S.text tape.new) (S.faults tape.new)) (optional_output T.text T.faults map.new)
-            (output_of (U.text messages.new) (U.faults messages.new)))
+            (outputs_of S.Sink T.Sink U.Sink tape.old map.old messages.old)
+            (outputs_of S.Sink T.Sink U.Sink tape.new map.new messages.new)
             self.old self.new block.now.items result }
         ensures again { FailsAgain self.old self.new
-            (outputs (output_of (S.text tape.old) (S.faults tape.old)) (optional_output T.text T.faults map.old)
-            (output_of (U.text messages.old) (U.faults messages.old)))
-            (outputs (output_of (S.text tape.new) (S.faults tape.new)) (optional_output T.text T.faults map.new)
-            (output_of (U.text messages.new) (U.faults messages.new))) result }
+            (outputs_of S.Sink T.Sink U.Sink tape.old map.old messages.old)
+            (outputs_of S.Sink T.Sink U.Sink tape.new map.new messages.new) result }
         ensures is_record { IfOk result (λ _. IsRecord block.now.items) }
         ensures kept { KeepsFault self.new result }
     {
@@ -104,16 +100,12 @@ impl Emit {
         messages: &mut U,
     ) -> Result<(), LinkFault>
         ensures takes { (plan : Planned) (before : List Part) → Stands plan before self.old → TakesParts plan before
-            (outputs (output_of (S.text tape.old) (S.faults tape.old)) (optional_output T.text T.faults map.old)
-            (output_of (U.text messages.old) (U.faults messages.old)))
-            (outputs (output_of (S.text tape.new) (S.faults tape.new)) (optional_output T.text T.faults map.new)
-            (output_of (U.text messages.new) (U.faults messages.new)))
+            (outputs_of S.Sink T.Sink U.Sink tape.old map.old messages.old)
+            (outputs_of S.Sink T.Sink U.Sink tape.new map.new messages.new)
             self.old self.new (EndOfFile ∷ []) result }
         ensures again { FailsAgain self.old self.new
-            (outputs (output_of (S.text tape.old) (S.faults tape.old)) (optional_output T.text T.faults map.old)
-            (output_of (U.text messages.old) (U.faults messages.old)))
-            (outputs (output_of (S.text tape.new) (S.faults tape.new)) (optional_output T.text T.faults map.new)
-            (output_of (U.text messages.new) (U.faults messages.new))) result }
+            (outputs_of S.Sink T.Sink U.Sink tape.old map.old messages.old)
+            (outputs_of S.Sink T.Sink U.Sink tape.new map.new messages.new) result }
         ensures kept { KeepsFault self.new result }
     {
         match self.fault {
@@ -138,16 +130,12 @@ impl Emit {
         messages: &mut U,
     ) -> Result<LinkDone, LinkFault>
         ensures ends { (plan : Planned) (before : List Part) → Stands plan before self → Ends plan before
-            (outputs (output_of (S.text tape.old) (S.faults tape.old)) (optional_output T.text T.faults map.old)
-            (output_of (U.text messages.old) (U.faults messages.old)))
-            (outputs (output_of (S.text tape.new) (S.faults tape.new)) (optional_output T.text T.faults map.new)
-            (output_of (U.text messages.new) (U.faults messages.new)))
+            (outputs_of S.Sink T.Sink U.Sink tape.old map.old messages.old)
+            (outputs_of S.Sink T.Sink U.Sink tape.new map.new messages.new)
             self result }
         ensures again { (fault : LinkFault) → self.fault ≡ Some fault → (result ≡ Err fault)
-            × (outputs (output_of (S.text tape.new) (S.faults tape.new)) (optional_output T.text T.faults map.new)
-            (output_of (U.text messages.new) (U.faults messages.new))
-            ≡ outputs (output_of (S.text tape.old) (S.faults tape.old)) (optional_output T.text T.faults map.old)
-            (output_of (U.text messages.old) (U.faults messages.old))) }
+            × (outputs_of S.Sink T.Sink U.Sink tape.new map.new messages.new
+            ≡ outputs_of S.Sink T.Sink U.Sink tape.old map.old messages.old) }
     {
         let mut emit = self;
         match emit.fault {
@@ -168,10 +156,8 @@ impl Emit {
         messages: &mut U,
     ) -> Result<(), LinkFault>
         ensures takes { (plan : Planned) (before : List Part) → Stands plan before self.old → TakesBlock plan before
-            (outputs (output_of (S.text tape.old) (S.faults tape.old)) (optional_output T.text T.faults map.old)
-            (output_of (U.text messages.old) (U.faults messages.old)))
-            (outputs (output_of (S.text tape.new) (S.faults tape.new)) (optional_output T.text T.faults map.new)
-            (output_of (U.text messages.new) (U.faults messages.new)))
+            (outputs_of S.Sink T.Sink U.Sink tape.old map.old messages.old)
+            (outputs_of S.Sink T.Sink U.Sink tape.new map.new messages.new)
             self.old self.new block.now.items result }
         ensures is_record { IfOk result (λ _. IsRecord block.now.items) }
         ensures kept { IfOk result (λ _. self.new.fault ≡ self.old.fault) }
@@ -202,10 +188,8 @@ impl Emit {
         messages: &mut U,
     ) -> Result<(), LinkFault>
         ensures { Goes
-            (outputs (output_of (S.text tape.old) (S.faults tape.old)) (optional_output T.text T.faults map.old)
-            (output_of (U.text messages.old) (U.faults messages.old)))
-            (outputs (output_of (S.text tape.new) (S.faults tape.new)) (optional_output T.text T.faults map.new)
-            (output_of (U.text messages.new) (U.faults messages.new)))
+            (outputs_of S.Sink T.Sink U.Sink tape.old map.old messages.old)
+            (outputs_of S.Sink T.Sink U.Sink tape.new map.new messages.new)
             (begin_writes self.old ++ bytes_writes location.module_index «record».now (begun_telling self.old)) self.new
             (with_telling (with_bytes location.module_index location.section «record».now (begun_telling self.old)) self.old)
             result }
@@ -222,10 +206,8 @@ impl Emit {
         messages: &mut U,
     ) -> Result<(), LinkFault>
         ensures takes { (plan : Planned) (before : List Part) → Stands plan before self.old → TakesParts plan before
-            (outputs (output_of (S.text tape.old) (S.faults tape.old)) (optional_output T.text T.faults map.old)
-            (output_of (U.text messages.old) (U.faults messages.old)))
-            (outputs (output_of (S.text tape.new) (S.faults tape.new)) (optional_output T.text T.faults map.new)
-            (output_of (U.text messages.new) (U.faults messages.new)))
+            (outputs_of S.Sink T.Sink U.Sink tape.old map.old messages.old)
+            (outputs_of S.Sink T.Sink U.Sink tape.new map.new messages.new)
             self.old self.new (EndOfFile ∷ []) result }
         ensures kept { IfOk result (λ _. self.new.fault ≡ self.old.fault) }
     {
@@ -241,10 +223,8 @@ impl Emit {
         messages: &mut U,
     ) -> Result<(), LinkFault>
         ensures { Goes
-            (outputs (output_of (S.text tape.old) (S.faults tape.old)) (optional_output T.text T.faults map.old)
-            (output_of (U.text messages.old) (U.faults messages.old)))
-            (outputs (output_of (S.text tape.new) (S.faults tape.new)) (optional_output T.text T.faults map.new)
-            (output_of (U.text messages.new) (U.faults messages.new)))
+            (outputs_of S.Sink T.Sink U.Sink tape.old map.old messages.old)
+            (outputs_of S.Sink T.Sink U.Sink tape.new map.new messages.new)
             (begin_writes self.old ++ held_writes (begun_telling self.old).held) self.new
             (with_telling (with_held None (begun_telling self.old)) self.old) result }
     {
@@ -260,10 +240,8 @@ impl Emit {
         messages: &mut U,
     ) -> Result<LinkDone, LinkFault>
         ensures writes { Writes
-            (outputs (output_of (S.text tape.old) (S.faults tape.old)) (optional_output T.text T.faults map.old)
-            (output_of (U.text messages.old) (U.faults messages.old)))
-            (outputs (output_of (S.text tape.new) (S.faults tape.new)) (optional_output T.text T.faults map.new)
-            (output_of (U.text messages.new) (U.faults messages.new)))
+            (outputs_of S.Sink T.Sink U.Sink tape.old map.old messages.old)
+            (outputs_of S.Sink T.Sink U.Sink tape.new map.new messages.new)
             (begin_writes self.old ++ to_tape (tape_block (planned (begun_telling self.old).plan).transfer []) ∷ []) result }
         ensures count { IfOk result (λ done. done.messages ≡ (begun_telling self.old).messages) }
     {
@@ -281,8 +259,8 @@ impl Emit {
         messages: &mut U,
     ) -> Result<(), LinkFault>
         ensures { (tape : Output) → Goes
-            (outputs tape (optional_output T.text T.faults map.old) (output_of (U.text messages.old) (U.faults messages.old)))
-            (outputs tape (optional_output T.text T.faults map.new) (output_of (U.text messages.new) (U.faults messages.new)))
+            (outputs tape (optional_output T.Sink map.old) (output_of U.Sink messages.old))
+            (outputs tape (optional_output T.Sink map.new) (output_of U.Sink messages.new))
             (begin_writes self.old) self.new (with_telling (begun_telling self.old) self.old) result }
     {
         if self.has_begun {

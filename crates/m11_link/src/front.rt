@@ -20,8 +20,8 @@ pub(crate) fn put_front<T: Sink, U: Sink>(
     count: u32,
 ) -> Result<u32, LinkFault>
     ensures writes { (tape : Output) → Writes
-        (outputs tape (optional_output T.text T.faults map.old) (output_of (U.text messages.old) (U.faults messages.old)))
-        (outputs tape (optional_output T.text T.faults map.new) (output_of (U.text messages.new) (U.faults messages.new)))
+        (outputs tape (optional_output T.Sink map.old) (output_of U.Sink messages.old))
+        (outputs tape (optional_output T.Sink map.new) (output_of U.Sink messages.new))
         (front_writes (planned plan.now)) result }
     ensures count { IfOk result (λ n. n ≡ counted count (front_writes (planned plan.now))) }
 {
@@ -46,8 +46,8 @@ fn undefined(plan: &Plan, reference: (Name, bool), is_strong: bool) -> Option<Na
 // being there before.
 fn put_undefined<U: Sink>(plan: &Plan, messages: &mut U, count: u32) -> Result<u32, LinkFault>
     ensures writes { (tape map : Output) → Writes
-        (outputs tape map (output_of (U.text messages.old) (U.faults messages.old)))
-        (outputs tape map (output_of (U.text messages.new) (U.faults messages.new)))
+        (outputs tape map (output_of U.Sink messages.old))
+        (outputs tape map (output_of U.Sink messages.new))
         (undefined_writes (planned plan.now) plan.now.gathered.references) result }
     ensures count { IfOk result (λ n. n ≡ counted count (undefined_writes (planned plan.now) plan.now.gathered.references)) }
 {
@@ -70,8 +70,8 @@ fn put_if_undefined<U: Sink>(
     count: u32,
 ) -> Result<u32, LinkFault>
     ensures writes { (tape map : Output) → Writes
-        (outputs tape map (output_of (U.text messages.old) (U.faults messages.old)))
-        (outputs tape map (output_of (U.text messages.new) (U.faults messages.new)))
+        (outputs tape map (output_of U.Sink messages.old))
+        (outputs tape map (output_of U.Sink messages.new))
         (written_if undefined_write (undefined_by (planned plan.now) true reference)) result }
     ensures count { IfOk result
         (λ n. n ≡ counted count (written_if undefined_write (undefined_by (planned plan.now) true reference))) }
@@ -88,8 +88,8 @@ fn put_if_undefined<U: Sink>(
 // The map.
 fn put_map_lines<T: Sink>(plan: &Plan, map: &mut Option<T>) -> Result<(), LinkFault>
     ensures { (tape messages : Output) → Writes
-        (outputs tape (optional_output T.text T.faults map.old) messages)
-        (outputs tape (optional_output T.text T.faults map.new) messages) (map_writes (planned plan.now)) result }
+        (outputs tape (optional_output T.Sink map.old) messages)
+        (outputs tape (optional_output T.Sink map.new) messages) (map_writes (planned plan.now)) result }
 {
     put_sections(plan, map)?;
     put_globals(plan, map)?;
@@ -101,8 +101,8 @@ fn put_map_lines<T: Sink>(plan: &Plan, map: &mut Option<T>) -> Result<(), LinkFa
 // The sections, under their word.
 fn put_sections<T: Sink>(plan: &Plan, map: &mut Option<T>) -> Result<(), LinkFault>
     ensures { (tape messages : Output) → Writes
-        (outputs tape (optional_output T.text T.faults map.old) messages)
-        (outputs tape (optional_output T.text T.faults map.new) messages)
+        (outputs tape (optional_output T.Sink map.old) messages)
+        (outputs tape (optional_output T.Sink map.new) messages)
         (to_map (codes "SECTIONS\n") ∷ section_writes (planned plan.now).sections) result }
 {
     put_map(map, b"SECTIONS\n")?;
@@ -112,8 +112,8 @@ fn put_sections<T: Sink>(plan: &Plan, map: &mut Option<T>) -> Result<(), LinkFau
 // A line for each section.
 fn put_each_section<T: Sink>(plan: &Plan, map: &mut Option<T>) -> Result<(), LinkFault>
     ensures { (tape messages : Output) → Writes
-        (outputs tape (optional_output T.text T.faults map.old) messages)
-        (outputs tape (optional_output T.text T.faults map.new) messages)
+        (outputs tape (optional_output T.Sink map.old) messages)
+        (outputs tape (optional_output T.Sink map.new) messages)
         (section_writes (planned plan.now).sections) result }
 {
     'sections: for index in 0..plan.section_count() {
@@ -130,8 +130,8 @@ fn put_each_section<T: Sink>(plan: &Plan, map: &mut Option<T>) -> Result<(), Lin
 // The globals that are defined, under their word.
 fn put_globals<T: Sink>(plan: &Plan, map: &mut Option<T>) -> Result<(), LinkFault>
     ensures { (tape messages : Output) → Writes
-        (outputs tape (optional_output T.text T.faults map.old) messages)
-        (outputs tape (optional_output T.text T.faults map.new) messages)
+        (outputs tape (optional_output T.Sink map.old) messages)
+        (outputs tape (optional_output T.Sink map.new) messages)
         (to_map (codes "GLOBALS\n") ∷ global_writes (planned plan.now).globals) result }
 {
     put_map(map, b"GLOBALS\n")?;
@@ -141,8 +141,8 @@ fn put_globals<T: Sink>(plan: &Plan, map: &mut Option<T>) -> Result<(), LinkFaul
 // A line for each global that is defined.
 fn put_each_global<T: Sink>(plan: &Plan, map: &mut Option<T>) -> Result<(), LinkFault>
     ensures { (tape messages : Output) → Writes
-        (outputs tape (optional_output T.text T.faults map.old) messages)
-        (outputs tape (optional_output T.text T.faults map.new) messages)
+        (outputs tape (optional_output T.Sink map.old) messages)
+        (outputs tape (optional_output T.Sink map.new) messages)
         (global_writes (planned plan.now).globals) result }
 {
     'globals: for index in 0..plan.global_count() {
@@ -159,8 +159,8 @@ fn put_each_global<T: Sink>(plan: &Plan, map: &mut Option<T>) -> Result<(), Link
 // The globals that are defined nowhere and referred to strongly, under their word.
 fn put_undefined_names<T: Sink>(plan: &Plan, map: &mut Option<T>) -> Result<(), LinkFault>
     ensures { (tape messages : Output) → Writes
-        (outputs tape (optional_output T.text T.faults map.old) messages)
-        (outputs tape (optional_output T.text T.faults map.new) messages)
+        (outputs tape (optional_output T.Sink map.old) messages)
+        (outputs tape (optional_output T.Sink map.new) messages)
         (to_map (codes "UNDEFINED\n") ∷ name_writes (planned plan.now) true plan.now.gathered.references) result }
 {
     put_map(map, b"UNDEFINED\n")?;
@@ -170,8 +170,8 @@ fn put_undefined_names<T: Sink>(plan: &Plan, map: &mut Option<T>) -> Result<(), 
 // The globals that are defined nowhere and referred to weakly alone, under their word where there are any.
 fn put_weak_names<T: Sink>(plan: &Plan, map: &mut Option<T>) -> Result<(), LinkFault>
     ensures { (tape messages : Output) → Writes
-        (outputs tape (optional_output T.text T.faults map.old) messages)
-        (outputs tape (optional_output T.text T.faults map.new) messages)
+        (outputs tape (optional_output T.Sink map.old) messages)
+        (outputs tape (optional_output T.Sink map.new) messages)
         (weak_writes (name_writes (planned plan.now) false plan.now.gathered.references)) result }
 {
     if !has_weak_name(plan) {
@@ -201,8 +201,8 @@ fn put_each_name<T: Sink>(
     map: &mut Option<T>,
 ) -> Result<(), LinkFault>
     ensures { (tape messages : Output) → Writes
-        (outputs tape (optional_output T.text T.faults map.old) messages)
-        (outputs tape (optional_output T.text T.faults map.new) messages)
+        (outputs tape (optional_output T.Sink map.old) messages)
+        (outputs tape (optional_output T.Sink map.new) messages)
         (name_writes (planned plan.now) is_strong plan.now.gathered.references) result }
 {
     'references: for index in 0..plan.reference_count() {
@@ -222,8 +222,8 @@ fn put_if_of_strength<T: Sink>(
     map: &mut Option<T>,
 ) -> Result<(), LinkFault>
     ensures { (tape messages : Output) → Writes
-        (outputs tape (optional_output T.text T.faults map.old) messages)
-        (outputs tape (optional_output T.text T.faults map.new) messages)
+        (outputs tape (optional_output T.Sink map.old) messages)
+        (outputs tape (optional_output T.Sink map.new) messages)
         (written_if name_write (undefined_by (planned plan.now) is_strong reference)) result }
 {
     match undefined(plan, reference, is_strong) {
@@ -235,8 +235,8 @@ fn put_if_of_strength<T: Sink>(
 // The transfer address and the limits.
 fn put_last_lines<T: Sink>(plan: &Plan, map: &mut Option<T>) -> Result<(), LinkFault>
     ensures { (tape messages : Output) → Writes
-        (outputs tape (optional_output T.text T.faults map.old) messages)
-        (outputs tape (optional_output T.text T.faults map.new) messages)
+        (outputs tape (optional_output T.Sink map.old) messages)
+        (outputs tape (optional_output T.Sink map.new) messages)
         (last_writes (planned plan.now)) result }
 {
     let (bottom, top) = plan.limits();

@@ -77,8 +77,8 @@ impl HeldText {
     /// The text as a block of the tape; without data it gives none.
     pub(crate) fn put<S: Sink>(&self, alloc: Global, tape: &mut S) -> Result<(), LinkFault>
         ensures { (map messages : Output) → Writes
-            (outputs (output_of (S.text tape.old) (S.faults tape.old)) map messages)
-            (outputs (output_of (S.text tape.new) (S.faults tape.new)) map messages) (text_writes self.now) result }
+            (outputs (output_of S.Sink tape.old) map messages)
+            (outputs (output_of S.Sink tape.new) map messages) (text_writes self.now) result }
     {
         if self.bytes.is_empty() {
             return Ok(());

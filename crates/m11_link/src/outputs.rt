@@ -10,8 +10,7 @@ use m11_layout::{LinkFault, LinkOutput};
 
 // All of the bytes, to the output that is named.
 fn put<S: Sink>(sink: &mut S, output: LinkOutput, bytes: &[u8]) -> Result<(), LinkFault>
-    ensures { Puts output (output_of (S.text sink.old) (S.faults sink.old))
-        (output_of (S.text sink.new) (S.faults sink.new)) bytes.now result }
+    ensures { Puts output (output_of S.Sink sink.old) (output_of S.Sink sink.new) bytes.now result }
 {
     match put_all(sink, bytes) {
         Ok(()) => Ok(()),
@@ -23,8 +22,8 @@ fn put<S: Sink>(sink: &mut S, output: LinkOutput, bytes: &[u8]) -> Result<(), Li
 #[tactic(auto, using(crate::proofs::Writing::to_the_tape))]
 pub(crate) fn put_tape<S: Sink>(tape: &mut S, bytes: &[u8]) -> Result<(), LinkFault>
     ensures { (map messages : Output) → Writes
-        (outputs (output_of (S.text tape.old) (S.faults tape.old)) map messages)
-        (outputs (output_of (S.text tape.new) (S.faults tape.new)) map messages) (to_tape bytes.now ∷ []) result }
+        (outputs (output_of S.Sink tape.old) map messages)
+        (outputs (output_of S.Sink tape.new) map messages) (to_tape bytes.now ∷ []) result }
 {
     put(tape, LinkOutput::Tape, bytes)
 }
@@ -33,8 +32,8 @@ pub(crate) fn put_tape<S: Sink>(tape: &mut S, bytes: &[u8]) -> Result<(), LinkFa
 #[tactic(auto, using(crate::proofs::Writing::to_the_map, crate::proofs::Writing::to_no_map))]
 pub(crate) fn put_map<T: Sink>(map: &mut Option<T>, bytes: &[u8]) -> Result<(), LinkFault>
     ensures { (tape messages : Output) → Writes
-        (outputs tape (optional_output T.text T.faults map.old) messages)
-        (outputs tape (optional_output T.text T.faults map.new) messages) (to_map bytes.now ∷ []) result }
+        (outputs tape (optional_output T.Sink map.old) messages)
+        (outputs tape (optional_output T.Sink map.new) messages) (to_map bytes.now ∷ []) result }
 {
     match map {
         Some(sink) => put(sink, LinkOutput::Map, bytes),
@@ -46,8 +45,8 @@ pub(crate) fn put_map<T: Sink>(map: &mut Option<T>, bytes: &[u8]) -> Result<(), 
 #[tactic(auto, using(crate::proofs::Writing::to_the_messages))]
 pub(crate) fn put_message<U: Sink>(messages: &mut U, bytes: &[u8]) -> Result<(), LinkFault>
     ensures { (tape map : Output) → Writes
-        (outputs tape map (output_of (U.text messages.old) (U.faults messages.old)))
-        (outputs tape map (output_of (U.text messages.new) (U.faults messages.new))) (to_messages bytes.now ∷ []) result }
+        (outputs tape map (output_of U.Sink messages.old))
+        (outputs tape map (output_of U.Sink messages.new)) (to_messages bytes.now ∷ []) result }
 {
     put(messages, LinkOutput::Messages, bytes)
 }

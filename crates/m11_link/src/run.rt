@@ -10,7 +10,7 @@ ghost use Rattle.m11_modules.specs.Rules.{fault_of};
 ghost use Rattle.m11_link.specs.Emitting.{written};
 ghost use Rattle.m11_link.specs.Emitting as emitting;
 ghost use Rattle.m11_link.specs.SecondReading.{Emits, EmitsObject, ReadsSecond, Runs};
-ghost use Rattle.m11_link.specs.Writes.{Gains, Outputs, optional_output, output_of, outputs};
+ghost use Rattle.m11_link.specs.Writes.{Gains, Outputs, outputs_of};
 
 use crate::emit::{Emit, LinkDone};
 use m11_base::{Feed, Sink};
@@ -35,10 +35,8 @@ pub fn link_run<F: Feed, S: Sink, T: Sink, U: Sink>(
     messages: &mut U,
 ) -> Result<LinkDone, LinkFault>
     ensures { Runs F.text F.faults first.old first.new second.old second.new bottom
-        (outputs (output_of (S.text tape.old) (S.faults tape.old)) (optional_output T.text T.faults map.old)
-        (output_of (U.text messages.old) (U.faults messages.old)))
-        (outputs (output_of (S.text tape.new) (S.faults tape.new)) (optional_output T.text T.faults map.new)
-        (output_of (U.text messages.new) (U.faults messages.new))) result }
+        (outputs_of S.Sink T.Sink U.Sink tape.old map.old messages.old)
+        (outputs_of S.Sink T.Sink U.Sink tape.new map.new messages.new) result }
 {
     match read_first(alloc, first, bottom) {
         Ok(plan) => read_second(alloc, second, plan, tape, map, messages),
@@ -118,10 +116,8 @@ fn read_second<F: Feed, S: Sink, T: Sink, U: Sink>(
     messages: &mut U,
 ) -> Result<LinkDone, LinkFault>
     ensures { ReadsSecond F.text F.faults feeds.old feeds.new plan
-        (outputs (output_of (S.text tape.old) (S.faults tape.old)) (optional_output T.text T.faults map.old)
-        (output_of (U.text messages.old) (U.faults messages.old)))
-        (outputs (output_of (S.text tape.new) (S.faults tape.new)) (optional_output T.text T.faults map.new)
-        (output_of (U.text messages.new) (U.faults messages.new))) result }
+        (outputs_of S.Sink T.Sink U.Sink tape.old map.old messages.old)
+        (outputs_of S.Sink T.Sink U.Sink tape.new map.new messages.new) result }
 {
     let mut emit = Emit::new(alloc, plan);
     match emit_all(feeds, &mut emit, tape, map, messages) {
@@ -141,12 +137,10 @@ fn emit_all<F: Feed, S: Sink, T: Sink, U: Sink>(
     ensures { (plan : Planned) (before : List Part) (first : Outputs) → emitting.Stands plan before emit.old
         → fault_of before EndOfFile ≡ None
         → Gains first
-        (outputs (output_of (S.text tape.old) (S.faults tape.old)) (optional_output T.text T.faults map.old)
-        (output_of (U.text messages.old) (U.faults messages.old)))
+        (outputs_of S.Sink T.Sink U.Sink tape.old map.old messages.old)
         (written plan emit.old.has_begun before)
         → Emits F.text F.faults feeds.old feeds.new plan before first
-        (outputs (output_of (S.text tape.new) (S.faults tape.new)) (optional_output T.text T.faults map.new)
-        (output_of (U.text messages.new) (U.faults messages.new))) emit.new result }
+        (outputs_of S.Sink T.Sink U.Sink tape.new map.new messages.new) emit.new result }
 {
     'feeds: for feed in feeds.iter_mut() {
         match emit_object(feed, emit, tape, map, messages) {
@@ -167,12 +161,10 @@ fn emit_object<F: Feed, S: Sink, T: Sink, U: Sink>(
 ) -> Result<(), LinkFault>
     ensures { (plan : Planned) (before : List Part) (first : Outputs) → emitting.Stands plan before emit.old
         → Gains first
-        (outputs (output_of (S.text tape.old) (S.faults tape.old)) (optional_output T.text T.faults map.old)
-        (output_of (U.text messages.old) (U.faults messages.old)))
+        (outputs_of S.Sink T.Sink U.Sink tape.old map.old messages.old)
         (written plan emit.old.has_begun before)
         → EmitsObject (F.text feed.old) (F.faults feed.old) (F.faults feed.new) plan before first
-        (outputs (output_of (S.text tape.new) (S.faults tape.new)) (optional_output T.text T.faults map.new)
-        (output_of (U.text messages.new) (U.faults messages.new))) emit.new result }
+        (outputs_of S.Sink T.Sink U.Sink tape.new map.new messages.new) emit.new result }
 {
     let mut reader = BlockReader::new();
     'items: loop {

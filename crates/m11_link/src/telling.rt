@@ -78,8 +78,8 @@ impl Teller {
         messages: &mut U,
     ) -> Result<(), LinkFault>
         ensures { (tape : Output) → Goes
-            (outputs tape (optional_output T.text T.faults map.old) (output_of (U.text messages.old) (U.faults messages.old)))
-            (outputs tape (optional_output T.text T.faults map.new) (output_of (U.text messages.new) (U.faults messages.new)))
+            (outputs tape (optional_output T.Sink map.old) (output_of U.Sink messages.old))
+            (outputs tape (optional_output T.Sink map.new) (output_of U.Sink messages.new))
             (front_writes (planned self.old.plan)) self.new
             (with_count (front_writes (planned self.old.plan)) self.old) result }
     {
@@ -96,8 +96,8 @@ impl Teller {
         messages: &mut U,
     ) -> Result<(), LinkFault>
         ensures { (map : Output) → Goes
-            (outputs (output_of (S.text tape.old) (S.faults tape.old)) map (output_of (U.text messages.old) (U.faults messages.old)))
-            (outputs (output_of (S.text tape.new) (S.faults tape.new)) map (output_of (U.text messages.new) (U.faults messages.new)))
+            (outputs (output_of S.Sink tape.old) map (output_of U.Sink messages.old))
+            (outputs (output_of S.Sink tape.new) map (output_of U.Sink messages.new))
             (bytes_writes location.module_index «record».now self.old) self.new
             (with_bytes location.module_index location.section «record».now self.old) result }
     {
@@ -121,8 +121,8 @@ impl Teller {
     /// The end of the text that is held: it goes out as a block of the tape.
     pub(crate) fn end_text<S: Sink>(&mut self, tape: &mut S) -> Result<(), LinkFault>
         ensures { (map messages : Output) → Goes
-            (outputs (output_of (S.text tape.old) (S.faults tape.old)) map messages)
-            (outputs (output_of (S.text tape.new) (S.faults tape.new)) map messages)
+            (outputs (output_of S.Sink tape.old) map messages)
+            (outputs (output_of S.Sink tape.new) map messages)
             (held_writes self.old.held) self.new (with_held None self.old) result }
     {
         self.put_held(tape)?;
@@ -133,8 +133,8 @@ impl Teller {
     // The text that is held, as a block of the tape.
     fn put_held<S: Sink>(&self, tape: &mut S) -> Result<(), LinkFault>
         ensures { (map messages : Output) → Writes
-            (outputs (output_of (S.text tape.old) (S.faults tape.old)) map messages)
-            (outputs (output_of (S.text tape.new) (S.faults tape.new)) map messages) (held_writes self.now.held) result }
+            (outputs (output_of S.Sink tape.old) map messages)
+            (outputs (output_of S.Sink tape.new) map messages) (held_writes self.now.held) result }
     {
         match &self.held {
             Some(text) => text.put(self.alloc, tape),
@@ -145,8 +145,8 @@ impl Teller {
     /// The transfer block.
     pub(crate) fn put_transfer<S: Sink>(&self, tape: &mut S) -> Result<(), LinkFault>
         ensures { (map messages : Output) → Writes
-            (outputs (output_of (S.text tape.old) (S.faults tape.old)) map messages)
-            (outputs (output_of (S.text tape.new) (S.faults tape.new)) map messages)
+            (outputs (output_of S.Sink tape.old) map messages)
+            (outputs (output_of S.Sink tape.new) map messages)
             (to_tape (tape_block (planned self.now.plan).transfer []) ∷ []) result }
     {
         let block = tape_transfer(self.alloc, self.plan.transfer())?;
@@ -191,8 +191,8 @@ impl Teller {
         messages: &mut U,
     ) -> Result<(), LinkFault>
         ensures { (map : Output) → Goes
-            (outputs (output_of (S.text tape.old) (S.faults tape.old)) map (output_of (U.text messages.old) (U.faults messages.old)))
-            (outputs (output_of (S.text tape.new) (S.faults tape.new)) map (output_of (U.text messages.new) (U.faults messages.new)))
+            (outputs (output_of S.Sink tape.old) map (output_of U.Sink messages.old))
+            (outputs (output_of S.Sink tape.new) map (output_of U.Sink messages.new))
             (held_writes self.old.held
             ++ entries_writes (planned self.old.plan) module_index self.old.defined (record_entries «record».now))
             self.new (with_entries module_index (record_entries «record».now) (with_held None self.old)) result }
@@ -209,8 +209,8 @@ impl Teller {
         messages: &mut U,
     ) -> Result<(), LinkFault>
         ensures { (tape map : Output) → Goes
-            (outputs tape map (output_of (U.text messages.old) (U.faults messages.old)))
-            (outputs tape map (output_of (U.text messages.new) (U.faults messages.new)))
+            (outputs tape map (output_of U.Sink messages.old))
+            (outputs tape map (output_of U.Sink messages.new))
             (entries_writes (planned self.old.plan) module_index self.old.defined (record_entries «record».now)) self.new
             (with_entries module_index (record_entries «record».now) self.old) result }
     {
@@ -231,8 +231,8 @@ impl Teller {
         messages: &mut U,
     ) -> Result<(), LinkFault>
         ensures { (tape map : Output) → Goes
-            (outputs tape map (output_of (U.text messages.old) (U.faults messages.old)))
-            (outputs tape map (output_of (U.text messages.new) (U.faults messages.new)))
+            (outputs tape map (output_of U.Sink messages.old))
+            (outputs tape map (output_of U.Sink messages.new))
             (entry_writes (planned self.old.plan) module_index self.old.defined entry.now) self.new
             (with_entry module_index entry.now self.old) result }
     {
@@ -255,8 +255,8 @@ impl Teller {
         messages: &mut U,
     ) -> Result<(), LinkFault>
         ensures { (tape map : Output) → Goes
-            (outputs tape map (output_of (U.text messages.old) (U.faults messages.old)))
-            (outputs tape map (output_of (U.text messages.new) (U.faults messages.new)))
+            (outputs tape map (output_of U.Sink messages.old))
+            (outputs tape map (output_of U.Sink messages.new))
             (different_writes (planned self.old.plan) module_index (attributes_by entry.now.kind entry.now)) self.new
             (with_count (different_writes (planned self.old.plan) module_index (attributes_by entry.now.kind entry.now))
             self.old) result }
@@ -281,8 +281,8 @@ impl Teller {
         messages: &mut U,
     ) -> Result<(), LinkFault>
         ensures { (tape map : Output) → Goes
-            (outputs tape map (output_of (U.text messages.old) (U.faults messages.old)))
-            (outputs tape map (output_of (U.text messages.new) (U.faults messages.new)))
+            (outputs tape map (output_of U.Sink messages.old))
+            (outputs tape map (output_of U.Sink messages.new))
             (different_writes (planned self.old.plan) module_index (Some (name, attributes.0))) self.new
             (with_count (different_writes (planned self.old.plan) module_index (Some (name, attributes.0))) self.old) result }
     {
@@ -315,8 +315,8 @@ impl Teller {
         messages: &mut U,
     ) -> Result<(), LinkFault>
         ensures { (tape map : Output) → Goes
-            (outputs tape map (output_of (U.text messages.old) (U.faults messages.old)))
-            (outputs tape map (output_of (U.text messages.new) (U.faults messages.new)))
+            (outputs tape map (output_of U.Sink messages.old))
+            (outputs tape map (output_of U.Sink messages.new))
             (symbol_writes (planned self.old.plan) module_index self.old.defined entry.now) self.new
             (with_symbol module_index entry.now self.old) result }
     {
@@ -348,8 +348,8 @@ impl Teller {
     // One more message.
     fn tell<U: Sink>(&mut self, messages: &mut U, line: &Line) -> Result<(), LinkFault>
         ensures { (tape map : Output) → Goes
-            (outputs tape map (output_of (U.text messages.old) (U.faults messages.old)))
-            (outputs tape map (output_of (U.text messages.new) (U.faults messages.new)))
+            (outputs tape map (output_of U.Sink messages.old))
+            (outputs tape map (output_of U.Sink messages.new))
             (to_messages line.now.items ∷ []) self.new (with_count (to_messages line.now.items ∷ []) self.old) result }
     {
         put_message(messages, line.as_slice())?;

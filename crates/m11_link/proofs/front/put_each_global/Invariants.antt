@@ -7,6 +7,6 @@ use Rattle.m11_link.proofs.front.put_each_global.Given as goal
 
 abbrev pub invariant-globals : goal.invariant-globals
 invariant-globals g l = (tape messages : Output) → Leads (Unit {0})
-    (outputs tape (optional_output g.T.Sink.text g.T.Sink.faults l.initial.map) messages)
-    (outputs tape (optional_output g.T.Sink.text g.T.Sink.faults l.map) messages)
+    (outputs tape (optional_output g.T.Sink l.initial.map) messages)
+    (outputs tape (optional_output g.T.Sink l.map) messages)
     (global_writes (drop l.index (planned l.plan).globals)) (global_writes (planned l.plan).globals)

@@ -7,7 +7,7 @@ use Rattle.m11_link.proofs.front.put_each_name.Given as goal
 
 abbrev pub invariant-references : goal.invariant-references
 invariant-references g l = (tape messages : Output) → Leads (Unit {0})
-    (outputs tape (optional_output g.T.Sink.text g.T.Sink.faults l.initial.map) messages)
-    (outputs tape (optional_output g.T.Sink.text g.T.Sink.faults l.map) messages)
+    (outputs tape (optional_output g.T.Sink l.initial.map) messages)
+    (outputs tape (optional_output g.T.Sink l.map) messages)
     (name_writes (planned l.plan) l.is_strong (drop l.index l.plan.gathered.references))
     (name_writes (planned l.plan) l.is_strong l.plan.gathered.references)

@@ -7,6 +7,6 @@ use Rattle.m11_link.proofs.front.put_each_section.Given as goal
 
 abbrev pub invariant-sections : goal.invariant-sections
 invariant-sections g l = (tape messages : Output) → Leads (Unit {0})
-    (outputs tape (optional_output g.T.Sink.text g.T.Sink.faults l.initial.map) messages)
-    (outputs tape (optional_output g.T.Sink.text g.T.Sink.faults l.map) messages)
+    (outputs tape (optional_output g.T.Sink l.initial.map) messages)
+    (outputs tape (optional_output g.T.Sink l.map) messages)
     (section_writes (drop l.index (planned l.plan).sections)) (section_writes (planned l.plan).sections)

@@ -8,8 +8,8 @@ use Rattle.m11_link.proofs.front.put_undefined.Given as goal
 
 abbrev pub invariant-references : goal.invariant-references
 invariant-references g l = ((tape map : Output) → Leads ℕ
-    (outputs tape map (output_of (g.U.Sink.text l.initial.messages) (g.U.Sink.faults l.initial.messages)))
-    (outputs tape map (output_of (g.U.Sink.text l.messages) (g.U.Sink.faults l.messages)))
+    (outputs tape map (output_of g.U.Sink l.initial.messages))
+    (outputs tape map (output_of g.U.Sink l.messages))
     (undefined_writes (planned l.plan) (drop l.index l.plan.gathered.references))
     (undefined_writes (planned l.plan) l.plan.gathered.references))
     × (counted l.told (undefined_writes (planned l.plan) (drop l.index l.plan.gathered.references))

@@ -1,20 +1,20 @@
 use Rattle.std.proofs.Common.{get_or, refl, arith}
-use Rattle.m11_link.specs.Writes.{optional_output, output_of, outputs}
+use Rattle.m11_link.specs.Writes.{outputs_of}
 use Rattle.m11_link.proofs.SecondRead.{all_begin, all_sent, object_sent, object_stops}
 use Rattle.m11_link.proofs.run.emit_all.Goals as goal
 
 pub feeds-init : goal.feeds-init
 feeds-init g c = λ plan before first s b w.
     all_begin g.F.Feed.text g.F.Feed.faults c.args.feeds.now plan before first
-    (outputs (output_of (g.S.Sink.text c.args.tape.now) (g.S.Sink.faults c.args.tape.now)) (optional_output g.T.Sink.text g.T.Sink.faults c.args.map.now) (output_of (g.U.Sink.text c.args.messages.now) (g.U.Sink.faults c.args.messages.now)))
+    (outputs_of g.S.Sink g.T.Sink g.U.Sink c.args.tape.now c.args.map.now c.args.messages.now)
     c.args.emit.now s b w
 
 pub feeds-preserved : goal.feeds-preserved
 feeds-preserved g c = λ plan before first s b w.
     let l = c.feeds.invariant plan before first s b w in
     object_sent g.F.Feed.text g.F.Feed.faults c.args.feeds.now c.feeds.feeds c.feeds.feed-index plan before first
-    (outputs (output_of (g.S.Sink.text c.feeds.tape) (g.S.Sink.faults c.feeds.tape)) (optional_output g.T.Sink.text g.T.Sink.faults c.feeds.map) (output_of (g.U.Sink.text c.feeds.messages) (g.U.Sink.faults c.feeds.messages)))
-    (outputs (output_of (g.S.Sink.text c.emit_object.new.tape) (g.S.Sink.faults c.emit_object.new.tape)) (optional_output g.T.Sink.text g.T.Sink.faults c.emit_object.new.map) (output_of (g.U.Sink.text c.emit_object.new.messages) (g.U.Sink.faults c.emit_object.new.messages)))
+    (outputs_of g.S.Sink g.T.Sink g.U.Sink c.feeds.tape c.feeds.map c.feeds.messages)
+    (outputs_of g.S.Sink g.T.Sink g.U.Sink c.emit_object.new.tape c.emit_object.new.map c.emit_object.new.messages)
     c.feeds.emit c.emit_object.new.emit l (omega (arith, c.feeds-test.true)) c.feed-item.result
     (get_or c.feeds.feeds c.feeds.feed-index c.feed-item.result) c.emit_object.new.feed refl
     (c.in-Ok.ensures plan l.emitted.parts first l.emitted.stands l.emitted.gains)
@@ -23,8 +23,8 @@ pub returns-in-Err : goal.returns-in-Err
 returns-in-Err g c = λ plan before first s b w.
     let l = c.feeds.invariant plan before first s b w in
     object_stops g.F.Feed.text g.F.Feed.faults c.args.feeds.now c.feeds.feeds c.feeds.feed-index plan before first
-    (outputs (output_of (g.S.Sink.text c.feeds.tape) (g.S.Sink.faults c.feeds.tape)) (optional_output g.T.Sink.text g.T.Sink.faults c.feeds.map) (output_of (g.U.Sink.text c.feeds.messages) (g.U.Sink.faults c.feeds.messages)))
-    (outputs (output_of (g.S.Sink.text c.emit_object.new.tape) (g.S.Sink.faults c.emit_object.new.tape)) (optional_output g.T.Sink.text g.T.Sink.faults c.emit_object.new.map) (output_of (g.U.Sink.text c.emit_object.new.messages) (g.U.Sink.faults c.emit_object.new.messages)))
+    (outputs_of g.S.Sink g.T.Sink g.U.Sink c.feeds.tape c.feeds.map c.feeds.messages)
+    (outputs_of g.S.Sink g.T.Sink g.U.Sink c.emit_object.new.tape c.emit_object.new.map c.emit_object.new.messages)
     c.feeds.emit c.emit_object.new.emit l (omega (arith, c.feeds-test.true)) c.feed-item.result
     (get_or c.feeds.feeds c.feeds.feed-index c.feed-item.result) c.emit_object.new.feed refl
     c.in-Err.fault (c.in-Err.ensures plan l.emitted.parts first l.emitted.stands l.emitted.gains)
@@ -32,5 +32,5 @@ returns-in-Err g c = λ plan before first s b w.
 pub returns : goal.returns
 returns g c = λ plan before first s b w.
     all_sent g.F.Feed.text g.F.Feed.faults c.args.feeds.now c.feeds.feeds c.feeds.feed-index plan before first
-    (outputs (output_of (g.S.Sink.text c.feeds.tape) (g.S.Sink.faults c.feeds.tape)) (optional_output g.T.Sink.text g.T.Sink.faults c.feeds.map) (output_of (g.U.Sink.text c.feeds.messages) (g.U.Sink.faults c.feeds.messages)))
+    (outputs_of g.S.Sink g.T.Sink g.U.Sink c.feeds.tape c.feeds.map c.feeds.messages)
     c.feeds.emit (c.feeds.invariant plan before first s b w) (omega (arith, c.feeds-test.false))

@@ -3,7 +3,7 @@ use Rattle.m11_modules.specs.Parts.{Part, EndOfFile}
 use Rattle.m11_modules.specs.Rules.{fault_of}
 use Rattle.m11_layout.specs.Planning.{Planned}
 use Rattle.m11_link.specs.Emitting.{Stands, written}
-use Rattle.m11_link.specs.Writes.{Gains, Outputs, optional_output, output_of, outputs}
+use Rattle.m11_link.specs.Writes.{Gains, Outputs, outputs_of}
 use Rattle.m11_link.proofs.SecondRead.{SentAll}
 use Rattle.m11_link.proofs.run.emit_all.Given as goal
 
@@ -11,12 +11,8 @@ abbrev pub invariant-feeds : goal.invariant-feeds
 invariant-feeds g l = (plan : Planned) (before : List Part) (first : Outputs) → Stands plan before l.initial.emit
     → fault_of before EndOfFile ≡ None
     → Gains first
-    (outputs (output_of (g.S.Sink.text l.initial.tape) (g.S.Sink.faults l.initial.tape))
-    (optional_output g.T.Sink.text g.T.Sink.faults l.initial.map)
-    (output_of (g.U.Sink.text l.initial.messages) (g.U.Sink.faults l.initial.messages)))
+    (outputs_of g.S.Sink g.T.Sink g.U.Sink l.initial.tape l.initial.map l.initial.messages)
     (written plan l.initial.emit.has_begun before)
     → SentAll g.F.Feed.text g.F.Feed.faults l.initial.feeds l.feeds l.feed-index plan before first
-    (outputs (output_of (g.S.Sink.text l.tape) (g.S.Sink.faults l.tape))
-    (optional_output g.T.Sink.text g.T.Sink.faults l.map)
-    (output_of (g.U.Sink.text l.messages) (g.U.Sink.faults l.messages)))
+    (outputs_of g.S.Sink g.T.Sink g.U.Sink l.tape l.map l.messages)
     l.emit

@@ -1,6 +1,6 @@
 use Rattle.std.proofs.Common.{rules}
 use Rattle.m11_obj.specs.Limited.{place}
-use Rattle.m11_link.specs.Writes.{optional_output, output_of, outputs}
+use Rattle.m11_link.specs.Writes.{outputs_of}
 use Rattle.m11_link.proofs.ObjectsRead.{block_falls, reads_on}
 use Rattle.m11_link.proofs.SecondRead.{sent_ends, sent_first, sent_more, sent_refused, sent_stops}
 use Rattle.m11_link.proofs.run.emit_object.Goals as goal
@@ -10,7 +10,7 @@ items-init g c = rw c.new-reader.ensures (record {
   reads = search rules;
   sent = λ plan before first s w. sent_first (g.F.Feed.text c.args.feed.now) (g.F.Feed.faults c.args.feed.now) plan before
       first
-      (outputs (output_of (g.S.Sink.text c.args.tape.now) (g.S.Sink.faults c.args.tape.now)) (optional_output g.T.Sink.text g.T.Sink.faults c.args.map.now) (output_of (g.U.Sink.text c.args.messages.now) (g.U.Sink.faults c.args.messages.now)))
+      (outputs_of g.S.Sink g.T.Sink g.U.Sink c.args.tape.now c.args.map.now c.args.messages.now)
       c.args.emit.now s w;
 })
 
@@ -29,9 +29,9 @@ items-preserved g c = record {
       let reads = rw (c.items.invariant.reads, c.in-Ok-Some.field-0-is) at c.in-Ok-Some.ensures.reads in
       sent_more (g.F.Feed.text c.args.feed.now) (g.F.Feed.text c.items.feed) (g.F.Feed.faults c.args.feed.now)
       (g.F.Feed.faults c.items.feed) c.items.reader.room plan before first
-      (outputs (output_of (g.S.Sink.text c.items.tape) (g.S.Sink.faults c.items.tape)) (optional_output g.T.Sink.text g.T.Sink.faults c.items.map) (output_of (g.U.Sink.text c.items.messages) (g.U.Sink.faults c.items.messages)))
+      (outputs_of g.S.Sink g.T.Sink g.U.Sink c.items.tape c.items.map c.items.messages)
       c.items.emit l (g.F.Feed.text c.next.new.feed) (g.F.Feed.faults c.next.new.feed) c.next.new.self.room
-      (outputs (output_of (g.S.Sink.text c.feed.new.tape) (g.S.Sink.faults c.feed.new.tape)) (optional_output g.T.Sink.text g.T.Sink.faults c.feed.new.map) (output_of (g.U.Sink.text c.feed.new.messages) (g.U.Sink.faults c.feed.new.messages)))
+      (outputs_of g.S.Sink g.T.Sink g.U.Sink c.feed.new.tape c.feed.new.map c.feed.new.messages)
       c.feed.new.self c.in-Ok-Some.block.items reads (c.in-Ok.ensures.takes plan l.parts l.stands)
       c.in-Ok.ensures.is_record;
 }
@@ -42,9 +42,9 @@ returns-in-Err-feed g c = λ plan before first s w.
     let reads = rw (c.items.invariant.reads, c.in-Ok-Some.field-0-is) at c.in-Ok-Some.ensures.reads in
     sent_refused (g.F.Feed.text c.args.feed.now) (g.F.Feed.text c.items.feed) (g.F.Feed.faults c.args.feed.now)
     (g.F.Feed.faults c.items.feed) c.items.reader.room plan before first
-    (outputs (output_of (g.S.Sink.text c.items.tape) (g.S.Sink.faults c.items.tape)) (optional_output g.T.Sink.text g.T.Sink.faults c.items.map) (output_of (g.U.Sink.text c.items.messages) (g.U.Sink.faults c.items.messages)))
+    (outputs_of g.S.Sink g.T.Sink g.U.Sink c.items.tape c.items.map c.items.messages)
     c.items.emit l (g.F.Feed.text c.next.new.feed) (g.F.Feed.faults c.next.new.feed) c.next.new.self.room
-    (outputs (output_of (g.S.Sink.text c.feed.new.tape) (g.S.Sink.faults c.feed.new.tape)) (optional_output g.T.Sink.text g.T.Sink.faults c.feed.new.map) (output_of (g.U.Sink.text c.feed.new.messages) (g.U.Sink.faults c.feed.new.messages)))
+    (outputs_of g.S.Sink g.T.Sink g.U.Sink c.feed.new.tape c.feed.new.map c.feed.new.messages)
     c.feed.new.self c.in-Ok-Some.block.items reads c.in-Err-feed.fault
     (c.in-Err-feed.ensures.takes plan l.parts l.stands)
 
@@ -54,9 +54,9 @@ returns-in-Ok-None g c = λ plan before first s w.
     let reads = rw (c.items.invariant.reads, c.in-Ok-None.field-0-is) at c.in-Ok-None.ensures.reads in
     sent_ends (g.F.Feed.text c.args.feed.now) (g.F.Feed.text c.items.feed) (g.F.Feed.faults c.args.feed.now)
     (g.F.Feed.faults c.items.feed) c.items.reader.room plan before first
-    (outputs (output_of (g.S.Sink.text c.items.tape) (g.S.Sink.faults c.items.tape)) (optional_output g.T.Sink.text g.T.Sink.faults c.items.map) (output_of (g.U.Sink.text c.items.messages) (g.U.Sink.faults c.items.messages)))
+    (outputs_of g.S.Sink g.T.Sink g.U.Sink c.items.tape c.items.map c.items.messages)
     c.items.emit l (g.F.Feed.text c.next.new.feed) (g.F.Feed.faults c.next.new.feed) c.next.new.self.room
-    (outputs (output_of (g.S.Sink.text c.end_file.new.tape) (g.S.Sink.faults c.end_file.new.tape)) (optional_output g.T.Sink.text g.T.Sink.faults c.end_file.new.map) (output_of (g.U.Sink.text c.end_file.new.messages) (g.U.Sink.faults c.end_file.new.messages)))
+    (outputs_of g.S.Sink g.T.Sink g.U.Sink c.end_file.new.tape c.end_file.new.map c.end_file.new.messages)
     c.end_file.new.self reads c.end_file.result (c.end_file.ensures.takes plan l.parts l.stands)
 
 pub returns-in-Err : goal.returns-in-Err
@@ -65,7 +65,7 @@ returns-in-Err g c = λ plan before first s w.
     let reads = rw c.items.invariant.reads at c.in-Err.ensures.reads in
     sent_stops (g.F.Feed.text c.args.feed.now) (g.F.Feed.text c.items.feed) (g.F.Feed.faults c.args.feed.now)
     (g.F.Feed.faults c.items.feed) c.items.reader.room plan before first
-    (outputs (output_of (g.S.Sink.text c.items.tape) (g.S.Sink.faults c.items.tape)) (optional_output g.T.Sink.text g.T.Sink.faults c.items.map) (output_of (g.U.Sink.text c.items.messages) (g.U.Sink.faults c.items.messages)))
+    (outputs_of g.S.Sink g.T.Sink g.U.Sink c.items.tape c.items.map c.items.messages)
     c.items.emit l (g.F.Feed.text c.next.new.feed) (g.F.Feed.faults c.next.new.feed) c.next.new.self.room
-    (outputs (output_of (g.S.Sink.text c.items.tape) (g.S.Sink.faults c.items.tape)) (optional_output g.T.Sink.text g.T.Sink.faults c.items.map) (output_of (g.U.Sink.text c.items.messages) (g.U.Sink.faults c.items.messages)))
+    (outputs_of g.S.Sink g.T.Sink g.U.Sink c.items.tape c.items.map c.items.messages)
     c.items.emit c.in-Err.fault reads c.block_fault.result c.block_fault.ensures

@@ -1,7 +1,7 @@
 use Rattle.std.proofs.Common.{◌∙◌, ap, [], ◌∷◌, None, Ok}
 use Rattle.m11_obj.specs.Tapes.{tape_block}
 use Rattle.m11_link.specs.Findings.{planned}
-use Rattle.m11_link.specs.Writes.{output_of, to_tape}
+use Rattle.m11_link.specs.Writes.{no_output, to_tape}
 use Rattle.m11_link.specs.declared.emit.LinkDone.{LinkDone}
 use Rattle.m11_link.proofs.Emitted.{telling_after, transfer_then}
 use Rattle.m11_link.proofs.Writing.{stopped_first, stopped_alone}
@@ -26,4 +26,4 @@ returns-clause-writes g c =
 pub returns-clause-count : goal.returns-clause-count
 returns-clause-count g c = c.messages.ensures
     ∙ ap (λ t. t.messages) (telling_after c.args.self.now c.begin.new.self c.self.view_is
-    (c.in_ok-begin.ensures (output_of None 0)).1)
+    (c.in_ok-begin.ensures no_output).1)

@@ -6,6 +6,6 @@ use Rattle.m11_link.proofs.telling.Teller.note_entries.Given as goal
 
 abbrev pub invariant-entries : goal.invariant-entries
 invariant-entries g l = (tape map : Output) → LeadsEntries l.module_index
-    (outputs tape map (output_of (g.U.Sink.text l.initial.messages) (g.U.Sink.faults l.initial.messages))) l.initial.self
-    (outputs tape map (output_of (g.U.Sink.text l.messages) (g.U.Sink.faults l.messages))) l.self
+    (outputs tape map (output_of g.U.Sink l.initial.messages)) l.initial.self
+    (outputs tape map (output_of g.U.Sink l.messages)) l.self
     (drop l.index (record_entries l.record)) (record_entries l.record)
