@@ -204,8 +204,8 @@ pub record GoesOn (Went : List Write → Type 0) (so_far all : List Write) : Typ
   pub split : all ≡ so_far ++ more
   pub went : Went more
 
--- parts were taken, and all that they make is written; or their first fault was answered, and nothing was written; or an
--- output failed, or memory was refused
+-- parts were taken, and all that they make is written; or their first fault was answered, and nothing was written; or
+-- an output failed, or memory was refused
 abbrev pub TakesParts : Planned → List Part → Outputs → Outputs → Emitting → Emitting → List Part
     → Result (Unit {0}) LinkFault → Type 0
 TakesParts plan before old new state state' parts (Ok done) = Stands plan (before ++ parts) state'

@@ -1,5 +1,5 @@
--- What the definitions of tape, map and messages need of all parts of a link: where sections and contributions lie, what
--- globals are worth, and what the map lists. (This project's own: a name for what Sections.antt, Globals.antt and
+-- What the definitions of tape, map and messages need of all parts of a link: where sections and contributions lie,
+-- what globals are worth, and what the map lists. (This project's own: a name for what Sections.antt, Globals.antt and
 -- Transfers.antt of the layout say.)
 use Rattle.std.specs.Prelude.{◌≡◌, ℕ, Bool, List, Option}
 use Rattle.m11_modules.specs.Parts.{Part}

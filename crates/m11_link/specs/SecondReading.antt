@@ -45,7 +45,8 @@ IsOfItems before items stopped = taken before items ≡ Err stopped
 -- ---- one object, and several
 
 -- the items came to parts behind those before, the emitter stands behind them, and all that they make is written
-pub record Emitted (plan : Planned) (before : List Part) (items : List Item) (first now : Outputs) (emit : Emitting) : Type 0 where
+pub record Emitted (plan : Planned) (before : List Part) (items : List Item) (first now : Outputs) (emit : Emitting)
+    : Type 0 where
   pub parts : List Part
   pub taken-is : taken before items ≡ Ok parts
   pub stands : Stands plan parts emit
@@ -80,8 +81,8 @@ Emits text faults feeds feeds' plan before first now emit (Err stopped) = NoneFa
 abbrev pub all_writes : Planned → List Item → List Write
 all_writes plan items = link_writes (planned plan) (items_parts items)
 
--- the second reading by a plan: the items have no fault, and all is written; or a feed failed, or the items have a fault,
--- or memory was refused, between two writes; or an output failed in one, and nothing was written behind it
+-- the second reading by a plan: the items have no fault, and all is written; or a feed failed, or the items have a
+-- fault, or memory was refused, between two writes; or an output failed in one, and nothing was written behind it
 abbrev pub ReadsSecond : {F : Type 0} → (F → Option Text) → (F → ℕ) → List F → List F → Planned
     → Outputs → Outputs → Result LinkDone LinkFault → Type 0
 ReadsSecond text faults feeds feeds' plan old new (Ok done) = NoneFailed faults feeds feeds'

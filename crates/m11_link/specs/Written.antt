@@ -126,7 +126,8 @@ parts_writes found parts = writes_behind found [] parts
 
 -- the whole link: messages on undefined globals and the map, the parts, the transfer block
 abbrev pub link_writes : Findings → List Part → List Write
-link_writes found parts = (front_writes found ++ parts_writes found parts) ++ to_tape (tape_block found.transfer []) ∷ []
+link_writes found parts =
+    (front_writes found ++ parts_writes found parts) ++ to_tape (tape_block found.transfer []) ∷ []
 
 -- ---- how many messages
 

@@ -122,7 +122,8 @@ impl Emit {
 
     /// The end of the second reading: the transfer block goes out.
     ///
-    /// Faults: the one that came before, and then nothing is written; `BadOrder` inside a module; `Write` and `NoMemory`.
+    /// Faults: the one that came before, and then nothing is written; `BadOrder` inside a module; `Write` and
+    /// `NoMemory`.
     pub fn end<S: Sink, T: Sink, U: Sink>(
         self,
         tape: &mut S,
@@ -191,7 +192,8 @@ impl Emit {
             (outputs_of S.Sink T.Sink U.Sink tape.old map.old messages.old)
             (outputs_of S.Sink T.Sink U.Sink tape.new map.new messages.new)
             (begin_writes self.old ++ bytes_writes location.module_index «record».now (begun_telling self.old)) self.new
-            (with_telling (with_bytes location.module_index location.section «record».now (begun_telling self.old)) self.old)
+            (with_telling
+            (with_bytes location.module_index location.section «record».now (begun_telling self.old)) self.old)
             result }
     {
         self.begin(map, messages)?;
@@ -242,7 +244,8 @@ impl Emit {
         ensures writes { Writes
             (outputs_of S.Sink T.Sink U.Sink tape.old map.old messages.old)
             (outputs_of S.Sink T.Sink U.Sink tape.new map.new messages.new)
-            (begin_writes self.old ++ to_tape (tape_block (planned (begun_telling self.old).plan).transfer []) ∷ []) result }
+            (begin_writes self.old ++ to_tape (tape_block (planned (begun_telling self.old).plan).transfer []) ∷ [])
+            result }
         ensures count { IfOk result (λ done. done.messages ≡ (begun_telling self.old).messages) }
     {
         self.begin(map, messages)?;

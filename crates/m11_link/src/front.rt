@@ -12,7 +12,8 @@ use crate::outputs::{put_map, put_message};
 use m11_base::{Name, Sink};
 use m11_layout::{LinkFault, Plan};
 
-/// The messages on undefined globals, and then the map; answers how many messages there are, so many being there before.
+/// The messages on undefined globals, and then the map; answers how many messages there are, so many being there
+/// before.
 pub(crate) fn put_front<T: Sink, U: Sink>(
     plan: &Plan,
     map: &mut Option<T>,
@@ -49,7 +50,8 @@ fn put_undefined<U: Sink>(plan: &Plan, messages: &mut U, count: u32) -> Result<u
         (outputs tape map (output_of U.Sink messages.old))
         (outputs tape map (output_of U.Sink messages.new))
         (undefined_writes (planned plan.now) plan.now.gathered.references) result }
-    ensures count { IfOk result (λ n. n ≡ counted count (undefined_writes (planned plan.now) plan.now.gathered.references)) }
+    ensures count { IfOk result
+        (λ n. n ≡ counted count (undefined_writes (planned plan.now) plan.now.gathered.references)) }
 {
     let mut told = count;
     'references: for index in 0..plan.reference_count() {

@@ -1,5 +1,5 @@
-//! The linker: objects in, an absolute loader tape, a map and messages out. (RT-11 Volume and File Formats Manual, "Object
-//! file format" and "Absolute binary file format".)
+//! The linker: objects in, an absolute loader tape, a map and messages out. (RT-11 Volume and File Formats Manual,
+//! "Object file format" and "Absolute binary file format".)
 #![tactic(auto)]
 
 mod emit;

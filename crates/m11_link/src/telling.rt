@@ -211,8 +211,8 @@ impl Teller {
         ensures { (tape map : Output) → Goes
             (outputs tape map (output_of U.Sink messages.old))
             (outputs tape map (output_of U.Sink messages.new))
-            (entries_writes (planned self.old.plan) module_index self.old.defined (record_entries «record».now)) self.new
-            (with_entries module_index (record_entries «record».now) self.old) result }
+            (entries_writes (planned self.old.plan) module_index self.old.defined (record_entries «record».now))
+            self.new (with_entries module_index (record_entries «record».now) self.old) result }
     {
         'entries: for index in 0..record.entry_count() {
             match self.note_entry(module_index, &record.entry(index), messages) {
@@ -284,7 +284,8 @@ impl Teller {
             (outputs tape map (output_of U.Sink messages.old))
             (outputs tape map (output_of U.Sink messages.new))
             (different_writes (planned self.old.plan) module_index (Some (name, attributes.0))) self.new
-            (with_count (different_writes (planned self.old.plan) module_index (Some (name, attributes.0))) self.old) result }
+            (with_count (different_writes (planned self.old.plan) module_index (Some (name, attributes.0))) self.old)
+            result }
     {
         if self.has_first_attributes(name, attributes) {
             return Ok(());
