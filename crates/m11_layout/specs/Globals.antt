@@ -1,6 +1,6 @@
 -- Globals: where each is defined, and how it is referred to. (RT-11 Volume and File Formats Manual, "Object file
 -- format", GSD and RLD blocks. Weak references are this project's own: bit 001 of an entry that defines nothing.)
-use Rattle.std.specs.Prelude.{ℕ, ◌+◌, ◌%◌, map, option_map, Bool, ◌&&◌, not, List, [], ◌∷◌, is_none, Option, Some, None, if◌then◌else◌}
+use Rattle.std.specs.Prelude.{ℕ, ◌+◌, ◌%◌, map, option_map, Bool, ◌&&◌, not, List, [], ◌∷◌, Option, Some, None, if◌then◌else◌}
 use Rattle.std.specs.List.{filter_map, list_any}
 use Rattle.std.specs.Map.{keys_of, lookup}
 use Rattle.m11_obj.specs.declared.gsd.GsdEntry.{GsdEntry}
@@ -125,22 +125,3 @@ is_strong_to name reference = is_name name reference.0 && reference.1
 unfoldable pub referred : List Part → List ((ℕ × ℕ) × Bool)
 referred parts =
     map (λ name. (name, list_any (is_strong_to name) (references_of parts))) (distinct (keys_of (references_of parts)))
-
--- ---- what is missing
-
-abbrev pub is_undefined : List Part → ℕ × ℕ → Bool
-is_undefined parts name = is_none (first_definition parts name)
-
-abbrev pub strong_undefined : List Part → (ℕ × ℕ) × Bool → Option (ℕ × ℕ)
-strong_undefined parts reference = if is_undefined parts reference.0 && reference.1 then Some reference.0 else None
-
-abbrev pub weak_undefined : List Part → (ℕ × ℕ) × Bool → Option (ℕ × ℕ)
-weak_undefined parts reference = if is_undefined parts reference.0 && not reference.1 then Some reference.0 else None
-
--- the names without a definition to which some reference is strong, in order of first reference of either strength
-unfoldable pub undefined_names : List Part → List (ℕ × ℕ)
-undefined_names parts = filter_map (strong_undefined parts) (referred parts)
-
--- those to which no reference is strong
-unfoldable pub weak_undefined_names : List Part → List (ℕ × ℕ)
-weak_undefined_names parts = filter_map (weak_undefined parts) (referred parts)
