@@ -1,21 +1,16 @@
 -- The blanks behind a message line.
-use Rattle.std.proofs.Common.{◌≡◌, ℕ, Bool, false, cond, List, [], ◌∷◌, ◌++◌, refl, ap, ◌∙◌, append_assoc}
-use Rattle.std.specs.Prelude.{codes, ◌==◌, ◌&&◌}
-use Rattle.std.specs.List.{list_all}
+use Rattle.std.proofs.Common.{◌≡◌, ℕ, List, [], ◌∷◌, ◌++◌, refl, sym, ap, ◌∙◌, append_assoc}
+use Rattle.std.specs.Prelude.{codes}
 use Rattle.std.specs.Fmt.{decimal}
-use Rattle.m11_asm.specs.Messages.{without_last_blanks, flagged_line}
 use Rattle.std.proofs.lemmas.List.{append-nil}
-use Rattle.std.proofs.Math.Bool.{and-false}
-
-not_all_blank : (xs : List ℕ) → list_all (λ b. b == 32) (xs ++ 58 ∷ 32 ∷ []) ≡ false
-not_all_blank [] = refl
-not_all_blank (x ∷ xs) = ap (λ (b : Bool). (x == 32) && b) (not_all_blank xs) ∙ and-false (x == 32)
+use Rattle.m11_base.specs.Blanks.{without_last_blanks}
+use Rattle.m11_base.proofs.LastBlanks.{blank_removed, kept}
+use Rattle.m11_asm.specs.Messages.{flagged_line}
 
 blank_behind_colon : (xs : List ℕ) → without_last_blanks (xs ++ 58 ∷ 32 ∷ []) ≡ xs ++ 58 ∷ []
-blank_behind_colon [] = refl
-blank_behind_colon (x ∷ xs) =
-    ap (λ (b : Bool). cond b [] (x ∷ without_last_blanks (xs ++ 58 ∷ 32 ∷ []))) (not_all_blank (x ∷ xs))
-    ∙ ap (λ (t : List ℕ). x ∷ t) (blank_behind_colon xs)
+blank_behind_colon xs =
+    ap (λ (t : List ℕ). without_last_blanks t) (sym (append_assoc xs (58 ∷ []) (32 ∷ [])))
+    ∙ blank_removed (xs ++ 58 ∷ []) ∙ sym (kept xs 58 refl)
 
 pub missing_line : (lines : ℕ) → flagged_line (codes "E") lines [] ≡ (69 ∷ 32 ∷ decimal lines) ++ 58 ∷ 10 ∷ []
 missing_line lines =

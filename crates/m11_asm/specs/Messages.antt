@@ -1,13 +1,7 @@
 -- What an assembly tells of flagged lines. (This project's own.)
-use Rattle.std.specs.Prelude.{ℕ, ◌==◌, if◌then◌else◌, List, [], ◌∷◌, ◌++◌, codes}
-use Rattle.std.specs.List.{list_all}
+use Rattle.std.specs.Prelude.{ℕ, List, [], ◌∷◌, ◌++◌, codes}
 use Rattle.std.specs.Fmt.{decimal}
-
--- without the blanks that stand last
-abbrev pub without_last_blanks : List ℕ → List ℕ
-without_last_blanks [] = []
-without_last_blanks (byte ∷ bytes) =
-    if list_all (λ b. b == 32) (byte ∷ bytes) then [] else byte ∷ without_last_blanks bytes
+use Rattle.m11_base.specs.Blanks.{without_last_blanks}
 
 -- the letters, the number and the text of a flagged line
 abbrev pub flagged_line : List ℕ → ℕ → List ℕ → List ℕ

@@ -3,6 +3,7 @@ pub mod Characters
 pub mod Digits
 pub mod Fuses
 pub mod Known
+pub mod LastBlanks
 pub mod EachWord
 pub mod OneRow
 pub mod Words

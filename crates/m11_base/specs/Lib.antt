@@ -1,3 +1,4 @@
+pub mod Blanks
 pub mod Devices
 pub mod Dispatch
 pub mod Encoding

@@ -1,59 +1,13 @@
--- Blanks that stand last.
-use Rattle.std.proofs.Common.{◌≡◌, ◌==◌, ◌&&◌, ◌+◌, ◌≤◌, ◌<◌, if◌then◌else◌, ℕ, Bool, true, false, List, [], ◌∷◌, ◌++◌, append-nil, length, refl, sym, subst, arith}
+-- The blanks that a line's end loses, one after another.
+use Rattle.std.proofs.Common.{◌≡◌, ◌==◌, ◌+◌, ◌≤◌, ◌<◌, ℕ, true, false, List, [], ◌∷◌, ◌++◌, append-nil, length, refl, sym, subst, arith}
 use Rattle.std.proofs.lemmas.Bool.{false≢true}
 use Rattle.std.proofs.lemmas.Bool.Decides.{nat_tests}
 use Rattle.std.proofs.lemmas.List.{length-append}
-use Rattle.std.specs.List.{list_all}
-use Rattle.m11_link.specs.Lines.{line_of, without_last_blanks}
+use Rattle.m11_base.specs.Blanks.{without_last_blanks}
+use Rattle.m11_base.proofs.LastBlanks.{blank_removed, kept, nothing_there}
+use Rattle.m11_link.specs.Lines.{line_of}
 
-abbrev is_blank : ℕ → Bool
-is_blank byte = byte == 32
-
-and_true : (b : Bool) → (b && true) ≡ b
-and_true true = refl
-and_true false = refl
-
-and_false : (b : Bool) → (b && false) ≡ false
-and_false true = refl
-and_false false = refl
-
-all_with_blank : (bytes : List ℕ) → list_all is_blank (bytes ++ 32 ∷ []) ≡ list_all is_blank bytes
-all_with_blank [] = refl
-all_with_blank (byte ∷ bytes) =
-    let P : Bool → Type 0 = λ b. (is_blank byte && b) ≡ (is_blank byte && list_all is_blank bytes) in
-    subst P (sym (all_with_blank bytes)) refl
-
-not_all : (bytes : List ℕ) (last : ℕ) → is_blank last ≡ false → list_all is_blank (bytes ++ last ∷ []) ≡ false
-not_all [] last e = let P : Bool → Type 0 = λ b. (b && true) ≡ false in subst P (sym e) refl
-not_all (byte ∷ bytes) last e =
-    let P : Bool → Type 0 = λ b. (is_blank byte && b) ≡ false in subst P (sym (not_all bytes last e)) (and_false (is_blank byte))
-
--- one blank less at the end
-pub blank_removed : (bytes : List ℕ) → without_last_blanks (bytes ++ 32 ∷ []) ≡ without_last_blanks bytes
-unfolding without_last_blanks
-blank_removed [] = refl
-blank_removed (byte ∷ bytes) =
-    let P : Bool → Type 0 = λ b. (if b then [] else byte ∷ without_last_blanks (bytes ++ 32 ∷ []))
-    ≡ (if list_all is_blank (byte ∷ bytes) then [] else byte ∷ without_last_blanks bytes) in
-    let Q : List ℕ → Type 0 = λ rest. (if list_all is_blank (byte ∷ bytes) then [] else byte ∷ rest)
-    ≡ (if list_all is_blank (byte ∷ bytes) then [] else byte ∷ without_last_blanks bytes) in
-    subst P (sym (all_with_blank (byte ∷ bytes))) (subst Q (sym (blank_removed bytes)) refl)
-
--- a last byte that is no blank stays, and all before it
-pub kept : (bytes : List ℕ) (last : ℕ) → is_blank last ≡ false → bytes ++ last ∷ [] ≡ without_last_blanks (bytes ++ last ∷ [])
-unfolding without_last_blanks
-kept [] last e =
-    let P : Bool → Type 0 = λ b. last ∷ [] ≡ (if b then [] else last ∷ []) in subst P (sym (not_all [] last e)) refl
-kept (byte ∷ bytes) last e =
-    let P : Bool → Type 0 = λ b. byte ∷ (bytes ++ last ∷ []) ≡ (if b then [] else byte ∷ without_last_blanks (bytes ++ last ∷ [])) in
-    let Q : List ℕ → Type 0 = λ rest. byte ∷ (bytes ++ last ∷ []) ≡ byte ∷ rest in
-    subst P (sym (not_all (byte ∷ bytes) last e)) (subst Q (kept bytes last e) refl)
-
-pub nothing_there : without_last_blanks [] ≡ []
-unfolding without_last_blanks
-nothing_there = refl
-
-not_blank : (byte : ℕ) → (byte ≡ 32 → ⊥) → is_blank byte ≡ false
+not_blank : (byte : ℕ) → (byte ≡ 32 → ⊥) → (byte == 32) ≡ false
 not_blank byte other = grind (arith, nat_tests)
 
 one_more : (rest : List ℕ) (last : ℕ) → length (rest ++ last ∷ []) ≡ length rest + 1

@@ -1,16 +1,10 @@
 -- The lines of a link's map and messages. (This project's own: the columns, the words, and that blanks at the end of a
 -- line are removed.)
-use Rattle.std.specs.Prelude.{ℕ, ◌==◌, if◌then◌else◌, List, [], ◌∷◌, ◌++◌, codes}
-use Rattle.std.specs.List.{list_all}
+use Rattle.std.specs.Prelude.{ℕ, if◌then◌else◌, List, [], ◌∷◌, ◌++◌, codes}
+use Rattle.m11_base.specs.Blanks.{without_last_blanks}
 use Rattle.m11_base.specs.Octal.{octal_text}
 use Rattle.m11_base.specs.Rad50.{name_text}
 use Rattle.m11_modules.specs.Rules.{has_bits}
-
--- without the blanks that stand last
-unfoldable pub without_last_blanks : List ℕ → List ℕ
-without_last_blanks [] = []
-without_last_blanks (byte ∷ bytes) =
-    if list_all (λ b. b == 32) (byte ∷ bytes) then [] else byte ∷ without_last_blanks bytes
 
 abbrev pub line_of : List ℕ → List ℕ
 line_of text = without_last_blanks text ++ 10 ∷ []

@@ -2,6 +2,7 @@
 //! and blanks at the end of a line are removed.
 
 ghost use Rattle.std.specs.Prelude.{◌≡◌, ◌≤◌, ◌<◌, ◌+◌, ◌++◌, codes, length};
+ghost use Rattle.m11_base.specs.Blanks.{without_last_blanks};
 ghost use Rattle.m11_base.specs.Rad50.{name_text};
 ghost use Rattle.arrayvec.specs.ArrayVec.{array_vec_len};
 ghost use Rattle.m11_link.specs.Lines as spec;
@@ -23,7 +24,7 @@ pub(crate) fn put(line: &mut Line, bytes: &[u8])
 // Removes the blanks that stand last.
 fn trim(line: &mut Line)
     requires { array_vec_len line.old ≤ 64 }
-    ensures bytes { line.new.items ≡ spec.without_last_blanks line.old.items }
+    ensures bytes { line.new.items ≡ without_last_blanks line.old.items }
     ensures length { array_vec_len line.new ≤ array_vec_len line.old }
 {
     'blanks: loop {

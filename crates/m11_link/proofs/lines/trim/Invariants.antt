@@ -1,5 +1,5 @@
 use Rattle.std.proofs.Common.{◌≡◌, ◌≤◌, length}
-use Rattle.m11_link.specs.Lines.{without_last_blanks}
+use Rattle.m11_base.specs.Blanks.{without_last_blanks}
 use Rattle.m11_link.proofs.lines.trim.Given as goal
 
 abbrev pub invariant-blanks : goal.invariant-blanks
