@@ -1,9 +1,9 @@
--- Feeds read one after another, as far as a loop over them has come.
-use Rattle.std.proofs.Common.{◌≡◌, ℕ, zero, suc, ◌+◌, ◌<◌, ◌≤◌, List, [], ◌∷◌, ◌++◌, length, get_or, set, map, Option, Some, None, refl, sym, ap, ◌∙◌, append_assoc, arith}
+-- Sources read one after another, as far as a loop over them has come.
+use Rattle.std.proofs.Common.{◌≡◌, ℕ, ◌+◌, ◌<◌, ◌≤◌, List, [], ◌∷◌, ◌++◌, length, get_or, set, map, Option, Some, refl, sym, ap, ◌∙◌, append_assoc}
 use Rattle.std.proofs.lemmas.Grind.{flat_map-append}
-use Rattle.std.proofs.lemmas.List.{length-append, append-nil}
-use Rattle.m11_base.specs.Devices.{Rises}
-use Rattle.m11_base.specs.Feed.{Text, HasBytes, BeginsWith, GiveAll, NoneFailed, OneFailed}
+use Rattle.std.proofs.lemmas.List.{append-nil}
+use Rattle.m11_base.specs.Feed.{Text, HasBytes, GiveAll, NoneFailed}
+use Rattle.m11_base.proofs.FeedsRead as feeds
 use Rattle.m11_asm.specs.declared.fault.AsmFault.{AsmFault}
 use Rattle.m11_asm.specs.declared.fault.AsmFault.TheVariants.{TooMuchSource, NotYet, NoMemory, Read, Write}
 use Rattle.m11_asm.specs.declared.reading.Progress.TheVariants as progress
@@ -11,39 +11,15 @@ use Rattle.m11_asm.specs.Lines.{RawLine, input_of}
 use Rattle.m11_asm.specs.Held.{Held, Holds, Leads, GoesTo, StopsAt, symbols, FailsAt, FailAt}
 use Rattle.m11_asm.proofs.Joined.{leads_then, goes_then, stops_then, ended_more, stops_more}
 
--- the feeds done, as they were and as they are, and those left
+-- what the sources done gave, and where the reading of it has come to
 pub record SoFar {F : Type 0} (text : F → Option Text) (faults : F → ℕ) (initial now : List F) (index : ℕ)
     (before : List RawLine) (unclosed : List ℕ) (held : Held) : Type 0 where
-  pub done : List F
-  pub done_now : List F
-  pub left : List F
-  pub initial-is : initial ≡ done ++ left
-  pub now-is : now ≡ done_now ++ left
-  pub index-is : length done ≡ index
-  pub index_now : length done_now ≡ index
   pub sources : List (List ℕ)
-  pub given : GiveAll text done sources
-  pub unfailed : NoneFailed faults done done_now
+  pub read : feeds.SoFar text faults initial now index sources
   pub before' : List RawLine
   pub unclosed' : List ℕ
   pub leads : Leads before unclosed (input_of sources) before' unclosed'
   pub holds : Holds before' unclosed' held
-
--- the place of an element in a list of two parts
-split_part : {F : Type 0} (done left : List F) (i : ℕ) → length done ≡ i → i < length (done ++ left)
-    → (x : F) × (rest : List F) × (left ≡ x ∷ rest)
-split_part [] [] i e h = absurd (omega arith)
-split_part [] (x ∷ left) i e h = (x, left, refl)
-split_part (y ∷ done) left zero e h = absurd (omega arith)
-split_part (y ∷ done) left (suc i) e h = split_part done left i (omega arith) (omega arith)
-
-get_part : {F : Type 0} (done rest : List F) (x d : F) → get_or (done ++ x ∷ rest) (length done) d ≡ x
-get_part [] rest x d = refl
-get_part (y ∷ done) rest x d = get_part done rest x d
-
-set_part : {F : Type 0} (done rest : List F) (x new : F) → set (done ++ x ∷ rest) (length done) new ≡ done ++ new ∷ rest
-set_part [] rest x new = refl
-set_part {F = F} (y ∷ done) rest x new = ap (λ (t : List F). y ∷ t) (set_part done rest x new)
 
 input_behind : (ss : List (List ℕ)) (s : List ℕ) (os : List (List ℕ))
     → input_of (ss ++ s ∷ os) ≡ input_of ss ++ (symbols s ++ input_of os)
@@ -53,137 +29,45 @@ input_push : (ss : List (List ℕ)) (s : List ℕ) → input_of (ss ++ s ∷ [])
 input_push ss s = input_behind ss s [] ∙ ap (λ (t : List (Option ℕ)). input_of ss ++ t) (append-nil (symbols s))
 
 module _ {F : Type 0} (text : F → Option Text) (faults : F → ℕ) where
-  give_behind : (done : List F) (ss : List (List ℕ)) (rest : List F) (os : List (List ℕ)) → GiveAll text done ss
-      → GiveAll text rest os → GiveAll text (done ++ rest) (ss ++ os)
-  give_behind [] [] rest os g h = h
-  give_behind [] (s ∷ ss) rest os g h = absurd g
-  give_behind (x ∷ done) [] rest os g h = absurd g
-  give_behind (x ∷ done) (s ∷ ss) rest os g h = (g.0, give_behind done ss rest os g.1 h)
-
-  none_behind : (xs ys us vs : List F) → NoneFailed faults xs ys → NoneFailed faults us vs
-      → NoneFailed faults (xs ++ us) (ys ++ vs)
-  none_behind [] [] us vs g h = h
-  none_behind [] (y ∷ ys) us vs g h = absurd g
-  none_behind (x ∷ xs) [] us vs g h = absurd g
-  none_behind (x ∷ xs) (y ∷ ys) us vs g h = (g.0, none_behind xs ys us vs g.1 h)
-
-  none_same : (xs : List F) → NoneFailed faults xs xs
-  none_same [] = tt
-  none_same (x ∷ xs) = (refl, none_same xs)
-
-  move_given : (xs ys : List F) (ss : List (List ℕ)) → xs ≡ ys → GiveAll text ys ss → GiveAll text xs ss
-  move_given xs ys ss e h = rw e h
-
-  move_none : (xs xs' ys ys' : List F) → xs ≡ xs' → ys ≡ ys' → NoneFailed faults xs' ys' → NoneFailed faults xs ys
-  move_none xs xs' ys ys' e f h = rw (e, f) h
-
-  move_one : (xs xs' ys ys' : List F) (ss : List (List ℕ)) (beginning : List ℕ) → xs ≡ xs' → ys ≡ ys'
-      → OneFailed text faults xs' ys' ss beginning → OneFailed text faults xs ys ss beginning
-  move_one xs xs' ys ys' ss beginning e f h = rw (e, f) h
-
-  any_bytes : (t : Option Text) → (source : List ℕ) × HasBytes t source
-  any_bytes None = ([], tt)
-  any_bytes (Some t) = (t.bytes, refl)
-
-  any_sources : (xs : List F) → (ss : List (List ℕ)) × GiveAll text xs ss
-  any_sources [] = ([], tt)
-  any_sources (x ∷ xs) = let a = any_bytes (text x) in let b = any_sources xs in (a.0 ∷ b.0, (a.1, b.1))
-
-  one_failed : (done done_now : List F) (ss : List (List ℕ)) (x z : F) (rest : List F) (beginning : List ℕ)
-      → GiveAll text done ss → NoneFailed faults done done_now → BeginsWith (text x) beginning
-      → Rises (faults x) (faults z)
-      → OneFailed text faults (done ++ x ∷ rest) (done_now ++ z ∷ rest) ss beginning
-  one_failed [] [] [] x z rest beginning g n b r = (b, r, none_same rest)
-  one_failed [] [] (s ∷ ss) x z rest beginning g n b r = absurd g
-  one_failed [] (y ∷ ys) ss x z rest beginning g n b r = absurd n
-  one_failed (y ∷ done) [] ss x z rest beginning g n b r = absurd n
-  one_failed (y ∷ done) (w ∷ ws) [] x z rest beginning g n b r = absurd g
-  one_failed (y ∷ done) (w ∷ ws) (s ∷ ss) x z rest beginning g n b r =
-      (g.0, n.0, one_failed done ws ss x z rest beginning g.1 n.1 b r)
-
   pub begin : (initial : List F) (before : List RawLine) (unclosed : List ℕ) (held : Held) → Holds before unclosed held
       → SoFar text faults initial initial 0 before unclosed held
   begin initial before unclosed held holds = record {
-    done = [];
-    done_now = [];
-    left = initial;
-    initial-is = refl;
-    now-is = refl;
-    index-is = refl;
-    index_now = refl;
     sources = [];
-    given = tt;
-    unfailed = tt;
+    read = feeds.begin text faults initial;
     before' = before;
     unclosed' = unclosed;
     leads = λ rest. refl;
     holds = holds;
   }
 
-  no_rest : (done left : List F) → length (done ++ left) ≤ length done → left ≡ []
-  no_rest [] [] h = refl
-  no_rest [] (x ∷ left) h = absurd (omega arith)
-  no_rest (y ∷ done) left h = no_rest done left (omega arith)
-
   pub all_read : (initial now : List F) (index : ℕ) (before : List RawLine) (unclosed : List ℕ) (held : Held)
       → SoFar text faults initial now index before unclosed held → length now ≤ index
       → NoneFailed faults initial now × (sources : List (List ℕ)) × GiveAll text initial sources
       × GoesTo before unclosed (input_of sources) held progress.GoesOn
   all_read initial now index before unclosed held s h =
-      let over : length (s.done_now ++ s.left) ≤ length s.done_now = omega (arith, ap length s.now-is, s.index_now) in
-      let none = no_rest s.done_now s.left over in
-      let initial-is : initial ≡ s.done = s.initial-is ∙ ap (λ (t : List F). s.done ++ t) none ∙ append-nil s.done in
-      let now-is : now ≡ s.done_now = s.now-is ∙ ap (λ (t : List F). s.done_now ++ t) none ∙ append-nil s.done_now in (
-        move_none initial s.done now s.done_now initial-is now-is s.unfailed,
-        s.sources,
-        move_given initial s.done s.sources initial-is s.given,
-        (s.before', s.unclosed', s.leads, s.holds),
-      )
+      let read = feeds.all_read text faults initial now index s.sources s.read h in
+      (read.0, s.sources, read.1, (s.before', s.unclosed', s.leads, s.holds))
 
-  -- one more feed, at the place that the loop has come to
+  -- one more source, at the place that the loop has come to
   module _ (initial now : List F) (index : ℕ) (before : List RawLine) (unclosed : List ℕ) (held new : Held)
       (s : SoFar text faults initial now index before unclosed held)
       (inside : index < length now) (d x z : F) (x-is : x ≡ get_or now index d) where
-    part : (y : F) × (rest : List F) × (s.left ≡ y ∷ rest)
-    part = split_part s.done_now s.left index s.index_now (omega (arith, ap length s.now-is))
-
-    now_here : now ≡ s.done_now ++ part.0 ∷ part.1
-    now_here = s.now-is ∙ ap (λ (t : List F). s.done_now ++ t) part.2
-
-    x-is-here : x ≡ part.0
-    x-is-here = x-is ∙ ap (λ (t : List F). get_or t index d) now_here
-        ∙ ap (λ i. get_or (s.done_now ++ part.0 ∷ part.1) i d) (sym s.index_now) ∙ get_part s.done_now part.1 part.0 d
-
-    initial_here : initial ≡ s.done ++ x ∷ part.1
-    initial_here =
-        s.initial-is ∙ ap (λ (t : List F). s.done ++ t) part.2 ∙ ap (λ (y : F). s.done ++ y ∷ part.1) (sym x-is-here)
-
-    new_here : set now index z ≡ s.done_now ++ z ∷ part.1
-    new_here = ap (λ (t : List F). set t index z) now_here
-        ∙ ap (λ i. set (s.done_now ++ part.0 ∷ part.1) i z) (sym s.index_now) ∙ set_part s.done_now part.1 part.0 z
-
     none_failed : faults z ≡ faults x → NoneFailed faults initial (set now index z)
-    none_failed same =
-        move_none initial (s.done ++ x ∷ part.1) (set now index z) (s.done_now ++ z ∷ part.1) initial_here new_here
-        (none_behind s.done s.done_now (x ∷ part.1) (z ∷ part.1) s.unfailed (same, none_same part.1))
+    none_failed = feeds.none_failed text faults initial now index s.sources s.read inside d x z x-is
 
     module _ (source : List ℕ) (has : HasBytes (text x) source) where
-      others : (ss : List (List ℕ)) × GiveAll text part.1 ss
-      others = any_sources part.1
+      -- what the sources behind it would give
+      given : (others : List (List ℕ)) × GiveAll text initial (s.sources ++ source ∷ others)
+      given = feeds.given_more text faults initial now index s.sources s.read inside d x z x-is source has
 
-      given_all : GiveAll text initial (s.sources ++ source ∷ others.0)
-      given_all = move_given initial (s.done ++ x ∷ part.1) (s.sources ++ source ∷ others.0) initial_here
-          (give_behind s.done s.sources (x ∷ part.1) (source ∷ others.0) s.given (has, others.1))
-
-      input_parts : input_of (s.sources ++ source ∷ others.0)
-          ≡ (input_of s.sources ++ symbols source) ++ input_of others.0
-      input_parts = input_behind s.sources source others.0
-          ∙ sym (append_assoc (input_of s.sources) (symbols source) (input_of others.0))
+      input_parts : input_of (s.sources ++ source ∷ given.0) ≡ (input_of s.sources ++ symbols source) ++ input_of given.0
+      input_parts = input_behind s.sources source given.0
+          ∙ sym (append_assoc (input_of s.sources) (symbols source) (input_of given.0))
 
       stops_here : (e : AsmFault) → StopsAt s.before' s.unclosed' (symbols source) e
-          → StopsAt before unclosed (input_of (s.sources ++ source ∷ others.0)) e
+          → StopsAt before unclosed (input_of (s.sources ++ source ∷ given.0)) e
       stops_here e h =
-          rw input_parts (stops_more before unclosed (input_of s.sources ++ symbols source) e (input_of others.0)
+          rw input_parts (stops_more before unclosed (input_of s.sources ++ symbols source) e (input_of given.0)
           (stops_then before unclosed (input_of s.sources) s.before' s.unclosed' s.leads (symbols source) e h))
 
       pub source_ended : faults z ≡ faults x → GoesTo s.before' s.unclosed' (symbols source) new progress.Ended
@@ -191,9 +75,9 @@ module _ {F : Type 0} (text : F → Option Text) (faults : F → ℕ) where
           × GoesTo before unclosed (input_of sources) new progress.Ended
       source_ended same h = (
         none_failed same,
-        s.sources ++ source ∷ others.0,
-        given_all,
-        rw input_parts (ended_more before unclosed (input_of s.sources ++ symbols source) new (input_of others.0)
+        s.sources ++ source ∷ given.0,
+        given.1,
+        rw input_parts (ended_more before unclosed (input_of s.sources ++ symbols source) new (input_of given.0)
             (goes_then before unclosed (input_of s.sources) s.before' s.unclosed' s.leads (symbols source) new
             progress.Ended h)),
       )
@@ -201,16 +85,8 @@ module _ {F : Type 0} (text : F → Option Text) (faults : F → ℕ) where
       pub source_read : faults z ≡ faults x → GoesTo s.before' s.unclosed' (symbols source) new progress.GoesOn
           → SoFar text faults initial (set now index z) (index + 1) before unclosed new
       source_read same h = record {
-        done = s.done ++ x ∷ [];
-        done_now = s.done_now ++ z ∷ [];
-        left = part.1;
-        initial-is = initial_here ∙ sym (append_assoc s.done (x ∷ []) part.1);
-        now-is = new_here ∙ sym (append_assoc s.done_now (z ∷ []) part.1);
-        index-is = omega (arith, length-append s.done (x ∷ []), s.index-is);
-        index_now = omega (arith, length-append s.done_now (z ∷ []), s.index_now);
         sources = s.sources ++ source ∷ [];
-        given = give_behind s.done s.sources (x ∷ []) (source ∷ []) s.given (has, tt);
-        unfailed = none_behind s.done s.done_now (x ∷ []) (z ∷ []) s.unfailed (same, tt);
+        read = feeds.read_more text faults initial now index s.sources s.read inside d x z x-is source has same;
         before' = h.0;
         unclosed' = h.1;
         leads = rw (input_push s.sources source)
@@ -224,22 +100,20 @@ module _ {F : Type 0} (text : F → Option Text) (faults : F → ℕ) where
     source_failed Read h = (
       s.sources,
       h.0,
-      move_one initial (s.done ++ x ∷ part.1) (set now index z) (s.done_now ++ z ∷ part.1) s.sources h.0 initial_here
-          new_here
-          (one_failed s.done s.done_now s.sources x z part.1 h.0 s.given s.unfailed h.1 h.2),
+      feeds.failed_here text faults initial now index s.sources s.read inside d x z x-is h.0 h.1 h.2,
       h.3,
       h.4,
       leads_then before unclosed (input_of s.sources) s.before' s.unclosed' s.leads (map (λ byte. Some byte) h.0) h.3
           h.4 h.5,
       h.6,
     )
-    source_failed NoMemory h = (none_failed h.0, s.sources ++ h.1 ∷ (others h.1 h.2).0, given_all h.1 h.2, tt)
+    source_failed NoMemory h = (none_failed h.0, s.sources ++ h.1 ∷ (given h.1 h.2).0, (given h.1 h.2).1, tt)
     source_failed TooMuchSource h = (
       none_failed h.0,
-      s.sources ++ h.1 ∷ (others h.1 h.2).0,
-      given_all h.1 h.2,
+      s.sources ++ h.1 ∷ (given h.1 h.2).0,
+      (given h.1 h.2).1,
       stops_here h.1 h.2 TooMuchSource h.3,
     )
     source_failed NotYet h =
-        (none_failed h.0, s.sources ++ h.1 ∷ (others h.1 h.2).0, given_all h.1 h.2, stops_here h.1 h.2 NotYet h.3)
+        (none_failed h.0, s.sources ++ h.1 ∷ (given h.1 h.2).0, (given h.1 h.2).1, stops_here h.1 h.2 NotYet h.3)
     source_failed (Write output) h = absurd h.3

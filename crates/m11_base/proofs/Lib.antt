@@ -1,6 +1,7 @@
 pub mod Fronts
 pub mod Characters
 pub mod Digits
+pub mod FeedsRead
 pub mod Fuses
 pub mod Known
 pub mod LastBlanks

@@ -17,7 +17,7 @@ use Rattle.m11_layout.specs.declared.fault.LinkFault.TheVariants as fault
 use Rattle.m11_link.specs.FirstReading.{LaysOut, LaysOutObject, ReadsFirst, Reaches, StandsBetween, of_block}
 use Rattle.m11_link.specs.Objects.{Item, AreItems, BlockOf, ObjectEnds, Refused, GivesItems, BeginsItems, ObjectItems, taken, taken_item, unless_too_large}
 use Rattle.m11_link.specs.Objects as objects
-use Rattle.m11_link.proofs.FeedsRead.{SoFar, begin, all_read, failed_here, given_more, none_failed, read_more}
+use Rattle.m11_base.proofs.FeedsRead.{SoFar, begin, all_read, failed_here, given_more, none_failed, read_more}
 use Rattle.m11_link.proofs.ItemsTaken.{Decides, bind_on, bind_stops, block_decides, block_taken, decides_more, decides_then, end_decides, end_taken, ends_again, ends_first, fault_behind, one_taken, taken_behind}
 use Rattle.m11_link.proofs.Steady.{objects_come}
 use Rattle.m11_link.proofs.ObjectsRead.{Walked, StopsObject, walk_begins, walk_ends, walk_more, walk_stops, walk_whole}

@@ -7,7 +7,6 @@ pub mod WritesBehind
 pub mod Emitted
 pub mod Ended
 pub mod Steady
-pub mod FeedsRead
 pub mod ItemsTaken
 pub mod ObjectsRead
 pub mod FirstRead

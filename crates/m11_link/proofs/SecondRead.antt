@@ -28,7 +28,7 @@ use Rattle.m11_link.specs.Findings.{planned}
 use Rattle.m11_link.specs.Written.{link_writes}
 use Rattle.m11_link.specs.SecondReading.{Emits, ReadsSecond, all_writes, Emitted, EmitsObject, IsOfItems, StopsAmong, items_parts, items_writes, parts_within}
 use Rattle.m11_link.specs.Writes.{Outputs, Write, Gains, StopsBetween, StopsIn, to_tape}
-use Rattle.m11_link.proofs.FeedsRead.{SoFar, begin, all_read, failed_here, given_more, none_failed, read_more}
+use Rattle.m11_base.proofs.FeedsRead.{SoFar, begin, all_read, failed_here, given_more, none_failed, read_more}
 use Rattle.m11_link.proofs.FirstRead.{are_behind, one_object}
 use Rattle.m11_link.proofs.Steady.{objects_come}
 use Rattle.m11_link.proofs.ItemsTaken.{fault_behind, Answer, Decides, bind_ok, block_taken, decides_more, decides_then, end_decides, end_taken, ends_again, no_record_decides, one_taken, parts_decide, taken_behind}
