@@ -105,6 +105,12 @@ ReadsBlock view old new (Ok (Some block)) = Reads first_block old new (view bloc
 ReadsBlock view old new (Ok None) = Stops first_block old new EndsBetween
 ReadsBlock view old new (Err e) = Stops first_block old new (why_of e)
 
+-- a block of this content was read, or the bytes ended before one, or why it was not
+abbrev pub ReadsInto : List ℕ → Place → Place → Result Bool BlockFault → Type 0
+ReadsInto content old new (Ok true) = Reads first_block old new content
+ReadsInto content old new (Ok false) = Stops first_block old new EndsBetween
+ReadsInto content old new (Err e) = Stops first_block old new (why_of e)
+
 -- a reader of blocks between two calls: how many more bytes it may read, and whether it failed
 pub record BlockReading : Type 0 where
   pub room : ℕ

@@ -6,7 +6,7 @@ ghost use Rattle.std.specs.List.{AllByRecursion};
 ghost use Rattle.arrayvec.specs.ArrayVec.{array_vec_len};
 ghost use Rattle.m11_obj.specs.Frames.{content_limit, AreBlocks};
 ghost use Rattle.m11_obj.specs.Limited.{place, most_bytes, Inside};
-ghost use Rattle.m11_obj.specs.Blocks.{first_block, IsCut, AreRead, ReadsPart, ReadsStart, ReadsBlock, second, count, content_of, summed};
+ghost use Rattle.m11_obj.specs.Blocks.{first_block, IsCut, AreRead, ReadsPart, ReadsStart, ReadsBlock, ReadsInto, second, count, content_of, summed};
 
 use crate::block_fault::BlockFault;
 use crate::frames::{Block, block_sum};
@@ -58,18 +58,24 @@ fn read_count<F: Feed>(feed: &mut F, room: &mut u32) -> Result<u16, BlockFault>
     Ok(length - 4)
 }
 
-fn read_content<F: Feed>(feed: &mut F, room: &mut u32, count: u16) -> Result<Block, BlockFault>
+// So many bytes, in place of what stood in the content.
+fn read_content<F: Feed>(
+    feed: &mut F,
+    room: &mut u32,
+    count: u16,
+    content: &mut Block,
+) -> Result<(), BlockFault>
     requires { count ≤ content_limit }
-    ensures { ReadsPart (λ b. b.items) (content_of count)
+    ensures { ReadsPart (λ _. content.new.items) (content_of count)
         (place (F.text feed.old) (F.faults feed.old) room.old)
         (place (F.text feed.new) (F.faults feed.new) room.new) result }
 {
-    let mut content = Block::new();
+    content.clear();
     'bytes: for _ in 0..count {
         let byte = next_byte(feed, room)?;
         content.push(byte);
     }
-    Ok(content)
+    Ok(())
 }
 
 // Goes behind the sum byte of a content.
@@ -85,18 +91,23 @@ fn read_sum<F: Feed>(feed: &mut F, room: &mut u32, content: &Block) -> Result<()
     Ok(())
 }
 
-fn read_block<F: Feed>(feed: &mut F, room: &mut u32) -> Result<Option<Block>, BlockFault>
-    ensures { ReadsBlock (λ b. b.items) (place (F.text feed.old) (F.faults feed.old) room.old)
+// The content of a block, in place of what stood there. It answers whether there is a block.
+fn read_block<F: Feed>(
+    feed: &mut F,
+    room: &mut u32,
+    content: &mut Block,
+) -> Result<bool, BlockFault>
+    ensures { ReadsInto content.new.items (place (F.text feed.old) (F.faults feed.old) room.old)
         (place (F.text feed.new) (F.faults feed.new) room.new) result }
 {
     if !read_start(feed, room)? {
-        return Ok(None);
+        return Ok(false);
     }
     read_second(feed, room)?;
     let count = read_count(feed, room)?;
-    let content = read_content(feed, room, count)?;
-    read_sum(feed, room, &content)?;
-    Ok(Some(content))
+    read_content(feed, room, count, content)?;
+    read_sum(feed, room, content)?;
+    Ok(true)
 }
 
 /// What a reader reads one after another is exactly the blocks that the bytes hold, and it finds their end
@@ -151,10 +162,32 @@ impl BlockReader {
             ((result ≡ Err BlockFault.Failed) × (self.new ≡ self.old) × (feed.new ≡ feed.old)) }
         ensures fails { IsTrue self.new.has_failed ↔ IsErr result }
     {
+        let mut block = Block::new();
+        match self.next_into(feed, &mut block) {
+            Ok(true) => Ok(Some(block)),
+            Ok(false) => Ok(None),
+            Err(fault) => Err(fault),
+        }
+    }
+
+    /// Reads the next block as `next` does, its content into `block`, and answers whether there is one. Where
+    /// there is none, or at a fault, `block` may hold anything.
+    pub fn next_into<F: Feed>(
+        &mut self,
+        feed: &mut F,
+        block: &mut Block,
+    ) -> Result<bool, BlockFault>
+        ensures reads { OnFalse self.old.has_failed (ReadsInto block.new.items
+            (place (F.text feed.old) (F.faults feed.old) self.old.room)
+            (place (F.text feed.new) (F.faults feed.new) self.new.room) result) }
+        ensures failed { OnTrue self.old.has_failed
+            ((result ≡ Err BlockFault.Failed) × (self.new ≡ self.old) × (feed.new ≡ feed.old)) }
+        ensures fails { IsTrue self.new.has_failed ↔ IsErr result }
+    {
         if self.has_failed {
             return Err(BlockFault::Failed);
         }
-        let answer = read_block(feed, &mut self.room);
+        let answer = read_block(feed, &mut self.room, block);
         self.has_failed = answer.is_err();
         answer
     }

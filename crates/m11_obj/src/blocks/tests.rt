@@ -77,6 +77,19 @@ fn zeros_stand_before_between_and_behind_blocks(rt: HostRuntime) {
 }
 
 #[test]
+fn a_block_takes_the_place_of_the_one_before(rt: HostRuntime) {
+    let bytes = [1, 0, 6, 0, 6, 0, 0xf3, 1, 0, 5, 0, 2, 0xf8, 0];
+    let mut reader = BlockReader::new();
+    let mut feed = MemoryFeed::new(&bytes);
+    let mut block = Block::new();
+    assert_eq!(rt; reader.next_into(&mut feed, &mut block), Ok(true));
+    assert_eq!(rt; block.as_slice(), [6, 0].as_slice());
+    assert_eq!(rt; reader.next_into(&mut feed, &mut block), Ok(true));
+    assert_eq!(rt; block.as_slice(), [2].as_slice());
+    assert_eq!(rt; reader.next_into(&mut feed, &mut block), Ok(false));
+}
+
+#[test]
 fn each_fault_of_an_object_comes_for_its_own_reason(rt: HostRuntime) {
     assert_eq!(rt;
         fault_of(&rt, &[1, 0, 6, 0, 6]),

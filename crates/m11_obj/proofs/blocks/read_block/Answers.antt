@@ -40,10 +40,11 @@ returns-in_err-count g c =
     (place (g.F.Feed.text c.read_count.new.feed) (g.F.Feed.faults c.read_count.new.feed)
     c.read_count.new.room) _ c.in_err-count.ensures.part)
 
-pub returns-in_err-content : goal.returns-in_err-content
-returns-in_err-content g c =
+pub returns-in_err-read_content : goal.returns-in_err-read_content
+returns-in_err-read_content g c =
     let started = rw c.if-not-branch.false at c.in_ok-read_start.ensures in
-    let p = err_from_is_err_and c.from_residual-in_err-content.result c.from_residual-in_err-content.ensures.1 in
+    let p =
+    err_from_is_err_and c.from_residual-in_err-read_content.result c.from_residual-in_err-read_content.ensures.1 in
     rw (p.1, p.2) (content_stops
     (place (g.F.Feed.text c.args.feed.now) (g.F.Feed.faults c.args.feed.now) c.args.room.now)
     (place (g.F.Feed.text c.read_start.new.feed) (g.F.Feed.faults c.read_start.new.feed) c.read_start.new.room)
@@ -53,7 +54,7 @@ returns-in_err-content g c =
     c.read_count.new.room) c.in_ok-count.count c.in_ok-count.ensures.part
     (place (g.F.Feed.text c.read_content.new.feed)
     (g.F.Feed.faults c.read_content.new.feed) c.read_content.new.room) _
-    c.in_err-content.ensures)
+    c.in_err-read_content.ensures)
 
 pub returns-in_err-read_sum : goal.returns-in_err-read_sum
 returns-in_err-read_sum g c =
@@ -66,7 +67,7 @@ returns-in_err-read_sum g c =
     (place (g.F.Feed.text c.read_count.new.feed) (g.F.Feed.faults c.read_count.new.feed)
     c.read_count.new.room) c.in_ok-count.count c.in_ok-count.ensures.part
     (place (g.F.Feed.text c.read_content.new.feed) (g.F.Feed.faults c.read_content.new.feed)
-    c.read_content.new.room) c.in_ok-content.content.items c.in_ok-content.ensures
+    c.read_content.new.room) c.read_content.new.content.items c.in_ok-read_content.ensures
     (place (g.F.Feed.text c.read_sum.new.feed) (g.F.Feed.faults c.read_sum.new.feed)
     c.read_sum.new.room) _ c.in_err-read_sum.ensures)
 
@@ -80,6 +81,6 @@ returns g c =
     (place (g.F.Feed.text c.read_count.new.feed) (g.F.Feed.faults c.read_count.new.feed)
     c.read_count.new.room) c.in_ok-count.count c.in_ok-count.ensures.part
     (place (g.F.Feed.text c.read_content.new.feed) (g.F.Feed.faults c.read_content.new.feed)
-    c.read_content.new.room) c.in_ok-content.content.items c.in_ok-content.ensures
+    c.read_content.new.room) c.read_content.new.content.items c.in_ok-read_content.ensures
     (place (g.F.Feed.text c.read_sum.new.feed) (g.F.Feed.faults c.read_sum.new.feed)
     c.read_sum.new.room) c.in_ok-read_sum.ensures

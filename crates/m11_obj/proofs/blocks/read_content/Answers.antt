@@ -3,4 +3,4 @@ use Rattle.m11_obj.proofs.Limits.{took_nothing}
 use Rattle.m11_obj.proofs.blocks.read_content.Goals as goal
 
 pub bytes-init : goal.bytes-init
-bytes-init g c = rw c.new-content.ensures (took_nothing _, refl)
+bytes-init g c = rw c.clear.ensures (took_nothing _, refl)
