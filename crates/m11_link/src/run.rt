@@ -15,7 +15,7 @@ ghost use Rattle.m11_link.specs.Writes.{Gains, Outputs, outputs_of};
 use crate::emit::{Emit, LinkDone};
 use m11_base::{Feed, Sink};
 use m11_layout::{Layout, LinkFault, Plan};
-use m11_obj::{BlockFault, BlockReader};
+use m11_obj::{Block, BlockFault, BlockReader};
 use std::alloc::Global;
 
 /// Links objects, each read twice, into an absolute loader tape, a map and messages.
@@ -94,13 +94,14 @@ fn lay_out_object<F: Feed>(feed: &mut F, layout: &mut Layout) -> Result<(), Link
         → LaysOutObject (F.text feed.old) (F.faults feed.old) (F.faults feed.new) bottom before layout.new result }
 {
     let mut reader = BlockReader::new();
+    let mut block = Block::new();
     'items: loop {
-        match reader.next(feed) {
-            Ok(Some(block)) => match layout.block(&block) {
+        match reader.next_into(feed, &mut block) {
+            Ok(true) => match layout.block(&block) {
                 Ok(()) => {}
                 Err(fault) => return Err(fault),
             },
-            Ok(None) => return layout.end_file(),
+            Ok(false) => return layout.end_file(),
             Err(fault) => return Err(block_fault(fault)),
         }
     }
@@ -167,13 +168,14 @@ fn emit_object<F: Feed, S: Sink, T: Sink, U: Sink>(
         (outputs_of S.Sink T.Sink U.Sink tape.new map.new messages.new) emit.new result }
 {
     let mut reader = BlockReader::new();
+    let mut block = Block::new();
     'items: loop {
-        match reader.next(feed) {
-            Ok(Some(block)) => match emit.feed(&block, tape, map, messages) {
+        match reader.next_into(feed, &mut block) {
+            Ok(true) => match emit.feed(&block, tape, map, messages) {
                 Ok(()) => {}
                 Err(fault) => return Err(fault),
             },
-            Ok(None) => return emit.end_file(tape, map, messages),
+            Ok(false) => return emit.end_file(tape, map, messages),
             Err(fault) => return Err(block_fault(fault)),
         }
     }

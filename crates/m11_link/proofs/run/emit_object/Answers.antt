@@ -16,46 +16,46 @@ items-init g c = rw c.new-reader.ensures (record {
 
 pub items-smaller : goal.items-smaller
 items-smaller g c =
-    let reads = rw (c.items.invariant.reads, c.in-Ok-Some.field-0-is) at c.in-Ok-Some.ensures.reads in
+    let reads = rw (c.items.invariant.reads, c.in-Ok-true.field-0-test) at c.in-Ok-true.ensures.reads in
     block_falls (place (g.F.Feed.text c.items.feed) (g.F.Feed.faults c.items.feed) c.items.reader.room)
-    (place (g.F.Feed.text c.next.new.feed) (g.F.Feed.faults c.next.new.feed) c.next.new.self.room)
-    c.in-Ok-Some.block.items reads
+    (place (g.F.Feed.text c.next_into.new.feed) (g.F.Feed.faults c.next_into.new.feed) c.next_into.new.self.room)
+    c.next_into.new.block.items reads
 
 pub items-preserved : goal.items-preserved
 items-preserved g c = record {
-  reads = reads_on c.next.new.self.has_failed c.in-Ok-Some.field-0 c.in-Ok-Some.ensures.fails;
+  reads = reads_on c.next_into.new.self.has_failed c.in-Ok-true.field-0 c.in-Ok-true.ensures.fails;
   sent = λ plan before first s w.
       let l = c.items.invariant.sent plan before first s w in
-      let reads = rw (c.items.invariant.reads, c.in-Ok-Some.field-0-is) at c.in-Ok-Some.ensures.reads in
+      let reads = rw (c.items.invariant.reads, c.in-Ok-true.field-0-test) at c.in-Ok-true.ensures.reads in
       sent_more (g.F.Feed.text c.args.feed.now) (g.F.Feed.text c.items.feed) (g.F.Feed.faults c.args.feed.now)
       (g.F.Feed.faults c.items.feed) c.items.reader.room plan before first
       (outputs_of g.S.Sink g.T.Sink g.U.Sink c.items.tape c.items.map c.items.messages)
-      c.items.emit l (g.F.Feed.text c.next.new.feed) (g.F.Feed.faults c.next.new.feed) c.next.new.self.room
+      c.items.emit l (g.F.Feed.text c.next_into.new.feed) (g.F.Feed.faults c.next_into.new.feed) c.next_into.new.self.room
       (outputs_of g.S.Sink g.T.Sink g.U.Sink c.feed.new.tape c.feed.new.map c.feed.new.messages)
-      c.feed.new.self c.in-Ok-Some.block.items reads (c.in-Ok.ensures.takes plan l.parts l.stands)
+      c.feed.new.self c.next_into.new.block.items reads (c.in-Ok.ensures.takes plan l.parts l.stands)
       c.in-Ok.ensures.is_record;
 }
 
 pub returns-in-Err-feed : goal.returns-in-Err-feed
 returns-in-Err-feed g c = λ plan before first s w.
     let l = c.items.invariant.sent plan before first s w in
-    let reads = rw (c.items.invariant.reads, c.in-Ok-Some.field-0-is) at c.in-Ok-Some.ensures.reads in
+    let reads = rw (c.items.invariant.reads, c.in-Ok-true.field-0-test) at c.in-Ok-true.ensures.reads in
     sent_refused (g.F.Feed.text c.args.feed.now) (g.F.Feed.text c.items.feed) (g.F.Feed.faults c.args.feed.now)
     (g.F.Feed.faults c.items.feed) c.items.reader.room plan before first
     (outputs_of g.S.Sink g.T.Sink g.U.Sink c.items.tape c.items.map c.items.messages)
-    c.items.emit l (g.F.Feed.text c.next.new.feed) (g.F.Feed.faults c.next.new.feed) c.next.new.self.room
+    c.items.emit l (g.F.Feed.text c.next_into.new.feed) (g.F.Feed.faults c.next_into.new.feed) c.next_into.new.self.room
     (outputs_of g.S.Sink g.T.Sink g.U.Sink c.feed.new.tape c.feed.new.map c.feed.new.messages)
-    c.feed.new.self c.in-Ok-Some.block.items reads c.in-Err-feed.fault
+    c.feed.new.self c.next_into.new.block.items reads c.in-Err-feed.fault
     (c.in-Err-feed.ensures.takes plan l.parts l.stands)
 
-pub returns-in-Ok-None : goal.returns-in-Ok-None
-returns-in-Ok-None g c = λ plan before first s w.
+pub returns-in-Ok-false : goal.returns-in-Ok-false
+returns-in-Ok-false g c = λ plan before first s w.
     let l = c.items.invariant.sent plan before first s w in
-    let reads = rw (c.items.invariant.reads, c.in-Ok-None.field-0-is) at c.in-Ok-None.ensures.reads in
+    let reads = rw (c.items.invariant.reads, c.in-Ok-false.field-0-test) at c.in-Ok-false.ensures.reads in
     sent_ends (g.F.Feed.text c.args.feed.now) (g.F.Feed.text c.items.feed) (g.F.Feed.faults c.args.feed.now)
     (g.F.Feed.faults c.items.feed) c.items.reader.room plan before first
     (outputs_of g.S.Sink g.T.Sink g.U.Sink c.items.tape c.items.map c.items.messages)
-    c.items.emit l (g.F.Feed.text c.next.new.feed) (g.F.Feed.faults c.next.new.feed) c.next.new.self.room
+    c.items.emit l (g.F.Feed.text c.next_into.new.feed) (g.F.Feed.faults c.next_into.new.feed) c.next_into.new.self.room
     (outputs_of g.S.Sink g.T.Sink g.U.Sink c.end_file.new.tape c.end_file.new.map c.end_file.new.messages)
     c.end_file.new.self reads c.end_file.result (c.end_file.ensures.takes plan l.parts l.stands)
 
@@ -66,6 +66,6 @@ returns-in-Err g c = λ plan before first s w.
     sent_stops (g.F.Feed.text c.args.feed.now) (g.F.Feed.text c.items.feed) (g.F.Feed.faults c.args.feed.now)
     (g.F.Feed.faults c.items.feed) c.items.reader.room plan before first
     (outputs_of g.S.Sink g.T.Sink g.U.Sink c.items.tape c.items.map c.items.messages)
-    c.items.emit l (g.F.Feed.text c.next.new.feed) (g.F.Feed.faults c.next.new.feed) c.next.new.self.room
+    c.items.emit l (g.F.Feed.text c.next_into.new.feed) (g.F.Feed.faults c.next_into.new.feed) c.next_into.new.self.room
     (outputs_of g.S.Sink g.T.Sink g.U.Sink c.items.tape c.items.map c.items.messages)
     c.items.emit c.in-Err.fault reads c.block_fault.result c.block_fault.ensures

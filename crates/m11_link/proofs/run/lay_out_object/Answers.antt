@@ -13,39 +13,42 @@ items-init g c = rw c.new-reader.ensures (record {
 
 pub items-smaller : goal.items-smaller
 items-smaller g c =
-    let reads = rw (c.items.invariant.reads, c.in-Ok-Some.field-0-is) at c.in-Ok-Some.ensures.reads in
+    let reads = rw (c.items.invariant.reads, c.in-Ok-true.field-0-test) at c.in-Ok-true.ensures.reads in
     block_falls (place (g.F.Feed.text c.items.feed) (g.F.Feed.faults c.items.feed) c.items.reader.room)
-    (place (g.F.Feed.text c.next.new.feed) (g.F.Feed.faults c.next.new.feed) c.next.new.self.room)
-    c.in-Ok-Some.block.items reads
+    (place (g.F.Feed.text c.next_into.new.feed) (g.F.Feed.faults c.next_into.new.feed) c.next_into.new.self.room)
+    c.next_into.new.block.items reads
 
 pub items-preserved : goal.items-preserved
 items-preserved g c = record {
-  reads = reads_on c.next.new.self.has_failed c.in-Ok-Some.field-0 c.in-Ok-Some.ensures.fails;
+  reads = reads_on c.next_into.new.self.has_failed c.in-Ok-true.field-0 c.in-Ok-true.ensures.fails;
   laid = λ bottom before s.
       let l = c.items.invariant.laid bottom before s in
-      let reads = rw (c.items.invariant.reads, c.in-Ok-Some.field-0-is) at c.in-Ok-Some.ensures.reads in
+      let reads = rw (c.items.invariant.reads, c.in-Ok-true.field-0-test) at c.in-Ok-true.ensures.reads in
       laid_more (g.F.Feed.text c.args.feed.now) (g.F.Feed.text c.items.feed) (g.F.Feed.faults c.args.feed.now)
       (g.F.Feed.faults c.items.feed) c.items.reader.room bottom before c.items.layout l
-      (g.F.Feed.text c.next.new.feed) (g.F.Feed.faults c.next.new.feed) c.next.new.self.room c.block.new.self
-      c.in-Ok-Some.block.items reads (c.in-Ok.ensures.takes bottom l.parts l.stands) c.in-Ok.ensures.is_record;
+      (g.F.Feed.text c.next_into.new.feed) (g.F.Feed.faults c.next_into.new.feed) c.next_into.new.self.room
+      c.block.new.self
+      c.next_into.new.block.items reads (c.in-Ok.ensures.takes bottom l.parts l.stands) c.in-Ok.ensures.is_record;
 }
 
 pub returns-in-Err-block : goal.returns-in-Err-block
 returns-in-Err-block g c = λ bottom before s.
     let l = c.items.invariant.laid bottom before s in
-    let reads = rw (c.items.invariant.reads, c.in-Ok-Some.field-0-is) at c.in-Ok-Some.ensures.reads in
+    let reads = rw (c.items.invariant.reads, c.in-Ok-true.field-0-test) at c.in-Ok-true.ensures.reads in
     laid_refused (g.F.Feed.text c.args.feed.now) (g.F.Feed.text c.items.feed) (g.F.Feed.faults c.args.feed.now)
     (g.F.Feed.faults c.items.feed) c.items.reader.room bottom before c.items.layout l
-    (g.F.Feed.text c.next.new.feed) (g.F.Feed.faults c.next.new.feed) c.next.new.self.room c.block.new.self
-    c.in-Ok-Some.block.items reads c.in-Err-block.fault (c.in-Err-block.ensures.takes bottom l.parts l.stands)
+    (g.F.Feed.text c.next_into.new.feed) (g.F.Feed.faults c.next_into.new.feed) c.next_into.new.self.room
+    c.block.new.self
+    c.next_into.new.block.items reads c.in-Err-block.fault (c.in-Err-block.ensures.takes bottom l.parts l.stands)
 
-pub returns-in-Ok-None : goal.returns-in-Ok-None
-returns-in-Ok-None g c = λ bottom before s.
+pub returns-in-Ok-false : goal.returns-in-Ok-false
+returns-in-Ok-false g c = λ bottom before s.
     let l = c.items.invariant.laid bottom before s in
-    let reads = rw (c.items.invariant.reads, c.in-Ok-None.field-0-is) at c.in-Ok-None.ensures.reads in
+    let reads = rw (c.items.invariant.reads, c.in-Ok-false.field-0-test) at c.in-Ok-false.ensures.reads in
     laid_ends (g.F.Feed.text c.args.feed.now) (g.F.Feed.text c.items.feed) (g.F.Feed.faults c.args.feed.now)
     (g.F.Feed.faults c.items.feed) c.items.reader.room bottom before c.items.layout l
-    (g.F.Feed.text c.next.new.feed) (g.F.Feed.faults c.next.new.feed) c.next.new.self.room c.end_file.new.self
+    (g.F.Feed.text c.next_into.new.feed) (g.F.Feed.faults c.next_into.new.feed) c.next_into.new.self.room
+    c.end_file.new.self
     reads c.end_file.result (c.end_file.ensures.takes bottom l.parts l.stands)
 
 pub returns-in-Err : goal.returns-in-Err
@@ -54,5 +57,5 @@ returns-in-Err g c = λ bottom before s.
     let reads = rw c.items.invariant.reads at c.in-Err.ensures.reads in
     laid_stops (g.F.Feed.text c.args.feed.now) (g.F.Feed.text c.items.feed) (g.F.Feed.faults c.args.feed.now)
     (g.F.Feed.faults c.items.feed) c.items.reader.room bottom before c.items.layout l
-    (g.F.Feed.text c.next.new.feed) (g.F.Feed.faults c.next.new.feed) c.next.new.self.room c.items.layout
+    (g.F.Feed.text c.next_into.new.feed) (g.F.Feed.faults c.next_into.new.feed) c.next_into.new.self.room c.items.layout
     c.in-Err.fault reads c.block_fault.result c.block_fault.ensures
