@@ -280,6 +280,7 @@ pub fn record_bytes(alloc: Global, record: &Record) -> Result<Vec<u8>, AllocErro
 /// `Complex` at commands 17 and 217, `UnknownRelocation` at a command that there is not or that has no
 /// byte form, `BadName` at a word of a name from 175000 up, and `BadLength` where the bytes end before
 /// a field does.
+#[inline(always)]
 pub fn read_record(block: &Block) -> Result<Record, RecordFault>
     ensures read { result ≡ record_of block.now.items }
 
@@ -288,6 +289,7 @@ pub fn read_record(block: &Block) -> Result<Record, RecordFault>
     ensures all { (content : Content) → IsRecordOf content block.now.items
         → (content_of block.now.items ≡ Ok content) × (result ≡ Ok block.now.items) }
 {
+    // in line, so that no answer with room for a record is cleared before each call
     let bytes = block.as_slice();
     check_record(bytes)?;
     let mut content = Block::new();
