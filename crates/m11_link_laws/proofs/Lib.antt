@@ -14,3 +14,4 @@ pub mod MovingFront
 pub mod MovingShapes
 pub mod MovingWithin
 pub mod MovingBytes
+pub mod FrontFirst

@@ -2,3 +2,4 @@ pub mod Lying
 pub mod PlainTexts
 pub mod Joining
 pub mod Moving
+pub mod Order

@@ -4,6 +4,7 @@
 
 mod joining;
 mod moving;
+mod order;
 mod places;
 mod texts;
 
@@ -14,6 +15,7 @@ pub use moving::{
     moving_the_bottom_moves_what_is_relocated, moving_the_bottom_wraps_no_base,
     what_moves_together_stays,
 };
+pub use order::map_is_whole_before_the_tape;
 pub use places::{
     contributions_lie_in_order, overlaid_contributions_begin_together,
     relocatable_sections_lie_in_order,

@@ -1,11 +1,12 @@
 //! Each law is a call that does nothing.
 
 use crate::{
-    contributions_lie_in_order, joined_objects_link_alike, moving_the_bottom_moves_blocks,
-    moving_the_bottom_moves_stored_values, moving_the_bottom_moves_texts,
-    moving_the_bottom_moves_the_link, moving_the_bottom_moves_what_is_relocated,
-    moving_the_bottom_wraps_no_base, overlaid_contributions_begin_together,
-    relocatable_sections_lie_in_order, unrelocated_texts_are_the_tape, what_moves_together_stays,
+    contributions_lie_in_order, joined_objects_link_alike, map_is_whole_before_the_tape,
+    moving_the_bottom_moves_blocks, moving_the_bottom_moves_stored_values,
+    moving_the_bottom_moves_texts, moving_the_bottom_moves_the_link,
+    moving_the_bottom_moves_what_is_relocated, moving_the_bottom_wraps_no_base,
+    overlaid_contributions_begin_together, relocatable_sections_lie_in_order,
+    unrelocated_texts_are_the_tape, what_moves_together_stays,
 };
 
 #[test]
@@ -15,6 +16,7 @@ fn laws_of_places_and_texts_are_calls() {
     overlaid_contributions_begin_together();
     unrelocated_texts_are_the_tape();
     joined_objects_link_alike();
+    map_is_whole_before_the_tape();
 }
 
 #[test]

@@ -1,0 +1,32 @@
+-- How far the writes of a link have gone, of which each goes out whole before the next one. (This project's own.)
+use Rattle.std.specs.Prelude.{◌≡◌, ℕ, Bool, true, false, List, ◌++◌, length}
+use Rattle.std.specs.List.{filter, list_any}
+use Rattle.m11_layout.specs.declared.fault.LinkOutput.{LinkOutput}
+use Rattle.m11_layout.specs.declared.fault.LinkOutput.TheVariants.{Tape}
+use Rattle.m11_link.specs.Findings.{Findings}
+use Rattle.m11_link.specs.MapText.{undefined_writes}
+use Rattle.m11_link.specs.Writes.{Write}
+use Rattle.m11_link.specs.Written.{is_message}
+
+abbrev pub is_to_tape : LinkOutput → Bool
+is_to_tape Tape = true
+is_to_tape output = false
+
+abbrev pub is_block : Write → Bool
+is_block write = is_to_tape write.output
+
+-- whether one of these writes is to the tape
+abbrev pub reach_tape : List Write → Bool
+reach_tape writes = list_any is_block writes
+
+-- how many of these writes are messages
+abbrev pub messages_in : List Write → ℕ
+messages_in writes = length (filter is_message writes)
+
+-- how many messages tell of undefined globals
+abbrev pub undefined_count : Findings → ℕ
+undefined_count found = length (undefined_writes found found.references)
+
+-- these writes begin with those
+abbrev pub BeginsWith : List Write → List Write → Type 0
+BeginsWith writes first = (rest : List Write) × (writes ≡ first ++ rest)

@@ -1,0 +1,24 @@
+//! The order in which a link writes.
+
+ghost use Rattle.std.specs.Prelude.{◌≡◌, ◌<◌, true, List, ◌∷◌, ◌++◌};
+ghost use Rattle.m11_modules.specs.Parts.{Part};
+ghost use Rattle.m11_link.specs.Findings.{Findings};
+ghost use Rattle.m11_link.specs.MapText.{front_writes};
+ghost use Rattle.m11_link.specs.Writes.{Write};
+ghost use Rattle.m11_link.specs.Written.{link_writes, parts_writes};
+ghost use Rattle.m11_link_laws.specs.Order.{BeginsWith, messages_in, reach_tape, undefined_count};
+
+/// However far the writes of a link have gone: once one of them was to the tape, all messages on undefined globals and
+/// the whole map went out before it, and so they did once there was a message on anything else. While a write is left,
+/// nothing but what comes before the transfer block went out.
+#[tactic(auto, using(crate::proofs::FrontFirst::front_before_tape, crate::proofs::FrontFirst::front_before_messages, crate::proofs::FrontFirst::all_before_transfer))]
+pub fn map_is_whole_before_the_tape()
+    ensures tape { (found : Findings) (parts : List Part) (done more : List Write)
+        → done ++ more ≡ link_writes found parts → reach_tape done ≡ true → BeginsWith done (front_writes found) }
+    ensures messages { (found : Findings) (parts : List Part) (done more : List Write)
+        → done ++ more ≡ link_writes found parts → undefined_count found < messages_in done
+        → BeginsWith done (front_writes found) }
+    ensures transfer { (found : Findings) (parts : List Part) (done : List Write) (next : Write) (more : List Write)
+        → done ++ (next ∷ more) ≡ link_writes found parts
+        → BeginsWith (front_writes found ++ parts_writes found parts) done }
+{}
