@@ -15,3 +15,7 @@ pub mod MovingShapes
 pub mod MovingWithin
 pub mod MovingBytes
 pub mod FrontFirst
+pub mod FewerNames
+pub mod KnownBounded
+pub mod NamesTold
+pub mod TablesBounded

@@ -3,3 +3,4 @@ pub mod PlainTexts
 pub mod Joining
 pub mod Moving
 pub mod Order
+pub mod Growing

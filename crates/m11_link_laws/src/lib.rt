@@ -6,6 +6,7 @@ mod joining;
 mod moving;
 mod order;
 mod places;
+mod tables;
 mod texts;
 
 pub use joining::joined_objects_link_alike;
@@ -20,6 +21,7 @@ pub use places::{
     contributions_lie_in_order, overlaid_contributions_begin_together,
     relocatable_sections_lie_in_order,
 };
+pub use tables::tables_grow_with_names_alone;
 pub use texts::unrelocated_texts_are_the_tape;
 
 #[cfg(test)]

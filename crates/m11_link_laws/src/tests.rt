@@ -6,7 +6,7 @@ use crate::{
     moving_the_bottom_moves_texts, moving_the_bottom_moves_the_link,
     moving_the_bottom_moves_what_is_relocated, moving_the_bottom_wraps_no_base,
     overlaid_contributions_begin_together, relocatable_sections_lie_in_order,
-    unrelocated_texts_are_the_tape, what_moves_together_stays,
+    tables_grow_with_names_alone, unrelocated_texts_are_the_tape, what_moves_together_stays,
 };
 
 #[test]
@@ -17,6 +17,7 @@ fn laws_of_places_and_texts_are_calls() {
     unrelocated_texts_are_the_tape();
     joined_objects_link_alike();
     map_is_whole_before_the_tape();
+    tables_grow_with_names_alone();
 }
 
 #[test]
