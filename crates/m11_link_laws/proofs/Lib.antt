@@ -19,3 +19,4 @@ pub mod FewerNames
 pub mod KnownBounded
 pub mod NamesTold
 pub mod TablesBounded
+pub mod SectionsInModules

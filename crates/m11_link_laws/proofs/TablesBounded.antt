@@ -111,7 +111,7 @@ names_grow before part =
     (is_among (keys_of (filter_map section_in (part ∷ []))) name) a)
 
 -- those of modules that ended, and those of the one that didn't
-abbrev EntersFew : List Part → Type 0
+abbrev pub EntersFew : List Part → Type 0
 EntersFew before = length (sections_in before)
     ≤ modules_in before * length (section_names before) + length (sections_in (this_module before))
 
@@ -164,7 +164,7 @@ few_last total modules names entered total' modules' names' entered' t m n e h =
     by a b p h = omega (arith, t, e, p, h)
 
 -- a module enters no more sections than there are
-entered_few : (before : List Part) → Bounded (known_of before)
+pub entered_few : (before : List Part) → Bounded (known_of before)
     → length (sections_in (this_module before)) ≤ length (section_names before)
 unfolding known_of
 entered_few before b =
@@ -230,11 +230,11 @@ once_step bottom g EndOfFile d = d
 
 -- ---- all of them, part by part
 
-record Tables (before : List Part) (g : Gathered) : Type 0 where
-  known : Bounded (known_of before)
-  weak : Apart is_name g.weak
-  contributions : length g.contributions ≤ length (sections_in before)
-  entered : EntersFew before
+pub record Tables (before : List Part) (g : Gathered) : Type 0 where
+  pub known : Bounded (known_of before)
+  pub weak : Apart is_name g.weak
+  pub contributions : length g.contributions ≤ length (sections_in before)
+  pub entered : EntersFew before
 
 one_part : (old new sections sections' more : ℕ) → new ≤ old + more → sections' ≡ sections + more → old ≤ sections
     → new ≤ sections'
@@ -271,7 +271,7 @@ tables_none = record {
   entered = none_at_most 0;
 }
 
-tables_of : (bottom : ℕ) (parts : List Part) → first_fault [] parts ≡ None → Tables parts (gathered_of bottom parts)
+pub tables_of : (bottom : ℕ) (parts : List Part) → first_fault [] parts ≡ None → Tables parts (gathered_of bottom parts)
 tables_of bottom parts n = walked bottom Tables (tables_step bottom) [] parts nothing_gathered n tables_none
 
 -- ---- the laws
@@ -301,7 +301,7 @@ sections_kept bottom parts n =
       most = t.known.sections;
     }
 
-in_all : (total modules names entered : ℕ) → total ≤ modules * names + entered → entered ≤ names
+pub in_all : (total modules names entered : ℕ) → total ≤ modules * names + entered → entered ≤ names
     → total ≤ (modules + 1) * names
 in_all total modules names entered h e =
     let P : ℕ → Type 0 = λ n. total ≤ n in
@@ -313,7 +313,7 @@ in_all total modules names entered h e =
 more_modules : (m n : ℕ) → m ≤ n → m + 1 ≤ n + 1
 more_modules m n h = omega (arith, h)
 
-no_less : (a b c : ℕ) → a ≤ b → b ≤ c → a ≤ c
+pub no_less : (a b c : ℕ) → a ≤ b → b ≤ c → a ≤ c
 no_less a b c h k = omega (arith, h, k)
 
 pub contributions_kept : (bottom : ℕ) (parts : List Part) → first_fault [] parts ≡ None → ContributionsKept bottom parts

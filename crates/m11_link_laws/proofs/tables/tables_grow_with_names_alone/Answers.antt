@@ -1,3 +1,4 @@
+use Rattle.m11_link_laws.proofs.SectionsInModules.{records_contribute}
 use Rattle.m11_link_laws.proofs.TablesBounded.{contributions_kept, globals_kept, modules_kept, sections_kept}
 use Rattle.m11_link_laws.proofs.tables.tables_grow_with_names_alone.Goals as goal
 
@@ -12,3 +13,6 @@ returns-clause-contributions c = contributions_kept
 
 pub returns-clause-globals : goal.returns-clause-globals
 returns-clause-globals c = globals_kept
+
+pub returns-clause-records : goal.returns-clause-records
+returns-clause-records c = records_contribute
