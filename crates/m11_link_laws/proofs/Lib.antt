@@ -20,3 +20,4 @@ pub mod KnownBounded
 pub mod NamesTold
 pub mod TablesBounded
 pub mod SectionsInModules
+pub mod PlansBounded

@@ -30,7 +30,7 @@ use Rattle.m11_link_laws.proofs.NamesTold.{definitions_within, references_within
 -- ---- contributions: one more at most for each entry of a section
 
 module _ {K V : Type 0} (eq : K → K → Bool) where
-  one_entry : (es : List (K × V)) (k : K) (v : V) → length (insert_entry eq es k v) ≤ length es + 1
+  pub one_entry : (es : List (K × V)) (k : K) (v : V) → length (insert_entry eq es k v) ≤ length es + 1
   one_entry [] k v = omega arith
   one_entry (e ∷ es) k v = by (eq k e.0) (one_entry es k v)
     where

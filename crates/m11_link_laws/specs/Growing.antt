@@ -1,4 +1,4 @@
--- What the two readings of a link keep of parts, and how large that grows. (This project's own.)
+-- The tables that the two readings of a link keep of parts, and how large they grow. (This project's own.)
 use Rattle.std.specs.Prelude.{◌≡◌, ℕ, ◌+◌, ◌*◌, ◌≤◌, List, length}
 use Rattle.m11_modules.specs.Parts.{Part}
 use Rattle.m11_modules.specs.Places.{global_names, known_of, modules_in, section_names, sections_in}

@@ -3,13 +3,15 @@
 ghost use Rattle.std.specs.Prelude.{◌≡◌, ℕ, ◌*◌, ◌≤◌, List, [], length, None};
 ghost use Rattle.m11_modules.specs.Grammar.{Item, items_parts};
 ghost use Rattle.m11_modules.specs.Parts.{Part};
+ghost use Rattle.m11_modules.specs.Places.{section_names};
 ghost use Rattle.m11_modules.specs.Rules.{first_fault, most_modules, most_sections};
+ghost use Rattle.m11_layout.specs.Planning.{IsPlan, Planned};
 ghost use Rattle.m11_link_laws.specs.Growing.{ContributionsKept, GlobalsKept, ModulesKept, SectionsKept, gathered_of};
 
-/// What a link keeps of objects without a fault grows with the names of modules, sections and globals, and each of its
-/// tables has a greatest size. How many texts and relocations the objects have counts for nothing. In whole records and
-/// files, where no section is entered between modules, there are no more contributions than the greatest number of
-/// modules times that of sections.
+/// The tables that a link keeps of objects without a fault grow with the names of modules, sections and globals, and
+/// each of them has a greatest size. How many texts and relocations the objects have counts for nothing. In whole
+/// records and files, where no section is entered between modules, there are no more contributions than the greatest
+/// number of modules times that of sections. A plan has no more bases than there are sections.
 pub fn tables_grow_with_names_alone()
     ensures modules { (bottom : ℕ) (parts : List Part) → first_fault [] parts ≡ None → ModulesKept bottom parts }
     ensures sections { (bottom : ℕ) (parts : List Part) → first_fault [] parts ≡ None → SectionsKept bottom parts }
@@ -18,4 +20,6 @@ pub fn tables_grow_with_names_alone()
     ensures globals { (bottom : ℕ) (parts : List Part) → first_fault [] parts ≡ None → GlobalsKept bottom parts }
     ensures records { (bottom : ℕ) (items : List Item) → first_fault [] (items_parts items) ≡ None
         → length (gathered_of bottom (items_parts items)).contributions ≤ most_modules * most_sections }
+    ensures bases { (bottom : ℕ) (parts : List Part) (plan : Planned) → first_fault [] parts ≡ None
+        → IsPlan bottom parts plan → length plan.bases ≤ length (section_names parts) }
 {}

@@ -1,3 +1,4 @@
+use Rattle.m11_link_laws.proofs.PlansBounded.{bases_kept}
 use Rattle.m11_link_laws.proofs.SectionsInModules.{records_contribute}
 use Rattle.m11_link_laws.proofs.TablesBounded.{contributions_kept, globals_kept, modules_kept, sections_kept}
 use Rattle.m11_link_laws.proofs.tables.tables_grow_with_names_alone.Goals as goal
@@ -16,3 +17,6 @@ returns-clause-globals c = globals_kept
 
 pub returns-clause-records : goal.returns-clause-records
 returns-clause-records c = records_contribute
+
+pub returns-clause-bases : goal.returns-clause-bases
+returns-clause-bases c = bases_kept
