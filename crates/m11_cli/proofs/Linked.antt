@@ -1,7 +1,7 @@
 -- What a link says of its feeds it says of their texts and counts of failures.
 use Rattle.std.proofs.Common.{◌≡◌, ℕ, List, inl, inr, refl, ap, option_map, Option, Some, None, Result, Ok, Err}
 use Rattle.std.specs.Option.{is_some}
-use Rattle.m11_base.specs.Feed.{Text}
+use Rattle.m11_base.specs.Feed.{NoneFailed, Text}
 use Rattle.m11_base.specs.declared.sink.Sink.{Ghosts}
 use Rattle.m11_cpu.specs.Dialogue.{Output, output_of}
 use Rattle.m11_layout.specs.Planning.{Planned}
@@ -51,24 +51,31 @@ module _ {F : Type 0} (text : F → Option Text) (faults : F → ℕ) where
     items-are = h.items-are;
   }
 
+  carried : (olds news : List F) (P : List Item → Type 0)
+      → NoneFailed faults olds news × (items : List Item) × GiveItems text olds items × P items
+      → NoneFailed (λ s. s.faults) (seen text faults olds) (seen text faults news)
+      × (items : List Item) × GiveItems (λ s. s.text) (seen text faults olds) items × P items
+  carried olds news P h = (none text faults olds news h.0, h.1, given olds h.1 h.2, h.3)
+
   first : (olds news : List F) (bottom : ℕ) (answer : Result Planned LinkFault)
       → ReadsFirst text faults olds news bottom answer
       → ReadsFirst (λ s. s.text) (λ s. s.faults) (seen text faults olds) (seen text faults news) bottom answer
-  first olds news bottom (Ok plan) h = (none text faults olds news h.0, h.1, given olds h.1 h.2, h.3, h.4, h.5)
+  first olds news bottom (Ok plan) h =
+      (none text faults olds news h.0, h.1, given olds h.1 h.2, h.3, h.4, h.5)
   first olds news bottom (Err fault.Read) h = (h.0, failed olds news h.0 h.1, h.2)
-  first olds news bottom (Err (fault.Block inner)) h = (none text faults olds news h.0, h.1, given olds h.1 h.2, h.3)
-  first olds news bottom (Err (fault.Record inner)) h = (none text faults olds news h.0, h.1, given olds h.1 h.2, h.3)
-  first olds news bottom (Err fault.BadOrder) h = (none text faults olds news h.0, h.1, given olds h.1 h.2, h.3)
-  first olds news bottom (Err fault.NoText) h = (none text faults olds news h.0, h.1, given olds h.1 h.2, h.3)
-  first olds news bottom (Err fault.BadDisplacement) h = (none text faults olds news h.0, h.1, given olds h.1 h.2, h.3)
-  first olds news bottom (Err fault.UnknownSection) h = (none text faults olds news h.0, h.1, given olds h.1 h.2, h.3)
-  first olds news bottom (Err fault.TooLarge) h = (none text faults olds news h.0, h.1, given olds h.1 h.2, h.3)
-  first olds news bottom (Err fault.TooManyGlobals) h = (none text faults olds news h.0, h.1, given olds h.1 h.2, h.3)
-  first olds news bottom (Err fault.TooManySections) h = (none text faults olds news h.0, h.1, given olds h.1 h.2, h.3)
-  first olds news bottom (Err fault.TooManyModules) h = (none text faults olds news h.0, h.1, given olds h.1 h.2, h.3)
-  first olds news bottom (Err fault.TooMuch) h = (none text faults olds news h.0, h.1, given olds h.1 h.2, h.3)
-  first olds news bottom (Err fault.TextOutside) h = (none text faults olds news h.0, h.1, given olds h.1 h.2, h.3)
-  first olds news bottom (Err (fault.Write output)) h = (none text faults olds news h.0, h.1, given olds h.1 h.2, h.3)
+  first olds news bottom (Err (fault.Block inner)) h = carried olds news _ h
+  first olds news bottom (Err (fault.Record inner)) h = carried olds news _ h
+  first olds news bottom (Err fault.BadOrder) h = carried olds news _ h
+  first olds news bottom (Err fault.NoText) h = carried olds news _ h
+  first olds news bottom (Err fault.BadDisplacement) h = carried olds news _ h
+  first olds news bottom (Err fault.UnknownSection) h = carried olds news _ h
+  first olds news bottom (Err fault.TooLarge) h = carried olds news _ h
+  first olds news bottom (Err fault.TooManyGlobals) h = carried olds news _ h
+  first olds news bottom (Err fault.TooManySections) h = carried olds news _ h
+  first olds news bottom (Err fault.TooManyModules) h = carried olds news _ h
+  first olds news bottom (Err fault.TooMuch) h = carried olds news _ h
+  first olds news bottom (Err fault.TextOutside) h = carried olds news _ h
+  first olds news bottom (Err (fault.Write output)) h = carried olds news _ h
   first olds news bottom (Err fault.NoMemory) h = none text faults olds news h
 
   second : (olds news : List F) (plan : Planned) (old new : Outputs) (answer : Result LinkDone LinkFault)
@@ -77,20 +84,34 @@ module _ {F : Type 0} (text : F → Option Text) (faults : F → ℕ) where
   second olds news plan old new (Ok done) h =
       (none text faults olds news h.0, h.1, given olds h.1 h.2, h.3, h.4, h.5, h.6)
   second olds news plan old new (Err fault.Read) h = (h.0, failed olds news h.0 h.1, h.2, h.3)
-  second olds news plan old new (Err (fault.Block inner)) h = (none text faults olds news h.0, h.1, given olds h.1 h.2, h.3, h.4)
-  second olds news plan old new (Err (fault.Record inner)) h = (none text faults olds news h.0, h.1, given olds h.1 h.2, h.3, h.4)
-  second olds news plan old new (Err fault.BadOrder) h = (none text faults olds news h.0, h.1, given olds h.1 h.2, h.3, h.4)
-  second olds news plan old new (Err fault.NoText) h = (none text faults olds news h.0, h.1, given olds h.1 h.2, h.3, h.4)
-  second olds news plan old new (Err fault.BadDisplacement) h = (none text faults olds news h.0, h.1, given olds h.1 h.2, h.3, h.4)
-  second olds news plan old new (Err fault.UnknownSection) h = (none text faults olds news h.0, h.1, given olds h.1 h.2, h.3, h.4)
-  second olds news plan old new (Err fault.TooLarge) h = (none text faults olds news h.0, h.1, given olds h.1 h.2, h.3, h.4)
-  second olds news plan old new (Err fault.TooManyGlobals) h = (none text faults olds news h.0, h.1, given olds h.1 h.2, h.3, h.4)
-  second olds news plan old new (Err fault.TooManySections) h = (none text faults olds news h.0, h.1, given olds h.1 h.2, h.3, h.4)
-  second olds news plan old new (Err fault.TooManyModules) h = (none text faults olds news h.0, h.1, given olds h.1 h.2, h.3, h.4)
-  second olds news plan old new (Err fault.TooMuch) h = (none text faults olds news h.0, h.1, given olds h.1 h.2, h.3, h.4)
-  second olds news plan old new (Err fault.TextOutside) h = (none text faults olds news h.0, h.1, given olds h.1 h.2, h.3, h.4)
-  second olds news plan old new (Err (fault.Write output)) h = (none text faults olds news h.0, h.1, given olds h.1 h.2, h.3, h.4)
-  second olds news plan old new (Err fault.NoMemory) h = (none text faults olds news h.0, h.1, given olds h.1 h.2, h.3, h.4)
+  second olds news plan old new (Err (fault.Block inner)) h =
+      (none text faults olds news h.0, h.1, given olds h.1 h.2, h.3, h.4)
+  second olds news plan old new (Err (fault.Record inner)) h =
+      (none text faults olds news h.0, h.1, given olds h.1 h.2, h.3, h.4)
+  second olds news plan old new (Err fault.BadOrder) h =
+      (none text faults olds news h.0, h.1, given olds h.1 h.2, h.3, h.4)
+  second olds news plan old new (Err fault.NoText) h =
+      (none text faults olds news h.0, h.1, given olds h.1 h.2, h.3, h.4)
+  second olds news plan old new (Err fault.BadDisplacement) h =
+      (none text faults olds news h.0, h.1, given olds h.1 h.2, h.3, h.4)
+  second olds news plan old new (Err fault.UnknownSection) h =
+      (none text faults olds news h.0, h.1, given olds h.1 h.2, h.3, h.4)
+  second olds news plan old new (Err fault.TooLarge) h =
+      (none text faults olds news h.0, h.1, given olds h.1 h.2, h.3, h.4)
+  second olds news plan old new (Err fault.TooManyGlobals) h =
+      (none text faults olds news h.0, h.1, given olds h.1 h.2, h.3, h.4)
+  second olds news plan old new (Err fault.TooManySections) h =
+      (none text faults olds news h.0, h.1, given olds h.1 h.2, h.3, h.4)
+  second olds news plan old new (Err fault.TooManyModules) h =
+      (none text faults olds news h.0, h.1, given olds h.1 h.2, h.3, h.4)
+  second olds news plan old new (Err fault.TooMuch) h =
+      (none text faults olds news h.0, h.1, given olds h.1 h.2, h.3, h.4)
+  second olds news plan old new (Err fault.TextOutside) h =
+      (none text faults olds news h.0, h.1, given olds h.1 h.2, h.3, h.4)
+  second olds news plan old new (Err (fault.Write output)) h =
+      (none text faults olds news h.0, h.1, given olds h.1 h.2, h.3, h.4)
+  second olds news plan old new (Err fault.NoMemory) h =
+      (none text faults olds news h.0, h.1, given olds h.1 h.2, h.3, h.4)
 
   pub link_runs : (olds news again later : List F) (bottom : ℕ) (old new : Outputs) (answer : Result LinkDone LinkFault)
       → Runs text faults olds news again later bottom old new answer

@@ -29,7 +29,8 @@ module _ {F : Type 0} (text : F → Option Text) (faults : F → ℕ) where
   none (x ∷ xs) [] n = absurd n
   none (x ∷ xs) (y ∷ ys) n = (n.0, none xs ys n.1)
 
-  pub one : (olds news : List F) (ss : List (List ℕ)) (beginning : List ℕ) → OneFailed text faults olds news ss beginning
+  pub one : (olds news : List F) (ss : List (List ℕ)) (beginning : List ℕ)
+      → OneFailed text faults olds news ss beginning
       → OneFailed (λ s. s.text) (λ s. s.faults) (seen olds) (seen news) ss beginning
   one [] news ss beginning h = absurd h
   one (x ∷ xs) [] ss beginning h = absurd h

@@ -82,8 +82,8 @@ known = record { text = λ output. output.text; faults = λ output. output.fault
 abbrev pub link_outputs : Output → Option Output → Output → Outputs
 link_outputs tape map told = outputs_of known known known tape map told
 
--- a link of so many objects, with a map or without one, from this bottom on: by texts that they gave in two readings, it
--- wrote to the tape and to the map, and told what it is to
+-- a link of so many objects, with a map or without one, from this bottom on: by texts that they gave in two readings,
+-- it wrote to the tape and to the map, and told what it is to
 pub record Links (count : ℕ) (has_map : Bool) (bottom : ℕ) (told told' : Output) (answer : Result LinkDone LinkFault)
     : Type 0 where
   pub first : List Input
@@ -105,8 +105,8 @@ abbrev pub MayLink : ℕ → Bool → ℕ → Output → Output → Result LinkD
 MayLink count has_map bottom told told' answer =
     Links count has_map bottom told told' answer ⊎ ((answer ≡ Err link.NoMemory) × (told' ≡ told))
 
--- what becomes of a task: one of its files does not open, and is told; or it is an assembly of its sources, or a link of
--- its objects; or it is a run of a tape by what the task says, which has the console
+-- what becomes of a task: one of its files does not open, and is told; or it is an assembly of its sources, or a link
+-- of its objects; or it is a run of a tape by what the task says, which has the console
 abbrev pub Carries : Task → Outcome → Streams → Streams → Type 0
 Carries task NotOpened old new = (new.input ≡ old.input) × (new.printed ≡ old.printed)
     × (path : List ℕ) × IsPathOf task path × Tells (open_line path) old.told new.told
