@@ -1,10 +1,6 @@
-pub mod Blocks
 pub mod Commands
 pub mod Fault
-pub mod Frames
 pub mod Gsd
-pub mod Limited
 pub mod Reading
 pub mod Records
 pub mod Relocations
-pub mod Tapes

@@ -3,7 +3,7 @@
 use Rattle.std.specs.Prelude.{◌≡◌, ℕ, ◌+◌, ◌≤◌, ◌<◌, ◌^◌, List, [], ◌++◌, length}
 use Rattle.m11_obj.specs.declared.gsd.GsdEntry.{GsdEntry}
 use Rattle.m11_obj.specs.declared.relocations.Relocation.{Relocation}
-use Rattle.m11_obj.specs.Frames.{word_bytes, content_limit}
+use Rattle.m11_blocks.specs.Frames.{word_bytes, content_limit}
 use Rattle.m11_obj.specs.Gsd.{entries_bytes, EntriesFit, entry_limit}
 use Rattle.m11_obj.specs.Relocations.{relocations_bytes, RelocationsFit}
 

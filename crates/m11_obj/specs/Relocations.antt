@@ -6,7 +6,7 @@ use Rattle.m11_base.specs.Rad50.{IsName}
 use Rattle.m11_obj.specs.declared.relocations.Target.{Target}
 use Rattle.m11_obj.specs.declared.relocations.Target.TheVariants.{Internal, Global, InternalDisplaced, GlobalDisplaced, GlobalAdditive, GlobalAdditiveDisplaced, LocationCounterDefinition, LocationCounterModification, ProgramLimits, Section, SectionDisplaced, SectionAdditive, SectionAdditiveDisplaced}
 use Rattle.m11_obj.specs.declared.relocations.Relocation.{Relocation}
-use Rattle.m11_obj.specs.Frames.{word_bytes}
+use Rattle.m11_blocks.specs.Frames.{word_bytes}
 use Rattle.m11_obj.specs.Gsd.{name_bytes}
 
 -- the command of a target, which stands in octal in the manual

@@ -4,11 +4,12 @@
 ghost use Rattle.std.specs.Prelude.{◌≡◌, ◌+◌, ◌≤◌, ◌++◌};
 ghost use Rattle.arrayvec.specs.ArrayVec.{array_vec_len};
 ghost use Rattle.m11_base.specs.Rad50.{IsName};
-ghost use Rattle.m11_obj.specs.Frames.{content_limit};
+ghost use Rattle.m11_blocks.specs.Frames.{word_bytes, content_limit};
 ghost use Rattle.m11_obj.specs.Gsd.{kind_code, name_bytes, entry_bytes, EntryFits};
 
-use crate::frames::{Block, put_word};
+use byteorder::{ByteOrder, LittleEndian};
 use m11_base::Name;
+use m11_blocks::Block;
 
 /// What an entry tells.
 #[derive(Clone, Copy, Debug, PartialEq, Eq)]
@@ -53,6 +54,17 @@ pub struct GsdEntry {
     pub flags: u8,
     pub kind: GsdKind,
     pub value: u16,
+}
+
+// Adds a word to a block's content.
+pub(crate) fn put_word(content: &mut Block, word: u16)
+    requires { array_vec_len content.old + 2 ≤ content_limit }
+    ensures { content.new.items ≡ content.old.items ++ word_bytes word }
+{
+    let mut bytes = [0; 2];
+    LittleEndian::write_u16(&mut bytes, word);
+    content.push(bytes[0]);
+    content.push(bytes[1]);
 }
 
 // Adds a name's two words to a block's content.

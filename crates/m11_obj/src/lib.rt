@@ -1,33 +1,24 @@
-//! Objects as formatted binary: blocks of bytes, and the records that stand in them. (RT-11 Volume and
-//! File Formats Manual, "Object file format".) Tapes as absolute binary. (The same, "Absolute binary file
-//! format".) Both are read from feeds, whatever their bytes are.
+//! Objects: the records that stand in blocks of formatted binary, and their entries. (RT-11 Volume and File
+//! Formats Manual, "Object file format".) The names of blocks and of tapes, which stand in m11_blocks, are
+//! handed on.
 #![tactic(auto)]
 
-mod block_fault;
-mod blocks;
 mod commands;
 mod directory;
 mod fault;
 mod flags;
-mod frames;
 mod gsd;
-mod limited;
 mod reading;
 mod records;
 mod relocations;
-mod tape_fault;
-mod tape_part;
-mod tapes;
 
-pub use block_fault::BlockFault;
-pub use blocks::{BlockReader, blocks_are_read};
 pub use directory::Relocations;
 pub use fault::RecordFault;
 pub use flags::{SectionFlags, SymbolFlags};
-pub use frames::{Block, block_bytes};
 pub use gsd::{GsdEntry, GsdKind};
+pub use m11_blocks::{
+    Block, BlockFault, BlockReader, TapeFault, TapePart, TapeReader, block_bytes, blocks_are_read,
+    tape_block, tape_transfer, tapes_are_read,
+};
 pub use records::{Record, RecordKind, read_record, record_bytes};
 pub use relocations::{Relocation, Target};
-pub use tape_fault::TapeFault;
-pub use tape_part::TapePart;
-pub use tapes::{TapeReader, tape_block, tape_transfer, tapes_are_read};

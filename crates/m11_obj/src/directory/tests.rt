@@ -1,8 +1,8 @@
 use super::*;
-use crate::frames::Block;
 use crate::records::{Record, read_record};
 use crate::relocations::Target;
 use m11_base::Name;
+use m11_blocks::Block;
 use std::process::Abort;
 use std::test::Fail;
 

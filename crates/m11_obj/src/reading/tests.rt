@@ -1,6 +1,6 @@
 use super::*;
-use crate::frames::Block;
 use crate::records::{Record, read_record};
+use m11_blocks::Block;
 use std::process::Abort;
 use std::test::Fail;
 

@@ -1,8 +1,8 @@
 use super::*;
-use crate::frames::block_bytes;
 use crate::gsd::GsdKind;
 use crate::relocations::Target;
 use m11_base::Name;
+use m11_blocks::block_bytes;
 use std::test::Fail;
 
 fn name(characters: &[u8; 6]) -> Result<Name, Fail> {

@@ -1,0 +1,277 @@
+-- What is read is a block of the format, and what is a block is read.
+use Rattle.std.proofs.Common.{◌≡◌, ◌∙◌, ℕ, ◌+◌, ◌*◌, ◌-◌, ◌/◌, ◌%◌, ◌<◌, ◌≤◌, false, cond, ltb, eqb, List, [], ◌∷◌, ◌++◌, length, take, drop, Ok, Err, refl, sym, ap, subst, append_assoc, arith, inl, inr, ◌⊎◌}
+use Rattle.std.proofs.Math.Seq.{take-append_seam, drop-append_seam}
+use Rattle.std.proofs.lemmas.Bool.{le-ltb, ltb-false, eqb-true}
+use Rattle.std.proofs.lemmas.Bool.Decides.{eqb_tells}
+use Rattle.std.proofs.lemmas.List.{take-append-drop, length-append, length-take-le}
+use Rattle.m11_blocks.specs.declared.block_fault.BlockFault.{BlockFault}
+use Rattle.m11_blocks.specs.declared.block_fault.BlockFault.TheVariants as fault
+use Rattle.m11_blocks.specs.Frames.{word_bytes, sum_byte, header, block, content_limit, AreBlocks, Nothing, Zero, Block}
+use Rattle.m11_blocks.specs.Limited.{Between, Inside, Refused, Read, ◌>>=◌}
+use Rattle.m11_blocks.specs.Blocks.{second, count_of, count, content_of, summed, first_block, AreRead}
+use Rattle.m11_blocks.proofs.ReadSteps.{Bytes, bytes_behind, same_eqb, bind_ok, bind_err, chosen, done, rest_is, value_is}
+use Rattle.m11_blocks.proofs.BlockParts.{behind_start, behind_second, behind_count, behind_content}
+
+-- ---- a block is read
+
+word_number : (word : ℕ) → word < 65536 → word % 256 + 256 * (word / 256 % 256) ≡ word
+word_number word lt = omega arith
+
+count_of_again : (n : ℕ) (rest : List ℕ) → n ≤ content_limit → count_of (n + 4) rest ≡ Ok (n, rest)
+count_of_again n rest fits =
+    let least : ltb (n + 4) 4 ≡ false = le-ltb (n + 4) 4 (omega arith) in
+    let most : ltb 516 (n + 4) ≡ false = le-ltb 516 (n + 4) (omega arith) in
+    let same : n + 4 - 4 ≡ n = omega arith in
+    rw (least, most, same) refl
+
+pub count_again : (n : ℕ) (rest : List ℕ) → n ≤ content_limit → count (word_bytes (n + 4) ++ rest) ≡ Ok (n, rest)
+count_again n rest fits =
+    ap (λ (word : ℕ). count_of word rest) (word_number (n + 4) (omega arith)) ∙ count_of_again n rest fits
+
+content_again : (xs rest : List ℕ) → content_of (length xs) (xs ++ rest) ≡ Ok (xs, rest)
+content_again xs rest =
+    let long : ltb (length (xs ++ rest)) (length xs) ≡ false = le-ltb _ _ (omega (arith, length-append xs rest)) in
+    rw (long, take-append_seam xs rest, drop-append_seam xs rest) refl
+
+summed_again : (xs rest : List ℕ) → summed xs (sum_byte (header (length xs) ++ xs) ∷ rest) ≡ Ok (xs, rest)
+summed_again xs rest = rw (same_eqb (sum_byte (header (length xs) ++ xs))) refl
+
+parts_again : (xs rest : List ℕ) → length xs ≤ content_limit
+    → first_block (1 ∷ 0 ∷ (word_bytes (length xs + 4) ++ (xs ++ sum_byte (header (length xs) ++ xs) ∷ rest)))
+    ≡ Ok (xs, rest)
+unfolding first_block
+parts_again xs rest fits =
+    let behind : List ℕ = xs ++ sum_byte (header (length xs) ++ xs) ∷ rest in
+    ap (λ (r : Read BlockFault ℕ). r >>= behind_count) (count_again (length xs) behind fits)
+    ∙ ap (λ (r : Read BlockFault (List ℕ)). r >>= behind_content)
+    (content_again xs (sum_byte (header (length xs) ++ xs) ∷ rest))
+    ∙ summed_again xs rest
+
+pub block_parts : (xs rest : List ℕ)
+    → block xs ++ rest ≡ 1 ∷ 0 ∷ (word_bytes (length xs + 4) ++ (xs ++ sum_byte (header (length xs) ++ xs) ∷ rest))
+unfolding block
+block_parts xs rest =
+    let last : List ℕ = sum_byte (header (length xs) ++ xs) ∷ [] in
+    append_assoc (header (length xs) ++ xs) last rest ∙ append_assoc (header (length xs)) xs (last ++ rest)
+
+pub block_again : (content rest : List ℕ) → length content ≤ content_limit
+    → first_block (block content ++ rest) ≡ Ok (content, rest)
+block_again content rest fits = ap first_block (block_parts content rest) ∙ parts_again content rest fits
+
+-- ---- what is read is a block
+
+pub second_takes : (bytes rest : List ℕ) → second bytes ≡ Ok (tt, rest) → bytes ≡ 0 ∷ rest
+second_takes [] rest e = absurd cc
+second_takes (byte ∷ bytes) rest e =
+    elim (chosen (eqb byte 0) (done tt bytes) (Err (Refused fault.BadStart bytes)) (Ok (tt, rest)) e) [
+      | inl hit ↦ let zero : byte ≡ 0 = eqb-true byte 0 hit.0 in rw (zero, rest_is tt tt bytes rest hit.1) refl
+      | inr miss ↦ absurd (let bad = miss.1 in cc)
+    ]
+
+count_of_takes : (length n : ℕ) (bytes rest : List ℕ) → count_of length bytes ≡ Ok (n, rest)
+    → (n ≤ content_limit) × (length ≡ n + 4) × (bytes ≡ rest)
+count_of_takes length n bytes rest e =
+    elim (chosen (ltb length 4) (Err (Refused fault.TooShort bytes))
+    (cond (ltb 516 length) (Err (Refused fault.TooLong bytes)) (done (length - 4) bytes)) (Ok (n, rest)) e) [
+      | inl short ↦ absurd (let bad = short.1 in cc)
+      | inr enough ↦ elim (chosen (ltb 516 length) (Err (Refused fault.TooLong bytes)) (done (length - 4) bytes)
+          (Ok (n, rest)) enough.1) [
+            | inl long ↦ absurd (let bad = long.1 in cc)
+            | inr fits ↦
+                let least = ltb-false length 4 enough.0 in
+                let most = ltb-false 516 length fits.0 in
+                let is : length - 4 ≡ n = value_is (length - 4) n bytes rest fits.1 in
+                (omega arith, omega arith, rest_is (length - 4) n bytes rest fits.1)
+          ]
+    ]
+
+pub count_takes : (n : ℕ) (bytes rest : List ℕ) → Bytes bytes → count bytes ≡ Ok (n, rest)
+    → (n ≤ content_limit) × (bytes ≡ word_bytes (n + 4) ++ rest)
+count_takes n [] rest small e = absurd cc
+count_takes n (low ∷ []) rest small e = absurd cc
+count_takes n (low ∷ high ∷ bytes) rest small e =
+    let t = count_of_takes (low + 256 * high) n bytes rest e in
+    let low_is : low ≡ (n + 4) % 256 = omega (arith, t.1, small.0, small.1.0) in
+    let high_is : high ≡ (n + 4) / 256 % 256 = omega (arith, t.1, small.0, small.1.0) in
+    (t.0, rw (← low_is, ← high_is, t.2) refl)
+
+pub content_takes : (n : ℕ) (bytes xs rest : List ℕ) → content_of n bytes ≡ Ok (xs, rest)
+    → (length xs ≡ n) × (bytes ≡ xs ++ rest)
+content_takes n bytes xs rest e =
+    elim (chosen (ltb (length bytes) n) (Err Inside) (done (take n bytes) (drop n bytes)) (Ok (xs, rest)) e) [
+      | inl short ↦ absurd (let bad = short.1 in cc)
+      | inr enough ↦
+          let le = ltb-false (length bytes) n enough.0 in
+          let front : take n bytes ≡ xs = value_is (take n bytes) xs (drop n bytes) rest enough.1 in
+          let back : drop n bytes ≡ rest = rest_is (take n bytes) xs (drop n bytes) rest enough.1 in (
+            ap length (sym front) ∙ length-take-le n bytes (omega arith),
+            sym (take-append-drop n bytes) ∙ rw (front, back) refl,
+          )
+    ]
+
+summed_takes : (xs ys bytes rest : List ℕ) → summed xs bytes ≡ Ok (ys, rest)
+    → (xs ≡ ys) × (bytes ≡ sum_byte (header (length xs) ++ xs) ∷ rest)
+summed_takes xs ys [] rest e = absurd cc
+summed_takes xs ys (byte ∷ bytes) rest e =
+    let s : ℕ = sum_byte (header (length xs) ++ xs) in
+    elim (chosen (eqb byte s) (done xs bytes) (Err (Refused fault.BadSum bytes)) (Ok (ys, rest)) e) [
+      | inl hit ↦ let same : byte ≡ s = eqb-true byte s hit.0 in
+          (value_is xs ys bytes rest hit.1, rw (same, rest_is xs ys bytes rest hit.1) refl)
+      | inr miss ↦ absurd (let bad = miss.1 in cc)
+    ]
+
+-- behind the 001 of a block
+block_behind : (bytes content rest : List ℕ) → Bytes bytes → behind_start (tt, bytes) ≡ Ok (content, rest)
+    → (length content ≤ content_limit) × (1 ∷ bytes ≡ block content ++ rest)
+block_behind bytes content rest small e =
+    let s = bind_ok (second bytes) behind_second (content, rest) e in
+    let n = bind_ok (count s.0.1) behind_count (content, rest) s.2 in
+    let xs = bind_ok (content_of n.0.0 n.0.1) behind_content (content, rest) n.2 in
+    let second_is : bytes ≡ 0 ∷ s.0.1 = second_takes bytes s.0.1 s.1 in
+    let small' : Bytes (0 ∷ s.0.1) = subst Bytes second_is small in
+    let count_is = count_takes n.0.0 s.0.1 n.0.1 small'.1 n.1 in
+    let content_is = content_takes n.0.0 n.0.1 xs.0.0 xs.0.1 xs.1 in
+    let sum_is = summed_takes xs.0.0 content xs.0.1 rest xs.2 in
+    let same : xs.0.0 ≡ content = sum_is.0 in
+    let long : length content ≡ n.0.0 = ap length (sym same) ∙ content_is.0 in
+    let tail : n.0.1 ≡ content ++ sum_byte (header (length content) ++ content) ∷ rest =
+    content_is.1 ∙ rw (sum_is.1, same) refl in (
+      omega (arith, count_is.0, long),
+      rw (second_is, count_is.1, tail, ← long) (sym (block_parts content rest)),
+    )
+
+-- ---- blocks one after another
+
+pub zero_in_front : (bytes : List ℕ) → first_block (0 ∷ bytes) ≡ first_block bytes
+unfolding first_block
+zero_in_front bytes = refl
+
+zero_read : (contents : List (List ℕ)) (bytes : List ℕ) → AreRead contents bytes → AreRead contents (0 ∷ bytes)
+zero_read [] bytes e = zero_in_front bytes ∙ e
+zero_read (content ∷ contents) bytes h = (h.0, zero_in_front bytes ∙ h.1, h.2)
+
+pub nothing_read : first_block [] ≡ Err Between
+unfolding first_block
+nothing_read = refl
+
+-- blocks are read
+pub blocks_read : (contents : List (List ℕ)) (bytes : List ℕ) → AreBlocks contents bytes → AreRead contents bytes
+blocks_read _ _ Nothing = nothing_read
+blocks_read contents _ (Zero {bytes = bytes} h) = zero_read contents bytes (blocks_read contents bytes h)
+blocks_read _ _ (Block {contents = contents} {bytes = bytes} content fits h) =
+    (bytes, block_again content bytes fits, blocks_read contents bytes h)
+
+-- how the first byte is taken
+pub begun : (byte : ℕ) (bytes : List ℕ) → ((byte ≡ 0) × (first_block (byte ∷ bytes) ≡ first_block bytes))
+    ⊎ (((byte ≡ 1) × (first_block (byte ∷ bytes) ≡ behind_start (tt, bytes)))
+    ⊎ (first_block (byte ∷ bytes) ≡ Err (Refused fault.BadStart bytes)))
+unfolding first_block
+begun byte bytes =
+    elim (eqb_tells byte 0) [
+      | inl zero_is ↦ inl (zero_is.1, rw zero_is.0 refl)
+      | inr other ↦ elim (eqb_tells byte 1) [
+        | inl one_is ↦ inr (inl (one_is.1, rw (other.0, one_is.0) refl))
+        | inr neither ↦ inr (inr (rw (other.0, neither.0) refl))
+      ]
+    ]
+
+-- what is read of a beginning is a block behind zeros
+framed : (bytes content rest : List ℕ) → Bytes bytes → first_block bytes ≡ Ok (content, rest)
+    → Bytes rest × ((contents : List (List ℕ)) → AreBlocks contents rest → AreBlocks (content ∷ contents) bytes)
+framed [] content rest small e = absurd (let bad = sym nothing_read ∙ e in cc)
+framed (byte ∷ bytes) content rest small e =
+    elim (begun byte bytes) [
+      | inl zero_is ↦
+          let others = framed bytes content rest small.1 (sym zero_is.1 ∙ e) in (
+            others.0,
+            λ contents h. let P : ℕ → Type 0 = λ first. AreBlocks (content ∷ contents) (first ∷ bytes) in
+                subst P (sym zero_is.0) (Zero (others.1 contents h)),
+          )
+      | inr other ↦ elim other [
+        | inl one_is ↦
+            let found = block_behind bytes content rest small.1 (sym one_is.1 ∙ e) in
+            let is : byte ∷ bytes ≡ block content ++ rest = ap (λ (first : ℕ). first ∷ bytes) one_is.0 ∙ found.1 in (
+              bytes_behind (block content) rest (subst Bytes is small),
+              λ contents h. let P : List ℕ → Type 0 = λ xs. AreBlocks (content ∷ contents) xs in
+                  subst P (sym is) (Block content found.0 h),
+            )
+        | inr refused ↦ absurd (let bad = sym refused ∙ e in cc)
+      ]
+    ]
+
+-- ---- the end behind a block's first byte is inside it
+
+second_within : (bytes : List ℕ) → second bytes ≡ Err Between → ⊥
+second_within [] e = cc
+second_within (byte ∷ bytes) e =
+    elim (chosen (eqb byte 0) (done tt bytes) (Err (Refused fault.BadStart bytes)) (Err Between) e) [
+      | inl hit ↦ (let bad = hit.1 in cc)
+      | inr miss ↦ (let bad = miss.1 in cc)
+    ]
+
+count_of_within : (length : ℕ) (bytes : List ℕ) → count_of length bytes ≡ Err Between → ⊥
+count_of_within length bytes e =
+    elim (chosen (ltb length 4) (Err (Refused fault.TooShort bytes))
+    (cond (ltb 516 length) (Err (Refused fault.TooLong bytes)) (done (length - 4) bytes)) (Err Between) e) [
+      | inl short ↦ (let bad = short.1 in cc)
+      | inr enough ↦ elim (chosen (ltb 516 length) (Err (Refused fault.TooLong bytes)) (done (length - 4) bytes)
+          (Err Between) enough.1) [
+            | inl long ↦ (let bad = long.1 in cc)
+            | inr fits ↦ (let bad = fits.1 in cc)
+          ]
+    ]
+
+count_within : (bytes : List ℕ) → count bytes ≡ Err Between → ⊥
+count_within [] e = cc
+count_within (low ∷ []) e = cc
+count_within (low ∷ high ∷ bytes) e = count_of_within (low + 256 * high) bytes e
+
+content_within : (n : ℕ) (bytes : List ℕ) → content_of n bytes ≡ Err Between → ⊥
+content_within n bytes e =
+    elim (chosen (ltb (length bytes) n) (Err Inside) (done (take n bytes) (drop n bytes)) (Err Between) e) [
+      | inl short ↦ (let bad = short.1 in cc)
+      | inr enough ↦ (let bad = enough.1 in cc)
+    ]
+
+summed_within : (xs bytes : List ℕ) → summed xs bytes ≡ Err Between → ⊥
+summed_within xs [] e = cc
+summed_within xs (byte ∷ bytes) e =
+    elim (chosen (eqb byte (sum_byte (header (length xs) ++ xs))) (done xs bytes) (Err (Refused fault.BadSum bytes))
+    (Err Between) e) [
+      | inl hit ↦ (let bad = hit.1 in cc)
+      | inr miss ↦ (let bad = miss.1 in cc)
+    ]
+
+start_within : (bytes : List ℕ) → behind_start (tt, bytes) ≡ Err Between → ⊥
+start_within bytes e =
+    elim (bind_err (second bytes) behind_second Between e) [
+      | inl early ↦ second_within bytes early
+      | inr s ↦ elim (bind_err (count s.0.1) behind_count Between s.2) [
+        | inl early ↦ count_within s.0.1 early
+        | inr n ↦ elim (bind_err (content_of n.0.0 n.0.1) behind_content Between n.2) [
+          | inl early ↦ content_within n.0.0 n.0.1 early
+          | inr xs ↦ summed_within xs.0.0 xs.0.1 xs.2
+        ]
+      ]
+    ]
+
+nothing_framed : (bytes : List ℕ) → first_block bytes ≡ Err Between → AreBlocks [] bytes
+nothing_framed [] e = Nothing
+nothing_framed (byte ∷ bytes) e =
+    elim (begun byte bytes) [
+      | inl zero_is ↦
+          let P : ℕ → Type 0 = λ first. AreBlocks [] (first ∷ bytes) in
+          subst P (sym zero_is.0) (Zero (nothing_framed bytes (sym zero_is.1 ∙ e)))
+      | inr other ↦ elim other [
+        | inl one_is ↦ absurd (start_within bytes (sym one_is.1 ∙ e))
+        | inr refused ↦ absurd (let bad = sym refused ∙ e in cc)
+      ]
+    ]
+
+-- what is read is blocks
+pub blocks_framed : (contents : List (List ℕ)) (bytes : List ℕ) → Bytes bytes → AreRead contents bytes
+    → AreBlocks contents bytes
+blocks_framed [] bytes small e = nothing_framed bytes e
+blocks_framed (content ∷ contents) bytes small h =
+    let first = framed bytes content h.0 small h.1 in
+    first.1 contents (blocks_framed contents h.0 first.0 h.2)

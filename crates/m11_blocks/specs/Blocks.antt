@@ -1,0 +1,138 @@
+-- Reading the blocks of an object one after another: the block in front of some bytes, or the first
+-- fault in their order. (RT-11 Volume and File Formats Manual, "Object file format", formatted binary
+-- blocks.) The zeros before a block, the limits and which faults there are, are this project's own.
+use Rattle.std.specs.Prelude.{◌≡◌, replicate, ◌≤◌, ◌<◌, ◌==◌, ℕ, ◌+◌, ◌-◌, ◌*◌, Bool, true, false, List, [], ◌∷◌, ◌++◌, length, take, drop, codes, Option, Some, None, Result, Ok, Err, nat_lt, if◌then◌else◌}
+use Rattle.m11_blocks.specs.declared.block_fault.BlockFault.{BlockFault}
+use Rattle.m11_blocks.specs.declared.block_fault.BlockFault.TheVariants as fault
+use Rattle.m11_blocks.specs.declared.limited.Lack.{Lack}
+use Rattle.m11_blocks.specs.declared.limited.Lack.TheVariants as lack
+use Rattle.m11_blocks.specs.Frames.{sum_byte, header, block, content_limit}
+use Rattle.m11_blocks.specs.Limited.{Place, Between, Inside, Refused, Read, ◌>>=◌, Why, Fails, EndsBetween, EndsInside, Passes, Refuses, Never, Reads, Stops}
+
+-- the 001 that begins a block, behind zeros
+abbrev pub start : List ℕ → Read BlockFault (Unit {0})
+start [] = Err Between
+start (byte ∷ rest) =
+    if byte == 0 then start rest else if byte == 1 then Ok (tt, rest) else Err (Refused fault.BadStart rest)
+
+-- the 000 behind it
+abbrev pub second : List ℕ → Read BlockFault (Unit {0})
+second [] = Err Inside
+second (byte ∷ rest) = if byte == 0 then Ok (tt, rest) else Err (Refused fault.BadStart rest)
+
+-- the count of the content, where the length says one that a block may have
+abbrev pub count_of : ℕ → List ℕ → Read BlockFault ℕ
+count_of length rest =
+    if nat_lt length 4 then Err (Refused fault.TooShort rest)
+    else if nat_lt (content_limit + 4) length then Err (Refused fault.TooLong rest) else Ok (length - 4, rest)
+
+-- the two bytes of the length
+abbrev pub count : List ℕ → Read BlockFault ℕ
+count [] = Err Inside
+count (low ∷ []) = Err Inside
+count (low ∷ high ∷ rest) = count_of (low + 256 * high) rest
+
+-- so many bytes
+abbrev pub content_of : ℕ → List ℕ → Read BlockFault (List ℕ)
+content_of count bytes = if nat_lt (length bytes) count then Err Inside else Ok (take count bytes, drop count bytes)
+
+-- the content before the right sum byte
+abbrev pub summed : List ℕ → List ℕ → Read BlockFault (List ℕ)
+summed content [] = Err Inside
+summed content (byte ∷ rest) =
+    if byte == sum_byte (header (length content) ++ content) then Ok (content, rest)
+    else Err (Refused fault.BadSum rest)
+
+-- the content of the first block
+unfoldable pub first_block : List ℕ → Read BlockFault (List ℕ)
+first_block bytes = do
+  start ← start bytes
+  second ← second start.1
+  count ← count second.1
+  content ← content_of count.0 count.1
+  summed content.0 content.1
+
+-- blocks of these contents are read one after another, and behind the last there is none
+abbrev pub AreRead : List (List ℕ) → List ℕ → Type 0
+AreRead [] bytes = first_block bytes ≡ Err Between
+AreRead (content ∷ contents) bytes =
+    (rest : List ℕ) × (first_block bytes ≡ Ok (content, rest)) × AreRead contents rest
+
+-- zeros, and then the beginning of a block, with some of its bytes and not with all of them
+pub record IsCut (bytes : List ℕ) : Type 0 where
+  pub zeros : ℕ
+  pub content : List ℕ
+  pub part : List ℕ
+  pub missing : List ℕ
+  pub fits : length content ≤ content_limit
+  pub split : block content ≡ part ++ missing
+  pub some : 0 < length part
+  pub cut : 0 < length missing
+  pub is : bytes ≡ replicate zeros 0 ++ part
+
+-- what a fault says of the bytes
+abbrev pub why_of : BlockFault → Why BlockFault
+why_of fault.Device = Fails
+why_of fault.Truncated = EndsInside
+why_of fault.BadSum = Refuses fault.BadSum
+why_of fault.TooLong = Refuses fault.TooLong
+why_of fault.BadStart = Refuses fault.BadStart
+why_of fault.TooShort = Refuses fault.TooShort
+why_of fault.Failed = Never
+why_of fault.TooMuch = Passes
+
+-- the fault of a byte that is missing inside a block
+abbrev pub missing : Lack → BlockFault
+missing lack.Device = fault.Device
+missing lack.End = fault.Truncated
+missing lack.TooMuch = fault.TooMuch
+
+-- a part of a block was read, or why it was not
+abbrev pub ReadsPart : {X A : Type 0} → (X → A) → (List ℕ → Read BlockFault A) → Place → Place → Result X BlockFault
+    → Type 0
+ReadsPart view read old new (Ok x) = Reads read old new (view x)
+ReadsPart view read old new (Err e) = Stops read old new (why_of e)
+
+-- the start of a block was read, or the bytes ended before one, or why it was not
+abbrev pub ReadsStart : Place → Place → Result Bool BlockFault → Type 0
+ReadsStart old new (Ok true) = Reads start old new tt
+ReadsStart old new (Ok false) = Stops start old new EndsBetween
+ReadsStart old new (Err e) = Stops start old new (why_of e)
+
+-- a block was read, or the bytes ended before one, or why it was not
+abbrev pub ReadsBlock : {X : Type 0} → (X → List ℕ) → Place → Place → Result (Option X) BlockFault → Type 0
+ReadsBlock view old new (Ok (Some block)) = Reads first_block old new (view block)
+ReadsBlock view old new (Ok None) = Stops first_block old new EndsBetween
+ReadsBlock view old new (Err e) = Stops first_block old new (why_of e)
+
+-- a block of this content was read, or the bytes ended before one, or why it was not
+abbrev pub ReadsInto : List ℕ → Place → Place → Result Bool BlockFault → Type 0
+ReadsInto content old new (Ok true) = Reads first_block old new content
+ReadsInto content old new (Ok false) = Stops first_block old new EndsBetween
+ReadsInto content old new (Err e) = Stops first_block old new (why_of e)
+
+-- a reader of blocks between two calls: how many more bytes it may read, and whether it failed
+pub record BlockReading : Type 0 where
+  pub room : ℕ
+  pub has_failed : Bool
+
+-- how a fault is told
+abbrev pub block_fault_number : BlockFault → ℕ
+block_fault_number fault.Device = 1
+block_fault_number fault.Truncated = 2
+block_fault_number fault.BadSum = 3
+block_fault_number fault.TooLong = 4
+block_fault_number fault.BadStart = 5
+block_fault_number fault.TooShort = 6
+block_fault_number fault.Failed = 7
+block_fault_number fault.TooMuch = 8
+
+abbrev pub block_fault_name : BlockFault → List ℕ
+block_fault_name fault.Device = codes "Device"
+block_fault_name fault.Truncated = codes "Truncated"
+block_fault_name fault.BadSum = codes "BadSum"
+block_fault_name fault.TooLong = codes "TooLong"
+block_fault_name fault.BadStart = codes "BadStart"
+block_fault_name fault.TooShort = codes "TooShort"
+block_fault_name fault.Failed = codes "Failed"
+block_fault_name fault.TooMuch = codes "TooMuch"

@@ -1,0 +1,4 @@
+pub mod Blocks
+pub mod Frames
+pub mod Limited
+pub mod Tapes

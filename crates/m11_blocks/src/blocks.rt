@@ -1,0 +1,197 @@
+//! Reads the blocks of an object. (RT-11 Volume and File Formats Manual, "Object file format".)
+
+ghost use Rattle.std.specs.Prelude.{◌≡◌, ◌+◌, ◌<◌, ◌≤◌, ◌++◌, ◌↔◌, ℕ, List, length, true, false, Ok, Err, IfOk, IsErr, IsTrue};
+ghost use Rattle.std.specs.Bool.{OnTrue, OnFalse};
+ghost use Rattle.std.specs.List.{AllByRecursion};
+ghost use Rattle.arrayvec.specs.ArrayVec.{array_vec_len};
+ghost use Rattle.m11_blocks.specs.Frames.{content_limit, AreBlocks};
+ghost use Rattle.m11_blocks.specs.Limited.{place, most_bytes, Inside};
+ghost use Rattle.m11_blocks.specs.Blocks.{first_block, IsCut, AreRead, ReadsPart, ReadsStart, ReadsBlock, ReadsInto, second, count, content_of, summed};
+
+use crate::block_fault::BlockFault;
+use crate::frames::{Block, block_sum};
+use crate::limited::{Lack, MOST_BYTES, next_byte, next_word};
+use m11_base::Feed;
+use std::marker::Model;
+
+// Goes behind zeros and the 001 that begins a block. It answers whether there is one.
+fn read_start<F: Feed>(feed: &mut F, room: &mut u32) -> Result<bool, BlockFault>
+    ensures { ReadsStart (place (F.text feed.old) (F.faults feed.old) room.old)
+        (place (F.text feed.new) (F.faults feed.new) room.new) result }
+{
+    'zeros: loop {
+        match next_byte(feed, room) {
+            Ok(0) => {}
+            Ok(1) => return Ok(true),
+            Ok(_) => return Err(BlockFault::BadStart),
+            Err(Lack::End) => return Ok(false),
+            Err(Lack::Device) => return Err(BlockFault::Device),
+            Err(Lack::TooMuch) => return Err(BlockFault::TooMuch),
+        }
+    }
+}
+
+fn read_second<F: Feed>(feed: &mut F, room: &mut u32) -> Result<(), BlockFault>
+    ensures { ReadsPart (λ _. tt) second (place (F.text feed.old) (F.faults feed.old) room.old)
+        (place (F.text feed.new) (F.faults feed.new) room.new) result }
+{
+    let byte = next_byte(feed, room)?;
+    if byte != 0 {
+        return Err(BlockFault::BadStart);
+    }
+    Ok(())
+}
+
+// The length as a count of the content's bytes.
+fn read_count<F: Feed>(feed: &mut F, room: &mut u32) -> Result<u16, BlockFault>
+    ensures part { ReadsPart (λ n. n) count (place (F.text feed.old) (F.faults feed.old) room.old)
+        (place (F.text feed.new) (F.faults feed.new) room.new) result }
+    ensures fits { IfOk result (λ n. n ≤ content_limit) }
+{
+    let length = next_word(feed, room)?;
+    if length < 4 {
+        return Err(BlockFault::TooShort);
+    }
+    if length > 516 {
+        return Err(BlockFault::TooLong);
+    }
+    Ok(length - 4)
+}
+
+// So many bytes, in place of what stood in the content.
+fn read_content<F: Feed>(
+    feed: &mut F,
+    room: &mut u32,
+    count: u16,
+    content: &mut Block,
+) -> Result<(), BlockFault>
+    requires { count ≤ content_limit }
+    ensures { ReadsPart (λ _. content.new.items) (content_of count)
+        (place (F.text feed.old) (F.faults feed.old) room.old)
+        (place (F.text feed.new) (F.faults feed.new) room.new) result }
+{
+    content.clear();
+    'bytes: for _ in 0..count {
+        let byte = next_byte(feed, room)?;
+        content.push(byte);
+    }
+    Ok(())
+}
+
+// Goes behind the sum byte of a content.
+fn read_sum<F: Feed>(feed: &mut F, room: &mut u32, content: &Block) -> Result<(), BlockFault>
+    ensures { ReadsPart (λ _. content.now.items) (summed content.now.items)
+        (place (F.text feed.old) (F.faults feed.old) room.old)
+        (place (F.text feed.new) (F.faults feed.new) room.new) result }
+{
+    let byte = next_byte(feed, room)?;
+    if byte != block_sum(content) {
+        return Err(BlockFault::BadSum);
+    }
+    Ok(())
+}
+
+// The content of a block, in place of what stood there. It answers whether there is a block.
+fn read_block<F: Feed>(
+    feed: &mut F,
+    room: &mut u32,
+    content: &mut Block,
+) -> Result<bool, BlockFault>
+    ensures { ReadsInto content.new.items (place (F.text feed.old) (F.faults feed.old) room.old)
+        (place (F.text feed.new) (F.faults feed.new) room.new) result }
+{
+    if !read_start(feed, room)? {
+        return Ok(false);
+    }
+    read_second(feed, room)?;
+    let count = read_count(feed, room)?;
+    read_content(feed, room, count, content)?;
+    read_sum(feed, room, content)?;
+    Ok(true)
+}
+
+/// What a reader reads one after another is exactly the blocks that the bytes hold, and it finds their end
+/// inside a block exactly where they end with a beginning of one.
+#[tactic(auto, using(crate::proofs::BlockFrames::blocks_read, crate::proofs::BlockFrames::blocks_framed, crate::proofs::BlockCuts::cut_read, crate::proofs::BlockCuts::read_cut))]
+pub fn blocks_are_read()
+    ensures read { (contents : List (List ℕ)) (bytes : List ℕ)
+        → AreBlocks contents bytes → AreRead contents bytes }
+    ensures framed { (contents : List (List ℕ)) (bytes : List ℕ)
+        → AllByRecursion (λ byte. byte < 256) bytes
+        → AreRead contents bytes → AreBlocks contents bytes }
+    // bytes end inside a block exactly where they are a beginning of one
+    ensures cut { (bytes : List ℕ) → IsCut bytes → first_block bytes ≡ Err Inside }
+    ensures inside { (bytes : List ℕ) → AllByRecursion (λ byte. byte < 256) bytes
+        → first_block bytes ≡ Err Inside → IsCut bytes }
+{}
+
+/// Reads the blocks of one object, in order, from a feed. It takes no memory.
+#[derive(Drop)]
+pub struct BlockReader {
+    room: u32,
+    has_failed: bool,
+}
+
+impl Model for BlockReader {
+    ghost use Rattle.m11_blocks.specs.Blocks.{BlockReading};
+
+    ghost Value = { BlockReading };
+
+    ghost view = { λ s. record { room = s.room; has_failed = s.has_failed } };
+}
+
+impl BlockReader {
+    /// A reader at the start of an object.
+    pub fn new() -> BlockReader
+        ensures { result ≡ record { room = most_bytes; has_failed = false } }
+    {
+        BlockReader {
+            room: MOST_BYTES,
+            has_failed: false,
+        }
+    }
+
+    /// The content of the next block, or `None` where the bytes end before one. Zeros before a block
+    /// are skipped. Behind the end the feed is asked again at the next call. A fault is the first one
+    /// in the order of the bytes; after it each call answers `Failed` and reads nothing.
+    pub fn next<F: Feed>(&mut self, feed: &mut F) -> Result<Option<Block>, BlockFault>
+        ensures reads { OnFalse self.old.has_failed (ReadsBlock (λ b. b.items)
+            (place (F.text feed.old) (F.faults feed.old) self.old.room)
+            (place (F.text feed.new) (F.faults feed.new) self.new.room) result) }
+        ensures failed { OnTrue self.old.has_failed
+            ((result ≡ Err BlockFault.Failed) × (self.new ≡ self.old) × (feed.new ≡ feed.old)) }
+        ensures fails { IsTrue self.new.has_failed ↔ IsErr result }
+    {
+        let mut block = Block::new();
+        match self.next_into(feed, &mut block) {
+            Ok(true) => Ok(Some(block)),
+            Ok(false) => Ok(None),
+            Err(fault) => Err(fault),
+        }
+    }
+
+    /// Reads the next block as `next` does, its content into `block`, and answers whether there is one. Where
+    /// there is none, or at a fault, `block` may hold anything.
+    pub fn next_into<F: Feed>(
+        &mut self,
+        feed: &mut F,
+        block: &mut Block,
+    ) -> Result<bool, BlockFault>
+        ensures reads { OnFalse self.old.has_failed (ReadsInto block.new.items
+            (place (F.text feed.old) (F.faults feed.old) self.old.room)
+            (place (F.text feed.new) (F.faults feed.new) self.new.room) result) }
+        ensures failed { OnTrue self.old.has_failed
+            ((result ≡ Err BlockFault.Failed) × (self.new ≡ self.old) × (feed.new ≡ feed.old)) }
+        ensures fails { IsTrue self.new.has_failed ↔ IsErr result }
+    {
+        if self.has_failed {
+            return Err(BlockFault::Failed);
+        }
+        let answer = read_block(feed, &mut self.room, block);
+        self.has_failed = answer.is_err();
+        answer
+    }
+}
+
+#[cfg(test)]
+mod tests;

@@ -1,0 +1,75 @@
+//! Blocks of formatted binary. (RT-11 Volume and File Formats Manual, "Object file format".)
+
+ghost use Rattle.std.specs.Prelude.{◌≡◌, ◌+◌, ◌≤◌, ◌<◌, ◌^◌, ◌++◌, ◌%◌, ℕ, List, length, Ok, IfOk, sum};
+ghost use Rattle.m11_blocks.specs.Frames.{sum_byte, with_sum, header, block, content_limit};
+ghost use Rattle.m11_blocks.specs.Blocks.{first_block};
+
+use arrayvec::ArrayVec;
+use byteorder::{ByteOrder, LittleEndian};
+use std::alloc::{AllocError, Global};
+
+/// The content of a block: at most 512 bytes.
+pub type Block = ArrayVec<u8, 512>;
+
+// The four bytes before a content of so many bytes.
+fn header(content_length: u16) -> [u8; 4]
+    requires { content_length ≤ content_limit }
+    ensures { result ≡ header content_length }
+{
+    let mut length = [0; 2];
+    LittleEndian::write_u16(&mut length, content_length + 4);
+    [1, 0, length[0], length[1]]
+}
+
+// The byte that makes the sum of the bytes a multiple of 256.
+pub(crate) fn sum_byte(bytes: &[u8]) -> u8
+    ensures { result ≡ sum_byte bytes.now }
+{
+    let mut total: u8 = 0;
+    for byte in bytes {
+        total = total.wrapping_add(*byte);
+    }
+    0u8.wrapping_sub(total)
+}
+
+// The sum byte of the block of a content.
+pub(crate) fn block_sum(content: &[u8]) -> u8
+    requires { length content.now ≤ content_limit }
+    ensures { result ≡ sum_byte (header (length content.now) ++ content.now) }
+{
+    let header_sum = sum_byte(&header(content.len() as u16));
+    header_sum.wrapping_add(sum_byte(content))
+}
+
+/// A header, a content, and the byte that makes the sum of all a multiple of 256.
+pub(crate) fn summed_bytes(
+    alloc: Global,
+    header: &[u8],
+    content: &[u8],
+) -> Result<Vec<u8>, AllocError>
+    ensures bytes { IfOk result (λ v. v.items ≡ with_sum (header.now ++ content.now)) }
+    ensures sum { IfOk result (λ v. sum v.items % 256 ≡ 0) }
+{
+    let mut bytes = Vec::new(alloc);
+    bytes.extend_from_slice(header)?;
+    bytes.extend_from_slice(content)?;
+    let last = sum_byte(&bytes);
+    bytes.push(last)?;
+    Ok(bytes)
+}
+
+/// The block of a content, as the bytes that are written. Needs a content of at most 512 bytes.
+#[tactic(auto, using(crate::proofs::BlockFrames::block_again), unfolding(crate::specs::Frames::block))]
+pub fn block_bytes(alloc: Global, content: &[u8]) -> Result<Vec<u8>, AllocError>
+    requires { length content.now ≤ content_limit }
+    ensures bytes { IfOk result (λ v. v.items ≡ block content.now) }
+    ensures sum { IfOk result (λ v. sum v.items % 256 ≡ 0) }
+    // whatever follows it, a reader reads this content again
+    ensures again { IfOk result (λ v.
+        (rest : List ℕ) → first_block (v.items ++ rest) ≡ Ok (content.now, rest)) }
+{
+    summed_bytes(alloc, &header(content.len() as u16), content)
+}
+
+#[cfg(test)]
+mod tests;

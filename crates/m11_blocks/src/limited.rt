@@ -1,0 +1,56 @@
+//! The bytes of an object or a tape, up to their limit.
+
+ghost use Rattle.std.specs.Prelude.{◌≡◌, ◌<◌, ℕ, List, [], ◌∷◌, length, MatchResult};
+ghost use Rattle.byteorder.specs.Endian.{little_bytes};
+ghost use Rattle.m11_blocks.specs.Limited.{place, Took, Lacks, TookThenLacks};
+
+use byteorder::{ByteOrder, LittleEndian};
+use m11_base::Feed;
+
+/// The most bytes of one object or one tape.
+pub(crate) const MOST_BYTES: u32 = 4_194_304;
+
+/// Why no byte came.
+#[derive(Clone, Copy)]
+pub(crate) enum Lack {
+    /// The feed failed.
+    Device,
+    /// The feed is at its end.
+    End,
+    /// A byte came that is past the limit.
+    TooMuch,
+}
+
+/// The next byte of a feed, of which `room` more bytes are within the limit.
+pub(crate) fn next_byte<F: Feed>(feed: &mut F, room: &mut u32) -> Result<u8, Lack>
+    ensures { let old = place (F.text feed.old) (F.faults feed.old) room.old in
+        let new = place (F.text feed.new) (F.faults feed.new) room.new in
+        MatchResult result (λ byte. Took old new (byte ∷ [])) (Lacks old new) }
+{
+    match feed.next() {
+        Err(_) => Err(Lack::Device),
+        Ok(None) => Err(Lack::End),
+        Ok(Some(byte)) => {
+            if *room == 0 {
+                return Err(Lack::TooMuch);
+            }
+            *room -= 1;
+            Ok(byte)
+        }
+    }
+}
+
+/// The next word, its low byte first.
+pub(crate) fn next_word<F: Feed>(feed: &mut F, room: &mut u32) -> Result<u16, Lack>
+    ensures { let old = place (F.text feed.old) (F.faults feed.old) room.old in
+        let new = place (F.text feed.new) (F.faults feed.new) room.new in
+        MatchResult result (λ word. Took old new (little_bytes 2 word))
+        (λ lack. (given : List ℕ) × (length given < 2) × TookThenLacks old new given lack) }
+{
+    let low = next_byte(feed, room)?;
+    let high = next_byte(feed, room)?;
+    Ok(LittleEndian::read_u16(&[low, high]))
+}
+
+#[cfg(test)]
+pub(crate) mod tests;
