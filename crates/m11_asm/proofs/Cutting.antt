@@ -4,7 +4,7 @@ use Rattle.std.specs.Prelude.{◌&&◌}
 use Rattle.std.specs.Io.KnownBytes.{Appends}
 use Rattle.std.proofs.lemmas.Grind.{flat_map-append}
 use Rattle.m11_base.proofs.Known.{Appends-Appends}
-use Rattle.m11_obj.specs.Frames.{word_bytes}
+use Rattle.m11_blocks.specs.Frames.{word_bytes}
 use Rattle.m11_obj.specs.Records.{Content}
 use Rattle.m11_asm.specs.Placement.{Piece, pieces_at}
 use Rattle.m11_asm.specs.Object.{head, Placed, place_content, texts_of, text_contents, text_content, content_block, without_last, without_last_behind, last_alone, last_behind, has_none}

@@ -7,7 +7,7 @@ use Rattle.std.proofs.lemmas.List.{append-nil, length-append, take_all}
 use Rattle.std.proofs.lemmas.Grind.{flat_map-append}
 use Rattle.std.proofs.Math.Bool.{and-true, and_assoc}
 use Rattle.std.proofs.Math.Seq.{take-append_seam, drop-append_seam}
-use Rattle.m11_obj.specs.Frames.{word_bytes}
+use Rattle.m11_blocks.specs.Frames.{word_bytes}
 use Rattle.m11_asm.specs.Placement.{Piece}
 use Rattle.m11_asm.specs.Object.{Placed, stand_from, are_one_text, bytes_of, text_of_front, longest_front, texts_by, texts_of}
 use Rattle.m11_asm.specs.OpenText.{alone, with_piece, takes_in, texts_from}

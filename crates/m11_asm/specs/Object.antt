@@ -7,7 +7,7 @@ use Rattle.m11_base.specs.Rad50.{name_of}
 use Rattle.m11_obj.specs.declared.gsd.GsdEntry.{GsdEntry}
 use Rattle.m11_obj.specs.declared.gsd.GsdKind.TheVariants.{ModuleName, ProgramSection, TransferAddress}
 use Rattle.m11_obj.specs.declared.relocations.Target.TheVariants.{LocationCounterDefinition}
-use Rattle.m11_obj.specs.Frames.{word_bytes, block}
+use Rattle.m11_blocks.specs.Frames.{word_bytes, block}
 use Rattle.m11_obj.specs.Records.{Content, Gsd, EndOfGsd, Text, Relocations, EndOfModule, record_data}
 use Rattle.m11_asm.specs.Lines.{RawLine}
 use Rattle.m11_asm.specs.Placement.{Piece, pieces_of, section_size}

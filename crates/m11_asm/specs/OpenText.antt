@@ -8,7 +8,7 @@ use Rattle.m11_asm.specs.declared.object.LastText.{LastText}
 use Rattle.m11_asm.specs.declared.object.LastText.TheVariants as last
 use Rattle.m11_asm.specs.Placement.{Piece}
 use Rattle.m11_asm.specs.Object.{head, Placed, content_block, text_contents, without_last, last_alone, has_none}
-use Rattle.m11_obj.specs.Frames.{word_bytes}
+use Rattle.m11_blocks.specs.Frames.{word_bytes}
 use Rattle.m11_obj.specs.Records.{Content}
 use Rattle.m11_asm.specs.Writes.{joined, StopsPutting}
 

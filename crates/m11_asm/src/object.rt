@@ -7,7 +7,7 @@ ghost use Rattle.m11_asm.specs.Object.{main_name, absolute_name, blank_name, dir
 ghost use Rattle.m11_asm.specs.Placement.{pieces_at};
 ghost use Rattle.m11_asm.specs.OpenText.{placed_of, AddsWord, PutsTexts, PutsFront, last_contents};
 ghost use Rattle.m11_asm.specs.Writes.{Puts};
-ghost use Rattle.m11_obj.specs.Frames.{word_bytes};
+ghost use Rattle.m11_blocks.specs.Frames.{word_bytes};
 ghost use Rattle.m11_obj.specs.Records.{EndOfModule};
 
 use crate::fault::AsmFault;

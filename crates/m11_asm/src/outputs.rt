@@ -3,7 +3,7 @@
 ghost use Rattle.std.specs.Prelude.{◌≡◌, [], ◌∷◌};
 ghost use Rattle.m11_asm.specs.declared.fault.AsmOutput.TheVariants.{Object, Messages};
 ghost use Rattle.m11_asm.specs.Writes.{Puts};
-ghost use Rattle.m11_obj.specs.Frames.{block};
+ghost use Rattle.m11_blocks.specs.Frames.{block};
 
 use crate::fault::{AsmFault, AsmOutput};
 use m11_base::{Sink, put_all};

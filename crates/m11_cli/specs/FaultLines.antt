@@ -15,7 +15,7 @@ use Rattle.m11_layout.specs.declared.fault.LinkFault.{LinkFault}
 use Rattle.m11_layout.specs.declared.fault.LinkFault.TheVariants as link
 use Rattle.m11_layout.specs.declared.fault.LinkOutput.{LinkOutput}
 use Rattle.m11_layout.specs.declared.fault.LinkOutput.TheVariants.{Tape, Map, Messages}
-use Rattle.m11_obj.specs.Blocks.{block_fault_name, block_fault_number}
+use Rattle.m11_blocks.specs.Blocks.{block_fault_name, block_fault_number}
 use Rattle.m11_obj.specs.Fault.{record_fault_name, record_fault_number}
 use Rattle.m11_cli.specs.Usage.{usage_name, usage_number}
 use Rattle.m11_cli.specs.declared.outcome.Outcome.{Outcome}

@@ -12,8 +12,8 @@ use Rattle.m11_cpu.specs.declared.stop.Stop.{Stop}
 use Rattle.m11_cpu.specs.declared.stop.Stop.TheVariants as stop
 use Rattle.m11_layout.specs.declared.fault.LinkFault.{LinkFault}
 use Rattle.m11_layout.specs.declared.fault.LinkFault.TheVariants as link
-use Rattle.m11_obj.specs.declared.tape_fault.TapeFault.{TapeFault}
-use Rattle.m11_obj.specs.declared.tape_fault.TapeFault.TheVariants as tape
+use Rattle.m11_blocks.specs.declared.tape_fault.TapeFault.{TapeFault}
+use Rattle.m11_blocks.specs.declared.tape_fault.TapeFault.TheVariants as tape
 use Rattle.m11_cli.specs.declared.outcome.Outcome.{Outcome}
 use Rattle.m11_cli.specs.declared.outcome.Outcome.TheVariants.{Usage, Asm, Link, Sim, NotOpened}
 use Rattle.m11_cli.specs.declared.usage.UsageFault.{UsageFault}

@@ -2,7 +2,7 @@
 use Rattle.std.proofs.Common.{◌≡◌, ℕ, Bool, true, false, List, [], ◌∷◌, ◌++◌, Option, Some, None, refl, sym, ◌∙◌, subst, ap, append_assoc}
 use Rattle.std.proofs.KnownBytes.{Appends-nil, Appends-trans}
 use Rattle.m11_base.specs.Feed.{Text, GivesByte, GivesEnd, GivesFailure}
-use Rattle.m11_obj.specs.Limited.{Gave}
+use Rattle.m11_blocks.specs.Limited.{Gave}
 use Rattle.m11_cpu.specs.Dialogue.{Devices, Exchange, Asked, Sent, Reply, Gives, Ends, Fails, Did, Happened, Happens, Input, Output, Replies, Takes}
 use Rattle.m11_cpu.specs.Laws.{given, taken, GainedJust, GaveJust}
 

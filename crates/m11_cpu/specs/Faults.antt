@@ -1,7 +1,7 @@
 -- The faults of a run, each with its number and its name. (This project's own: no manual speaks of them.
 -- The printed line of a fault is made of these.)
 use Rattle.std.specs.Prelude.{ℕ, List, codes}
-use Rattle.m11_obj.specs.Tapes.{tape_fault_name, tape_fault_number}
+use Rattle.m11_blocks.specs.Tapes.{tape_fault_name, tape_fault_number}
 use Rattle.m11_cpu.specs.declared.fault.LoadFault.{LoadFault}
 use Rattle.m11_cpu.specs.declared.fault.LoadFault.TheVariants.{Tape, OutsideMemory}
 use Rattle.m11_cpu.specs.declared.fault.SimFault.{SimFault}

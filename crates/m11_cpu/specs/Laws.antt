@@ -2,7 +2,7 @@
 -- is said of the console is this project's own.)
 use Rattle.std.specs.Prelude.{◌≡◌, ℕ, ◌+◌, true, false, List, [], ◌∷◌, ◌++◌, Option, Some, None, ⊤}
 use Rattle.std.specs.Io.KnownBytes.{Appends}
-use Rattle.m11_obj.specs.Limited.{Gave}
+use Rattle.m11_blocks.specs.Limited.{Gave}
 use Rattle.m11_cpu.specs.Dialogue.{Exchange, Asked, Sent, Gives, Ends, Fails, Input, Leads, Output}
 use Rattle.m11_cpu.specs.Runs.{run_counted}
 use Rattle.m11_cpu.specs.declared.machine.Machine.{Machine}

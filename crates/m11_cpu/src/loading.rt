@@ -1,9 +1,9 @@
 //! Loads tapes. (RT-11 Volume and File Formats Manual, "Absolute binary file format".)
 
 ghost use Rattle.std.specs.Prelude.{◌≡◌, ◌+◌, ◌<◌, ◌%◌, ℕ, List, length, sum, MatchResult, ⊤};
-ghost use Rattle.m11_obj.specs.Limited.{place};
-ghost use Rattle.m11_obj.specs.Tapes.{tape_header, total_of};
-ghost use Rattle.m11_obj.specs.declared.tape_part.TapeStage.TheVariants.{InBlock};
+ghost use Rattle.m11_blocks.specs.Limited.{place};
+ghost use Rattle.m11_blocks.specs.Tapes.{tape_header, total_of};
+ghost use Rattle.m11_blocks.specs.declared.tape_part.TapeStage.TheVariants.{InBlock};
 ghost use Rattle.m11_cpu.specs.Loading.{PutsData, LoadsFrom, CountsFailure};
 
 use crate::fault::LoadFault;

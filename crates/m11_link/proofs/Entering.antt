@@ -11,7 +11,7 @@ use Rattle.m11_layout.specs.Planning.{planned_attributes, planned_module}
 use Rattle.m11_layout.specs.Sections.{attributes_by}
 use Rattle.m11_modules.specs.Names.{is_among}
 use Rattle.m11_modules.specs.Rules.{defines}
-use Rattle.m11_obj.specs.Tapes.{tape_block}
+use Rattle.m11_blocks.specs.Tapes.{tape_block}
 use Rattle.m11_obj.specs.declared.gsd.GsdEntry.{GsdEntry}
 use Rattle.m11_obj.specs.declared.gsd.GsdKind.{GsdKind}
 use Rattle.m11_obj.specs.declared.gsd.GsdKind.TheVariants as kind

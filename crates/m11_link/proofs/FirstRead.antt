@@ -2,9 +2,9 @@
 use Rattle.std.proofs.Common.{◌≡◌, ◌∙◌, ℕ, ◌+◌, ◌<◌, ◌≤◌, Bool, true, false, if◌then◌else◌, List, [], ◌∷◌, ◌++◌, length, get_or, set, Option, Some, None, Result, Ok, Err, refl, sym, ap, subst, append_assoc}
 use Rattle.std.proofs.lemmas.List.{append-nil}
 use Rattle.m11_base.specs.Feed.{Text}
-use Rattle.m11_obj.specs.declared.block_fault.BlockFault.{BlockFault}
-use Rattle.m11_obj.specs.Blocks.{first_block, why_of}
-use Rattle.m11_obj.specs.Limited.{EndsBetween, Reads, Stops, most_bytes, place}
+use Rattle.m11_blocks.specs.declared.block_fault.BlockFault.{BlockFault}
+use Rattle.m11_blocks.specs.Blocks.{first_block, why_of}
+use Rattle.m11_blocks.specs.Limited.{EndsBetween, Reads, Stops, most_bytes, place}
 use Rattle.m11_obj.specs.Reading.{IsRecord}
 use Rattle.m11_modules.specs.Parts.{Part, EndOfFile, record_parts}
 use Rattle.m11_modules.specs.declared.fault.ModuleFault.{ModuleFault}

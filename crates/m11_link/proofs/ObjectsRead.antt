@@ -3,11 +3,11 @@ use Rattle.std.proofs.Common.{◌≡◌, ◌∙◌, ℕ, ◌+◌, ◌<◌, ◌�
 use Rattle.std.proofs.lemmas.List.{append-nil, length-append, take_at}
 use Rattle.m11_base.specs.Devices.{Rises}
 use Rattle.m11_base.specs.Feed.{Text, HasBytes, BeginsWith, GivesByte, GivesEnd}
-use Rattle.m11_obj.specs.declared.block_fault.BlockFault.{BlockFault}
-use Rattle.m11_obj.specs.declared.block_fault.BlockFault.TheVariants as block
-use Rattle.m11_obj.specs.Blocks.{first_block, why_of}
-use Rattle.m11_obj.specs.Limited.{Fails, EndsBetween, EndsInside, Passes, Refuses, Gave, IsShort, Place, Reads, Stops, Took, most_bytes, place}
-use Rattle.m11_obj.proofs.Limits.{took_nothing, took_then}
+use Rattle.m11_blocks.specs.declared.block_fault.BlockFault.{BlockFault}
+use Rattle.m11_blocks.specs.declared.block_fault.BlockFault.TheVariants as block
+use Rattle.m11_blocks.specs.Blocks.{first_block, why_of}
+use Rattle.m11_blocks.specs.Limited.{Fails, EndsBetween, EndsInside, Passes, Refuses, Gave, IsShort, Place, Reads, Stops, Took, most_bytes, place}
+use Rattle.m11_blocks.proofs.Limits.{took_nothing, took_then}
 use Rattle.m11_layout.specs.declared.fault.LinkFault.{LinkFault}
 use Rattle.m11_layout.specs.declared.fault.LinkFault.TheVariants as fault
 use Rattle.m11_link.specs.FirstReading.{of_block}

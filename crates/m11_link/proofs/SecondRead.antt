@@ -3,18 +3,18 @@ use Rattle.std.proofs.Common.{◌≡◌, ◌∙◌, ℕ, ◌+◌, ◌<◌, ◌�
 use Rattle.std.proofs.lemmas.Grind.{flat_map-append}
 use Rattle.m11_base.specs.Devices.{Rises}
 use Rattle.m11_base.specs.Feed.{Text as FeedText, GiveAll, NoneFailed}
-use Rattle.m11_obj.specs.Blocks.{first_block, why_of}
-use Rattle.m11_obj.specs.Limited.{EndsBetween, Reads, Stops, most_bytes, place}
+use Rattle.m11_blocks.specs.Blocks.{first_block, why_of}
+use Rattle.m11_blocks.specs.Limited.{EndsBetween, Reads, Stops, most_bytes, place}
 use Rattle.m11_obj.specs.Reading.{IsRecord, content_of}
 use Rattle.m11_obj.specs.Records.{Content}
-use Rattle.m11_obj.specs.declared.block_fault.BlockFault.{BlockFault}
-use Rattle.m11_obj.specs.declared.block_fault.BlockFault.TheVariants as block
+use Rattle.m11_blocks.specs.declared.block_fault.BlockFault.{BlockFault}
+use Rattle.m11_blocks.specs.declared.block_fault.BlockFault.TheVariants as block
 use Rattle.m11_obj.specs.declared.fault.RecordFault.{RecordFault}
 use Rattle.m11_modules.specs.declared.fault.ModuleFault.{ModuleFault}
 use Rattle.m11_modules.specs.Parts.{Part, EndOfFile, parts_in, parts_of, record_parts}
 use Rattle.m11_modules.specs.Rules.{fault_of, first_fault}
 use Rattle.m11_modules.specs.declared.fault.ModuleFault.TheVariants as rule
-use Rattle.m11_obj.specs.Tapes.{tape_block}
+use Rattle.m11_blocks.specs.Tapes.{tape_block}
 use Rattle.m11_layout.specs.Planning.{Planned}
 use Rattle.m11_layout.specs.declared.fault.LinkFault.{LinkFault}
 use Rattle.m11_layout.specs.declared.fault.LinkFault.TheVariants as fault

@@ -3,13 +3,13 @@
 -- object, and the faults and their order, are this project's own.)
 use Rattle.std.specs.Prelude.{◌≡◌, ◌<◌, ◌≤◌, ℕ, ◌+◌, List, [], ◌∷◌, ◌++◌, length, take, Option, Some, None, Result, Ok, Err, if◌then◌else◌}
 use Rattle.m11_base.specs.Feed.{Text, HasBytes, BeginsWith, GiveAll, OneFailed}
-use Rattle.m11_obj.specs.Blocks.{first_block}
-use Rattle.m11_obj.specs.Limited.{Between, Inside, IsShort, most_bytes}
-use Rattle.m11_obj.specs.Limited as limited
+use Rattle.m11_blocks.specs.Blocks.{first_block}
+use Rattle.m11_blocks.specs.Limited.{Between, Inside, IsShort, most_bytes}
+use Rattle.m11_blocks.specs.Limited as limited
 use Rattle.m11_obj.specs.Reading.{content_of}
 use Rattle.m11_obj.specs.Records as records
-use Rattle.m11_obj.specs.declared.block_fault.BlockFault.{BlockFault}
-use Rattle.m11_obj.specs.declared.block_fault.BlockFault.TheVariants as block
+use Rattle.m11_blocks.specs.declared.block_fault.BlockFault.{BlockFault}
+use Rattle.m11_blocks.specs.declared.block_fault.BlockFault.TheVariants as block
 use Rattle.m11_obj.specs.declared.fault.RecordFault.{RecordFault}
 use Rattle.m11_modules.specs.declared.fault.ModuleFault.{ModuleFault}
 use Rattle.m11_modules.specs.Parts.{Part, EndOfFile, parts_of}

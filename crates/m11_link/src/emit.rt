@@ -2,7 +2,7 @@
 
 ghost use Rattle.std.specs.Prelude.{◌≡◌, ◌∷◌, ◌++◌, [], ℕ, List, Some, None, Err, IfOk, false};
 ghost use Rattle.m11_obj.specs.Reading.{IsRecord};
-ghost use Rattle.m11_obj.specs.Tapes.{tape_block};
+ghost use Rattle.m11_blocks.specs.Tapes.{tape_block};
 ghost use Rattle.m11_modules.specs.Parts.{Part, EndOfFile, record_parts};
 ghost use Rattle.m11_layout.specs.Planning.{Planned};
 ghost use Rattle.m11_layout.specs.declared.fault.LinkFault.{LinkFault};

@@ -1,7 +1,7 @@
 //! What relocations store. (RT-11 Volume and File Formats Manual, "Object file format", RLD block.)
 
 ghost use Rattle.std.specs.Prelude.{◌≡◌, ◌≤◌, ◌<◌, ◌+◌, ◌-◌, ◌++◌, length, if◌then◌else◌};
-ghost use Rattle.m11_obj.specs.Frames.{word_bytes};
+ghost use Rattle.m11_blocks.specs.Frames.{word_bytes};
 ghost use Rattle.arrayvec.specs.ArrayVec.{array_vec_len};
 ghost use Rattle.m11_link.specs.Findings.{planned};
 ghost use Rattle.m11_link.specs.Storing as spec;

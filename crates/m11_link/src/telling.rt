@@ -2,7 +2,7 @@
 
 ghost use Rattle.std.specs.Prelude.{◌≡◌, ◌≤◌, ◌==◌, [], ◌∷◌, ◌++◌, length, Some, None};
 ghost use Rattle.m11_obj.specs.Reading.{record_entries, record_relocations};
-ghost use Rattle.m11_obj.specs.Tapes.{tape_block};
+ghost use Rattle.m11_blocks.specs.Tapes.{tape_block};
 ghost use Rattle.m11_modules.specs.Names.{is_among};
 ghost use Rattle.m11_modules.specs.Rules.{defines};
 ghost use Rattle.m11_layout.specs.Sections.{attributes_by};

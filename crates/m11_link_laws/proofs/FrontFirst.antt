@@ -3,7 +3,7 @@ use Rattle.std.proofs.Common.{◌≡◌, ℕ, ◌+◌, ◌<◌, Bool, true, fals
 use Rattle.std.specs.List.{list_any}
 use Rattle.std.proofs.lemmas.List.Elements.{filter-append}
 use Rattle.std.proofs.lemmas.List.Folds.{list_any-append}
-use Rattle.m11_obj.specs.Tapes.{tape_block}
+use Rattle.m11_blocks.specs.Tapes.{tape_block}
 use Rattle.m11_layout.proofs.Finding.{neither}
 use Rattle.m11_link.specs.Findings.{Findings}
 use Rattle.m11_link.specs.Lines.{limit_line, transfer_line}

@@ -2,14 +2,14 @@
 use Rattle.std.proofs.Common.{◌≡◌, ◌∙◌, ℕ, ◌+◌, ◌*◌, ◌-◌, ◌≤◌, cond, ltb, eqb, List, [], ◌∷◌, ◌++◌, length, take, drop, append_assoc, append-nil, Ok, Err, refl, sym, ap, subst, arith, inl, inr}
 use Rattle.std.specs.List.{AllByRecursion, concat}
 use Rattle.std.proofs.lemmas.List.{map-append}
-use Rattle.m11_obj.specs.declared.block_fault.BlockFault.{BlockFault}
-use Rattle.m11_obj.specs.declared.block_fault.BlockFault.TheVariants as fault
-use Rattle.m11_obj.specs.Frames.{content_limit, header, sum_byte}
-use Rattle.m11_obj.specs.Limited.{Between, Inside, Read, ◌>>=◌, most_bytes}
-use Rattle.m11_obj.specs.Blocks.{AreRead, content_of, count, count_of, first_block, second, summed}
-use Rattle.m11_obj.proofs.BlockFrames.{begun, nothing_read, zero_in_front}
-use Rattle.m11_obj.proofs.BlockParts.{behind_content, behind_count, behind_second, behind_start}
-use Rattle.m11_obj.proofs.ReadSteps.{bind_err, chosen, done}
+use Rattle.m11_blocks.specs.declared.block_fault.BlockFault.{BlockFault}
+use Rattle.m11_blocks.specs.declared.block_fault.BlockFault.TheVariants as fault
+use Rattle.m11_blocks.specs.Frames.{content_limit, header, sum_byte}
+use Rattle.m11_blocks.specs.Limited.{Between, Inside, Read, ◌>>=◌, most_bytes}
+use Rattle.m11_blocks.specs.Blocks.{AreRead, content_of, count, count_of, first_block, second, summed}
+use Rattle.m11_blocks.proofs.BlockFrames.{begun, nothing_read, zero_in_front}
+use Rattle.m11_blocks.proofs.BlockParts.{behind_content, behind_count, behind_second, behind_start}
+use Rattle.m11_blocks.proofs.ReadSteps.{bind_err, chosen, done}
 use Rattle.m11_modules.specs.Parts.{Part}
 use Rattle.m11_link.specs.Objects.{AreItems, BlockOf, Item, ObjectEnds, ObjectItems, outcome, taken, taken_item}
 use Rattle.m11_link.specs.Objects as objects

@@ -2,7 +2,7 @@
 use Rattle.std.proofs.Common.{◌≡◌, ◌∙◌, ℕ, true, if◌then◌else◌, List, [], ◌∷◌, ◌++◌, Some, refl, sym, ap, ap₂, subst}
 use Rattle.std.specs.List.{cons_option}
 use Rattle.std.proofs.lemmas.Bool.{false≢true}
-use Rattle.m11_obj.specs.Tapes.{tape_block}
+use Rattle.m11_blocks.specs.Tapes.{tape_block}
 use Rattle.m11_modules.specs.declared.stage.Stage.{Stage}
 use Rattle.m11_modules.specs.declared.stage.Stage.TheVariants.{Between, InBody}
 use Rattle.m11_modules.specs.Parts.{Part, Entry, Text, Relocations, Relocated, EndOfFile}

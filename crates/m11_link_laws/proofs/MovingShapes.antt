@@ -1,8 +1,8 @@
 -- The writes of parts go to the same outputs, in the same order and as long, from both bottoms on.
 use Rattle.std.proofs.Common.{◌≡◌, ℕ, ◌+◌, ◌-◌, min, Bool, true, false, if◌then◌else◌, List, [], ◌∷◌, ◌++◌, length, map, refl, sym, ap, ap₂, ◌∙◌, arith, length-append, length-drop, length-take}
 use Rattle.std.proofs.lemmas.List.{map-append}
-use Rattle.m11_obj.specs.Frames.{with_sum}
-use Rattle.m11_obj.specs.Tapes.{tape_block, tape_header}
+use Rattle.m11_blocks.specs.Frames.{with_sum}
+use Rattle.m11_blocks.specs.Tapes.{tape_block, tape_header}
 use Rattle.m11_obj.specs.declared.relocations.Relocation.{Relocation}
 use Rattle.m11_obj.specs.declared.relocations.Target.{Target}
 use Rattle.m11_obj.specs.declared.relocations.Target.TheVariants as target

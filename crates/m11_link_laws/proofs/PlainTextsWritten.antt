@@ -2,7 +2,7 @@
 use Rattle.std.proofs.Common.{◌≡◌, ℕ, ◌+◌, ◌-◌, Bool, true, false, ◌==◌, ◌&&◌, not, if◌then◌else◌, List, [], ◌∷◌, ◌++◌, map, take, drop, take-append-drop, length, flat_map, append-nil, Option, Some, None, refl, sym, ap, ap₂, ◌∙◌, arith}
 use Rattle.std.specs.List.{list_any}
 use Rattle.std.proofs.lemmas.Grind.{flat_map-append}
-use Rattle.m11_obj.specs.Tapes.{tape_block}
+use Rattle.m11_blocks.specs.Tapes.{tape_block}
 use Rattle.m11_obj.specs.declared.gsd.GsdEntry.{GsdEntry}
 use Rattle.m11_obj.specs.declared.gsd.GsdKind.{GsdKind}
 use Rattle.m11_obj.specs.declared.gsd.GsdKind.TheVariants as kind

@@ -2,7 +2,7 @@
 
 ghost use Rattle.std.specs.Prelude.{◌≡◌, false, List, [], ◌++◌, None};
 ghost use Rattle.std.specs.List.{flat_map, list_any};
-ghost use Rattle.m11_obj.specs.Tapes.{tape_block};
+ghost use Rattle.m11_blocks.specs.Tapes.{tape_block};
 ghost use Rattle.m11_modules.specs.Parts.{Part, EndOfFile};
 ghost use Rattle.m11_modules.specs.Rules.{fault_of, first_fault};
 ghost use Rattle.m11_layout.specs.declared.fault.LinkOutput.TheVariants.{Tape};

@@ -1,5 +1,5 @@
 use Rattle.std.proofs.Common.{◌≡◌, false, List, ℕ, [], ◌∷◌, ◌++◌, ◌∙◌, sym, ap}
-use Rattle.m11_obj.specs.Frames.{word_bytes}
+use Rattle.m11_blocks.specs.Frames.{word_bytes}
 use Rattle.m11_asm.specs.OpenText.{alone, placed_of, takes_in}
 use Rattle.m11_asm.proofs.Cutting.{alone_is, opens_new, not_first}
 use Rattle.m11_asm.proofs.object.add_word.Goals as goal

@@ -1,7 +1,7 @@
 use Rattle.std.proofs.Common.{◌≤◌, ◌+◌, ◌++◌, ◌%◌, List, ℕ, length, sym, subst, arith, get_or, drop, Err, refl, ap, ◌∙◌}
 use Rattle.std.proofs.lemmas.Result.{err_from_is_err_and}
 use Rattle.m11_asm.specs.declared.fault.AsmFault.{AsmFault}
-use Rattle.m11_obj.specs.Frames.{word_bytes}
+use Rattle.m11_blocks.specs.Frames.{word_bytes}
 use Rattle.m11_asm.specs.OpenText.{placed_of}
 use Rattle.m11_asm.proofs.Cutting.{alone_is, begins, one_more, stopped_here, no_more, stops_texts, drop_step, drop_end}
 use Rattle.m11_asm.proofs.object.put_texts.Goals as goal
