@@ -317,6 +317,3 @@ fn condition_codes(word: u16) -> ConditionCodes
         carry: word % 0o20 % 2 == 1,
     }
 }
-
-#[cfg(test)]
-mod tests;

@@ -37,6 +37,3 @@ pub use operand::{Mode, Operand, Register, Size};
 pub use rad50::{Name, Rad50};
 pub use sink::{Sink, put_all};
 pub use stream::{ReaderFeed, WriterSink};
-
-#[cfg(test)]
-mod tests;

@@ -69,6 +69,3 @@ fn named(list: &[Row], name: &[u8; 6]) -> Option<Op>
         None => None,
     }
 }
-
-#[cfg(test)]
-mod tests;

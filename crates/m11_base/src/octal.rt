@@ -62,6 +62,3 @@ pub fn read_octal(text: &[u8]) -> Result<u16, OctalFault>
     }
     word_of_digits(text).ok_or(OctalFault::TooLarge)
 }
-
-#[cfg(test)]
-mod tests;

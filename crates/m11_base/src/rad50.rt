@@ -139,6 +139,3 @@ impl Name {
         [a, b, c, d, e, f]
     }
 }
-
-#[cfg(test)]
-mod tests;

@@ -192,6 +192,3 @@ impl BlockReader {
         answer
     }
 }
-
-#[cfg(test)]
-mod tests;

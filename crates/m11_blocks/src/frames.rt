@@ -70,6 +70,3 @@ pub fn block_bytes(alloc: Global, content: &[u8]) -> Result<Vec<u8>, AllocError>
 {
     summed_bytes(alloc, &header(content.len() as u16), content)
 }
-
-#[cfg(test)]
-mod tests;

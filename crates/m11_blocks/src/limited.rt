@@ -51,6 +51,3 @@ pub(crate) fn next_word<F: Feed>(feed: &mut F, room: &mut u32) -> Result<u16, La
     let high = next_byte(feed, room)?;
     Ok(LittleEndian::read_u16(&[low, high]))
 }
-
-#[cfg(test)]
-pub(crate) mod tests;

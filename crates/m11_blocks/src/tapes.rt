@@ -290,6 +290,3 @@ impl TapeReader {
         }
     }
 }
-
-#[cfg(test)]
-mod tests;

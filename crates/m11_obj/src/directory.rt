@@ -71,6 +71,3 @@ pub(crate) fn relocation_at(bytes: &[u8], index: usize) -> Option<Relocation>
         Err(_) => None,
     }
 }
-
-#[cfg(test)]
-mod tests;

@@ -62,6 +62,3 @@ impl RecordFault {
         }
     }
 }
-
-#[cfg(test)]
-mod tests;

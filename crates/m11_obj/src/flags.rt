@@ -76,6 +76,3 @@ impl Flags for SymbolFlags {
         SymbolFlags(bits)
     }
 }
-
-#[cfg(test)]
-mod tests;

@@ -218,6 +218,3 @@ pub(crate) fn check_record(bytes: &[u8]) -> Result<(), RecordFault>
     let (kind, rest) = first_type(bytes)?;
     check_behind(kind, rest)
 }
-
-#[cfg(test)]
-mod tests;

@@ -296,6 +296,3 @@ pub fn read_record(block: &Block) -> Result<Record, RecordFault>
     content.try_extend_from_slice(bytes).unwrap();
     Ok(Record { content })
 }
-
-#[cfg(test)]
-mod tests;

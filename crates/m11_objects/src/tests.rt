@@ -1,0 +1,20 @@
+//! A file a subject; alike calls stand in tables, whose rows have names.
+
+mod blocks;
+mod devices;
+mod failing_devices;
+mod instructions;
+mod records;
+mod refused_records;
+mod relocations;
+mod tapes;
+mod texts;
+mod zeros;
+
+use std::fmt::{Debug, Display};
+use std::process::Abort;
+
+// What a row of a table came to is what it should.
+pub(crate) fn same<T: PartialEq + Debug>(rt: &impl Abort, row: &impl Display, got: &T, wanted: &T) {
+    assert_eq!(rt; got, wanted, "{row}");
+}

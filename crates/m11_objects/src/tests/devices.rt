@@ -1,0 +1,162 @@
+//! Feeds and sinks over memory, over readers and writers, and through fuses.
+
+use super::same;
+use m11_base::{
+    BufferedFeed, DeviceFault, Feed, FuseFeed, FuseSink, MemoryFeed, MemorySink, PutFault,
+    ReaderFeed, Sink, WriterSink, put_all,
+};
+use std::io::BufReader;
+use std::process::Abort;
+use std::test::Fail;
+
+// What a call of a feed answers: a byte, its end, or a failure.
+pub(crate) type Answer = Result<Option<u8>, DeviceFault>;
+
+pub(crate) const A: Answer = Ok(Some(b'a'));
+
+pub(crate) const B: Answer = Ok(Some(b'b'));
+
+pub(crate) const C: Answer = Ok(Some(b'c'));
+
+pub(crate) const END: Answer = Ok(None);
+
+pub(crate) const FAILS: Answer = Err(DeviceFault);
+
+// The calls of a feed answer these, one after another.
+pub(crate) fn answers<F: Feed>(rt: &impl Abort, feed: &mut F, name: &str, wanted: &[Answer]) {
+    for answer in wanted {
+        same(rt, &name, &feed.next(), answer);
+    }
+}
+
+#[test]
+fn feeds_give_their_bytes_and_then_their_end_again_and_again(rt: HostRuntime) -> Result<(), Fail> {
+    let bytes: &[u8] = b"abc";
+    let wanted = [A, B, C, END, END];
+    answers(&rt, &mut MemoryFeed::new(bytes), "memory", &wanted);
+    answers(&rt, &mut ReaderFeed::new(bytes), "a reader", &wanted);
+    let buffer = BufReader::with_capacity(rt.alloc(), 2, bytes)?;
+    answers(&rt, &mut BufferedFeed::new(buffer), "a buffer", &wanted);
+    Ok(())
+}
+
+// A fuse passes so many calls, of which the end is one, and then fails at each; of two fuses the shorter one fails
+// first.
+static FUSED: [(&str, u64, u64, &[Answer]); 4] = [
+    ("2 calls", 2, u64::MAX, &[A, B, FAILS, FAILS]),
+    ("4 calls", 4, u64::MAX, &[A, B, C, END, FAILS, FAILS]),
+    ("2 and 3 calls", 2, 3, &[A, B, FAILS, FAILS]),
+    ("3 and 2 calls", 3, 2, &[A, B, FAILS, FAILS]),
+];
+
+#[test]
+fn a_fused_feed_passes_its_calls_and_then_fails_at_each(rt: HostRuntime) {
+    for (name, inner, outer, wanted) in &FUSED {
+        let fused = FuseFeed::new(MemoryFeed::new(b"abc"), *inner);
+        answers(&rt, &mut FuseFeed::new(fused, *outer), name, wanted);
+    }
+}
+
+// A put of a sink: the bytes, and how many it takes, if it doesn't fail.
+pub(crate) type Put<'a> = (&'a [u8], Option<usize>);
+
+// The puts of a sink answer these, one after another.
+pub(crate) fn takes<S: Sink>(rt: &impl Abort, sink: &mut S, name: &str, wanted: &[Put<'_>]) {
+    for (bytes, count) in wanted {
+        same(rt, &name, &sink.put(bytes).ok(), count);
+    }
+}
+
+#[test]
+fn a_memory_sink_keeps_all_that_it_is_given(rt: HostRuntime) -> Result<(), Fail> {
+    let mut sink = MemorySink::new(rt.alloc());
+    let counts = (sink.put(b"abc")?, sink.put(b"")?, sink.put(b"d")?);
+    same(&rt, &"the counts", &counts, &(3, 0, 1));
+    same(&rt, &"the bytes", &sink.bytes(), &b"abcd".as_slice());
+    Ok(())
+}
+
+// The calls and bytes a call that a fuse passes, the calls that one outside it passes, the puts, and what is written.
+static FUSED_PUTS: [(&str, u64, usize, u64, &[Put<'static>], &[u8]); 5] = [
+    (
+        "no fuse burns",
+        9,
+        9,
+        9,
+        &[(b"abc", Some(3)), (b"", Some(0)), (b"d", Some(1))],
+        b"abcd",
+    ),
+    (
+        "2 calls of 3 bytes",
+        2,
+        3,
+        9,
+        &[
+            (b"abcd", Some(3)),
+            (b"de", Some(2)),
+            (b"f", None),
+            (b"", None),
+        ],
+        b"abcde",
+    ),
+    (
+        "2 calls of no byte",
+        2,
+        0,
+        9,
+        &[(b"ab", Some(0)), (b"ab", Some(0)), (b"ab", None)],
+        b"",
+    ),
+    (
+        "1 and 3 calls",
+        1,
+        2,
+        3,
+        &[(b"abc", Some(2)), (b"c", None)],
+        b"ab",
+    ),
+    (
+        "3 and 1 calls",
+        3,
+        2,
+        1,
+        &[(b"abc", Some(2)), (b"c", None)],
+        b"ab",
+    ),
+];
+
+#[test]
+fn a_fused_sink_passes_its_calls_and_then_fails_at_each(rt: HostRuntime) -> Result<(), Fail> {
+    for (name, inner, most, outer, puts, wanted) in &FUSED_PUTS {
+        let mut written = Vec::new(rt.alloc());
+        written.reserve(8)?;
+        {
+            let fused = FuseSink::new(WriterSink::new(&mut written), *inner, *most);
+            takes(&rt, &mut FuseSink::new(fused, *outer, 9), name, puts);
+        }
+        same(&rt, name, &written.as_slice(), wanted);
+    }
+    Ok(())
+}
+
+#[test]
+fn all_is_put_or_the_beginning_before_the_failure(rt: HostRuntime) -> Result<(), Fail> {
+    // so many calls pass, of so many bytes at most
+    for (calls, most, wanted, answer) in [
+        (3, 2, b"abcde".as_slice(), Ok(())),
+        (2, 2, b"abcd".as_slice(), Err(PutFault::Device)),
+        (1, 2, b"ab".as_slice(), Err(PutFault::Device)),
+        (0, 2, b"".as_slice(), Err(PutFault::Device)),
+        // a sink that takes no byte is no better than one that fails
+        (3, 0, b"".as_slice(), Err(PutFault::Device)),
+    ] {
+        let mut written = Vec::new(rt.alloc());
+        written.reserve(8)?;
+        let put = {
+            let mut sink = FuseSink::new(WriterSink::new(&mut written), calls, most);
+            put_all(&mut sink, b"abcde")
+        };
+        same(&rt, &calls, &(put, written.as_slice()), &(answer, wanted));
+    }
+    Ok(())
+}
