@@ -10,6 +10,7 @@ use std::process::Abort;
 use std::test::Fail;
 
 mod addressing;
+mod arithmetic;
 mod console;
 mod failed_accesses;
 mod instructions;
