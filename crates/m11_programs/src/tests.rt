@@ -14,6 +14,8 @@ mod arithmetic;
 mod console;
 mod failed_accesses;
 mod instructions;
+mod memory;
+mod messages;
 mod programs;
 mod simulations;
 mod traps;
