@@ -26,7 +26,7 @@ use Rattle.m11_cpu.specs.declared.execution.Ending.TheVariants as ending
 use Rattle.m11_cpu.specs.declared.machine.Machine.{Machine}
 use Rattle.m11_cpu.specs.declared.operands.Place.{Place}
 use Rattle.m11_cpu.specs.declared.operands.Place.TheVariants.{InRegister, InMemory}
-use Rattle.m11_cpu.specs.Exchanges.{ComesWithin}
+use Rattle.m11_cpu_laws.specs.Exchanges.{ComesWithin}
 
 -- ---- what stays
 

@@ -30,7 +30,7 @@ use Rattle.m11_cpu.specs.Machine.{register_of, with_register}
 use Rattle.m11_cpu.specs.Places.{fetch, fetch_operand, next_word, place_of, put_result, store, back}
 use Rattle.m11_cpu.specs.SingleOperands.{single_by, change_at, change_single, single, write, test}
 use Rattle.m11_cpu.specs.Steps.{instruction}
-use Rattle.m11_cpu.specs.Writes.{AbortLeaves, IsElseAsBefore}
+use Rattle.m11_cpu_laws.specs.Writes.{AbortLeaves, IsElseAsBefore}
 use Rattle.m11_cpu.specs.declared.abort.Abort.{Abort}
 use Rattle.m11_cpu.specs.declared.console.DeviceRegister.{DeviceRegister}
 use Rattle.m11_cpu.specs.declared.console.DeviceRegister.TheVariants.{ReceiverStatus, ReceiverBuffer, TransmitterStatus, TransmitterBuffer, ProcessorStatus}
@@ -40,8 +40,8 @@ use Rattle.m11_cpu.specs.declared.destination_use.DestinationUse.TheVariants as 
 use Rattle.m11_cpu.specs.declared.machine.Machine.{Machine}
 use Rattle.m11_cpu.specs.declared.operands.Place.{Place}
 use Rattle.m11_cpu.specs.declared.operands.Place.TheVariants.{InRegister, InMemory}
-use Rattle.m11_cpu.proofs.Loads.{code_keeps, fetch_keeps, jump_target_keeps, operand_keeps, pop_keeps, source_keeps}
-use Rattle.m11_cpu.proofs.Parts.{Always, at_bind, at_comes, at_cond, at_map, at_sends, Keeps}
+use Rattle.m11_cpu_laws.proofs.Loads.{code_keeps, fetch_keeps, jump_target_keeps, operand_keeps, pop_keeps, source_keeps}
+use Rattle.m11_cpu_laws.proofs.Parts.{Always, at_bind, at_comes, at_cond, at_map, at_sends, Keeps}
 
 abbrev LeftBy : {A : Type 0} → (Machine → Type 0) → Result A Abort → Machine → Type 0
 LeftBy I (Ok done) n = ⊤

@@ -16,15 +16,15 @@ use Rattle.m11_cpu.specs.DoubleOperands.{change_double, change_exclusive, move_t
 use Rattle.m11_cpu.specs.Machine.{finished, is_status, with_condition_codes}
 use Rattle.m11_cpu.specs.Places.{fetch, put_result, store}
 use Rattle.m11_cpu.specs.SingleOperands.{change_at}
-use Rattle.m11_cpu.specs.Writes.{place_bytes, word_bytes, written_by}
+use Rattle.m11_cpu_laws.specs.Writes.{place_bytes, word_bytes, written_by}
 use Rattle.m11_cpu.specs.declared.abort.Abort.{Abort}
 use Rattle.m11_cpu.specs.declared.console.DeviceRegister.{DeviceRegister}
 use Rattle.m11_cpu.specs.declared.console.DeviceRegister.TheVariants.{ReceiverStatus, ReceiverBuffer, TransmitterStatus, TransmitterBuffer, ProcessorStatus}
 use Rattle.m11_cpu.specs.declared.machine.Machine.{Machine}
 use Rattle.m11_cpu.specs.declared.operands.Place.{Place}
 use Rattle.m11_cpu.specs.declared.operands.Place.TheVariants.{InRegister, InMemory}
-use Rattle.m11_cpu.proofs.MemoryKept.{fetch_quiet, Kept, kept_byte, kept_same, kept_word, Same}
-use Rattle.m11_cpu.proofs.Parts.{Always, at_bind, at_comes, at_cond, at_sends}
+use Rattle.m11_cpu_laws.proofs.MemoryKept.{fetch_quiet, Kept, kept_byte, kept_same, kept_word, Same}
+use Rattle.m11_cpu_laws.proofs.Parts.{Always, at_bind, at_comes, at_cond, at_sends}
 
 -- ---- what is written behind a known destination
 

@@ -4,7 +4,7 @@ use Rattle.std.proofs.KnownBytes.{Appends-nil, Appends-trans}
 use Rattle.m11_base.specs.Feed.{Text, GivesByte, GivesEnd, GivesFailure}
 use Rattle.m11_obj.specs.Limited.{Gave}
 use Rattle.m11_cpu.specs.Dialogue.{Devices, Exchange, Asked, Sent, Reply, Gives, Ends, Fails, Did, Happened, Happens, Input, Output, Replies, Takes}
-use Rattle.m11_cpu.specs.Laws.{given, taken, GainedJust, GaveJust}
+use Rattle.m11_cpu_laws.specs.Laws.{given, taken, GainedJust, GaveJust}
 
 gave_nothing : (t : Option Text) → Gave t t []
 gave_nothing None = tt

@@ -12,15 +12,16 @@ use Rattle.m11_cpu.specs.Access.{load_word}
 use Rattle.m11_cpu.specs.Jumps.{address_of, target}
 use Rattle.m11_cpu.specs.Machine.{advanced, register_of, with_register}
 use Rattle.m11_cpu.specs.Places.{deferred, indexed, next_word, place_by, place_of}
-use Rattle.m11_cpu.specs.Returns.{call_length, IsCall, IsRunning, length_by, over_back, over_forward}
+use Rattle.m11_cpu_laws.specs.Returns.{call_length, IsCall, IsRunning, length_by, over_back, over_forward}
 use Rattle.m11_cpu.specs.declared.abort.Abort.{Abort}
 use Rattle.m11_cpu.specs.declared.console.Receiver.{Receiver}
 use Rattle.m11_cpu.specs.declared.machine.Machine.{Machine}
 use Rattle.m11_cpu.specs.declared.operands.Place.{Place}
 use Rattle.m11_cpu.specs.declared.operands.Place.TheVariants.{InRegister, InMemory}
-use Rattle.m11_cpu.proofs.Loads.{deferred_keeps, place_keeps, target_keeps, word_keeps}
-use Rattle.m11_cpu.proofs.Parts.{Always, at_bind, at_comes, at_map, Keeps}
-use Rattle.m11_cpu.proofs.RegistersPut.{put_length, put_other, put_same}
+use Rattle.m11_cpu_laws.proofs.Loads.{deferred_keeps, place_keeps, target_keeps, word_keeps}
+use Rattle.m11_cpu_laws.proofs.Parts.{Always, at_bind, at_comes, at_map, Keeps}
+use Rattle.m11_cpu.proofs.RegistersPut.{put_same}
+use Rattle.m11_cpu_laws.proofs.WordsPut.{put_length, put_other}
 
 -- what it leaves of the machine
 pub record Formed (register : Register) (m n : Machine) : Type 0 where

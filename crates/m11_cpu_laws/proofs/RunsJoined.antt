@@ -7,11 +7,11 @@ use Rattle.m11_cpu.specs.declared.stop.Stop.TheVariants.{Limit}
 use Rattle.m11_cpu.specs.declared.stop.Turn.{Turn}
 use Rattle.m11_cpu.specs.declared.stop.Turn.TheVariants.{Next, Stopped}
 use Rattle.m11_cpu.specs.Dialogue.{after, Asked, Asks, Comes, Dialogue, Exchange, Leads, Sends, Sent}
-use Rattle.m11_cpu.specs.Laws.{AreJoined, Stands}
+use Rattle.m11_cpu_laws.specs.Laws.{AreJoined, Stands}
 use Rattle.m11_cpu.specs.Runs.{behind, one_more, run_counted}
 use Rattle.m11_cpu.specs.Steps.{step}
 use Rattle.m11_cpu.proofs.Dialogues.{leads_after}
-use Rattle.m11_cpu.proofs.StopsStand.{at_once, step_stands}
+use Rattle.m11_cpu_laws.proofs.StopsStand.{at_once, step_stands}
 
 -- a dialogue and the one behind it, by the exchanges of each
 record Parts {A B : Type 0} (d : Dialogue A) (next : A → Dialogue B) (es : List Exchange) (y : B) : Type 0 where

@@ -22,7 +22,7 @@ use Rattle.m11_cpu.specs.declared.abort.Vector.{Vector}
 use Rattle.m11_cpu.specs.declared.abort.Vector.TheVariants as vector
 use Rattle.m11_cpu.specs.declared.machine.Machine.{Machine}
 use Rattle.m11_cpu.specs.declared.stop.Turn.TheVariants.{Next}
-use Rattle.m11_cpu.specs.Writes.{MakesSteps, push_address, stack_deepened}
+use Rattle.m11_cpu_laws.specs.Writes.{MakesSteps, push_address, stack_deepened}
 
 -- ---- machines that run a program
 

@@ -13,11 +13,11 @@ use Rattle.m11_cpu.specs.Execution.{bare, execute, numbered, return_from_trap}
 use Rattle.m11_cpu.specs.Jumps.{pop, push}
 use Rattle.m11_cpu.specs.Machine.{advanced, register_of, with_register}
 use Rattle.m11_cpu.specs.Memory.{word_at}
-use Rattle.m11_cpu.specs.Returns.{HasRoom, IsAt, IsRunning, IsWordInside, TrapInstructionsReturn, TrapIsOver, TrapReturns, vector_of}
+use Rattle.m11_cpu_laws.specs.Returns.{HasRoom, IsAt, IsRunning, IsWordInside, TrapInstructionsReturn, TrapIsOver, TrapReturns, vector_of}
 use Rattle.m11_cpu.specs.Status.{bit, psw_of, status_of}
 use Rattle.m11_cpu.specs.Steps.{step, turned}
 use Rattle.m11_cpu.specs.Traps.{push_state, trap, trap_pushed, vector_address, vectored}
-use Rattle.m11_cpu.specs.Writes.{push_address, stack_deepened}
+use Rattle.m11_cpu_laws.specs.Writes.{push_address, stack_deepened}
 use Rattle.m11_cpu.specs.declared.abort.Abort.{Abort}
 use Rattle.m11_cpu.specs.declared.abort.Abort.TheVariants.{Traps}
 use Rattle.m11_cpu.specs.declared.abort.Vector.{Vector}
@@ -26,8 +26,10 @@ use Rattle.m11_cpu.specs.declared.execution.Ending.{Ending}
 use Rattle.m11_cpu.specs.declared.machine.Machine.{Machine}
 use Rattle.m11_cpu.specs.declared.status.ProcessorStatus.{ProcessorStatus}
 use Rattle.m11_cpu.specs.declared.stop.Turn.TheVariants.{Next}
-use Rattle.m11_cpu.proofs.AtOnce.{bind_at, pop_inside, push_inside, pushed, step_at, step_by}
-use Rattle.m11_cpu.proofs.RegistersPut.{length_put, put_length, put_other, put_same, word_put, word_put_other}
+use Rattle.m11_cpu.proofs.AtOnce.{bind_at}
+use Rattle.m11_cpu_laws.proofs.StepsInMemory.{pop_inside, push_inside, pushed, step_at, step_by}
+use Rattle.m11_cpu.proofs.RegistersPut.{put_same}
+use Rattle.m11_cpu_laws.proofs.WordsPut.{length_put, put_length, put_other, word_put, word_put_other}
 
 -- ---- the processor status
 

@@ -12,7 +12,7 @@ use Rattle.m11_cpu.specs.declared.stop.LastingStop.TheVariants.{StackFault, Inpu
 use Rattle.m11_cpu.specs.declared.stop.Turn.{Turn}
 use Rattle.m11_cpu.specs.declared.stop.Turn.TheVariants.{Next, Stopped}
 use Rattle.m11_cpu.specs.Dialogue.{after, Asked, Asks, Comes, Dialogue, Exchange, Leads, Sends, Sent}
-use Rattle.m11_cpu.specs.Laws.{Stands}
+use Rattle.m11_cpu_laws.specs.Laws.{Stands}
 use Rattle.m11_cpu.specs.Steps.{ended, instruction, step, step_unless, turned}
 use Rattle.m11_cpu.specs.Stops.{stop_of}
 use Rattle.m11_cpu.specs.Traps.{push_state, stopped_by, trap, trap_pushed}

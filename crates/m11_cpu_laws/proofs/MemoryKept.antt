@@ -26,11 +26,11 @@ use Rattle.m11_cpu.specs.Machine.{register_of, with_register}
 use Rattle.m11_cpu.specs.Memory.{byte_at, with_byte, with_word}
 use Rattle.m11_cpu.specs.Places.{back, fetch, fetch_operand, next_word, place_of}
 use Rattle.m11_cpu.specs.SingleOperands.{test}
-use Rattle.m11_cpu.specs.Writes.{IsNoneOf, word_bytes}
+use Rattle.m11_cpu_laws.specs.Writes.{IsNoneOf, word_bytes}
 use Rattle.m11_cpu.specs.declared.machine.Machine.{Machine}
 use Rattle.m11_cpu.specs.declared.operands.Place.{Place}
-use Rattle.m11_cpu.proofs.Loads.{code_keeps, fetch_keeps, jump_target_keeps, operand_keeps, pop_keeps, source_keeps}
-use Rattle.m11_cpu.proofs.Parts.{at_comes, Keeps, keeps_bind}
+use Rattle.m11_cpu_laws.proofs.Loads.{code_keeps, fetch_keeps, jump_target_keeps, operand_keeps, pop_keeps, source_keeps}
+use Rattle.m11_cpu_laws.proofs.Parts.{at_comes, Keeps, keeps_bind}
 
 -- ---- memory
 

@@ -15,14 +15,14 @@ use Rattle.m11_cpu.specs.Dialogue.{Reply, Gives, Ends, Fails}
 use Rattle.m11_cpu.specs.Jumps.{address_of, pop, target}
 use Rattle.m11_cpu.specs.Machine.{register_of, with_register}
 use Rattle.m11_cpu.specs.Places.{deferred, fetch, fetch_operand, forward, indexed, next_word, place_by, place_of}
-use Rattle.m11_cpu.specs.Returns.{is_stepping}
+use Rattle.m11_cpu_laws.specs.Returns.{is_stepping}
 use Rattle.m11_cpu.specs.declared.console.DeviceRegister.{DeviceRegister}
 use Rattle.m11_cpu.specs.declared.console.DeviceRegister.TheVariants.{ReceiverStatus, ReceiverBuffer, TransmitterStatus, TransmitterBuffer, ProcessorStatus}
 use Rattle.m11_cpu.specs.declared.console.Receiver.{Receiver}
 use Rattle.m11_cpu.specs.declared.machine.Machine.{Machine}
 use Rattle.m11_cpu.specs.declared.operands.Place.{Place}
 use Rattle.m11_cpu.specs.declared.operands.Place.TheVariants.{InRegister, InMemory}
-use Rattle.m11_cpu.proofs.Parts.{at_asks, at_comes, at_cond, Keeps, keeps_bind}
+use Rattle.m11_cpu_laws.proofs.Parts.{at_asks, at_comes, at_cond, Keeps, keeps_bind}
 
 -- what the receiver may change without
 module _ (I : Machine → Type 0) (receives : (n : Machine) (r : Receiver) → I n → I (record n { receiver = r })) where

@@ -10,7 +10,7 @@ use Rattle.m11_cpu.specs.Machine.{register_of}
 use Rattle.m11_cpu.specs.Status.{psw_of}
 use Rattle.m11_cpu.specs.Steps.{ended, instruction, step, step_unless, turned}
 use Rattle.m11_cpu.specs.Traps.{push_state, trap, trap_pushed}
-use Rattle.m11_cpu.specs.Writes.{one_pushed, push_address, pushed_behind, stack_deepened, StaysBut, StepWrites, two_pushed, word_bytes, written_by, written_bytes}
+use Rattle.m11_cpu_laws.specs.Writes.{one_pushed, push_address, pushed_behind, stack_deepened, StaysBut, StepWrites, two_pushed, word_bytes, written_by, written_bytes}
 use Rattle.m11_cpu.specs.declared.abort.Abort.{Abort}
 use Rattle.m11_cpu.specs.declared.abort.Abort.TheVariants.{Traps, Stops}
 use Rattle.m11_cpu.specs.declared.abort.Vector.{Vector}
@@ -23,12 +23,12 @@ use Rattle.m11_cpu.specs.declared.machine.Machine.{Machine}
 use Rattle.m11_cpu.specs.declared.stop.LastingStop.{LastingStop}
 use Rattle.m11_cpu.specs.declared.stop.Turn.{Turn}
 use Rattle.m11_cpu.specs.declared.stop.Turn.TheVariants as turn
-use Rattle.m11_cpu.proofs.AbortsLeave.{abort_leaves}
-use Rattle.m11_cpu.proofs.DestinationsWritten.{instruction_follows}
-use Rattle.m11_cpu.proofs.Following.{within_more}
-use Rattle.m11_cpu.proofs.MemoryKept.{Kept, kept_more, kept_same}
-use Rattle.m11_cpu.proofs.Parts.{Always, at_after, at_bind, at_comes, at_cond, at_map, at_sends, Keeps, parts}
-use Rattle.m11_cpu.proofs.PlacesStored.{Stores, word_stores}
+use Rattle.m11_cpu_laws.proofs.AbortsLeave.{abort_leaves}
+use Rattle.m11_cpu_laws.proofs.DestinationsWritten.{instruction_follows}
+use Rattle.m11_cpu_laws.proofs.Following.{within_more}
+use Rattle.m11_cpu_laws.proofs.MemoryKept.{Kept, kept_more, kept_same}
+use Rattle.m11_cpu_laws.proofs.Parts.{Always, at_after, at_bind, at_comes, at_cond, at_map, at_sends, Keeps, parts}
+use Rattle.m11_cpu_laws.proofs.PlacesStored.{Stores, word_stores}
 
 -- ---- traps
 

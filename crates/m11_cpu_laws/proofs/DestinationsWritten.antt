@@ -24,15 +24,15 @@ use Rattle.m11_cpu.specs.Machine.{register_of}
 use Rattle.m11_cpu.specs.Places.{fetch_operand, next_word, place_of}
 use Rattle.m11_cpu.specs.SingleOperands.{change_at, change_single, single, write}
 use Rattle.m11_cpu.specs.Steps.{instruction}
-use Rattle.m11_cpu.specs.Writes.{destination_bytes, one_pushed, operand_bytes, place_bytes, push_address, stack_deepened, written_by, written_bytes}
+use Rattle.m11_cpu_laws.specs.Writes.{destination_bytes, one_pushed, operand_bytes, place_bytes, push_address, stack_deepened, written_by, written_bytes}
 use Rattle.m11_cpu.specs.declared.abort.Abort.{Abort}
 use Rattle.m11_cpu.specs.declared.execution.Ending.TheVariants as ending
 use Rattle.m11_cpu.specs.declared.machine.Machine.{Machine}
 use Rattle.m11_cpu.specs.declared.operands.Place.{Place}
-use Rattle.m11_cpu.proofs.Following.{Follows, follows_bind, follows_now, follows_then}
-use Rattle.m11_cpu.proofs.MemoryKept.{bare_quiet, branched_same, compare_quiet, counted_same, extended_quiet, jump_quiet, Kept, kept_same, mark_quiet, place_quiet, return_quiet, Same, source_quiet, target_quiet, test_quiet, code_quiet}
-use Rattle.m11_cpu.proofs.Parts.{Always, at_bind, at_comes, at_map, Keeps, keeps_bind}
-use Rattle.m11_cpu.proofs.PlacesStored.{double_stores, exclusive_stores, move_stores, result_stores, single_stores, Stores, word_stores, Writes}
+use Rattle.m11_cpu_laws.proofs.Following.{Follows, follows_bind, follows_now, follows_then}
+use Rattle.m11_cpu_laws.proofs.MemoryKept.{bare_quiet, branched_same, compare_quiet, counted_same, extended_quiet, jump_quiet, Kept, kept_same, mark_quiet, place_quiet, return_quiet, Same, source_quiet, target_quiet, test_quiet, code_quiet}
+use Rattle.m11_cpu_laws.proofs.Parts.{Always, at_bind, at_comes, at_map, Keeps, keeps_bind}
+use Rattle.m11_cpu_laws.proofs.PlacesStored.{double_stores, exclusive_stores, move_stores, result_stores, single_stores, Stores, word_stores, Writes}
 
 -- ---- instructions, each beside its destination
 
