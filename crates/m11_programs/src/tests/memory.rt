@@ -159,6 +159,16 @@ fn machine_with(rt: &(impl Abort + AllocGlobal), words: u16) -> Result<Machine, 
     Machine::new(rt.alloc(), words)
 }
 
+// What the load of a tape into so many words comes to.
+fn loaded<F: Feed>(
+    rt: &(impl Abort + AllocGlobal),
+    words: u16,
+    tape: &mut F,
+) -> Result<Result<u16, LoadFault>, AllocError> {
+    let mut machine = machine_with(rt, words)?;
+    Ok(machine.load(tape))
+}
+
 // How many bytes a feed still gives, of 80 at most.
 fn bytes_left<F: Feed>(feed: &mut F) -> usize {
     for given in 0..80 {
@@ -212,17 +222,16 @@ fn a_tape_that_is_cut_or_fails_is_told_so(rt: HostRuntime) -> Result<(), Fail> {
             20 => Ok(0o1000),
             _ => Err(LoadFault::Tape(TapeFault::Truncated)),
         };
-        let mut machine = machine_with(&rt, 4_096)?;
-        let outcome = machine.load(&mut MemoryFeed::new(&HALTS[..given]));
+        let outcome = loaded(&rt, 4_096, &mut MemoryFeed::new(&HALTS[..given]))?;
         assert_eq!(rt; outcome, cut, "cut at {given}");
         // Its device fails after so many calls.
         let failed = match given {
             20 => Ok(0o1000),
             _ => Err(LoadFault::Tape(TapeFault::Device)),
         };
-        let mut machine = machine_with(&rt, 4_096)?;
         let mut tape = FuseFeed::new(MemoryFeed::new(&HALTS), given as u64);
-        assert_eq!(rt; machine.load(&mut tape), failed, "after {given} calls");
+        let outcome = loaded(&rt, 4_096, &mut tape)?;
+        assert_eq!(rt; outcome, failed, "after {given} calls");
     }
     Ok(())
 }
@@ -233,9 +242,8 @@ fn behind_the_transfer_block_nothing_is_read(rt: HostRuntime) -> Result<(), Fail
     for at in 0..20 {
         bytes[at] = HALTS[at];
     }
-    let mut machine = machine_with(&rt, 4_096)?;
     let mut tape = MemoryFeed::new(&bytes);
-    assert_eq!(rt; machine.load(&mut tape), Ok(0o1000));
+    assert_eq!(rt; loaded(&rt, 4_096, &mut tape)?, Ok(0o1000));
     assert_eq!(rt; bytes_left(&mut tape), 4);
     Ok(())
 }
@@ -248,8 +256,7 @@ fn addresses_do_not_begin_again_after_177777(rt: HostRuntime) -> Result<(), Fail
         (57_345, LoadFault::OutsideMemory),
     ] {
         let tape = longest_block(rt.alloc(), count)?;
-        let mut machine = machine_with(&rt, 28_672)?;
-        let outcome = machine.load(&mut MemoryFeed::new(tape.as_slice()));
+        let outcome = loaded(&rt, 28_672, &mut MemoryFeed::new(tape.as_slice()))?;
         assert_eq!(rt; outcome, Err(fault), "{count} bytes");
     }
     Ok(())
