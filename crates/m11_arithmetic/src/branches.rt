@@ -31,6 +31,3 @@ pub fn is_taken(operation: BranchOp, codes: ConditionCodes) -> bool
         BranchOp::Bcs => codes.carry,
     }
 }
-
-#[cfg(test)]
-mod tests;

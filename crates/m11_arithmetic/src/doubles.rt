@@ -77,6 +77,3 @@ pub(crate) fn difference(size: Size, first: u16, second: u16) -> Computed
         signed(size, first) - signed(size, second),
     )
 }
-
-#[cfg(test)]
-mod tests;

@@ -101,6 +101,3 @@ fn done(quotient: i32, remainder: i32) -> Division
         },
     }
 }
-
-#[cfg(test)]
-mod tests;

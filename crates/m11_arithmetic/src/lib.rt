@@ -22,6 +22,3 @@ pub use laws::{
 pub use results::{Computed, Division, Pair};
 pub use shifts::{shift, shift_pair};
 pub use singles::single;
-
-#[cfg(test)]
-mod tests;

@@ -86,6 +86,3 @@ fn digit(number: i64, place: u16) -> bool
 {
     (number >> place).cast_unsigned() % 2 == 1
 }
-
-#[cfg(test)]
-mod tests;

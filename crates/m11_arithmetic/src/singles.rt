@@ -150,6 +150,3 @@ fn sign_filled(size: Size, codes: ConditionCodes) -> Computed
         },
     }
 }
-
-#[cfg(test)]
-mod tests;

@@ -4,12 +4,10 @@ pub mod Console
 pub mod DestinationUse
 pub mod Dialogue
 pub mod DoubleOperands
-pub mod Exchanges
 pub mod Execution
 pub mod Extended
 pub mod Faults
 pub mod Jumps
-pub mod Laws
 pub mod Loading
 pub mod Machine
 pub mod Memory
@@ -17,7 +15,6 @@ pub mod Messages
 pub mod Near
 pub mod Places
 pub mod Quick
-pub mod Returns
 pub mod Runs
 pub mod Simulation
 pub mod SingleOperands
@@ -25,4 +22,3 @@ pub mod Status
 pub mod Steps
 pub mod Stops
 pub mod Traps
-pub mod Writes

@@ -4,7 +4,7 @@ use crate::stop::LastingStop;
 
 /// Where a trap finds its program counter; the word behind it is its processor status.
 #[derive(Clone, Copy, Debug, PartialEq, Eq)]
-pub(crate) enum Vector {
+pub enum Vector {
     /// An address outside the memory, or an odd one of a word.
     BusError = 0o4,
     /// A code that no instruction has.
@@ -21,7 +21,7 @@ pub(crate) enum Vector {
 
 /// Why an instruction does not come to its end.
 #[derive(Clone, Copy, Debug, PartialEq, Eq)]
-pub(crate) enum Abort {
+pub enum Abort {
     /// It traps.
     Traps(Vector),
     /// A device of the console failed.

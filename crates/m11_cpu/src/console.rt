@@ -5,7 +5,7 @@ ghost use Rattle.m11_cpu.specs.Console.{device_at, is_waiting, receiver_bits, tr
 
 /// The receiver: what comes from the keyboard.
 #[derive(Clone, Copy, Debug, PartialEq, Eq)]
-pub(crate) struct Receiver {
+pub struct Receiver {
     /// The byte that came last.
     pub(crate) byte: u8,
     /// Whether that byte has come and was not read yet.
@@ -25,7 +25,7 @@ pub(crate) struct Transmitter {
 
 /// A register of the console, or the processor status word, which answers at an address too.
 #[derive(Clone, Copy, Debug, PartialEq, Eq)]
-pub(crate) enum DeviceRegister {
+pub enum DeviceRegister {
     ReceiverStatus,
     ReceiverBuffer,
     TransmitterStatus,

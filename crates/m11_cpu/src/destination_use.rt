@@ -7,7 +7,7 @@ use m11_base::{DoubleOp, SingleOp};
 
 /// What an operation does with its destination.
 #[derive(Clone, Copy, Debug, PartialEq, Eq)]
-pub(crate) enum DestinationUse {
+pub enum DestinationUse {
     /// It puts a result there, and does not read it.
     Writes,
     /// It reads it, and puts nothing there.

@@ -13,7 +13,7 @@ use m11_base::{
 
 /// How an instruction comes to its end.
 #[derive(Clone, Copy, Debug, PartialEq, Eq)]
-pub(crate) enum Ending {
+pub enum Ending {
     /// The next one follows; a trace trap where T is set.
     Next,
     /// The next one follows without a trace trap.

@@ -11,7 +11,6 @@ mod execution;
 mod extended;
 mod fault;
 mod jumps;
-mod laws;
 mod loading;
 mod machine;
 mod memory;
@@ -31,9 +30,6 @@ mod stop;
 mod traps;
 
 pub use fault::{LoadFault, SimFault};
-pub use laws::{
-    calls_return, console_is_exact, memory_stays, runs_are_joined, stops_stand, traps_return,
-};
 pub use machine::Machine;
 pub use simulation::sim_run;
 pub use status::ProcessorStatus;

@@ -58,6 +58,3 @@ pub(crate) fn load_tape<F: Feed>(memory: &mut Memory, feed: &mut F) -> Result<u1
         }
     }
 }
-
-#[cfg(test)]
-mod tests;

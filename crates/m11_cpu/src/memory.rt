@@ -115,6 +115,3 @@ impl Memory {
         }
     }
 }
-
-#[cfg(test)]
-mod tests;

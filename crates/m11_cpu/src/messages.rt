@@ -45,6 +45,3 @@ pub(crate) fn put_messages<M: Sink>(
         Err(_) => Err(SimFault::Write),
     }
 }
-
-#[cfg(test)]
-mod tests;

@@ -12,7 +12,7 @@ use m11_base::{Feed, Mode, Operand, Register, Sink, Size};
 
 /// Where an operand is.
 #[derive(Clone, Copy, Debug, PartialEq, Eq)]
-pub(crate) enum Place {
+pub enum Place {
     /// In a register.
     InRegister(Register),
     /// In memory, or in a register of a device, at this address.

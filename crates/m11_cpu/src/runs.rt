@@ -10,7 +10,7 @@ use m11_base::{Feed, Sink};
 
 /// What a run came to.
 #[derive(Clone, Copy, Debug, PartialEq, Eq)]
-pub(crate) struct Ran {
+pub struct Ran {
     pub(crate) stop: Stop,
     /// How many steps were begun.
     pub(crate) steps: u32,

@@ -10,9 +10,12 @@ use std::process::Abort;
 use std::test::Fail;
 
 mod addressing;
+mod arithmetic;
 mod console;
 mod failed_accesses;
 mod instructions;
+mod memory;
+mod messages;
 mod programs;
 mod simulations;
 mod traps;

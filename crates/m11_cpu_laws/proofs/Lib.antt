@@ -1,0 +1,16 @@
+pub mod AbortsLeave
+pub mod CallsBack
+pub mod ConsoleExact
+pub mod DestinationsWritten
+pub mod Following
+pub mod Loads
+pub mod MemoryKept
+pub mod Parts
+pub mod PlacesStored
+pub mod RunsJoined
+pub mod StepsInMemory
+pub mod StepsWrite
+pub mod StopsStand
+pub mod TargetsFormed
+pub mod TrapsBack
+pub mod WordsPut

@@ -1,0 +1,4 @@
+pub mod Exchanges
+pub mod Laws
+pub mod Returns
+pub mod Writes

@@ -1,0 +1,159 @@
+-- Calls and traps come back. (PDP-11/40 Processor Handbook, "Instruction set": JSR, RTS, RTI; "Processor traps".)
+use Rattle.std.specs.Prelude.{◌≡◌, ℕ, ◌+◌, ◌%◌, ◌<◌, ◌==◌, Bool, true, false, ◌&&◌, List, length, None, Option, Some, Ok}
+use Rattle.m11_base.specs.Instructions.{instruction_of}
+use Rattle.m11_base.specs.Operands.{register_number}
+use Rattle.m11_base.specs.declared.instruction.BareOp.TheVariants.{Rti, Bpt, Iot}
+use Rattle.m11_base.specs.declared.instruction.Insn.{Insn}
+use Rattle.m11_base.specs.declared.instruction.Insn.TheVariants as insn
+use Rattle.m11_base.specs.declared.instruction.NumberOp.TheVariants.{Emt, Trap}
+use Rattle.m11_base.specs.declared.instruction.RegisterOp.TheVariants.{Jsr}
+use Rattle.m11_base.specs.declared.operand.Mode.{Mode}
+use Rattle.m11_base.specs.declared.operand.Mode.TheVariants as mode
+use Rattle.m11_base.specs.declared.operand.Operand.{Operand}
+use Rattle.m11_base.specs.declared.operand.Register.{Register}
+use Rattle.m11_base.specs.declared.operand.Register.TheVariants.{Sp, Pc}
+use Rattle.m11_cpu.specs.Dialogue.{Comes, Exchange, Leads}
+use Rattle.m11_cpu.specs.Jumps.{target}
+use Rattle.m11_cpu.specs.Machine.{advanced, memory_size, psw_in, register_of}
+use Rattle.m11_cpu.specs.Memory.{word_at}
+use Rattle.m11_cpu.specs.Steps.{step}
+use Rattle.m11_cpu.specs.Traps.{trap, vector_address}
+use Rattle.m11_cpu.specs.declared.abort.Vector.{Vector}
+use Rattle.m11_cpu.specs.declared.abort.Vector.TheVariants as vector
+use Rattle.m11_cpu.specs.declared.machine.Machine.{Machine}
+use Rattle.m11_cpu.specs.declared.stop.Turn.TheVariants.{Next}
+use Rattle.m11_cpu_laws.specs.Writes.{MakesSteps, push_address, stack_deepened}
+
+-- ---- machines that run a program
+
+-- the machine makes steps, T is clear, and its eight registers hold words
+pub record IsRunning (m : Machine) : Type 0 where
+  pub not_stopped : MakesSteps m
+  pub not_traced : m.status.trace ≡ false
+  pub registers : length m.registers ≡ 8
+  pub words : (register : Register) → register_of register m < 0o200000
+
+-- the word at an address is one of the memory
+abbrev pub IsWordInside : ℕ → Machine → Type 0
+IsWordInside address m = (address % 2 ≡ 0) × (address + 1 < memory_size m)
+
+-- the program counter is at the code of an instruction, in memory
+abbrev pub IsAt : Insn → Machine → Type 0
+IsAt code m = IsWordInside (register_of Pc m) m × (instruction_of (word_at m.memory (register_of Pc m)) ≡ code)
+
+-- ---- calls
+
+abbrev pub is_stepping : Mode → Bool
+is_stepping mode.Register = false
+is_stepping mode.RegisterDeferred = false
+is_stepping mode.Autoincrement = true
+is_stepping mode.AutoincrementDeferred = true
+is_stepping mode.Autodecrement = true
+is_stepping mode.AutodecrementDeferred = true
+is_stepping mode.Index = false
+is_stepping mode.IndexDeferred = false
+
+-- the operand's mode steps this register
+abbrev pub steps : Operand → Register → Bool
+steps operand register = is_stepping operand.mode && (register_number operand.register == register_number register)
+
+-- how far the program counter goes on over a call by this operand: over its code, over an index or an address behind
+-- it; and back again where the mode steps the program counter back
+abbrev pub over_forward : Register → ℕ
+over_forward Pc = 4
+over_forward other = 2
+
+abbrev pub over_back : Register → ℕ
+over_back Pc = 0
+over_back other = 2
+
+abbrev pub length_by : Mode → Register → ℕ
+length_by mode.Register register = 2
+length_by mode.RegisterDeferred register = 2
+length_by mode.Autoincrement register = over_forward register
+length_by mode.AutoincrementDeferred register = over_forward register
+length_by mode.Autodecrement register = over_back register
+length_by mode.AutodecrementDeferred register = over_back register
+length_by mode.Index register = 4
+length_by mode.IndexDeferred register = 4
+
+abbrev pub call_length : Operand → ℕ
+call_length operand = length_by operand.mode operand.register
+
+-- a call by one of the registers 0 to 5, whose operand steps neither that register nor the stack pointer, and whose
+-- push goes to memory
+pub record IsCall (register : Register) (operand : Operand) (m : Machine) : Type 0 where
+  pub running : IsRunning m
+  pub code : IsAt (insn.Register Jsr register operand) m
+  pub linked : register_number register < 6
+  pub keeps_link : steps operand register ≡ false
+  pub keeps_stack : steps operand Sp ≡ false
+  pub pushed : IsWordInside (push_address m) m
+
+-- one more step leads behind the call, and the register and the stack pointer are as before
+pub record CallIsOver (register : Register) (operand : Operand) (m called : Machine) : Type 0 where
+  pub returned : Machine
+  pub in_one_step : step called ≡ Comes (Next, returned)
+  pub counter : register_of Pc returned ≡ (register_of Pc m + call_length operand) % 0o200000
+  pub link : register_of register returned ≡ register_of register m
+  pub stack : register_of Sp returned ≡ register_of Sp m
+
+-- the call goes to the address, and comes back where RTS by that register stands there behind the push
+pub record CallReturns (register : Register) (operand : Operand) (m : Machine) (exchanges : List Exchange)
+    (address : ℕ) : Type 0 where
+  pub called : Machine
+  pub in_one_step : Leads (step m) exchanges (Next, called)
+  pub counter : register_of Pc called ≡ address
+  pub comes_back : IsAt (insn.Rts register) called → CallIsOver register operand m called
+
+-- the address is the one that the operand means once the code is read
+abbrev pub CallsReturn : Register → Operand → Machine → Type 0
+CallsReturn register operand m = (exchanges : List Exchange) (address : ℕ) (formed : Machine)
+    → IsCall register operand m → Leads (target operand (advanced Pc 2 m)) exchanges (Ok address, formed)
+    → CallReturns register operand m exchanges address
+
+-- ---- traps
+
+-- both pushes of a trap go to memory
+abbrev pub HasRoom : Machine → Type 0
+HasRoom m = IsWordInside (push_address m) m × IsWordInside (push_address (stack_deepened m)) m
+
+-- one more step leads back to this program counter, and the processor status and the stack pointer are as before
+pub record TrapIsOver (counter_before : ℕ) (m trapped : Machine) : Type 0 where
+  pub returned : Machine
+  pub in_one_step : step trapped ≡ Comes (Next, returned)
+  pub counter : register_of Pc returned ≡ counter_before
+  pub status : psw_in returned ≡ psw_in m
+  pub stack : register_of Sp returned ≡ register_of Sp m
+
+-- the program counter and the processor status are the words of the vector, of the second the lower eight bits
+pub record IsTrapped (vector : Vector) (trapped : Machine) : Type 0 where
+  pub counter : register_of Pc trapped ≡ word_at trapped.memory (vector_address vector)
+  pub status : psw_in trapped ≡ word_at trapped.memory (vector_address vector + 2) % 256
+
+-- a trap of any vector comes back, where RTI stands at the vector's program counter behind the pushes
+pub record TrapReturns (vector : Vector) (m : Machine) : Type 0 where
+  pub trapped : Machine
+  pub traps : trap vector m ≡ Comes (Next, trapped)
+  pub by_vector : IsTrapped vector trapped
+  pub comes_back : IsAt (insn.Bare Rti) trapped → TrapIsOver (register_of Pc m) m trapped
+
+-- the instructions that trap, each by its vector
+abbrev pub vector_of : Insn → Option Vector
+vector_of (insn.Bare Bpt) = Some vector.Breakpoint
+vector_of (insn.Bare Iot) = Some vector.InputOutput
+vector_of (insn.Number Emt number) = Some vector.Emulator
+vector_of (insn.Number Trap number) = Some vector.Trap
+vector_of (insn.Reserved word) = Some vector.Reserved
+vector_of other = None
+
+-- a step of such an instruction comes back to the word behind it
+pub record TrapInstructionReturns (vector : Vector) (m : Machine) : Type 0 where
+  pub trapped : Machine
+  pub in_one_step : step m ≡ Comes (Next, trapped)
+  pub by_vector : IsTrapped vector trapped
+  pub comes_back : IsAt (insn.Bare Rti) trapped → TrapIsOver ((register_of Pc m + 2) % 0o200000) m trapped
+
+abbrev pub TrapInstructionsReturn : Insn → Vector → Machine → Type 0
+TrapInstructionsReturn code vector m = IsRunning m → IsAt code m → vector_of code ≡ Some vector → HasRoom m
+    → TrapInstructionReturns vector m

@@ -1,0 +1,171 @@
+-- Which bytes of memory an instruction and its traps may write; each other byte stays. (PDP-11/40 Processor Handbook,
+-- "Instruction set": the operation of each instruction; "Processor traps".)
+use Rattle.std.specs.Prelude.{◌≡◌, ◌≢◌, ℕ, ◌+◌, ◌%◌, Bool, true, false, if◌then◌else◌, List, [], ◌∷◌, ◌++◌, ⊤, None, Result, Ok, Err}
+use Rattle.m11_base.specs.Instructions.{instruction_of}
+use Rattle.m11_base.specs.declared.instruction.DoubleOp.{DoubleOp}
+use Rattle.m11_base.specs.declared.instruction.DoubleOp.TheVariants.{Mov, Cmp, Bit, Bic, Bis, Add, Sub}
+use Rattle.m11_base.specs.declared.instruction.Insn.{Insn}
+use Rattle.m11_base.specs.declared.instruction.Insn.TheVariants as insn
+use Rattle.m11_base.specs.declared.instruction.RegisterOp.TheVariants.{Jsr, Xor}
+use Rattle.m11_base.specs.declared.instruction.SingleOp.{SingleOp}
+use Rattle.m11_base.specs.declared.instruction.SingleOp.TheVariants.{Jmp, Swab, Clr, Com, Inc, Dec, Neg, Adc, Sbc, Tst, Ror, Rol, Asr, Asl, Sxt}
+use Rattle.m11_base.specs.declared.operand.Operand.{Operand}
+use Rattle.m11_base.specs.declared.operand.Register.TheVariants.{Sp}
+use Rattle.m11_base.specs.declared.operand.Size.{Size}
+use Rattle.m11_base.specs.declared.operand.Size.TheVariants.{Word, Byte}
+use Rattle.m11_cpu.specs.Acts.{Act, ◌>>=◌}
+use Rattle.m11_cpu.specs.Dialogue.{Comes, Exchange}
+use Rattle.m11_cpu.specs.Jumps.{target}
+use Rattle.m11_cpu.specs.Machine.{byte_in, memory_size, register_of, with_register}
+use Rattle.m11_cpu.specs.Places.{fetch_operand, next_word, place_of}
+use Rattle.m11_cpu.specs.Steps.{instruction}
+use Rattle.m11_cpu.specs.declared.abort.Abort.{Abort}
+use Rattle.m11_cpu.specs.declared.abort.Abort.TheVariants.{Traps, Stops}
+use Rattle.m11_cpu.specs.declared.execution.Ending.{Ending}
+use Rattle.m11_cpu.specs.declared.execution.Ending.TheVariants as ending
+use Rattle.m11_cpu.specs.declared.machine.Machine.{Machine}
+use Rattle.m11_cpu.specs.declared.operands.Place.{Place}
+use Rattle.m11_cpu.specs.declared.operands.Place.TheVariants.{InRegister, InMemory}
+use Rattle.m11_cpu_laws.specs.Exchanges.{ComesWithin}
+
+-- ---- what stays
+
+-- an address is none of these
+abbrev pub IsNoneOf : ℕ → List ℕ → Type 0
+IsNoneOf address [] = ⊤
+IsNoneOf address (other ∷ others) = (address ≢ other) × IsNoneOf address others
+
+-- the memory keeps its size, and each byte but those at these addresses
+pub record StaysBut (written : List ℕ) (old new : Machine) : Type 0 where
+  pub size : memory_size new ≡ memory_size old
+  pub bytes : (address : ℕ) → IsNoneOf address written → byte_in address new ≡ byte_in address old
+
+-- of the machine only registers and the console have changed
+pub record IsElseAsBefore (old new : Machine) : Type 0 where
+  pub memory : new.memory ≡ old.memory
+  pub status : new.status ≡ old.status
+  pub stopped : new.stopped ≡ old.stopped
+
+-- no stop stands
+abbrev pub MakesSteps : Machine → Type 0
+MakesSteps m = m.stopped ≡ None
+
+-- ---- addresses of bytes
+
+abbrev pub word_bytes : ℕ → List ℕ
+word_bytes address = address ∷ (address + 1) ∷ []
+
+-- a place in memory has two bytes, or one; a register has none
+abbrev pub place_bytes : Place → Size → List ℕ
+place_bytes (InRegister register) size = []
+place_bytes (InMemory address) Word = word_bytes address
+place_bytes (InMemory address) Byte = address ∷ []
+
+-- a push goes to the word below the stack pointer, modulo 200000, and leaves the stack pointer there
+abbrev pub push_address : Machine → ℕ
+push_address m = (register_of Sp m + 0o177776) % 0o200000
+
+abbrev pub stack_deepened : Machine → Machine
+stack_deepened m = with_register Sp (push_address m) m
+
+-- the word that JSR pushes, and the two that a trap pushes
+abbrev pub one_pushed : Machine → List ℕ
+one_pushed m = word_bytes (push_address m)
+
+abbrev pub two_pushed : Machine → List ℕ
+two_pushed m = one_pushed m ++ one_pushed (stack_deepened m)
+
+-- ---- the destination of an instruction
+
+-- CMP and BIT store nothing
+abbrev pub stores_double : DoubleOp → Bool
+stores_double Mov = true
+stores_double Cmp = false
+stores_double Bit = false
+stores_double Bic = true
+stores_double Bis = true
+stores_double Add = true
+stores_double Sub = true
+
+-- neither do JMP and TST
+abbrev pub stores_single : SingleOp → Bool
+stores_single Jmp = false
+stores_single Swab = true
+stores_single Clr = true
+stores_single Com = true
+stores_single Inc = true
+stores_single Dec = true
+stores_single Neg = true
+stores_single Adc = true
+stores_single Sbc = true
+stores_single Tst = false
+stores_single Ror = true
+stores_single Rol = true
+stores_single Asr = true
+stores_single Asl = true
+stores_single Sxt = true
+
+-- the bytes of an operand, whose address is formed now
+abbrev pub operand_bytes : Operand → Size → Act (List ℕ)
+operand_bytes operand size = place_of operand size >>= λ place m. Comes (Ok (place_bytes place size), m)
+
+abbrev pub no_bytes : Act (List ℕ)
+no_bytes m = Comes (Ok [], m)
+
+-- the bytes that an instruction may write: those of its destination, whose address is formed behind the fetch of a
+-- source; and for JSR the word that is pushed once its target is formed. All others write registers, the processor
+-- status and the console at most
+abbrev pub destination_bytes : Insn → Act (List ℕ)
+destination_bytes (insn.Double operation size source destination) =
+    if stores_double operation then (fetch_operand source size >>= λ value. operand_bytes destination size)
+    else no_bytes
+destination_bytes (insn.Extended operation register source) = no_bytes
+destination_bytes (insn.Register Jsr register operand) = target operand >>= λ address m. Comes (Ok (one_pushed m), m)
+destination_bytes (insn.Register Xor register operand) = operand_bytes operand Word
+destination_bytes (insn.Sob register words) = no_bytes
+destination_bytes (insn.Single operation size operand) =
+    if stores_single operation then operand_bytes operand size else no_bytes
+destination_bytes (insn.Rts register) = no_bytes
+destination_bytes (insn.Number operation number) = no_bytes
+destination_bytes (insn.Bare operation) = no_bytes
+destination_bytes (insn.Condition operation named) = no_bytes
+destination_bytes (insn.Branch operation words) = no_bytes
+destination_bytes (insn.Reserved word) = no_bytes
+
+-- those of the instruction at the program counter
+unfoldable pub written_bytes : Act (List ℕ)
+written_bytes = next_word >>= λ word. destination_bytes (instruction_of word)
+
+-- ---- a step
+
+-- an instruction that is aborted has written nothing
+abbrev pub written_by : {A : Type 0} → Result A Abort → Result (List ℕ) Abort → List ℕ
+written_by (Ok done) (Ok bytes) = bytes
+written_by (Ok done) (Err abort) = []
+written_by (Err abort) bytes = []
+
+-- the words of the trap that follows: an instruction that traps, and a trace trap where T is then set
+abbrev pub pushed_behind : Result Ending Abort → Machine → List ℕ
+pushed_behind (Ok ending.Next) m = if m.status.trace then two_pushed m else []
+pushed_behind (Ok ending.Untraced) m = []
+pushed_behind (Ok ending.Halts) m = []
+pushed_behind (Ok ending.Waits) m = []
+pushed_behind (Err (Traps vector)) m = two_pushed m
+pushed_behind (Err (Stops stop)) m = []
+
+-- before an abort only registers and the console have changed
+abbrev pub AbortLeaves : {A : Type 0} → Result A Abort → Machine → Machine → Type 0
+AbortLeaves (Ok done) m n = ⊤
+AbortLeaves (Err abort) m n = IsElseAsBefore m n
+
+-- a step writes at most the destination of its instruction, and then the words that its trap pushes. Where the
+-- destination is, and what the instruction came to, the console's replies of this very step decide
+pub record StepWrites (m : Machine) (exchanges : List Exchange) (m' : Machine) : Type 0 where
+  pub destination : Result (List ℕ) Abort × Machine
+  pub executed : Result Ending Abort × Machine
+  pub is_destination : ComesWithin (written_bytes m) exchanges destination
+  pub is_executed : ComesWithin (instruction m) exchanges executed
+  pub by_instruction : StaysBut (written_by executed.0 destination.0) m executed.1
+  pub by_abort : AbortLeaves executed.0 m executed.1
+  pub by_trap : StaysBut (pushed_behind executed.0 executed.1) executed.1 m'
+  pub by_step : StaysBut (written_by executed.0 destination.0 ++ pushed_behind executed.0 executed.1) m m'

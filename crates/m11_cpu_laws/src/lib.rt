@@ -1,0 +1,11 @@
+//! Laws of steps and runs: what the definitions of the machine come to, in words of their own. Each is the contract of
+//! a function that does nothing; no other crate names them.
+#![tactic(auto)]
+
+mod laws;
+mod returns;
+mod writes;
+
+pub use laws::{console_is_exact, runs_are_joined, stops_stand};
+pub use returns::{calls_return, traps_return};
+pub use writes::memory_stays;
