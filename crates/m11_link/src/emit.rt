@@ -7,7 +7,7 @@ ghost use Rattle.m11_modules.specs.Parts.{Part, EndOfFile, record_parts};
 ghost use Rattle.m11_layout.specs.Planning.{Planned};
 ghost use Rattle.m11_layout.specs.declared.fault.LinkFault.{LinkFault};
 ghost use Rattle.m11_link.specs.Emitting.{Ends, FailsAgain, Goes, KeepsFault, Stands, TakesBlock, TakesParts, begin_writes, begun_telling, bytes_writes, held_writes, with_bytes, with_held, with_telling};
-ghost use Rattle.m11_link.specs.Findings.{planned};
+ghost use Rattle.m11_link_text.specs.Findings.{planned};
 ghost use Rattle.m11_link.specs.Writes.{Output, Writes, optional_output, output_of, outputs, outputs_of, to_tape};
 
 use crate::held::Location;

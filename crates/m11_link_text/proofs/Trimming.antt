@@ -5,7 +5,7 @@ use Rattle.std.proofs.lemmas.Bool.Decides.{nat_tests}
 use Rattle.std.proofs.lemmas.List.{length-append}
 use Rattle.m11_base.specs.Blanks.{without_last_blanks}
 use Rattle.m11_base.proofs.LastBlanks.{blank_removed, kept, nothing_there}
-use Rattle.m11_link.specs.Lines.{line_of}
+use Rattle.m11_link_text.specs.Lines.{line_of}
 
 not_blank : (byte : ℕ) → (byte ≡ 32 → ⊥) → (byte == 32) ≡ false
 not_blank byte other = grind (arith, nat_tests)

@@ -8,7 +8,7 @@ use Rattle.m11_obj.specs.declared.relocations.Relocation.{Relocation}
 use Rattle.m11_obj.specs.declared.relocations.Target.{Target}
 use Rattle.m11_obj.specs.declared.relocations.Target.TheVariants as target
 use Rattle.m11_modules.specs.Rules.{lies_within}
-use Rattle.m11_link.specs.Findings.{Findings}
+use Rattle.m11_link_text.specs.Findings.{Findings}
 
 -- addresses and words are told modulo 200000
 abbrev pub modulo : ℕ → ℕ

@@ -2,7 +2,7 @@
 
 ghost use Rattle.std.specs.Prelude.{◌≡◌, ◌≤◌, ◌<◌, ◌+◌, ◌++◌, length};
 ghost use Rattle.arrayvec.specs.ArrayVec.{array_vec_len};
-ghost use Rattle.m11_link.specs.Lines as spec;
+ghost use Rattle.m11_link_text.specs.Lines as spec;
 
 use crate::lines::{Line, ended, put};
 use bitflags::Flags;

@@ -3,8 +3,8 @@
 ghost use Rattle.std.specs.Prelude.{◌≡◌, ◌≤◌, ◌<◌, ◌+◌, ◌-◌, ◌++◌, length, if◌then◌else◌};
 ghost use Rattle.m11_obj.specs.Frames.{word_bytes};
 ghost use Rattle.arrayvec.specs.ArrayVec.{array_vec_len};
-ghost use Rattle.m11_link.specs.Findings.{planned};
-ghost use Rattle.m11_link.specs.Storing as spec;
+ghost use Rattle.m11_link_text.specs.Findings.{planned};
+ghost use Rattle.m11_link_text.specs.Storing as spec;
 ghost use Rattle.m11_modules.specs.Rules.{width_of};
 
 use arrayvec::ArrayVec;

@@ -5,7 +5,7 @@ ghost use Rattle.std.specs.Prelude.{◌≡◌, ◌≤◌, ◌<◌, ◌+◌, ◌+
 ghost use Rattle.m11_base.specs.Blanks.{without_last_blanks};
 ghost use Rattle.m11_base.specs.Rad50.{name_text};
 ghost use Rattle.arrayvec.specs.ArrayVec.{array_vec_len};
-ghost use Rattle.m11_link.specs.Lines as spec;
+ghost use Rattle.m11_link_text.specs.Lines as spec;
 
 use arrayvec::ArrayVec;
 use m11_base::Name;
