@@ -18,6 +18,3 @@ pub use m11_link_text::{
     section_line, transfer_line, undefined_line,
 };
 pub use run::{link_run, objects_come_to_items};
-
-#[cfg(test)]
-mod tests;
