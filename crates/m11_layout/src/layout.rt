@@ -98,12 +98,28 @@ impl Layout {
         ensures again { (fault : LinkFault) → self.fault ≡ Some fault → result ≡ Err fault }
     {
         let mut layout = self;
-        match layout.fault {
+        match layout.finish() {
+            Ok(()) => {
+                // by a call: where it is let go in place, this function alone takes minutes to prove
+                drop(layout.rules);
+                plan_of(layout.alloc, layout.bottom, layout.tables)
+            }
+            Err(fault) => {
+                drop(layout);
+                Err(fault)
+            }
+        }
+    }
+
+    // Takes the end of the last object, or answers the fault that came before.
+    fn finish(&mut self) -> Result<(), LinkFault>
+        ensures takes { (bottom : ℕ) (before : List Part) → Stands bottom before self.old
+            → TakesParts bottom before self.new (EndOfFile ∷ []) result }
+        ensures again { (fault : LinkFault) → self.old.fault ≡ Some fault → result ≡ Err fault }
+    {
+        match self.fault {
             Some(fault) => Err(fault),
-            None => match layout.take_end() {
-                Ok(()) => plan_of(layout.alloc, layout.bottom, layout.tables),
-                Err(fault) => Err(fault),
-            },
+            None => self.take_end(),
         }
     }
 

@@ -16,6 +16,3 @@ pub use fault::{LinkFault, LinkOutput};
 pub use layout::Layout;
 pub use plan::Plan;
 pub use planned::{PlannedGlobal, PlannedSection};
-
-#[cfg(test)]
-mod tests;

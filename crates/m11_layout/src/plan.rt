@@ -55,7 +55,12 @@ pub(crate) fn plan_of(alloc: Global, bottom: u16, tables: Tables) -> Result<Plan
             bottom,
             top,
         }),
-        Err(fault) => Err(fault),
+        Err(fault) => {
+            // by calls, which are proved sooner
+            drop(bases);
+            drop(tables);
+            Err(fault)
+        }
     }
 }
 

@@ -12,9 +12,9 @@ use Rattle.m11_modules.specs.Places.{current_section, modules_in, this_module}
 use Rattle.m11_modules.specs.Rules.{lies_within}
 use Rattle.m11_layout.specs.Planning.{IsPlanOf, Planned}
 use Rattle.m11_layout.specs.Sections.{attributes_by}
-use Rattle.m11_link.specs.Findings.{Agree, Findings, findings_of, planned}
+use Rattle.m11_link_text.specs.Findings.{Agree, Findings, findings_of, planned}
 use Rattle.m11_link.specs.MapText.{front_writes, global_writes, map_writes, name_write, name_writes, section_writes, undefined_by, undefined_names, undefined_write, undefined_writes}
-use Rattle.m11_link.specs.Storing.{behind, less, modulo, relocated, replaced, stored_bytes, value_bytes, value_of}
+use Rattle.m11_link_text.specs.Storing.{behind, less, modulo, relocated, replaced, stored_bytes, value_bytes, value_of}
 use Rattle.m11_link.specs.Writes.{Write}
 use Rattle.m11_link.specs.Written.{PlacedText, defined_names, different_writes, ended_writes, entry_writes, has_ended, link_writes, parts_writes, placed_text, relocations_behind, text_writes, with_relocation, with_relocations, writes_at, writes_behind, writes_by}
 

@@ -2,9 +2,9 @@
 use Rattle.std.proofs.Common.{◌≡◌, ℕ, Bool, true, false, List, [], ◌∷◌, ◌++◌, map, refl, ◌∙◌, sym, ap}
 use Rattle.m11_layout.specs.declared.planned.PlannedGlobal.{PlannedGlobal}
 use Rattle.m11_layout.specs.declared.planned.PlannedSection.{PlannedSection}
-use Rattle.m11_link.specs.Findings.{Findings}
+use Rattle.m11_link_text.specs.Findings.{Findings}
 use Rattle.m11_link.specs.MapText.{front_writes, global_writes, last_writes, map_writes, name_writes, section_writes, undefined_names, undefined_writes, weak_writes}
-use Rattle.m11_link.specs.Lines as line
+use Rattle.m11_link_text.specs.Lines as line
 use Rattle.m11_link.specs.Writes.{Write, to_map}
 use Rattle.m11_link.specs.Written.{counted, is_message, one_more}
 

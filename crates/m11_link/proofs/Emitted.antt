@@ -17,7 +17,7 @@ use Rattle.m11_layout.specs.Planning.{Planned}
 use Rattle.m11_layout.specs.declared.fault.LinkFault.{LinkFault}
 use Rattle.m11_layout.specs.declared.fault.LinkFault.TheVariants as fault
 use Rattle.m11_link.specs.Emitting.{Emitting, Telling, Goes, GoesOn, Stands, TakesBlock, TakesParts, begin_writes, begun_telling, bytes_writes, entries_writes, held_text, held_with_all, held_writes, record_writes, with_bytes, with_count, with_held, with_record, with_telling, written}
-use Rattle.m11_link.specs.Findings.{planned}
+use Rattle.m11_link_text.specs.Findings.{planned}
 use Rattle.m11_link.specs.MapText.{front_writes}
 use Rattle.m11_link.specs.Writes.{Outputs, Write, Gains, Stops, StopsBetween, StopsIn, Writes}
 use Rattle.m11_link.specs.Written.{PlacedText, block_at, counted, defined_names, parts_writes, placed_text, text_writes}

@@ -16,7 +16,7 @@ use Rattle.m11_layout.specs.declared.fault.LinkFault.{LinkFault}
 use Rattle.m11_layout.specs.declared.fault.LinkFault.TheVariants as fault
 use Rattle.m11_link.specs.declared.emit.LinkDone.{LinkDone}
 use Rattle.m11_link.specs.Emitting.{Emitting, Telling, Ends, GoesOn, Stands, begin_writes, begun_telling, with_count, with_telling, written}
-use Rattle.m11_link.specs.Findings.{planned}
+use Rattle.m11_link_text.specs.Findings.{planned}
 use Rattle.m11_link.specs.MapText.{front_writes}
 use Rattle.m11_link.specs.Writes.{Outputs, Write, Gains, StopsBetween, StopsIn, Writes, to_tape}
 use Rattle.m11_link.specs.Written.{counted, link_writes, parts_writes}

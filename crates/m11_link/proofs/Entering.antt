@@ -16,8 +16,8 @@ use Rattle.m11_obj.specs.declared.gsd.GsdEntry.{GsdEntry}
 use Rattle.m11_obj.specs.declared.gsd.GsdKind.{GsdKind}
 use Rattle.m11_obj.specs.declared.gsd.GsdKind.TheVariants as kind
 use Rattle.m11_link.specs.Emitting.{Goes, Keeps, Telling, defined_by, defined_with, defined_with_all, entries_writes, held_writes, text_held, with_count, with_entries, with_entry, with_held, with_name, with_symbol}
-use Rattle.m11_link.specs.Findings.{planned}
-use Rattle.m11_link.specs.Lines.{different_line, multiple_line}
+use Rattle.m11_link_text.specs.Findings.{planned}
+use Rattle.m11_link_text.specs.Lines.{different_line, multiple_line}
 use Rattle.m11_link.specs.MapText.{front_writes}
 use Rattle.m11_link.specs.Writes.{Outputs, Write, Gains, Stops, to_messages, to_tape}
 use Rattle.m11_link.specs.Written.{PlacedText, block_at, counted, different_writes, entry_writes, placed_text, symbol_writes, writes_by}

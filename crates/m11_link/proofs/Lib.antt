@@ -1,4 +1,3 @@
-pub mod Trimming
 pub mod Writing
 pub mod Counting
 pub mod Looping

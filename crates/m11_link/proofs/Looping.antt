@@ -6,7 +6,7 @@ use Rattle.m11_modules.proofs.Indexing.{drop_at}
 use Rattle.m11_layout.specs.declared.fault.LinkFault.{LinkFault}
 use Rattle.m11_layout.specs.declared.planned.PlannedGlobal.{PlannedGlobal}
 use Rattle.m11_layout.specs.declared.planned.PlannedSection.{PlannedSection}
-use Rattle.m11_link.specs.Findings.{Findings}
+use Rattle.m11_link_text.specs.Findings.{Findings}
 use Rattle.std.specs.List.{cons_option, filter_map}
 use Rattle.m11_link.specs.MapText.{is_empty, written_if, undefined_by, undefined_names, section_write, section_writes, global_write, global_writes, name_write, name_writes, undefined_write, undefined_writes, weak_writes}
 use Rattle.m11_link.specs.Writes.{Outputs, Write, Gains, Stops, Writes, to_map}

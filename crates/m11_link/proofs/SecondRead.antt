@@ -24,7 +24,7 @@ use Rattle.m11_link.specs.FirstReading.{of_block}
 use Rattle.m11_link.specs.Objects.{◌>>=◌, AreItems, Item, BlockOf, ObjectEnds, Refused, GiveItems, GivesItems, parts_or_fault, taken, taken_item, taken_parts, unless_fault}
 use Rattle.m11_link.specs.Objects as objects
 use Rattle.m11_link.specs.declared.emit.LinkDone.{LinkDone}
-use Rattle.m11_link.specs.Findings.{planned}
+use Rattle.m11_link_text.specs.Findings.{planned}
 use Rattle.m11_link.specs.Written.{link_writes}
 use Rattle.m11_link.specs.SecondReading.{Emits, ReadsSecond, all_writes, Emitted, EmitsObject, IsOfItems, StopsAmong, items_parts, items_writes, parts_within}
 use Rattle.m11_link.specs.Writes.{Outputs, Write, Gains, StopsBetween, StopsIn, to_tape}

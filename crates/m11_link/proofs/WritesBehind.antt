@@ -16,7 +16,7 @@ use Rattle.m11_layout.proofs.Telling.{names_more, told_more}
 use Rattle.m11_layout.specs.Globals.{definition_by, definition_in, definitions_of, last_section, place_of}
 use Rattle.m11_layout.specs.declared.definition.Definition.{Definition}
 use Rattle.m11_link.specs.Emitting.{defined_by, defined_if, defined_with, defined_with_all, entries_writes, held_at, held_behind, held_text, held_with, held_with_all, held_writes}
-use Rattle.m11_link.specs.Findings.{Findings}
+use Rattle.m11_link_text.specs.Findings.{Findings}
 use Rattle.m11_link.specs.Writes.{Write}
 use Rattle.m11_link.specs.Written.{PlacedText, defined_names, ended_writes, entry_writes, parts_writes, placed_text, writes_at, writes_behind}
 

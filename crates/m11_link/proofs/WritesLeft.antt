@@ -5,7 +5,7 @@ use Rattle.m11_modules.specs.Parts.{Part, Directory, Entry, EndOfDirectory, Text
 use Rattle.m11_modules.specs.Places.{current_section, modules_in, this_module}
 use Rattle.m11_layout.specs.Planning.{Planned}
 use Rattle.m11_link.specs.Emitting.{written}
-use Rattle.m11_link.specs.Findings.{Findings, planned}
+use Rattle.m11_link_text.specs.Findings.{Findings, planned}
 use Rattle.m11_link.specs.MapText.{front_writes}
 use Rattle.m11_link.specs.Objects.{Item, BlockOf, ObjectEnds, Refused, taken, taken_item}
 use Rattle.m11_link.specs.SecondReading.{items_parts, parts_within}

@@ -20,7 +20,7 @@ use Rattle.m11_layout.specs.Reading.{FirstFault}
 use Rattle.m11_layout.specs.declared.fault.LinkFault.{LinkFault}
 use Rattle.m11_layout.specs.declared.fault.LinkFault.TheVariants as fault
 use Rattle.m11_link.specs.declared.emit.LinkDone.{LinkDone}
-use Rattle.m11_link.specs.Findings.{Findings, planned}
+use Rattle.m11_link_text.specs.Findings.{Findings, planned}
 use Rattle.m11_link.specs.MapText.{front_writes}
 use Rattle.m11_link.specs.Writes.{Write, Outputs, Gains, Stops, StopsBetween, StopsIn}
 use Rattle.m11_link.specs.Written.{PlacedText, placed_text, text_writes, with_relocation, symbol_writes, entry_writes, defined_names, parts_writes, link_writes, counted}

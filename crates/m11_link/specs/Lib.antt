@@ -1,10 +1,7 @@
 pub mod Emitting
-pub mod Findings
 pub mod FirstReading
-pub mod Lines
 pub mod MapText
 pub mod Objects
-pub mod Storing
 pub mod Writes
 pub mod Written
 pub mod SecondReading

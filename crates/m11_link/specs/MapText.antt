@@ -3,8 +3,8 @@ use Rattle.std.specs.Prelude.{ℕ, Bool, true, false, ◌&&◌, not, is_none, Li
 use Rattle.std.specs.List.{filter_map}
 use Rattle.m11_layout.specs.declared.planned.PlannedGlobal.{PlannedGlobal}
 use Rattle.m11_layout.specs.declared.planned.PlannedSection.{PlannedSection}
-use Rattle.m11_link.specs.Findings.{Findings}
-use Rattle.m11_link.specs.Lines as line
+use Rattle.m11_link_text.specs.Findings.{Findings}
+use Rattle.m11_link_text.specs.Lines as line
 use Rattle.m11_link.specs.Writes.{Write, to_map, to_messages}
 
 -- ---- undefined globals

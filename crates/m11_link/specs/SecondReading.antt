@@ -10,7 +10,7 @@ use Rattle.m11_layout.specs.declared.fault.LinkFault.{LinkFault}
 use Rattle.m11_layout.specs.declared.fault.LinkFault.TheVariants as fault
 use Rattle.m11_link.specs.declared.emit.LinkDone.{LinkDone}
 use Rattle.m11_link.specs.Emitting.{Emitting, Stands, written}
-use Rattle.m11_link.specs.Findings.{planned}
+use Rattle.m11_link_text.specs.Findings.{planned}
 use Rattle.m11_link.specs.FirstReading.{AreTaken, ReadsFirst}
 use Rattle.m11_link.specs.Objects.{Item, BlockOf, ObjectEnds, Refused, taken, GivesItems, BeginsItems, GiveItems, FailBehind}
 use Rattle.m11_link.specs.Writes.{Write, Outputs, Gains, StopsIn, StopsBetween}

@@ -18,10 +18,10 @@ use Rattle.m11_layout.specs.Globals.{definitions_of}
 use Rattle.m11_layout.specs.Sections.{attributes_by}
 use Rattle.m11_layout.specs.declared.fault.LinkOutput.{LinkOutput}
 use Rattle.m11_layout.specs.declared.fault.LinkOutput.TheVariants.{Tape, Map, Messages}
-use Rattle.m11_link.specs.Findings.{Findings}
-use Rattle.m11_link.specs.Lines.{different_line, multiple_line}
+use Rattle.m11_link_text.specs.Findings.{Findings}
+use Rattle.m11_link_text.specs.Lines.{different_line, multiple_line}
 use Rattle.m11_link.specs.MapText.{front_writes}
-use Rattle.m11_link.specs.Storing.{modulo, relocated}
+use Rattle.m11_link_text.specs.Storing.{modulo, relocated}
 use Rattle.m11_link.specs.Writes.{Write, to_messages, to_tape}
 
 -- ---- texts

@@ -7,7 +7,7 @@ ghost use Rattle.m11_modules.specs.Parts.{Part, EndOfFile, record_parts};
 ghost use Rattle.m11_layout.specs.Planning.{Planned};
 ghost use Rattle.m11_layout.specs.declared.fault.LinkFault.{LinkFault};
 ghost use Rattle.m11_link.specs.Emitting.{Ends, FailsAgain, Goes, KeepsFault, Stands, TakesBlock, TakesParts, begin_writes, begun_telling, bytes_writes, held_writes, with_bytes, with_held, with_telling};
-ghost use Rattle.m11_link.specs.Findings.{planned};
+ghost use Rattle.m11_link_text.specs.Findings.{planned};
 ghost use Rattle.m11_link.specs.Writes.{Output, Writes, optional_output, output_of, outputs, outputs_of, to_tape};
 
 use crate::held::Location;
@@ -125,7 +125,7 @@ impl Emit {
     /// Faults: the one that came before, and then nothing is written; `BadOrder` inside a module; `Write` and
     /// `NoMemory`.
     pub fn end<S: Sink, T: Sink, U: Sink>(
-        self,
+        mut self,
         tape: &mut S,
         map: &mut Option<T>,
         messages: &mut U,
@@ -138,12 +138,32 @@ impl Emit {
             × (outputs_of S.Sink T.Sink U.Sink tape.new map.new messages.new
             ≡ outputs_of S.Sink T.Sink U.Sink tape.old map.old messages.old) }
     {
-        let mut emit = self;
-        match emit.fault {
+        let done = self.finish(tape, map, messages);
+        // by a call: where it is let go in place, this function alone takes minutes to prove
+        drop(self);
+        done
+    }
+
+    // The end of the second reading, which is let go afterwards.
+    fn finish<S: Sink, T: Sink, U: Sink>(
+        &mut self,
+        tape: &mut S,
+        map: &mut Option<T>,
+        messages: &mut U,
+    ) -> Result<LinkDone, LinkFault>
+        ensures ends { (plan : Planned) (before : List Part) → Stands plan before self.old → Ends plan before
+            (outputs_of S.Sink T.Sink U.Sink tape.old map.old messages.old)
+            (outputs_of S.Sink T.Sink U.Sink tape.new map.new messages.new)
+            self.old result }
+        ensures again { (fault : LinkFault) → self.old.fault ≡ Some fault → (result ≡ Err fault)
+            × (outputs_of S.Sink T.Sink U.Sink tape.new map.new messages.new
+            ≡ outputs_of S.Sink T.Sink U.Sink tape.old map.old messages.old) }
+    {
+        match self.fault {
             Some(fault) => Err(fault),
             None => {
-                emit.rules.end_of_file()?;
-                emit.write_transfer(tape, map, messages)
+                self.rules.end_of_file()?;
+                self.write_transfer(tape, map, messages)
             }
         }
     }

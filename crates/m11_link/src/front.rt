@@ -1,16 +1,17 @@
 //! What goes out before the tape: the messages on undefined globals, and the map.
 
 ghost use Rattle.std.specs.Prelude.{◌≡◌, [], ◌∷◌, ◌++◌, true, false, not, codes, IfOk};
-ghost use Rattle.m11_link.specs.Findings.{planned};
+ghost use Rattle.m11_link_text.specs.Findings.{planned};
 ghost use Rattle.m11_link.specs.MapText.{front_writes, global_writes, is_empty, last_writes, map_writes, name_write, name_writes, section_writes, undefined_by, undefined_write, undefined_writes, weak_writes, written_if};
 ghost use Rattle.m11_link.specs.Writes.{Output, Writes, optional_output, output_of, outputs, to_map};
 ghost use Rattle.m11_link.specs.Written.{counted};
 
-use crate::lines::undefined_line;
-use crate::map_lines::{global_line, limit_line, name_line, section_line, transfer_line};
 use crate::outputs::{put_map, put_message};
 use m11_base::{Name, Sink};
 use m11_layout::{LinkFault, Plan};
+use m11_link_text::{
+    global_line, limit_line, name_line, section_line, transfer_line, undefined_line,
+};
 
 /// The messages on undefined globals, and then the map; answers how many messages there are, so many being there
 /// before.

@@ -1,15 +1,15 @@
 //! The text that is held until all of its relocations have come.
 
 ghost use Rattle.std.specs.Prelude.{◌≡◌, ◌≤◌, [], ◌∷◌, length};
-ghost use Rattle.m11_link.specs.Findings.{planned};
+ghost use Rattle.m11_link_text.specs.Findings.{planned};
 ghost use Rattle.m11_link.specs.Writes.{Output, Writes, output_of, outputs};
 ghost use Rattle.m11_link.specs.Written.{placed_text, text_writes, with_relocation};
 
 use crate::outputs::put_tape;
-use crate::storing::relocate;
 use arrayvec::ArrayVec;
 use m11_base::{Name, Sink};
 use m11_layout::{LinkFault, Plan};
+use m11_link_text::relocate;
 use m11_obj::{Relocation, tape_block};
 use std::alloc::Global;
 use std::marker::Model;

@@ -3,7 +3,7 @@
 ghost use Rattle.std.specs.Prelude.{◌≡◌, ℕ, List};
 ghost use Rattle.m11_modules.specs.Parts.{Part};
 ghost use Rattle.m11_layout.specs.Planning.{IsPlanOf, Planned};
-ghost use Rattle.m11_link.specs.Findings.{findings_of, planned};
+ghost use Rattle.m11_link_text.specs.Findings.{findings_of, planned};
 ghost use Rattle.m11_link.specs.Written.{link_writes};
 
 /// What a link writes by the plan of a first reading is what it writes by the definitions over all parts: where

@@ -70,7 +70,11 @@ fn read_first<F: Feed>(alloc: Global, feeds: &mut [F], bottom: u16) -> Result<Pl
     let mut layout = Layout::new(alloc, bottom);
     match lay_out(feeds, &mut layout) {
         Ok(()) => layout.end(),
-        Err(fault) => Err(fault),
+        Err(fault) => {
+            // by a call, which is proved sooner
+            drop(layout);
+            Err(fault)
+        }
     }
 }
 
@@ -123,7 +127,11 @@ fn read_second<F: Feed, S: Sink, T: Sink, U: Sink>(
     let mut emit = Emit::new(alloc, plan);
     match emit_all(feeds, &mut emit, tape, map, messages) {
         Ok(()) => emit.end(tape, map, messages),
-        Err(fault) => Err(fault),
+        Err(fault) => {
+            // by a call, which is proved sooner
+            drop(emit);
+            Err(fault)
+        }
     }
 }
 

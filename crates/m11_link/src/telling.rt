@@ -7,19 +7,19 @@ ghost use Rattle.m11_modules.specs.Names.{is_among};
 ghost use Rattle.m11_modules.specs.Rules.{defines};
 ghost use Rattle.m11_layout.specs.Sections.{attributes_by};
 ghost use Rattle.m11_link.specs.Emitting.{Goes, Keeps, bytes_writes, entries_writes, held_with, held_with_all, held_writes, with_bytes, with_count, with_entries, with_entry, with_held, with_name, with_symbol};
-ghost use Rattle.m11_link.specs.Findings.{planned};
+ghost use Rattle.m11_link_text.specs.Findings.{planned};
 ghost use Rattle.m11_link.specs.MapText.{front_writes};
 ghost use Rattle.m11_link.specs.Writes.{Output, Writes, optional_output, output_of, outputs, to_messages, to_tape};
 ghost use Rattle.m11_link.specs.Written.{different_writes, entry_writes, placed_text, symbol_writes};
 
 use crate::front::put_front;
 use crate::held::{HeldText, Location};
-use crate::lines::{Line, different_line, multiple_line};
 use crate::outputs::{put_message, put_tape};
 use bitflags::Flags;
 use indexmap::IndexSet;
 use m11_base::{Name, Sink};
 use m11_layout::{LinkFault, Plan, section_attributes};
+use m11_link_text::{Line, different_line, multiple_line};
 use m11_obj::{
     GsdEntry, GsdKind, Record, RecordKind, Relocation, SectionFlags, SymbolFlags, tape_transfer,
 };

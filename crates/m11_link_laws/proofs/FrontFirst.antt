@@ -5,8 +5,8 @@ use Rattle.std.proofs.lemmas.List.Elements.{filter-append}
 use Rattle.std.proofs.lemmas.List.Folds.{list_any-append}
 use Rattle.m11_blocks.specs.Tapes.{tape_block}
 use Rattle.m11_layout.proofs.Finding.{neither}
-use Rattle.m11_link.specs.Findings.{Findings}
-use Rattle.m11_link.specs.Lines.{limit_line, transfer_line}
+use Rattle.m11_link_text.specs.Findings.{Findings}
+use Rattle.m11_link_text.specs.Lines.{limit_line, transfer_line}
 use Rattle.m11_link.specs.MapText.{front_writes, global_write, global_writes, last_writes, map_writes, name_write, name_writes, section_write, section_writes, undefined_names, undefined_write, undefined_writes, weak_writes}
 use Rattle.m11_link.specs.Writes.{Write, to_map, to_tape}
 use Rattle.m11_link.specs.Written.{is_message, link_writes, parts_writes}

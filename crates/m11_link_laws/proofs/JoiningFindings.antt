@@ -13,7 +13,7 @@ use Rattle.m11_layout.specs.Sections.{attributes_in, contribution_base, ends_too
 use Rattle.m11_layout.specs.Transfers.{is_even, transfer_address, transfer_by, transfer_in, transfers_of}
 use Rattle.m11_layout.specs.declared.definition.GlobalPlace.{GlobalPlace}
 use Rattle.m11_layout.specs.declared.definition.GlobalPlace.TheVariants.{Absolute, In}
-use Rattle.m11_link.specs.Findings.{findings_of}
+use Rattle.m11_link_text.specs.Findings.{findings_of}
 use Rattle.m11_link.specs.Written.{defined_names}
 use Rattle.m11_link_laws.proofs.JoiningEnds.{end_left, entered_same, kept, module_same, modules_same, section_names_same, sections_same, told_same, without_append, without_ends}
 

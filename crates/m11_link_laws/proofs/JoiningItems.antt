@@ -20,7 +20,7 @@ use Rattle.m11_layout.specs.Sections.{is_too_large}
 use Rattle.m11_layout.specs.declared.fault.LinkFault.TheVariants as fault
 use Rattle.m11_layout.proofs.Walking.{head_none, rest_none}
 use Rattle.m11_link.specs.Objects.{◌>>=◌, BlockOf, Item, ObjectEnds, Refused, parts_by, parts_or_fault, taken, taken_item, taken_parts, outcome, unless_fault, unless_too_large}
-use Rattle.m11_link.specs.Findings.{findings_of}
+use Rattle.m11_link_text.specs.Findings.{findings_of}
 use Rattle.m11_link.specs.Written.{link_writes}
 use Rattle.m11_link.specs.SecondReading.{items_parts, parts_within}
 use Rattle.m11_link.proofs.ItemsTaken.{Answer, bind_ok, fault_behind, one_taken, taken_behind}

@@ -8,7 +8,7 @@ use Rattle.m11_modules.specs.declared.stage.Stage.TheVariants.{Between, InBody}
 use Rattle.m11_modules.specs.Parts.{Part, Entry, Text, Relocations, Relocated, EndOfFile}
 use Rattle.m11_modules.specs.Places.{stage_from}
 use Rattle.m11_modules.specs.Rules.{may_stand}
-use Rattle.m11_link.specs.Findings.{Findings, findings_of}
+use Rattle.m11_link_text.specs.Findings.{Findings, findings_of}
 use Rattle.m11_link.specs.MapText.{front_writes}
 use Rattle.m11_link.specs.Writes.{to_tape}
 use Rattle.m11_link.specs.Written.{entry_writes, has_ended, link_writes, parts_writes, placed_text, relocations_behind, text_writes, with_relocations, writes_at, writes_behind}

@@ -16,7 +16,7 @@ use Rattle.m11_layout.specs.declared.definition.GlobalPlace.TheVariants.{Absolut
 use Rattle.m11_layout.specs.declared.definition.Transfer.{Transfer}
 use Rattle.m11_layout.specs.declared.planned.PlannedGlobal.{PlannedGlobal}
 use Rattle.m11_layout.specs.declared.planned.PlannedSection.{PlannedSection}
-use Rattle.m11_link.specs.Findings.{findings_of}
+use Rattle.m11_link_text.specs.Findings.{findings_of}
 use Rattle.m11_link_laws.specs.Moving.{Moved, counting_transfer, definition_moves, farther, global_moved, global_moves, moved, moves, place_moves, section_moved, section_moves, transfer_moves}
 use Rattle.m11_link_laws.proofs.MovingNumbers.{base_moved, even_moved, sum_moved}
 

@@ -8,8 +8,8 @@ use Rattle.m11_obj.specs.declared.relocations.Target.{Target}
 use Rattle.m11_modules.specs.Parts.{Part, Directory, Entry, EndOfDirectory, Text, Relocations, Relocated, EndOfModule, EndOfFile}
 use Rattle.m11_modules.specs.Places.{current_section, modules_in, this_module}
 use Rattle.m11_layout.specs.Sections.{attributes_by}
-use Rattle.m11_link.specs.Findings.{Findings, findings_of}
-use Rattle.m11_link.specs.Storing.{stored_bytes, symbol, value_of}
+use Rattle.m11_link_text.specs.Findings.{Findings, findings_of}
+use Rattle.m11_link_text.specs.Storing.{stored_bytes, symbol, value_of}
 use Rattle.m11_link.specs.Written.{PlacedText, defined_names, different_writes, ended_writes, has_ended, parts_writes, placed_text, relocations_behind, text_writes, with_relocations, writes_at, writes_behind, writes_by}
 use Rattle.m11_link_laws.specs.Moving.{Moved, all_stay, bytes_moved, ended_moved, global_moves, is_displaced, moved, moved_behind, moves, number_moved, part_moved, relocations_moved, stores_limits, target_moves, text_moved, value_moved}
 use Rattle.m11_link_laws.proofs.MovingFindings.{findings_moved, symbol_is}

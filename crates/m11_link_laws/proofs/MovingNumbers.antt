@@ -1,6 +1,6 @@
 -- Sums and differences modulo 200000 and 400, behind which a distance is added.
 use Rattle.std.proofs.Common.{◌≡◌, ℕ, ◌+◌, ◌-◌, ◌%◌, Bool, true, false, refl, arith}
-use Rattle.m11_link.specs.Storing.{behind, less, modulo}
+use Rattle.m11_link_text.specs.Storing.{behind, less, modulo}
 use Rattle.m11_link_laws.specs.Moving.{farther, moved, number_moved}
 
 far_sum : (distance first second : ℕ)

@@ -11,8 +11,8 @@ use Rattle.m11_modules.specs.Places.{current_section, modules_in, this_module}
 use Rattle.m11_modules.specs.Rules.{lies_within}
 use Rattle.m11_layout.specs.declared.fault.LinkOutput.{LinkOutput}
 use Rattle.m11_layout.specs.declared.fault.LinkOutput.TheVariants.{Tape}
-use Rattle.m11_link.specs.Findings.{Findings, findings_of}
-use Rattle.m11_link.specs.Storing.{modulo, replaced, stored_bytes, value_bytes}
+use Rattle.m11_link_text.specs.Findings.{Findings, findings_of}
+use Rattle.m11_link_text.specs.Storing.{modulo, replaced, stored_bytes, value_bytes}
 use Rattle.m11_link.specs.Written.{PlacedText, block_at, has_ended, parts_writes, placed_text, relocations_behind, text_writes, with_relocation, with_relocations, writes_at, writes_behind}
 use Rattle.m11_link_laws.specs.Moving.{bytes_moved, moved_behind, moves, part_moved, relocation_moved, relocations_moved, shape_of, text_moved}
 use Rattle.m11_link_laws.proofs.MovingLaws.{parts_move}

@@ -6,8 +6,8 @@ use Rattle.m11_obj.specs.declared.relocations.Target.{Target}
 use Rattle.m11_obj.specs.declared.relocations.Target.TheVariants as target
 use Rattle.m11_modules.specs.Parts.{Part}
 use Rattle.m11_modules.specs.Rules.{lies_within}
-use Rattle.m11_link.specs.Findings.{Findings}
-use Rattle.m11_link.specs.Storing.{behind, less, modulo, replaced, stored_bytes, symbol, value_bytes, value_of}
+use Rattle.m11_link_text.specs.Findings.{Findings}
+use Rattle.m11_link_text.specs.Storing.{behind, less, modulo, replaced, stored_bytes, symbol, value_bytes, value_of}
 use Rattle.m11_link.specs.Written.{PlacedText, placed_text, with_relocation, with_relocations}
 use Rattle.m11_link_laws.specs.Moving.{all_stay, bytes_moved, global_moves, is_alike, is_displaced, moved, moves, number_moved, relocation_moved, relocations_moved, stores_limits, target_moves, target_stays, text_moved, value_moved}
 use Rattle.m11_link_laws.proofs.MovingNumbers.{displacement_moved, low_moved, plain_moved, sum_moved}

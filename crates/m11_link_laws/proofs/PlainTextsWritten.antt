@@ -22,9 +22,9 @@ use Rattle.m11_layout.specs.Sections.{attributes_by}
 use Rattle.m11_layout.specs.declared.fault.LinkOutput.TheVariants.{Tape}
 use Rattle.m11_layout.proofs.Finding.{neither}
 use Rattle.m11_layout.proofs.Walking.{head_none, rest_none}
-use Rattle.m11_link.specs.Findings.{Findings}
+use Rattle.m11_link_text.specs.Findings.{Findings}
 use Rattle.m11_link.specs.MapText.{front_writes, global_write, global_writes, last_writes, map_writes, name_write, name_writes, section_write, section_writes, undefined_names, undefined_write, undefined_writes, weak_writes}
-use Rattle.m11_link.specs.Storing.{modulo, relocated, replaced, stored_bytes}
+use Rattle.m11_link_text.specs.Storing.{modulo, relocated, replaced, stored_bytes}
 use Rattle.m11_link.specs.Writes.{Write, gained, gained_by, to_tape}
 use Rattle.m11_link.specs.Written.{PlacedText, block_at, defined_names, different_writes, ended_writes, entry_writes, has_ended, link_writes, parts_writes, placed_text, relocations_behind, text_writes, with_relocation, with_relocations, writes_at, writes_behind, writes_by}
 use Rattle.m11_link_laws.specs.PlainTexts.{block_of, data_block, only_selects, stores, text_in, texts_of}

@@ -4,7 +4,7 @@ use Rattle.std.specs.Prelude.{◌≡◌, ℕ, List, [], Result, Ok, Err}
 use Rattle.m11_blocks.specs.Limited.{most_bytes}
 use Rattle.m11_modules.specs.Parts.{Part}
 use Rattle.m11_layout.specs.declared.fault.LinkFault.{LinkFault}
-use Rattle.m11_link.specs.Findings.{findings_of}
+use Rattle.m11_link_text.specs.Findings.{findings_of}
 use Rattle.m11_link.specs.Objects.{Item, ObjectItems, taken}
 use Rattle.m11_link.specs.Written.{link_writes}
 

@@ -24,8 +24,8 @@ use Rattle.m11_layout.specs.declared.definition.Transfer.{Transfer}
 use Rattle.m11_layout.specs.declared.fault.LinkOutput.{LinkOutput}
 use Rattle.m11_layout.specs.declared.planned.PlannedGlobal.{PlannedGlobal}
 use Rattle.m11_layout.specs.declared.planned.PlannedSection.{PlannedSection}
-use Rattle.m11_link.specs.Findings.{Findings}
-use Rattle.m11_link.specs.Storing.{modulo, replaced, value_bytes, value_of}
+use Rattle.m11_link_text.specs.Findings.{Findings}
+use Rattle.m11_link_text.specs.Storing.{modulo, replaced, value_bytes, value_of}
 use Rattle.m11_link.specs.Writes.{Write}
 use Rattle.m11_link.specs.Written.{PlacedText, has_ended, placed_text, relocations_behind, text_writes, writes_at}
 

@@ -3,7 +3,7 @@ use Rattle.std.specs.Prelude.{◌≡◌, ℕ, Bool, true, false, List, ◌++◌,
 use Rattle.std.specs.List.{filter, list_any}
 use Rattle.m11_layout.specs.declared.fault.LinkOutput.{LinkOutput}
 use Rattle.m11_layout.specs.declared.fault.LinkOutput.TheVariants.{Tape}
-use Rattle.m11_link.specs.Findings.{Findings}
+use Rattle.m11_link_text.specs.Findings.{Findings}
 use Rattle.m11_link.specs.MapText.{undefined_writes}
 use Rattle.m11_link.specs.Writes.{Write}
 use Rattle.m11_link.specs.Written.{is_message}

@@ -7,8 +7,8 @@ use Rattle.m11_obj.specs.declared.relocations.Target.TheVariants as target
 use Rattle.m11_modules.specs.Parts.{Part, Text, Relocated}
 use Rattle.m11_modules.specs.Places.{current_section, modules_in, this_module}
 use Rattle.m11_layout.specs.Modules.{told_behind}
-use Rattle.m11_link.specs.Findings.{Findings}
-use Rattle.m11_link.specs.Storing.{modulo}
+use Rattle.m11_link_text.specs.Findings.{Findings}
+use Rattle.m11_link_text.specs.Storing.{modulo}
 
 -- a relocation that only selects where texts go
 abbrev pub only_selects : Target → Bool

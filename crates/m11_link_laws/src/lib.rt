@@ -23,6 +23,3 @@ pub use places::{
 };
 pub use tables::tables_grow_with_names_alone;
 pub use texts::unrelocated_texts_are_the_tape;
-
-#[cfg(test)]
-mod tests;

@@ -8,9 +8,9 @@ ghost use Rattle.m11_obj.specs.declared.relocations.Target.{Target};
 ghost use Rattle.m11_modules.specs.Parts.{Part};
 ghost use Rattle.m11_layout.specs.Sections.{is_too_large, module_base, section_base};
 ghost use Rattle.m11_layout.specs.Transfers.{transfer_address, transfer_value};
-ghost use Rattle.m11_link.specs.Findings.{findings_of};
+ghost use Rattle.m11_link_text.specs.Findings.{findings_of};
 ghost use Rattle.m11_link.specs.MapText.{undefined_writes};
-ghost use Rattle.m11_link.specs.Storing.{stored_bytes, value_of};
+ghost use Rattle.m11_link_text.specs.Storing.{stored_bytes, value_of};
 ghost use Rattle.m11_link.specs.Written.{link_writes, parts_writes, placed_text, with_relocations};
 ghost use Rattle.m11_link_laws.specs.Moving.{Moved, all_stay, byte_stays, bytes_moved, counting_transfer, farther, findings_moved, is_displaced, moved, moved_behind, moves, number_moved, relocations_moved, section_moves, shape_of, stores_limits, target_moves, text_moved, value_moved};
 

@@ -2,7 +2,7 @@
 
 ghost use Rattle.std.specs.Prelude.{◌≡◌, ◌<◌, true, List, ◌∷◌, ◌++◌};
 ghost use Rattle.m11_modules.specs.Parts.{Part};
-ghost use Rattle.m11_link.specs.Findings.{Findings};
+ghost use Rattle.m11_link_text.specs.Findings.{Findings};
 ghost use Rattle.m11_link.specs.MapText.{front_writes};
 ghost use Rattle.m11_link.specs.Writes.{Write};
 ghost use Rattle.m11_link.specs.Written.{link_writes, parts_writes};

@@ -6,7 +6,7 @@ ghost use Rattle.m11_blocks.specs.Tapes.{tape_block};
 ghost use Rattle.m11_modules.specs.Parts.{Part, EndOfFile};
 ghost use Rattle.m11_modules.specs.Rules.{fault_of, first_fault};
 ghost use Rattle.m11_layout.specs.declared.fault.LinkOutput.TheVariants.{Tape};
-ghost use Rattle.m11_link.specs.Findings.{Findings};
+ghost use Rattle.m11_link_text.specs.Findings.{Findings};
 ghost use Rattle.m11_link.specs.Writes.{gained};
 ghost use Rattle.m11_link.specs.Written.{link_writes};
 ghost use Rattle.m11_link_laws.specs.PlainTexts.{block_of, stores, texts_of};

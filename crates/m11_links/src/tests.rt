@@ -11,9 +11,13 @@ mod chain;
 mod failing;
 mod faults;
 mod globals;
+mod judged;
 mod limits;
+mod planned;
+mod records;
 mod relocations;
 mod sections;
+mod stored;
 mod streaming;
 mod truncated;
 

@@ -14,6 +14,3 @@ pub use fault::ModuleFault;
 pub use laws::{files_are_in_order, ordered_records_are_files};
 pub use names::absolute_section;
 pub use rules::Rules;
-
-#[cfg(test)]
-mod tests;

@@ -1,5 +1,5 @@
 use Rattle.std.proofs.Common.{arith, sym}
-use Rattle.m11_link.specs.Findings.{planned}
+use Rattle.m11_link_text.specs.Findings.{planned}
 use Rattle.m11_link.proofs.Looping.{weak_found, weak_passed, weak_ended}
 use Rattle.m11_link.proofs.front.has_weak_name.Goals as goal
 

@@ -1,5 +1,5 @@
 use Rattle.std.proofs.Common.{drop}
-use Rattle.m11_link.specs.Findings.{planned}
+use Rattle.m11_link_text.specs.Findings.{planned}
 use Rattle.m11_link.specs.MapText.{name_writes}
 use Rattle.m11_link.specs.Writes.{Output, optional_output, outputs}
 use Rattle.m11_link.proofs.Looping.{Leads}

@@ -1,5 +1,5 @@
 use Rattle.std.proofs.Common.{arith}
-use Rattle.m11_link.specs.Findings.{planned}
+use Rattle.m11_link_text.specs.Findings.{planned}
 use Rattle.m11_link.proofs.Looping.{section_left, sections_end, stopped_there, wrote_all, wrote_one}
 use Rattle.m11_link.proofs.front.put_each_section.Goals as goal
 

@@ -1,5 +1,5 @@
 use Rattle.std.proofs.Common.{arith}
-use Rattle.m11_link.specs.Findings.{planned}
+use Rattle.m11_link_text.specs.Findings.{planned}
 use Rattle.m11_link.proofs.Looping.{count_left, count_end, message_left, messages_end, stopped_there, wrote_all, wrote_one}
 use Rattle.m11_link.proofs.front.put_undefined.Goals as goal
 

@@ -1,5 +1,5 @@
 use Rattle.std.proofs.Common.{◌≡◌, ℕ, drop}
-use Rattle.m11_link.specs.Findings.{planned}
+use Rattle.m11_link_text.specs.Findings.{planned}
 use Rattle.m11_link.specs.MapText.{undefined_writes}
 use Rattle.m11_link.specs.Writes.{Output, output_of, outputs}
 use Rattle.m11_link.specs.Written.{counted}

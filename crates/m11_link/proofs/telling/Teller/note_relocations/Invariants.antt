@@ -1,7 +1,7 @@
 use Rattle.std.proofs.Common.{◌≡◌}
 use Rattle.m11_obj.specs.Reading.{record_relocations}
 use Rattle.m11_link.specs.Emitting.{held_with_all, with_held}
-use Rattle.m11_link.specs.Findings.{planned}
+use Rattle.m11_link_text.specs.Findings.{planned}
 use Rattle.m11_link.proofs.telling.Teller.note_relocations.Given as goal
 
 abbrev pub invariant-relocations : goal.invariant-relocations

@@ -1,4 +1,0 @@
-use Rattle.m11_link.proofs.lines.undefined_line.Goals as goal
-
-pub returns : goal.returns
-returns c = rw (c.ended.ensures, c.put-2.ensures, c.put.ensures, c.characters.ensures, c.new-line.ensures)

@@ -1,4 +1,0 @@
-use Rattle.m11_link.proofs.map_lines.transfer_line.Goals as goal
-
-pub returns : goal.returns
-returns c = rw (c.ended.ensures, c.put-2.ensures, c.put.ensures, c.octal6.ensures.text, c.new-line.ensures)

@@ -1,0 +1,4 @@
+use Rattle.m11_link_text.proofs.lines.undefined_line.Goals as goal
+
+pub returns : goal.returns
+returns c = rw (c.ended.ensures, c.put-2.ensures, c.put.ensures, c.characters.ensures, c.new-line.ensures)

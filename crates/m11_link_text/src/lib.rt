@@ -1,0 +1,12 @@
+//! What a link writes, as texts: the lines of its messages and of its map, and texts with what relocations store in
+//! them. No output and no order between outputs. (RT-11 Volume and File Formats Manual, "Object file format", RLD
+//! block; the lines are this project's own.)
+#![tactic(auto)]
+
+mod lines;
+mod map_lines;
+mod storing;
+
+pub use lines::{Line, different_line, multiple_line, undefined_line};
+pub use map_lines::{global_line, limit_line, name_line, section_line, transfer_line};
+pub use storing::relocate;
