@@ -6,7 +6,7 @@ use m11_base::Register::{Pc, Sp};
 use m11_cpu::Stop::{Halt, InputFault, Limit, OutputFault};
 use std::test::Fail;
 
-const PROGRAMS: [Row<'static>; 19] = [
+static PROGRAMS: [Row<'static>; 19] = [
     Row {
         name: "MOV CLR and SXT do not read their destination",
         program: Program {

@@ -13,7 +13,7 @@ const OPERANDS: [u16; 4] = [0o000111, 0o000222, 0o000333, 0o000444];
 
 // Two instructions, by the second one's text, with the word at an address that they leave, where the addresses stand
 // from 2776 on and the operands from 4000 on.
-const STORES: [(&str, &[u16], u16, u16); 39] = [
+static STORES: [(&str, &[u16], u16, u16); 39] = [
     (
         "MOV #55,(R1)",
         &[0o012701, 0o003000, 0o012711, 0o000055],
@@ -271,14 +271,15 @@ fn check_store(
 
 #[test]
 fn each_mode_finds_the_word_or_the_byte_that_is_changed(rt: HostRuntime) -> Result<(), Fail> {
-    for (name, words, address, value) in STORES {
+    for row in &STORES {
+        let (name, words, address, value) = *row;
         check_store(&rt, name, words, At(address, value))?;
     }
     Ok(())
 }
 
 // An instruction, by its text, with the vector that it traps through, its words, and the program counter that is pushed.
-const TRAPS: [(&str, u16, &[u16], u16); 19] = [
+static TRAPS: [(&str, u16, &[u16], u16); 19] = [
     ("BPT", 0o14, &[0o000003], 0o001010),
     ("IOT", 0o20, &[0o000004], 0o001010),
     ("EMT 0", 0o30, &[0o104000], 0o001010),
@@ -328,13 +329,14 @@ fn check_trap(
 
 #[test]
 fn each_trap_pushes_the_psw_and_the_program_counter(rt: HostRuntime) -> Result<(), Fail> {
-    for (name, vector, words, pushed) in TRAPS {
+    for row in &TRAPS {
+        let (name, vector, words, pushed) = *row;
         check_trap(&rt, name, vector, words, pushed)?;
     }
     Ok(())
 }
 
-const PROGRAMS: [Row<'static>; 23] = [
+static PROGRAMS: [Row<'static>; 23] = [
     Row {
         name: "A byte is moved by the word of its own instruction",
         program: Program {

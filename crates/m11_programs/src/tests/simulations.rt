@@ -73,7 +73,7 @@ fn check(
 
 // A program that polls the console, by how many bytes it moves, so many reads and writes that pass, its stop, what it
 // sends, and what is told. The registers stand in two rows.
-const POLLING: [(u8, u64, u64, Stop, &[u8], &[u8]); 10] = [
+static POLLING: [(u8, u64, u64, Stop, &[u8], &[u8]); 10] = [
     (
         1,
         0,
@@ -150,7 +150,8 @@ const POLLING: [(u8, u64, u64, Stop, &[u8], &[u8]); 10] = [
 fn a_console_that_fails_stops_a_run_at_its_own_step(rt: HostRuntime) -> Result<(), Fail> {
     let one = tape_of(&rt, &POLLS, 0o1000)?;
     let three = tape_of(&rt, &POLLS_THREE, 0o1000)?;
-    for (moves, reads, writes, stop, sent, told) in POLLING {
+    for row in &POLLING {
+        let (moves, reads, writes, stop, sent, told) = *row;
         let tape = if moves == 1 { &one } else { &three };
         let passes = Passes {
             reads,
@@ -174,7 +175,7 @@ fn a_console_that_fails_stops_a_run_at_its_own_step(rt: HostRuntime) -> Result<(
 }
 
 // Tapes that can't be loaded, and why.
-const REFUSED: [(&str, &[u8], LoadFault); 9] = [
+static REFUSED: [(&str, &[u8], LoadFault); 9] = [
     (
         "no transfer block",
         &[],
@@ -237,7 +238,8 @@ fn a_run_that_ends_in_a_fault_leaves_the_console_alone(rt: HostRuntime) -> Resul
         writes: 0,
         tells: 1,
     };
-    for (name, tape, fault) in REFUSED {
+    for row in &REFUSED {
+        let (name, tape, fault) = *row;
         let outcome = Err(SimFault::Load(fault));
         check(
             &rt,

@@ -21,7 +21,7 @@ enum Call {
 // Calls on the machine of a program, each with what it leaves.
 type Calls<'a> = &'a [(Call, &'a [Fact])];
 
-const PROGRAMS: [(&str, &[Part<'static>], Calls<'static>); 3] = [
+static PROGRAMS: [(&str, &[Part<'static>], Calls<'static>); 3] = [
     (
         "A step after HALT and WAIT goes on after them",
         &[(0o1000, &[0o000000, 0o000001, 0o005200, 0o000000])],
@@ -89,7 +89,8 @@ fn check_calls(
 
 #[test]
 fn a_machine_that_has_stopped_may_be_stepped(rt: HostRuntime) -> Result<(), Fail> {
-    for (name, parts, calls) in PROGRAMS {
+    for row in &PROGRAMS {
+        let (name, parts, calls) = *row;
         check_calls(&rt, name, parts, calls)?;
     }
     Ok(())
