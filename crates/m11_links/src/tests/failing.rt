@@ -173,7 +173,7 @@ const WITH_MESSAGES: Links<'static> = (
 );
 
 // A link, the device that fails in it, and how many bytes an output takes a call at most.
-const FAILING: [(Links<'static>, Device, usize); 10] = [
+static FAILING: [(Links<'static>, Device, usize); 10] = [
     (BY_A_GLOBAL, Device::Feed(0), 512),
     (BY_A_GLOBAL, Device::Feed(1), 512),
     (BY_A_GLOBAL, Device::Feed(2), 512),
@@ -249,7 +249,8 @@ fn fails_in_turn(
 
 #[test]
 fn each_read_and_each_write_may_fail(rt: HostRuntime) -> Result<(), Fail> {
-    for ((objects, wanted), device, most) in FAILING {
+    for row in &FAILING {
+        let ((objects, wanted), device, most) = *row;
         let first = file_of(rt.alloc(), objects[0])?;
         let second = file_of(rt.alloc(), objects[1])?;
         let files = [first.as_slice(), second.as_slice()];
