@@ -142,7 +142,7 @@ pub(crate) fn machine_of(
 }
 
 // The word at an address, where memory has both its bytes.
-fn word_at(machine: &Machine, address: u16) -> Option<u16> {
+pub(crate) fn word_at(machine: &Machine, address: u16) -> Option<u16> {
     let behind = address.checked_add(1)?;
     if !machine.has_byte(address) || !machine.has_byte(behind) {
         return None;
