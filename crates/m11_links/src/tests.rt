@@ -7,19 +7,15 @@ use std::alloc::{AllocError, Global};
 use std::process::Abort;
 use std::test::Fail;
 
-mod chain;
+mod bottoms;
 mod failing;
-mod faults;
-mod globals;
 mod judged;
+mod lengths;
 mod limits;
 mod planned;
 mod records;
-mod relocations;
-mod sections;
 mod stored;
 mod streaming;
-mod truncated;
 
 // The content of a block, in pieces that stand one behind another.
 pub(crate) type Content<'a> = &'a [&'a [u8]];
@@ -35,8 +31,6 @@ pub(crate) const END_OF_GSD: &[u8] = &[0x02, 0x00];
 pub(crate) const TEXT: &[u8] = &[0x03, 0x00];
 
 pub(crate) const RELOCATIONS: &[u8] = &[0x04, 0x00];
-
-pub(crate) const INTERNAL_SYMBOLS: &[u8] = &[0x05, 0x00];
 
 pub(crate) const END_OF_MODULE: &[u8] = &[0x06, 0x00];
 
@@ -56,9 +50,6 @@ pub(crate) const ONE_WORD: [u8; 79] = [
     0x0E, 0x00, 0x04, 0x00, 0x07, 0x00, 0x00, 0x00, 0x00, 0x00, 0x00, 0x00, 0xE6, 0x01, 0x00, 0x0A,
     0x00, 0x03, 0x00, 0x00, 0x00, 0x01, 0x00, 0xF1, 0x01, 0x00, 0x06, 0x00, 0x06, 0x00, 0xF3,
 ];
-
-// The tape block of a word 1 at 001000.
-pub(crate) const ONE_AT_1000: &[u8] = &[0x01, 0x00, 0x08, 0x00, 0x00, 0x02, 0x01, 0x00, 0xF4];
 
 // What a link that ends well leaves: the blocks of its tape, and its map and messages in lines without their ends.
 #[derive(Clone, Copy)]
@@ -377,9 +368,10 @@ pub(crate) fn links(
     links_files(rt, files.as_slice(), bottom, wanted)
 }
 
-// The link of a file ends with this, and where that is a fault nothing was written.
+// The link of a file, which has a name for the reader, ends with this, and where that is a fault nothing was written.
 pub(crate) fn ends_file(
     rt: &(impl Abort + AllocGlobal),
+    name: &str,
     file: &[u8],
     bottom: u16,
     outcome: Result<LinkDone, LinkFault>,
@@ -388,8 +380,11 @@ pub(crate) fn ends_file(
     let mut second = [MemoryFeed::new(file)];
     let linked = linked_feeds(rt.alloc(), &mut first, &mut second, bottom);
     linked.had_memory()?;
-    assert_eq!(rt; linked.outcome, outcome);
-    assert!(rt; outcome.is_ok() || linked.is_empty(), "what was written");
+    assert_eq!(rt; linked.outcome, outcome, "{name}");
+    assert!(rt;
+        outcome.is_ok() || linked.is_empty(),
+        "{name}: what was written"
+    );
     Ok(())
 }
 
@@ -401,5 +396,5 @@ pub(crate) fn refuses(
     fault: LinkFault,
 ) -> Result<(), Fail> {
     let file = file_of(rt.alloc(), object)?;
-    ends_file(rt, file.as_slice(), bottom, Err(fault))
+    ends_file(rt, "an object", file.as_slice(), bottom, Err(fault))
 }

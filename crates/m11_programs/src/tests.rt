@@ -3,22 +3,19 @@
 use m11_base::{
     DeviceFault, Feed, FuseFeed, FuseSink, MemoryFeed, MemorySink, Register, WriterSink,
 };
+use m11_blocks::{tape_block, tape_transfer};
 use m11_cpu::{Machine, Stop, Turn};
-use m11_obj::{tape_block, tape_transfer};
 use std::alloc::{AllocError, Global};
 use std::process::Abort;
 use std::test::Fail;
 
-mod addressing;
 mod arithmetic;
 mod console;
-mod failed_accesses;
-mod instructions;
+mod loading;
 mod memory;
 mod messages;
-mod programs;
 mod simulations;
-mod traps;
+mod steps;
 
 // Words that stand in memory one behind another, from an address on.
 pub(crate) type Part<'a> = (u16, &'a [u16]);
@@ -62,19 +59,26 @@ pub(crate) struct Program<'a> {
     pub(crate) writes: u64,
 }
 
-impl<'a> Program<'a> {
-    // A program that starts at 1000 in the whole memory, with a console that has no input and never fails.
-    pub(crate) fn of(parts: &'a [Part<'a>]) -> Program<'a> {
-        Program {
-            parts,
-            start: 0o1000,
-            words: 28_672,
-            limit: 1_000,
-            input: b"",
-            reads: u64::MAX,
-            writes: u64::MAX,
-        }
-    }
+// What a program is, where nothing else is said: it starts at 1000 in the whole memory, with a console that has no input
+// and never fails.
+pub(crate) const SOUND: Program<'static> = Program {
+    parts: &[],
+    start: 0o1000,
+    words: 28_672,
+    limit: 1_000,
+    input: b"",
+    reads: u64::MAX,
+    writes: u64::MAX,
+};
+
+// A program by its name, how it stops after so many steps, and what it leaves.
+#[derive(Clone, Copy)]
+pub(crate) struct Row<'a> {
+    pub(crate) name: &'a str,
+    pub(crate) program: Program<'a>,
+    pub(crate) stop: Stop,
+    pub(crate) steps: u32,
+    pub(crate) facts: &'a [Fact],
 }
 
 // A feed that counts the bytes that it gave.
@@ -141,7 +145,7 @@ pub(crate) fn machine_of(
 }
 
 // The word at an address, where memory has both its bytes.
-fn word_at(machine: &Machine, address: u16) -> Option<u16> {
+pub(crate) fn word_at(machine: &Machine, address: u16) -> Option<u16> {
     let behind = address.checked_add(1)?;
     if !machine.has_byte(address) || !machine.has_byte(behind) {
         return None;
@@ -151,13 +155,13 @@ fn word_at(machine: &Machine, address: u16) -> Option<u16> {
 
 // A machine that has run, with what its console took and sent.
 #[derive(Drop)]
-struct Behind<'a> {
+struct After<'a> {
     machine: &'a Machine,
     asked: usize,
     sent: &'a [u8],
 }
 
-impl Behind<'_> {
+impl After<'_> {
     fn has(&self, fact: Fact) -> bool {
         match fact {
             Fact::In(register, value) => self.machine.register(register) == value,
@@ -182,14 +186,9 @@ fn steps_of(rt: &(impl Abort + AllocGlobal), program: Program<'_>) -> Result<u32
     Ok(program.limit)
 }
 
-// Runs a program from its tape on: it stops so after so many steps, and then each of the facts holds.
-pub(crate) fn check(
-    rt: &(impl Abort + AllocGlobal),
-    program: Program<'_>,
-    stop: Stop,
-    steps: u32,
-    facts: &[Fact],
-) -> Result<(), Fail> {
+// Runs the program of a row from its tape on, to what the row says.
+pub(crate) fn check(rt: &(impl Abort + AllocGlobal), row: &Row<'_>) -> Result<(), Fail> {
+    let (name, program) = (row.name, row.program);
     let mut machine = machine_of(rt, program)?;
     let mut input = CountedFeed {
         feed: FuseFeed::new(MemoryFeed::new(program.input), program.reads),
@@ -198,15 +197,23 @@ pub(crate) fn check(
     let mut sent = Vec::new(rt.alloc());
     let mut output = FuseSink::new(WriterSink::new(&mut sent), program.writes, 1);
     let ran = machine.run(program.limit, &mut input, &mut output);
-    assert_eq!(rt; ran, stop);
-    assert_eq!(rt; steps_of(rt, program)?, steps);
-    let behind = Behind {
+    assert_eq!(rt; ran, row.stop, "{name}");
+    assert_eq!(rt; steps_of(rt, program)?, row.steps, "{name}");
+    let after = After {
         machine: &machine,
         asked: input.given,
         sent: sent.as_slice(),
     };
-    for fact in facts {
-        assert!(rt; behind.has(*fact), "{fact:?}");
+    for fact in row.facts {
+        assert!(rt; after.has(*fact), "{name}: {fact:?}");
+    }
+    Ok(())
+}
+
+// Each row of a table is as it says.
+pub(crate) fn check_all(rt: &(impl Abort + AllocGlobal), rows: &[Row<'_>]) -> Result<(), Fail> {
+    for row in rows {
+        check(rt, row)?;
     }
     Ok(())
 }

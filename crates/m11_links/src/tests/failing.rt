@@ -1,7 +1,9 @@
 //! Links in which each feed and each output fails in turn, and outputs that take a byte a call.
 
-use super::globals::{DEFINES_X_AGAIN, DEFINES_X_AND_REFERS_TO_Q};
-use super::{DEFINES_F, Linked, ONE_WORD, Object, READS_F, READS_F_LINKED, file_of};
+use super::{
+    DEFINES_F, DIRECTORY, END_OF_GSD, END_OF_MODULE, IN_BLANK_SECTION, Linked, NO_START, ONE_WORD,
+    Object, READS_F, READS_F_LINKED, RELOCATIONS, TEXT, Wanted, file_of,
+};
 use m11_base::{FuseFeed, FuseSink, MemoryFeed, WriterSink};
 use m11_link::{LinkFault, LinkOutput, link_run};
 use std::alloc::Global;
@@ -9,7 +11,7 @@ use std::process::Abort;
 use std::test::Fail;
 
 // A feed of one of the readings, or an output.
-#[derive(Clone, Copy, PartialEq, Eq)]
+#[derive(Clone, Copy, Debug, PartialEq, Eq)]
 enum Device {
     // Of the first reading and then the second one, two each.
     Feed(usize),
@@ -26,7 +28,7 @@ impl Device {
     }
 }
 
-// A device that fails behind so many calls, while all others pass.
+// A device that fails after so many calls, while all others pass.
 #[derive(Clone, Copy)]
 struct Broken {
     device: Device,
@@ -97,102 +99,165 @@ fn is_whole(linked: &Linked, whole: &Linked) -> bool {
     begins(linked, whole) && begins(whole, linked)
 }
 
-// A device fails behind more and more calls, until a link ends without a failure: before that, each ends with the
+// Two objects, and what their link leaves.
+type Links<'a> = ([Object<'a>; 2], Wanted<'a>);
+
+const BY_A_GLOBAL: Links<'static> = ([READS_F, DEFINES_F], READS_F_LINKED);
+
+const DEFINES_X_AND_REFERS_TO_Q: Object<'static> = &[
+    &[
+        DIRECTORY,
+        // The module's name, A.
+        &[0x40, 0x06, 0x00, 0x00, 0x00, 0x00, 0x00, 0x00],
+        // A section, . ABS., of 0 bytes, flags 104.
+        &[0x01, 0xAF, 0x94, 0x0F, 0x44, 0x05, 0x00, 0x00],
+        // X is 1.
+        &[0x00, 0x96, 0x00, 0x00, 0x08, 0x04, 0x01, 0x00],
+        // Q is referred to.
+        &[0x40, 0x6A, 0x00, 0x00, 0x00, 0x04, 0x00, 0x00],
+        // A section, the blank name, of 2 bytes, flags 040.
+        &[0x00, 0x00, 0x00, 0x00, 0x20, 0x05, 0x02, 0x00],
+        // The transfer address, 1 in . ABS..
+        &[0x01, 0xAF, 0x94, 0x0F, 0x00, 0x03, 0x01, 0x00],
+    ],
+    &[END_OF_GSD],
+    &[IN_BLANK_SECTION],
+    &[TEXT, &[0x00, 0x00, 0x00, 0x00]],
+    &[RELOCATIONS, &[0x02, 0x04, 0x40, 0x6A, 0x00, 0x00]],
+    &[END_OF_MODULE],
+];
+
+const DEFINES_X_AGAIN: Object<'static> = &[
+    &[
+        DIRECTORY,
+        // The module's name, B.
+        &[0x80, 0x0C, 0x00, 0x00, 0x00, 0x00, 0x00, 0x00],
+        // A section, . ABS., of 0 bytes, flags 104.
+        &[0x01, 0xAF, 0x94, 0x0F, 0x44, 0x05, 0x00, 0x00],
+        // X is 2.
+        &[0x00, 0x96, 0x00, 0x00, 0x08, 0x04, 0x02, 0x00],
+        // A section, the blank name, of 2 bytes, flags 040.
+        &[0x00, 0x00, 0x00, 0x00, 0x20, 0x05, 0x02, 0x00],
+        // The transfer address, 1 in . ABS..
+        &[0x01, 0xAF, 0x94, 0x0F, 0x00, 0x03, 0x01, 0x00],
+    ],
+    &[END_OF_GSD],
+    &[IN_BLANK_SECTION],
+    &[TEXT, &[0x00, 0x00, 0x02, 0x00]],
+    &[END_OF_MODULE],
+];
+
+// A link with two messages.
+const WITH_MESSAGES: Links<'static> = (
+    [DEFINES_X_AND_REFERS_TO_Q, DEFINES_X_AGAIN],
+    Wanted {
+        tape: &[
+            &[0x01, 0x00, 0x08, 0x00, 0x00, 0x02, 0x00, 0x00, 0xF5],
+            &[0x01, 0x00, 0x08, 0x00, 0x02, 0x02, 0x02, 0x00, 0xF1],
+            NO_START,
+        ],
+        sections: &[
+            ". ABS. 000000 000000 RW,I,GBL,ABS,OVR",
+            "       001000 000004 RW,I,LCL,REL,CON",
+        ],
+        globals: &["X      000001 A"],
+        undefined: &["Q"],
+        weak: &[],
+        transfer: "TRANSFER 000001",
+        limit: "LIMIT 001000 001004",
+        told: &[
+            "UNDEFINED GLOBAL Q",
+            "MULTIPLE DEFINITION X      IN MODULE B",
+        ],
+    },
+);
+
+// A link, the device that fails in it, and how many bytes an output takes a call at most.
+static FAILING: [(Links<'static>, Device, usize); 10] = [
+    (BY_A_GLOBAL, Device::Feed(0), 512),
+    (BY_A_GLOBAL, Device::Feed(1), 512),
+    (BY_A_GLOBAL, Device::Feed(2), 512),
+    (BY_A_GLOBAL, Device::Feed(3), 512),
+    (BY_A_GLOBAL, Device::Output(LinkOutput::Tape), 512),
+    (BY_A_GLOBAL, Device::Output(LinkOutput::Tape), 1),
+    (BY_A_GLOBAL, Device::Output(LinkOutput::Map), 512),
+    (BY_A_GLOBAL, Device::Output(LinkOutput::Map), 1),
+    (WITH_MESSAGES, Device::Output(LinkOutput::Messages), 512),
+    (WITH_MESSAGES, Device::Output(LinkOutput::Messages), 1),
+];
+
+// A link in which no device fails leaves what is wanted.
+fn links_whole(
+    rt: &(impl Abort + AllocGlobal),
+    files: [&[u8]; 2],
+    most: usize,
+    wanted: Wanted<'_>,
+) -> Result<Linked, Fail> {
+    let sound = Broken {
+        device: Device::Feed(0),
+        calls: u64::MAX,
+    };
+    let whole = linked_broken(rt.alloc(), files, sound, most);
+    whole.outcome?;
+    assert!(rt;
+        whole.has_tape(wanted.tape),
+        "the tape at {most} bytes a call"
+    );
+    assert!(rt; whole.has_map(wanted), "the map at {most} bytes a call");
+    assert!(rt;
+        whole.tells(wanted.told),
+        "the messages at {most} bytes a call"
+    );
+    Ok(whole)
+}
+
+// A device fails after more and more calls, until a link ends without a failure: before that, each ends with the
 // device's fault and leaves beginnings.
 fn fails_in_turn(
     rt: &(impl Abort + AllocGlobal),
     files: [&[u8]; 2],
     device: Device,
     most: usize,
+    whole: &Linked,
 ) -> Result<(), Fail> {
-    let whole = linked_broken(
-        rt.alloc(),
-        files,
-        Broken {
-            device,
-            calls: u64::MAX,
-        },
-        most,
-    );
-    whole.outcome?;
     for calls in 0..1_000 {
         let linked = linked_broken(rt.alloc(), files, Broken { device, calls }, most);
         linked.had_memory()?;
-        assert!(rt; begins(&linked, &whole), "beginnings behind {calls} calls");
+        assert!(rt;
+            begins(&linked, whole),
+            "{device:?}: beginnings after {calls} calls"
+        );
         match linked.outcome {
             Ok(_) => {
-                assert!(rt; is_whole(&linked, &whole), "the outputs of a whole link");
+                assert!(rt;
+                    is_whole(&linked, whole),
+                    "{device:?}: the outputs of a whole link"
+                );
                 return Ok(());
             }
-            Err(fault) => assert!(rt; fault == device.fault(), "the fault behind {calls} calls"),
+            Err(fault) => {
+                assert!(rt;
+                    fault == device.fault(),
+                    "{device:?}: the fault after {calls} calls"
+                );
+            }
         }
     }
-    assert!(rt; false, "a link without a failure");
+    assert!(rt; false, "{device:?}: a link without a failure");
     Ok(())
 }
 
-// That for objects.
-fn objects_fail_in_turn(
-    rt: &(impl Abort + AllocGlobal),
-    objects: [Object<'_>; 2],
-    device: Device,
-    most: usize,
-) -> Result<(), Fail> {
-    let first = file_of(rt.alloc(), objects[0])?;
-    let second = file_of(rt.alloc(), objects[1])?;
-    fails_in_turn(rt, [first.as_slice(), second.as_slice()], device, most)
-}
-
 #[test]
-fn each_read_may_fail(rt: HostRuntime) -> Result<(), Fail> {
-    for index in 0..4 {
-        objects_fail_in_turn(&rt, [READS_F, DEFINES_F], Device::Feed(index), 512)?;
+fn each_read_and_each_write_may_fail(rt: HostRuntime) -> Result<(), Fail> {
+    for row in &FAILING {
+        let ((objects, wanted), device, most) = *row;
+        let first = file_of(rt.alloc(), objects[0])?;
+        let second = file_of(rt.alloc(), objects[1])?;
+        let files = [first.as_slice(), second.as_slice()];
+        let whole = links_whole(&rt, files, most, wanted)?;
+        fails_in_turn(&rt, files, device, most, &whole)?;
     }
     Ok(())
-}
-
-#[test]
-fn each_write_to_the_tape_may_fail(rt: HostRuntime) -> Result<(), Fail> {
-    let device = Device::Output(LinkOutput::Tape);
-    objects_fail_in_turn(&rt, [READS_F, DEFINES_F], device, 512)?;
-    objects_fail_in_turn(&rt, [READS_F, DEFINES_F], device, 1)
-}
-
-#[test]
-fn each_write_to_the_map_may_fail(rt: HostRuntime) -> Result<(), Fail> {
-    let device = Device::Output(LinkOutput::Map);
-    objects_fail_in_turn(&rt, [READS_F, DEFINES_F], device, 512)?;
-    objects_fail_in_turn(&rt, [READS_F, DEFINES_F], device, 1)
-}
-
-#[test]
-fn each_write_of_a_message_may_fail(rt: HostRuntime) -> Result<(), Fail> {
-    let objects = [DEFINES_X_AND_REFERS_TO_Q, DEFINES_X_AGAIN];
-    let device = Device::Output(LinkOutput::Messages);
-    objects_fail_in_turn(&rt, objects, device, 512)?;
-    objects_fail_in_turn(&rt, objects, device, 1)
-}
-
-// The two modules are linked as ever where each output takes one byte a call.
-fn links_byte_by_byte(rt: &(impl Abort + AllocGlobal)) -> Result<(), Fail> {
-    let first = file_of(rt.alloc(), READS_F)?;
-    let second = file_of(rt.alloc(), DEFINES_F)?;
-    let whole = Broken {
-        device: Device::Feed(0),
-        calls: u64::MAX,
-    };
-    let files = [first.as_slice(), second.as_slice()];
-    let linked = linked_broken(rt.alloc(), files, whole, 1);
-    linked.outcome?;
-    assert!(rt; linked.has_tape(READS_F_LINKED.tape), "the tape");
-    assert!(rt; linked.has_map(READS_F_LINKED), "the map");
-    assert!(rt; linked.tells(READS_F_LINKED.told), "the messages");
-    Ok(())
-}
-
-#[test]
-fn outputs_may_take_a_byte_a_call(rt: HostRuntime) -> Result<(), Fail> {
-    links_byte_by_byte(&rt)
 }
 
 // Whether a link whose outputs take nothing fails at its first write, that of the map.

@@ -1,9 +1,9 @@
 //! Links of as many modules, sections and globals as there may be, and of one more.
 
+use self::Made::{Entries, EntriesAndTwo, Modules, ModulesAndSections};
 use super::{DIRECTORY, END_OF_GSD, END_OF_MODULE, add_block, ends_file};
 use m11_link::{LinkDone, LinkFault};
 use std::alloc::{AllocError, Global};
-use std::process::Abort;
 use std::test::Fail;
 
 // A section of no bytes, relocatable, and a global that is referred to weakly or defined in a section: flags and type.
@@ -43,7 +43,7 @@ fn empty_modules(alloc: Global, count: u32) -> Result<Vec<u8>, AllocError> {
     Ok(file)
 }
 
-// A file of modules that each have these many entries, one behind another.
+// A file of modules that each have these many entries, one after another.
 fn modules_of(
     alloc: Global,
     modules: u32,
@@ -63,81 +63,111 @@ fn entries_and_two(
     alloc: Global,
     count: u16,
     flags_and_type: [u8; 2],
-    two: [[u8; 8]; 2],
+    two: [(u16, [u8; 2]); 2],
 ) -> Result<Vec<u8>, AllocError> {
     let mut file = Vec::new(alloc);
     add_entries(&mut file, count, flags_and_type)?;
-    add_block(&mut file, &[DIRECTORY, &two[0], &two[1]])?;
+    add_two(&mut file, two)?;
     add_end(&mut file)?;
     Ok(file)
 }
 
-fn accepts(rt: &(impl Abort + AllocGlobal), file: &Vec<u8>) -> Result<(), Fail> {
-    ends_file(rt, file.as_slice(), 0o1000, Ok(LinkDone { messages: 0 }))
-}
-
-fn refuses(rt: &(impl Abort + AllocGlobal), file: &Vec<u8>, fault: LinkFault) -> Result<(), Fail> {
-    ends_file(rt, file.as_slice(), 0o1000, Err(fault))
-}
-
-#[test]
-fn there_are_at_most_32_modules(rt: HostRuntime) -> Result<(), Fail> {
-    accepts(&rt, &empty_modules(rt.alloc(), 32)?)?;
-    refuses(
-        &rt,
-        &empty_modules(rt.alloc(), 33)?,
-        LinkFault::TooManyModules,
-    )
-}
-
-#[test]
-fn a_module_too_many_is_told_before_its_entries(rt: HostRuntime) -> Result<(), Fail> {
-    let mut file = empty_modules(rt.alloc(), 32)?;
+// Adds a directory of two entries.
+fn add_two(file: &mut Vec<u8>, two: [(u16, [u8; 2]); 2]) -> Result<(), AllocError> {
+    let [(first, first_kind), (second, second_kind)] = two;
     add_block(
-        &mut file,
-        &[DIRECTORY, &entry(1, SECTION), &entry(1, SECTION)],
-    )?;
-    refuses(&rt, &file, LinkFault::TooManyModules)
-}
-
-#[test]
-fn there_are_at_most_256_sections(rt: HostRuntime) -> Result<(), Fail> {
-    accepts(&rt, &modules_of(rt.alloc(), 1, 256, SECTION)?)?;
-    refuses(
-        &rt,
-        &modules_of(rt.alloc(), 1, 257, SECTION)?,
-        LinkFault::TooManySections,
+        file,
+        &[
+            DIRECTORY,
+            &entry(first, first_kind),
+            &entry(second, second_kind),
+        ],
     )
 }
 
-#[test]
-fn a_section_of_several_modules_counts_once(rt: HostRuntime) -> Result<(), Fail> {
-    accepts(&rt, &modules_of(rt.alloc(), 2, 129, SECTION)?)
+// What a file is made of. Entries have a number each, from 0 on, and flags and type.
+#[derive(Clone, Copy)]
+enum Made {
+    // Empty modules.
+    Modules(u32),
+    // So many modules that each have these many entries.
+    Entries(u32, u16, [u8; 2]),
+    // A module that has these many entries, and two more in one directory.
+    EntriesAndTwo(u16, [u8; 2], [(u16, [u8; 2]); 2]),
+    // Empty modules, and one that begins with the same section twice.
+    ModulesAndSections(u32),
 }
 
-#[test]
-fn the_first_fault_of_several_entries_is_told(rt: HostRuntime) -> Result<(), Fail> {
-    let two = [entry(256, SECTION), entry(0, SECTION)];
-    let new_first = entries_and_two(rt.alloc(), 256, SECTION, two)?;
-    refuses(&rt, &new_first, LinkFault::TooManySections)?;
-    let two = [entry(0, SECTION), entry(256, SECTION)];
-    let known_first = entries_and_two(rt.alloc(), 256, SECTION, two)?;
-    refuses(&rt, &known_first, LinkFault::BadOrder)
+fn make(alloc: Global, made: Made) -> Result<Vec<u8>, AllocError> {
+    match made {
+        Modules(count) => empty_modules(alloc, count),
+        Entries(modules, count, kind) => modules_of(alloc, modules, count, kind),
+        EntriesAndTwo(count, kind, two) => entries_and_two(alloc, count, kind, two),
+        ModulesAndSections(count) => {
+            let mut file = empty_modules(alloc, count)?;
+            add_two(&mut file, [(1, SECTION), (1, SECTION)])?;
+            Ok(file)
+        }
+    }
 }
 
-#[test]
-fn there_are_at_most_8192_globals(rt: HostRuntime) -> Result<(), Fail> {
-    accepts(&rt, &modules_of(rt.alloc(), 1, 8_192, WEAK_REFERENCE)?)?;
-    refuses(
-        &rt,
-        &modules_of(rt.alloc(), 1, 8_193, WEAK_REFERENCE)?,
-        LinkFault::TooManyGlobals,
-    )
-}
+// What a file shows, how it is made, and why it is refused, if it is.
+const FILES: [(&str, Made, Option<LinkFault>); 12] = [
+    ("32 modules", Modules(32), None),
+    ("33 modules", Modules(33), Some(LinkFault::TooManyModules)),
+    (
+        "a module too many is told before its entries",
+        ModulesAndSections(32),
+        Some(LinkFault::TooManyModules),
+    ),
+    ("256 sections", Entries(1, 256, SECTION), None),
+    (
+        "257 sections",
+        Entries(1, 257, SECTION),
+        Some(LinkFault::TooManySections),
+    ),
+    (
+        "a section of several modules counts once",
+        Entries(2, 129, SECTION),
+        None,
+    ),
+    (
+        "a section too many before one that is known",
+        EntriesAndTwo(256, SECTION, [(256, SECTION), (0, SECTION)]),
+        Some(LinkFault::TooManySections),
+    ),
+    (
+        "a section that is known before one too many",
+        EntriesAndTwo(256, SECTION, [(0, SECTION), (256, SECTION)]),
+        Some(LinkFault::BadOrder),
+    ),
+    ("8192 globals", Entries(1, 8_192, WEAK_REFERENCE), None),
+    (
+        "8193 globals",
+        Entries(1, 8_193, WEAK_REFERENCE),
+        Some(LinkFault::TooManyGlobals),
+    ),
+    (
+        "an entry out of order is told before a global too many",
+        EntriesAndTwo(
+            8_191,
+            WEAK_REFERENCE,
+            [(8_191, WEAK_REFERENCE), (8_192, DEFINITION)],
+        ),
+        Some(LinkFault::BadOrder),
+    ),
+    ("no module", Modules(0), None),
+];
 
 #[test]
-fn an_entry_out_of_order_is_told_before_a_global_too_many(rt: HostRuntime) -> Result<(), Fail> {
-    let two = [entry(8_191, WEAK_REFERENCE), entry(8_192, DEFINITION)];
-    let file = entries_and_two(rt.alloc(), 8_191, WEAK_REFERENCE, two)?;
-    refuses(&rt, &file, LinkFault::BadOrder)
+fn there_are_at_most_32_modules_256_sections_and_8192_globals(rt: HostRuntime) -> Result<(), Fail> {
+    for (name, made, fault) in FILES {
+        let file = make(rt.alloc(), made)?;
+        let outcome = match fault {
+            None => Ok(LinkDone { messages: 0 }),
+            Some(fault) => Err(fault),
+        };
+        ends_file(&rt, name, file.as_slice(), 0o1000, outcome)?;
+    }
+    Ok(())
 }

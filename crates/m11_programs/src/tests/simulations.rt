@@ -1,10 +1,9 @@
-//! Whole runs, from the bytes of a tape to the messages.
+//! Whole runs of tapes whose devices fail.
 
-use self::Messages::{Are, Begin};
 use super::{POLLS, Part, tape_of};
 use m11_base::{FuseFeed, FuseSink, MemoryFeed, WriterSink};
+use m11_blocks::TapeFault;
 use m11_cpu::{LoadFault, SimDone, SimFault, Stop, sim_run};
-use m11_obj::TapeFault;
 use std::process::Abort;
 use std::test::Fail;
 
@@ -12,12 +11,6 @@ use std::test::Fail;
 static HALTS: [u8; 20] = [
     0o001, 0o000, 0o014, 0o000, 0o000, 0o002, 0o300, 0o025, 0o001, 0o000, 0o000, 0o000, 0o033,
     0o001, 0o000, 0o006, 0o000, 0o000, 0o002, 0o367,
-];
-
-// The same with an odd transfer address, which says no start.
-static HALTS_WITHOUT_START: [u8; 20] = [
-    0o001, 0o000, 0o014, 0o000, 0o000, 0o002, 0o300, 0o025, 0o001, 0o000, 0o000, 0o000, 0o033,
-    0o001, 0o000, 0o006, 0o000, 0o001, 0o000, 0o370,
 ];
 
 // Waits for a byte and moves it three times, and halts.
@@ -29,372 +22,248 @@ const POLLS_THREE: [Part<'static>; 1] = [(
     ],
 )];
 
-// A tape, and what it is run on. So many calls of the console's input, of its output and of the messages pass, and
-// each further one fails.
+// How many calls of the console's input, of its output and of the messages pass. Each further one fails.
 #[derive(Clone, Copy)]
-struct Simulation<'a> {
-    tape: &'a [u8],
-    start: Option<u16>,
-    limit: u32,
-    input: &'a [u8],
+struct Passes {
     reads: u64,
     writes: u64,
     tells: u64,
 }
 
-impl<'a> Simulation<'a> {
-    // A run from the start that the tape says, with a console that has no input, and where nothing fails.
-    fn of(tape: &'a [u8]) -> Simulation<'a> {
-        Simulation {
-            tape,
-            start: None,
-            limit: 1_000_000,
-            input: b"",
-            reads: u64::MAX,
-            writes: u64::MAX,
-            tells: u64::MAX,
-        }
-    }
-}
-
-// The messages of a run, or what they begin with.
-#[derive(Clone, Copy)]
-enum Messages<'a> {
-    Are(&'a [u8]),
-    Begin(&'a [u8]),
-}
-
-impl Messages<'_> {
-    fn agree(self, told: &[u8]) -> bool {
-        match self {
-            Messages::Are(text) => told == text,
-            Messages::Begin(text) => told.starts_with(text),
-        }
-    }
-}
-
-// What a run comes to: its outcome, what it sends to the console, and its messages.
+// What a run comes to: its outcome, what it sends to the console, and what its messages begin with.
 #[derive(Clone, Copy)]
 struct Wanted<'a> {
     outcome: Result<SimDone, SimFault>,
     sent: &'a [u8],
-    told: Messages<'a>,
+    told: &'a [u8],
 }
 
-// A run that stops.
-fn stopped<'a>(stop: Stop, sent: &'a [u8], told: Messages<'a>) -> Wanted<'a> {
-    Wanted {
-        outcome: Ok(SimDone { stop }),
-        sent,
-        told,
-    }
-}
-
-// Runs a tape in the whole memory, to what is wanted.
+// Runs a tape over an input with devices that fail, to what is wanted.
 fn check(
     rt: &(impl Abort + AllocGlobal),
-    simulation: Simulation<'_>,
+    name: &str,
+    tape: &[u8],
+    passes: Passes,
     wanted: Wanted<'_>,
 ) -> Result<(), Fail> {
     let mut sent = Vec::new(rt.alloc());
     let mut told = Vec::new(rt.alloc());
     let outcome = sim_run(
         rt.alloc(),
-        &mut MemoryFeed::new(simulation.tape),
-        simulation.start,
+        &mut MemoryFeed::new(tape),
+        None,
         28_672,
-        simulation.limit,
-        &mut FuseFeed::new(MemoryFeed::new(simulation.input), simulation.reads),
-        &mut FuseSink::new(WriterSink::new(&mut sent), simulation.writes, 1),
-        &mut FuseSink::new(WriterSink::new(&mut told), simulation.tells, 200),
+        1_000,
+        &mut FuseFeed::new(MemoryFeed::new(b"ABC"), passes.reads),
+        &mut FuseSink::new(WriterSink::new(&mut sent), passes.writes, 1),
+        &mut FuseSink::new(WriterSink::new(&mut told), passes.tells, 200),
     );
-    assert_eq!(rt; outcome, wanted.outcome);
-    assert!(rt; sent.as_slice() == wanted.sent, "what was sent");
-    assert!(rt; wanted.told.agree(told.as_slice()), "the messages");
+    assert_eq!(rt; outcome, wanted.outcome, "{name}");
+    assert!(rt; sent.as_slice() == wanted.sent, "{name}: what was sent");
+    assert!(rt;
+        told.as_slice().starts_with(wanted.told),
+        "{name}: the messages"
+    );
+    assert!(rt;
+        told.is_empty() == wanted.told.is_empty(),
+        "{name}: the messages"
+    );
     Ok(())
 }
 
-// A run that gives a fault leaves the console and the messages alone.
-fn check_fault(
-    rt: &(impl Abort + AllocGlobal),
-    simulation: Simulation<'_>,
-    fault: SimFault,
-) -> Result<(), Fail> {
-    let mut sent = Vec::new(rt.alloc());
-    let mut told = Vec::new(rt.alloc());
-    let outcome = sim_run(
-        rt.alloc(),
-        &mut MemoryFeed::new(simulation.tape),
-        simulation.start,
-        28_672,
-        simulation.limit,
-        &mut FuseFeed::new(MemoryFeed::new(simulation.input), 0),
-        &mut FuseSink::new(WriterSink::new(&mut sent), 0, 1),
-        &mut FuseSink::new(WriterSink::new(&mut told), simulation.tells, 200),
-    );
-    assert_eq!(rt; outcome, Err(fault));
-    assert!(rt; sent.is_empty() && told.is_empty(), "what was written");
-    Ok(())
-}
-
-#[test]
-fn a_program_runs_to_its_halt_and_the_registers_are_told(rt: HostRuntime) -> Result<(), Fail> {
-    let told = b"HALT AFTER 2 STEPS\n\
-        R0 000001 R1 000000 R2 000000 R3 000000 R4 000000 R5 000000 \
-        SP 000000 PC 001006 PSW 000000\n";
-    check(
-        &rt,
-        Simulation::of(&HALTS),
-        stopped(Stop::Halt, b"", Are(told)),
-    )
-}
-
-#[test]
-fn a_halt_in_the_last_step_that_is_allowed_wins_over_the_limit(
-    rt: HostRuntime,
-) -> Result<(), Fail> {
-    let two = Simulation {
-        limit: 2,
-        ..Simulation::of(&HALTS)
-    };
-    check(
-        &rt,
-        two,
-        stopped(Stop::Halt, b"", Begin(b"HALT AFTER 2 STEPS\n")),
-    )
-}
-
-#[test]
-fn a_run_stops_when_it_has_made_as_many_steps_as_it_may(rt: HostRuntime) -> Result<(), Fail> {
-    let one = Simulation {
-        limit: 1,
-        ..Simulation::of(&HALTS)
-    };
-    let told = b"LIMIT AFTER 1 STEPS\n\
-        R0 000001 R1 000000 R2 000000 R3 000000 R4 000000 R5 000000 \
-        SP 000000 PC 001004 PSW 000000\n";
-    check(&rt, one, stopped(Stop::Limit, b"", Are(told)))?;
-    let none = Simulation {
-        limit: 0,
-        ..Simulation::of(&HALTS)
-    };
-    let told = b"LIMIT AFTER 0 STEPS\n\
+// A program that polls the console, by how many bytes it moves, so many reads and writes that pass, its stop, what it
+// sends, and what is told. The registers stand in two rows.
+static POLLING: [(u8, u64, u64, Stop, &[u8], &[u8]); 10] = [
+    (
+        1,
+        0,
+        9,
+        Stop::InputFault,
+        b"",
+        b"INPUT FAULT AFTER 1 STEPS\n\
         R0 000000 R1 000000 R2 000000 R3 000000 R4 000000 R5 000000 \
-        SP 000000 PC 001000 PSW 000000\n";
-    check(&rt, none, stopped(Stop::Limit, b"", Are(told)))
-}
-
-#[test]
-fn an_odd_transfer_address_starts_nothing(rt: HostRuntime) -> Result<(), Fail> {
-    let told = b"NO START AFTER 0 STEPS\n\
-        R0 000000 R1 000000 R2 000000 R3 000000 R4 000000 R5 000000 \
-        SP 000000 PC 000000 PSW 000000\n";
-    let odd = Simulation::of(&HALTS_WITHOUT_START);
-    check(&rt, odd, stopped(Stop::NoStart, b"", Are(told)))?;
-    let no_steps = Simulation { limit: 0, ..odd };
-    check(&rt, no_steps, stopped(Stop::NoStart, b"", Are(told)))
-}
-
-#[test]
-fn a_start_that_is_given_replaces_the_transfer_address(rt: HostRuntime) -> Result<(), Fail> {
-    let given = Simulation {
-        start: Some(0o1000),
-        ..Simulation::of(&HALTS_WITHOUT_START)
-    };
-    let told = b"HALT AFTER 2 STEPS\n\
-        R0 000001 R1 000000 R2 000000 R3 000000 R4 000000 R5 000000 \
-        SP 000000 PC 001006 PSW 000000\n";
-    check(&rt, given, stopped(Stop::Halt, b"", Are(told)))?;
-    let behind = Simulation {
-        start: Some(0o1004),
-        ..Simulation::of(&HALTS)
-    };
-    check(
-        &rt,
-        behind,
-        stopped(Stop::Halt, b"", Begin(b"HALT AFTER 1 STEPS\nR0 000000 ")),
-    )
-}
-
-#[test]
-fn a_start_that_is_given_does_not_replace_the_transfer_block(rt: HostRuntime) -> Result<(), Fail> {
-    let cut = Simulation {
-        start: Some(0o1000),
-        ..Simulation::of(&HALTS[..13])
-    };
-    check_fault(
-        &rt,
-        cut,
-        SimFault::Load(LoadFault::Tape(TapeFault::NoTransfer)),
-    )
-}
-
-#[test]
-fn a_tape_without_its_last_byte_is_truncated_and_runs_nothing(rt: HostRuntime) -> Result<(), Fail> {
-    let cut = Simulation::of(&HALTS[..19]);
-    check_fault(
-        &rt,
-        cut,
-        SimFault::Load(LoadFault::Tape(TapeFault::Truncated)),
-    )
-}
-
-#[test]
-fn a_byte_outside_the_memory_runs_nothing(rt: HostRuntime) -> Result<(), Fail> {
-    let behind = [
-        0o001, 0o000, 0o010, 0o000, 0o377, 0o337, 0o001, 0o002, 0o026,
-    ];
-    check_fault(
-        &rt,
-        Simulation::of(&behind),
-        SimFault::Load(LoadFault::OutsideMemory),
-    )?;
-    let console = [
-        0o001, 0o000, 0o010, 0o000, 0o160, 0o377, 0o001, 0o000, 0o207, 0o001, 0o000, 0o006, 0o000,
-        0o001, 0o000, 0o370,
-    ];
-    check_fault(
-        &rt,
-        Simulation::of(&console),
-        SimFault::Load(LoadFault::OutsideMemory),
-    )
-}
-
-#[test]
-fn messages_that_cannot_be_written_are_a_fault(rt: HostRuntime) -> Result<(), Fail> {
-    let failing = Simulation {
-        tells: 0,
-        ..Simulation::of(&HALTS)
-    };
-    check_fault(&rt, failing, SimFault::Write)
-}
-
-#[test]
-fn a_program_that_polls_moves_a_byte_of_the_console(rt: HostRuntime) -> Result<(), Fail> {
-    let tape = tape_of(&rt, &POLLS, 0o1000)?;
-    let polls = Simulation {
-        input: b"AB",
-        ..Simulation::of(tape.as_slice())
-    };
-    let told = b"HALT AFTER 5 STEPS\n\
+        SP 000000 PC 001004 PSW 000000\n",
+    ),
+    (
+        1,
+        9,
+        0,
+        Stop::OutputFault,
+        b"",
+        b"OUTPUT FAULT AFTER 4 STEPS\n\
         R0 000101 R1 000000 R2 000000 R3 000000 R4 000000 R5 000000 \
-        SP 000000 PC 001020 PSW 000000\n";
-    check(&rt, polls, stopped(Stop::Halt, b"A", Are(told)))
-}
+        SP 000000 PC 001016 PSW 000000\n",
+    ),
+    (
+        3,
+        0,
+        9,
+        Stop::InputFault,
+        b"",
+        b"INPUT FAULT AFTER 2 STEPS\n",
+    ),
+    (
+        3,
+        1,
+        9,
+        Stop::InputFault,
+        b"A",
+        b"INPUT FAULT AFTER 7 STEPS\n",
+    ),
+    (
+        3,
+        2,
+        9,
+        Stop::InputFault,
+        b"AB",
+        b"INPUT FAULT AFTER 12 STEPS\n",
+    ),
+    (3, 3, 9, Stop::Halt, b"ABC", b"HALT AFTER 17 STEPS\n"),
+    (
+        3,
+        9,
+        0,
+        Stop::OutputFault,
+        b"",
+        b"OUTPUT FAULT AFTER 5 STEPS\n",
+    ),
+    (
+        3,
+        9,
+        1,
+        Stop::OutputFault,
+        b"A",
+        b"OUTPUT FAULT AFTER 10 STEPS\n",
+    ),
+    (
+        3,
+        9,
+        2,
+        Stop::OutputFault,
+        b"AB",
+        b"OUTPUT FAULT AFTER 15 STEPS\n",
+    ),
+    (3, 9, 3, Stop::Halt, b"ABC", b"HALT AFTER 17 STEPS\n"),
+];
 
 #[test]
-fn a_program_polls_in_vain_where_the_input_has_ended(rt: HostRuntime) -> Result<(), Fail> {
-    let tape = tape_of(&rt, &POLLS, 0o1000)?;
-    let ten = Simulation {
-        limit: 10,
-        ..Simulation::of(tape.as_slice())
-    };
-    let told = b"LIMIT AFTER 10 STEPS\n\
-        R0 000000 R1 000000 R2 000000 R3 000000 R4 000000 R5 000000 \
-        SP 000000 PC 001000 PSW 000004\n";
-    check(&rt, ten, stopped(Stop::Limit, b"", Are(told)))
+fn a_console_that_fails_stops_a_run_at_its_own_step(rt: HostRuntime) -> Result<(), Fail> {
+    let one = tape_of(&rt, &POLLS, 0o1000)?;
+    let three = tape_of(&rt, &POLLS_THREE, 0o1000)?;
+    for row in &POLLING {
+        let (moves, reads, writes, stop, sent, told) = *row;
+        let tape = if moves == 1 { &one } else { &three };
+        let passes = Passes {
+            reads,
+            writes,
+            tells: 1,
+        };
+        let outcome = Ok(SimDone { stop });
+        check(
+            &rt,
+            "a program that polls",
+            tape.as_slice(),
+            passes,
+            Wanted {
+                outcome,
+                sent,
+                told,
+            },
+        )?;
+    }
+    Ok(())
 }
 
+// Tapes that can't be loaded, and why.
+static REFUSED: [(&str, &[u8], LoadFault); 9] = [
+    (
+        "no transfer block",
+        &[],
+        LoadFault::Tape(TapeFault::NoTransfer),
+    ),
+    (
+        "no transfer block after a block",
+        &[
+            0o001, 0o000, 0o014, 0o000, 0o000, 0o002, 0o300, 0o025, 0o001, 0o000, 0o000, 0o000,
+            0o033,
+        ],
+        LoadFault::Tape(TapeFault::NoTransfer),
+    ),
+    (
+        "a last byte that is missing",
+        &[0o001, 0o000, 0o006, 0o000, 0o000, 0o002],
+        LoadFault::Tape(TapeFault::Truncated),
+    ),
+    (
+        "a byte alone",
+        &[0o001],
+        LoadFault::Tape(TapeFault::Truncated),
+    ),
+    (
+        "a count below 6",
+        &[0o001, 0o000, 0o005, 0o000],
+        LoadFault::Tape(TapeFault::TooShort),
+    ),
+    (
+        "another byte than 000 after 001",
+        &[0o001, 0o001, 0o000],
+        LoadFault::Tape(TapeFault::BadStart),
+    ),
+    (
+        "a sum that isn't 0",
+        &[0o001, 0o000, 0o006, 0o000, 0o001, 0o000, 0o371],
+        LoadFault::Tape(TapeFault::BadSum),
+    ),
+    (
+        "a byte past the memory",
+        &[
+            0o001, 0o000, 0o010, 0o000, 0o377, 0o337, 0o001, 0o002, 0o026,
+        ],
+        LoadFault::OutsideMemory,
+    ),
+    (
+        "a word at the console",
+        &[
+            0o001, 0o000, 0o010, 0o000, 0o160, 0o377, 0o001, 0o000, 0o207, 0o001, 0o000, 0o006,
+            0o000, 0o001, 0o000, 0o370,
+        ],
+        LoadFault::OutsideMemory,
+    ),
+];
+
 #[test]
-fn a_run_stops_at_the_read_that_fails(rt: HostRuntime) -> Result<(), Fail> {
-    let tape = tape_of(&rt, &POLLS, 0o1000)?;
-    let failing = Simulation {
-        input: b"AB",
+fn a_run_that_ends_in_a_fault_leaves_the_console_alone(rt: HostRuntime) -> Result<(), Fail> {
+    let none = Passes {
         reads: 0,
-        ..Simulation::of(tape.as_slice())
-    };
-    let told = b"INPUT FAULT AFTER 1 STEPS\n\
-        R0 000000 R1 000000 R2 000000 R3 000000 R4 000000 R5 000000 \
-        SP 000000 PC 001004 PSW 000000\n";
-    check(&rt, failing, stopped(Stop::InputFault, b"", Are(told)))
-}
-
-#[test]
-fn a_run_stops_at_the_write_that_fails(rt: HostRuntime) -> Result<(), Fail> {
-    let tape = tape_of(&rt, &POLLS, 0o1000)?;
-    let failing = Simulation {
-        input: b"AB",
         writes: 0,
-        ..Simulation::of(tape.as_slice())
+        tells: 1,
     };
-    let told = b"OUTPUT FAULT AFTER 4 STEPS\n\
-        R0 000101 R1 000000 R2 000000 R3 000000 R4 000000 R5 000000 \
-        SP 000000 PC 001016 PSW 000000\n";
-    check(&rt, failing, stopped(Stop::OutputFault, b"", Are(told)))
-}
-
-#[test]
-fn each_read_that_fails_stops_at_its_own_step(rt: HostRuntime) -> Result<(), Fail> {
-    let tape = tape_of(&rt, &POLLS_THREE, 0o1000)?;
-    let sound = Simulation {
-        input: b"ABC",
-        ..Simulation::of(tape.as_slice())
-    };
-    let reads = |reads| Simulation { reads, ..sound };
-    let fault = Stop::InputFault;
+    for row in &REFUSED {
+        let (name, tape, fault) = *row;
+        let outcome = Err(SimFault::Load(fault));
+        check(
+            &rt,
+            name,
+            tape,
+            none,
+            Wanted {
+                outcome,
+                sent: b"",
+                told: b"",
+            },
+        )?;
+    }
+    let silent = Passes { tells: 0, ..none };
+    let outcome = Err(SimFault::Write);
     check(
         &rt,
-        reads(0),
-        stopped(fault, b"", Begin(b"INPUT FAULT AFTER 2 STEPS\n")),
-    )?;
-    check(
-        &rt,
-        reads(1),
-        stopped(fault, b"A", Begin(b"INPUT FAULT AFTER 7 STEPS\n")),
-    )?;
-    check(
-        &rt,
-        reads(2),
-        stopped(fault, b"AB", Begin(b"INPUT FAULT AFTER 12 STEPS\n")),
-    )?;
-    check(
-        &rt,
-        reads(3),
-        stopped(Stop::Halt, b"ABC", Begin(b"HALT AFTER 17 STEPS\n")),
+        "messages that can't be written",
+        &HALTS,
+        silent,
+        Wanted {
+            outcome,
+            sent: b"",
+            told: b"",
+        },
     )
-}
-
-#[test]
-fn each_write_that_fails_stops_at_its_own_step(rt: HostRuntime) -> Result<(), Fail> {
-    let tape = tape_of(&rt, &POLLS_THREE, 0o1000)?;
-    let sound = Simulation {
-        input: b"ABC",
-        ..Simulation::of(tape.as_slice())
-    };
-    let writes = |writes| Simulation { writes, ..sound };
-    let fault = Stop::OutputFault;
-    check(
-        &rt,
-        writes(0),
-        stopped(fault, b"", Begin(b"OUTPUT FAULT AFTER 5 STEPS\n")),
-    )?;
-    check(
-        &rt,
-        writes(1),
-        stopped(fault, b"A", Begin(b"OUTPUT FAULT AFTER 10 STEPS\n")),
-    )?;
-    check(
-        &rt,
-        writes(2),
-        stopped(fault, b"AB", Begin(b"OUTPUT FAULT AFTER 15 STEPS\n")),
-    )?;
-    check(
-        &rt,
-        writes(3),
-        stopped(Stop::Halt, b"ABC", Begin(b"HALT AFTER 17 STEPS\n")),
-    )
-}
-
-#[test]
-fn a_tape_that_is_wrong_gives_its_first_fault(rt: HostRuntime) -> Result<(), Fail> {
-    let tape = |fault| SimFault::Load(LoadFault::Tape(fault));
-    let too_short = Simulation::of(&[0o001, 0o000, 0o005, 0o000]);
-    check_fault(&rt, too_short, tape(TapeFault::TooShort))?;
-    check_fault(&rt, Simulation::of(&[0o001]), tape(TapeFault::Truncated))?;
-    let bad_start = Simulation::of(&[0o001, 0o001, 0o000]);
-    check_fault(&rt, bad_start, tape(TapeFault::BadStart))?;
-    let mut bytes = HALTS_WITHOUT_START;
-    bytes[19] = 0o371;
-    check_fault(&rt, Simulation::of(&bytes), tape(TapeFault::BadSum))?;
-    check_fault(&rt, Simulation::of(b""), tape(TapeFault::NoTransfer))
 }
