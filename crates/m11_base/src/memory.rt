@@ -71,6 +71,13 @@ impl MemorySink {
     {
         self.bytes.as_slice()
     }
+
+    /// All that it was given, for good.
+    pub fn into_bytes(self) -> Vec<u8>
+        ensures { ⟦<MemorySink as Sink>⟧.text self ≡ Some result.items }
+    {
+        self.bytes
+    }
 }
 
 impl Sink for MemorySink {

@@ -1,0 +1,75 @@
+//! The files of the system.
+
+ghost use Rattle.std.specs.Prelude.{◌≡◌};
+ghost use Rattle.m11_files.specs.Files.{Counts};
+
+use crate::opens::{OpenRefusal, Opens};
+use m11_base::{BufferedFeed, WriterSink};
+use std::io::{BufReader, ErrorKind};
+use std::rt::Files;
+use std::{fs, io};
+
+/// Opens files by the runtime. What is read comes through a buffer; what is written goes to the file at once, so that a
+/// failed write shows at the put that made it. Of the texts of files nothing is known.
+#[derive(Drop)]
+pub struct SystemFiles<'a, R> {
+    rt: &'a R,
+    refusals: u64,
+}
+
+impl<'a, R: Files + AllocGlobal> SystemFiles<'a, R> {
+    /// The files that `rt` reaches.
+    pub fn new(rt: &'a R) -> SystemFiles<'a, R>
+        ensures { ⟦<SystemFiles<'a, R> as Opens>⟧.refusals result ≡ 0 }
+    {
+        SystemFiles { rt, refusals: 0 }
+    }
+}
+
+impl<'a, R: Files + AllocGlobal> Opens for SystemFiles<'a, R> {
+    ghost use Rattle.std.specs.Prelude.{None};
+
+    type Input = BufferedFeed<R::File>;
+
+    type Output = WriterSink<R::File>;
+
+    ghost files = { λ _. None };
+
+    ghost refusals = { λ s. s.refusals };
+
+    fn open(&mut self, path: &str) -> Result<BufferedFeed<R::File>, OpenRefusal> {
+        let file = match fs::open(self.rt, path) {
+            Ok(file) => file,
+            Err(error) => return Err(refusal(&error, &mut self.refusals)),
+        };
+        match BufReader::new(self.rt.alloc(), file) {
+            Ok(reader) => Ok(BufferedFeed::new(reader)),
+            Err(_) => Err(OpenRefusal::NoMemory),
+        }
+    }
+
+    fn create(&mut self, path: &str) -> Result<WriterSink<R::File>, OpenRefusal> {
+        match fs::create(self.rt, path) {
+            Ok(file) => Ok(WriterSink::new(file)),
+            Err(error) => Err(refusal(&error, &mut self.refusals)),
+        }
+    }
+
+    // All that was put is written, so nothing is left to do.
+    fn keep(&mut self, _path: &str, output: WriterSink<R::File>) {
+        drop(output);
+    }
+}
+
+// Why a file did not open, which is counted: but memory may be what the system has too little of.
+fn refusal(error: &io::Error, refusals: &mut u64) -> OpenRefusal
+    ensures { Counts refusals.old refusals.new result }
+{
+    match error.kind() {
+        ErrorKind::OutOfMemory => OpenRefusal::NoMemory,
+        _ => {
+            *refusals = refusals.saturating_add(1);
+            OpenRefusal::NotOpened
+        }
+    }
+}
