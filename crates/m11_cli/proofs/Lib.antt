@@ -5,6 +5,6 @@ pub mod Entered
 pub mod Entries
 pub mod Linked
 pub mod Numbers
-pub mod Paths
+pub mod Opening
 pub mod Sources
 pub mod Telling

@@ -1,9 +1,10 @@
 -- What a link says of its feeds it says of their texts and counts of failures.
 use Rattle.std.proofs.Common.{◌≡◌, ℕ, List, inl, inr, refl, ap, option_map, Option, Some, None, Result, Ok, Err}
-use Rattle.std.specs.Option.{is_some}
+use Rattle.std.specs.Borrow.{Bor}
 use Rattle.m11_base.specs.Feed.{NoneFailed, Text}
 use Rattle.m11_base.specs.declared.sink.Sink.{Ghosts}
 use Rattle.m11_cpu.specs.Dialogue.{Output, output_of}
+use Rattle.m11_files.specs.Files.{Files, IsEmptiedSome, keeping_some}
 use Rattle.m11_layout.specs.Planning.{Planned}
 use Rattle.m11_layout.specs.declared.fault.LinkFault.{LinkFault}
 use Rattle.m11_layout.specs.declared.fault.LinkFault.TheVariants as fault
@@ -28,9 +29,21 @@ pub same_output : {S : Type 0} (sinks : Ghosts S) (map : Option S)
 same_output sinks None = refl
 same_output sinks (Some s) = refl
 
-pub same_presence : {S : Type 0} (sinks : Ghosts S) (map : Option S) → is_some (seen_output sinks map) ≡ is_some map
-same_presence sinks None = refl
-same_presence sinks (Some s) = refl
+-- what is seen of an output that may be left out is empty, and is kept, as the output is
+pub emptied : {S : Type 0} (sinks : Ghosts S) (files : Option Files) (path : Option (Bor (List ℕ))) (map : Option S)
+    → IsEmptiedSome sinks.text files path map
+    → IsEmptiedSome (λ output. output.text) files path (seen_output sinks map)
+emptied sinks files None None h = tt
+emptied sinks files None (Some s) h = absurd h
+emptied sinks files (Some path) None h = absurd h
+emptied sinks files (Some path) (Some s) h = h
+
+pub kept : {S : Type 0} (sinks : Ghosts S) (path : Option (Bor (List ℕ))) (map : Option S) (files : Option Files)
+    → keeping_some sinks.text path map files ≡ keeping_some (λ output. output.text) path (seen_output sinks map) files
+kept sinks None None files = refl
+kept sinks None (Some s) files = refl
+kept sinks (Some path) None files = refl
+kept sinks (Some path) (Some s) files = refl
 
 module _ {F : Type 0} (text : F → Option Text) (faults : F → ℕ) where
   given : (feeds : List F) (items : List Item) → GiveItems text feeds items

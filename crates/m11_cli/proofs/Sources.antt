@@ -8,14 +8,19 @@ use Rattle.m11_asm.specs.declared.fault.AsmFault.TheVariants as asm
 use Rattle.m11_asm.specs.declared.fault.AsmOutput.{AsmOutput}
 use Rattle.m11_asm.specs.declared.run.AsmDone.{AsmDone}
 use Rattle.m11_cpu.specs.Dialogue.{Input, input_of}
+use Rattle.m11_files.specs.Files.{Files, AreFiles}
 
 module _ {F : Type 0} (text : F → Option Text) (faults : F → ℕ) where
   abbrev pub seen : List F → List Input
   seen feeds = map (λ x. input_of (text x) (faults x)) feeds
 
-  pub seen_count : (feeds : List F) → length (seen feeds) ≡ length feeds
-  seen_count [] = refl
-  seen_count (x ∷ xs) = ap suc (seen_count xs)
+  -- files that were opened, as what is seen of them
+  pub are : (files : Option Files) (paths : List (List ℕ)) (feeds : List F) → AreFiles text files paths feeds
+      → AreFiles (λ s. s.text) files paths (seen feeds)
+  are files [] [] h = tt
+  are files [] (x ∷ xs) h = absurd h
+  are files (p ∷ paths) [] h = absurd h
+  are files (p ∷ paths) (x ∷ xs) h = (h.0, are files paths xs h.1)
 
   pub give : (feeds : List F) (ss : List (List ℕ)) → GiveAll text feeds ss → GiveAll (λ s. s.text) (seen feeds) ss
   give [] [] g = tt

@@ -1,12 +1,13 @@
 -- What is told, whole or in part, and what a task comes to.
-use Rattle.std.proofs.Common.{◌≡◌, ◌∙◌, ◌++◌, List, ℕ, inl, inr, sym, ap, append_assoc, Option, Some, None, Result, Ok, Err}
+use Rattle.std.proofs.Common.{◌≡◌, ◌∙◌, ◌++◌, List, [], ℕ, inl, inr, sym, ap, refl, append_assoc, Option, Some, None, Result, Ok, Err}
+use Rattle.std.proofs.lemmas.List.{append-nil}
 use Rattle.std.specs.Prelude.{OnErr, OnOk}
 use Rattle.std.specs.Io.KnownBytes.{Appends}
 use Rattle.m11_base.specs.Devices.{Rises}
 use Rattle.m11_base.specs.Sink.{AppendsBeginning}
 use Rattle.m11_cpu.specs.Dialogue.{Output}
 use Rattle.clap.specs.Words.{Text}
-use Rattle.m11_cli.specs.Driver.{Carries, ComesTo, Streams, Tells}
+use Rattle.m11_cli.specs.Driver.{Carries, ComesTo, Store, Streams, Tells, TellsSome}
 use Rattle.m11_cli.specs.Tasks.{Plans}
 use Rattle.m11_cli.specs.declared.outcome.Outcome.{Outcome}
 use Rattle.m11_cli.specs.declared.outcome.Outcome.TheVariants.{Usage, Asm, Link, Sim, NotOpened}
@@ -30,16 +31,30 @@ pub then_at_error : {X E : Type 0} (r : Result X E) (P Q : Type 0) → (P → Q)
 then_at_error (Ok x) P Q f p = tt
 then_at_error (Err e) P Q f p = f p
 
+-- the same of a text of which nothing else is known, and where nothing was put
+pub tells_some : {X E : Type 0} (r : Result X E) (text : List ℕ) (old new : Output)
+    → OnOk r (Appends old.text new.text text) → OnOk r (new.faults ≡ old.faults)
+    → OnErr r (AppendsBeginning old.text new.text text) → OnErr r (Rises old.faults new.faults)
+    → TellsSome old new
+tells_some r text old new whole sound beginning fault = (text, tells r text old new whole sound beginning fault)
+
+gains_none : (text : Option (List ℕ)) → Appends text text []
+gains_none None = tt
+gains_none (Some text) = sym (append-nil text)
+
+pub tells_none : (output : Output) → TellsSome output output
+tells_none output = ([], inl (gains_none output.text, refl))
+
 -- the outcome of a task that was carried out is one that the words come to
-pub carried : (words : List Text) (t : Task) (outcome : Outcome) (old new : Streams) → Plans words (Ok t)
-    → Carries t outcome old new → ComesTo words outcome old new
-carried words (task.Asm asm) (Usage fault) old new planned h = absurd h
-carried words (task.Link link) (Usage fault) old new planned h = absurd h
-carried words (task.Sim sim) (Usage fault) old new planned h = absurd h
-carried words t (Asm answer) old new planned h = (t, planned, h)
-carried words t (Link answer) old new planned h = (t, planned, h)
-carried words t (Sim answer) old new planned h = (t, planned, h)
-carried words t NotOpened old new planned h = (t, planned, h)
+pub carried : (words : List Text) (t : Task) (outcome : Outcome) (old new : Store) (before after : Streams)
+    → Plans words (Ok t) → Carries t outcome old new before after → ComesTo words outcome old new before after
+carried words (task.Asm asm) (Usage fault) old new before after planned h = absurd h
+carried words (task.Link link) (Usage fault) old new before after planned h = absurd h
+carried words (task.Sim sim) (Usage fault) old new before after planned h = absurd h
+carried words t (Asm answer) old new before after planned h = (t, planned, h)
+carried words t (Link answer) old new before after planned h = (t, planned, h)
+carried words t (Sim answer) old new before after planned h = (t, planned, h)
+carried words t NotOpened old new before after planned h = (t, planned, h)
 
 -- a beginning of a text is one of a longer text, also behind a text that went out whole
 pub begins : (old new : Option (List ℕ)) (text more : List ℕ) → AppendsBeginning old new text

@@ -1,5 +1,5 @@
 -- What a command line makes of the three streams of its process, and of the files of its task. (This project's own.)
-use Rattle.std.specs.Prelude.{◌≡◌, ◌⊎◌, ℕ, Bool, List, Option, None, Any, IsSomeAnd, Result, Ok, Err, is_some, length}
+use Rattle.std.specs.Prelude.{◌≡◌, ◌⊎◌, ℕ, List, [], ◌∷◌, Option, None, Result, Ok, Err}
 use Rattle.std.specs.Io.KnownBytes.{Appends}
 use Rattle.clap.specs.Words.{Text}
 use Rattle.m11_base.specs.Devices.{Rises}
@@ -9,25 +9,35 @@ use Rattle.m11_base.specs.declared.sink.Sink.{Ghosts}
 use Rattle.m11_asm.specs.Run.{Counted, Runs}
 use Rattle.m11_asm.specs.Writes.{texts}
 use Rattle.m11_asm.specs.declared.fault.AsmFault.{AsmFault}
-use Rattle.m11_asm.specs.declared.fault.AsmFault.TheVariants as asm
+use Rattle.m11_asm.specs.declared.fault.AsmFault.TheVariants as asm-fault
 use Rattle.m11_asm.specs.declared.run.AsmDone.{AsmDone}
 use Rattle.m11_cpu.specs.Dialogue.{Input, Output, both, input_of, output_of}
 use Rattle.m11_cpu.specs.Simulation.{Simulates}
+use Rattle.m11_cpu.specs.declared.fault.SimFault.{SimFault}
+use Rattle.m11_cpu.specs.declared.fault.SimFault.TheVariants as sim-fault
+use Rattle.m11_cpu.specs.declared.stop.SimDone.{SimDone}
 use Rattle.m11_layout.specs.declared.fault.LinkFault.{LinkFault}
-use Rattle.m11_layout.specs.declared.fault.LinkFault.TheVariants as link
+use Rattle.m11_layout.specs.declared.fault.LinkFault.TheVariants as link-fault
 use Rattle.m11_link.specs.SecondReading as linking
 use Rattle.m11_link.specs.Writes.{Outputs, outputs_of}
 use Rattle.m11_link.specs.declared.emit.LinkDone.{LinkDone}
 use Rattle.m11_cli.specs.FaultLines.{line_of, open_line}
+use Rattle.m11_files.specs.Files.{Files, AreFiles, Holds, IsEmptied, IsEmptiedSome, creating, keeping, keeping_some}
+use Rattle.m11_cli.specs.Opened.{CreatesSome, StopsAt, asm_inputs, asm_outputs, link_inputs, link_outputs, sim_inputs}
 use Rattle.m11_cli.specs.Tasks.{Plans}
 use Rattle.m11_cli.specs.declared.outcome.Outcome.{Outcome}
 use Rattle.m11_cli.specs.declared.outcome.Outcome.TheVariants.{Usage, Asm, Link, Sim, NotOpened}
+use Rattle.m11_cli.specs.declared.tasks.AsmTask.{AsmTask}
+use Rattle.m11_cli.specs.declared.tasks.LinkTask.{LinkTask}
+use Rattle.m11_cli.specs.declared.tasks.SimTask.{SimTask}
 use Rattle.m11_cli.specs.declared.tasks.Task.{Task}
 use Rattle.m11_cli.specs.declared.tasks.Task.TheVariants as task
 use Rattle.m11_cli.specs.declared.usage.UsageFault.{UsageFault}
 use Rattle.m11_cli.specs.declared.usage.UsageFault.TheVariants.{Help, Words}
 
--- what a process reads, what it prints, and what it tells of itself
+-- ---- what a process has
+
+-- what it reads, what it prints, and what it tells of itself
 pub record Streams : Type 0 where
   pub input : Input
   pub printed : Output
@@ -40,51 +50,79 @@ streams input input_faults printed printed_faults told told_faults = record {
   told = output_of told told_faults;
 }
 
--- a text was told whole; or the device failed, behind a beginning of it
+-- its files, where they are known, and how often one was refused
+pub record Store : Type 0 where
+  pub files : Option Files
+  pub refusals : ℕ
+
+abbrev pub store : Option Files → ℕ → Store
+store files refusals = record { files = files; refusals = refusals }
+
+-- ---- what is told
+
+-- a text was told whole; or the device failed, after a beginning of it
 abbrev pub Tells : List ℕ → Output → Output → Type 0
 Tells text old new = (Appends old.text new.text text × (new.faults ≡ old.faults))
     ⊎ (AppendsBeginning old.text new.text text × Rises old.faults new.faults)
 
--- what the parser has to say is printed, where it is help, or told, where it is a refusal, in words of the parser's own
+-- a text in words of the parser's own was told: none, where memory was refused for it
+abbrev pub TellsSome : Output → Output → Type 0
+TellsSome old new = (text : List ℕ) × Tells text old new
+
+-- what the parser has to say is printed, where it is help, or told, where it is a refusal
 abbrev pub Explains : UsageFault → Output → Output → Output → Output → Type 0
-Explains (Help error) printed printed' told told' = told' ≡ told
-Explains (Words error) printed printed' told told' = printed' ≡ printed
+Explains (Help error) printed printed' told told' = TellsSome printed printed' × (told' ≡ told)
+Explains (Words error) printed printed' told told' = (printed' ≡ printed) × TellsSome told told'
 Explains fault printed printed' told told' = (printed' ≡ printed) × (told' ≡ told)
 
--- the path is one of the task's
-abbrev pub IsPathOf : Task → List ℕ → Type 0
-IsPathOf (task.Asm asm) path = (path ≡ asm.object.now) ⊎ Any (λ source. path ≡ source.now) asm.sources.items
-IsPathOf (task.Link link) path = (path ≡ link.tape.now)
-    ⊎ (IsSomeAnd link.map (λ map. path ≡ map.now) ⊎ Any (λ object. path ≡ object.now) link.objects.items)
-IsPathOf (task.Sim sim) path = path ≡ sim.tape.now
+-- ---- files that are not all open
 
--- an assembly of so many sources: by texts that they gave, it wrote to the object and told what it is to
-pub record Assembles (count : ℕ) (told told' : Output) (answer : Result AsmDone AsmFault) : Type 0 where
+-- memory was refused while the files were opened: nothing is told
+abbrev pub RunsOutOpening : List (List ℕ) → List (List ℕ) → Store → Store → Output → Output → Type 0
+RunsOutOpening inputs outputs old new told told' = (told' ≡ told) × (new.refusals ≡ old.refusals)
+    × ((new.files ≡ old.files) ⊎ CreatesSome old.files new.files inputs outputs)
+
+-- a file was refused, the first of them, and its path is told
+abbrev pub RefusesFile : List (List ℕ) → List (List ℕ) → Store → Store → Output → Output → Type 0
+RefusesFile inputs outputs old new told told' = Rises old.refusals new.refusals
+    × (path : List ℕ) × StopsAt old.files new.files inputs outputs path × Tells (open_line path) told told'
+
+-- ---- an assembly
+
+-- the sources are the files of their paths. By their texts the object, which is empty at first, and what is told
+-- become what an assembly makes of them; the object is created, and kept under its path
+pub record Assembles (asm : AsmTask) (old new : Store) (told told' : Output) (answer : Result AsmDone AsmFault)
+    : Type 0 where
   pub sources : List Input
   pub sources' : List Input
   pub object : Output
   pub object' : Output
-  pub counted : length sources ≡ count
+  pub read : AreFiles (λ s. s.text) old.files (asm_inputs asm) sources
+  pub emptied : IsEmptied old.files object.text
   pub runs : Runs (λ s. s.text) (λ s. s.faults) sources sources'
       (texts object.text None told.text) (texts object'.text None told'.text) answer
   pub failures : Counted object.faults object'.faults told.faults told'.faults answer
+  pub kept : new.files ≡ keeping asm.object.now object'.text (creating (asm_outputs asm) old.files)
+  pub opened : new.refusals ≡ old.refusals
 
--- an assembly of so many sources, if memory is not refused while they are opened
-abbrev pub MayAssemble : ℕ → Output → Output → Result AsmDone AsmFault → Type 0
-MayAssemble count told told' answer =
-    Assembles count told told' answer ⊎ ((answer ≡ Err asm.NoMemory) × (told' ≡ told))
+abbrev pub MayAssemble : AsmTask → Store → Store → Output → Output → Result AsmDone AsmFault → Type 0
+MayAssemble asm old new told told' answer = Assembles asm old new told told' answer
+    ⊎ ((answer ≡ Err asm-fault.NoMemory) × RunsOutOpening (asm_inputs asm) (asm_outputs asm) old new told told')
+
+-- ---- a link
 
 -- an output, as the sink that a link takes it for
 abbrev pub known : Ghosts Output
 known = record { text = λ output. output.text; faults = λ output. output.faults }
 
 -- the tape, the map if there is one, and the messages of a link
-abbrev pub link_outputs : Output → Option Output → Output → Outputs
-link_outputs tape map told = outputs_of known known known tape map told
+abbrev pub outputs : Output → Option Output → Output → Outputs
+outputs tape map told = outputs_of known known known tape map told
 
--- a link of so many objects, with a map or without one, from this bottom on: by texts that they gave in two readings,
--- it wrote to the tape and to the map, and told what it is to
-pub record Links (count : ℕ) (has_map : Bool) (bottom : ℕ) (told told' : Output) (answer : Result LinkDone LinkFault)
+-- the objects are the files of their paths, in both passes. By their texts the tape and the map, which are empty at
+-- first, and what is told become what a link from this bottom on makes of them; tape and map are created in this
+-- order, and kept under their paths
+pub record Links (task : LinkTask) (old new : Store) (told told' : Output) (answer : Result LinkDone LinkFault)
     : Type 0 where
   pub first : List Input
   pub first' : List Input
@@ -94,40 +132,72 @@ pub record Links (count : ℕ) (has_map : Bool) (bottom : ℕ) (told told' : Out
   pub tape' : Output
   pub map : Option Output
   pub map' : Option Output
-  pub counted : length first ≡ count
-  pub counted-again : length second ≡ count
-  pub asked : is_some map ≡ has_map
-  pub runs : linking.Runs (λ s. s.text) (λ s. s.faults) first first' second second' bottom
-      (link_outputs tape map told) (link_outputs tape' map' told') answer
+  pub read : AreFiles (λ s. s.text) old.files (link_inputs task) first
+  pub read-again : AreFiles (λ s. s.text) old.files (link_inputs task) second
+  pub emptied : IsEmptied old.files tape.text
+  pub emptied-map : IsEmptiedSome (λ m. m.text) old.files task.map map
+  pub runs : linking.Runs (λ s. s.text) (λ s. s.faults) first first' second second' task.bottom
+      (outputs tape map told) (outputs tape' map' told') answer
+  pub kept : new.files ≡ keeping_some (λ m. m.text) task.map map'
+      (keeping task.tape.now tape'.text (creating (link_outputs task) old.files))
+  pub opened : new.refusals ≡ old.refusals
 
--- a link of so many objects, if memory is not refused while they are opened
-abbrev pub MayLink : ℕ → Bool → ℕ → Output → Output → Result LinkDone LinkFault → Type 0
-MayLink count has_map bottom told told' answer =
-    Links count has_map bottom told told' answer ⊎ ((answer ≡ Err link.NoMemory) × (told' ≡ told))
+abbrev pub MayLink : LinkTask → Store → Store → Output → Output → Result LinkDone LinkFault → Type 0
+MayLink task old new told told' answer = Links task old new told told' answer
+    ⊎ ((answer ≡ Err link-fault.NoMemory) × RunsOutOpening (link_inputs task) (link_outputs task) old new told told')
+
+-- ---- a run
+
+-- the tape is the file of its path, and is run by what the task says, with the console
+pub record RunsTape (sim : SimTask) (old new : Store) (before after : Streams) (answer : Result SimDone SimFault)
+    : Type 0 where
+  pub tape : Input
+  pub tape' : Input
+  pub read : Holds old.files sim.tape.now tape.text
+  pub runs : Simulates sim.start sim.words sim.limit tape tape'
+      (both before.input.text before.input.faults before.printed.text before.printed.faults)
+      (both after.input.text after.input.faults after.printed.text after.printed.faults) before.told after.told answer
+  pub kept : new ≡ old
+
+abbrev pub MayRun : SimTask → Store → Store → Streams → Streams → Result SimDone SimFault → Type 0
+MayRun sim old new before after answer = RunsTape sim old new before after answer
+    ⊎ ((answer ≡ Err sim-fault.NoMemory) × (after ≡ before) × (new ≡ old))
+
+-- ---- a command
+
+-- the paths that a task reads, and those that it writes
+abbrev pub inputs_of : Task → List (List ℕ)
+inputs_of (task.Asm asm) = asm_inputs asm
+inputs_of (task.Link link) = link_inputs link
+inputs_of (task.Sim sim) = sim_inputs sim
+
+abbrev pub outputs_of_task : Task → List (List ℕ)
+outputs_of_task (task.Asm asm) = asm_outputs asm
+outputs_of_task (task.Link link) = link_outputs link
+outputs_of_task (task.Sim sim) = []
 
 -- what becomes of a task: one of its files does not open, and is told; or it is an assembly of its sources, or a link
--- of its objects; or it is a run of a tape by what the task says, which has the console
-abbrev pub Carries : Task → Outcome → Streams → Streams → Type 0
-Carries task NotOpened old new = (new.input ≡ old.input) × (new.printed ≡ old.printed)
-    × (path : List ℕ) × IsPathOf task path × Tells (open_line path) old.told new.told
-Carries (task.Asm asm) (Asm answer) old new = (new.input ≡ old.input) × (new.printed ≡ old.printed)
-    × MayAssemble (length asm.sources.items) old.told new.told answer
-Carries (task.Link link) (Link answer) old new = (new.input ≡ old.input) × (new.printed ≡ old.printed)
-    × MayLink (length link.objects.items) (is_some link.map) link.bottom old.told new.told answer
-Carries (task.Sim sim) (Sim answer) old new = (tape : Input) × (tape' : Input)
-    × Simulates sim.start sim.words sim.limit tape tape'
-    (both old.input.text old.input.faults old.printed.text old.printed.faults)
-    (both new.input.text new.input.faults new.printed.text new.printed.faults) old.told new.told answer
-Carries task outcome old new = ⊥
+-- of its objects; or it is a run of its tape, which has the console
+abbrev pub Carries : Task → Outcome → Store → Store → Streams → Streams → Type 0
+Carries task NotOpened old new before after = (after.input ≡ before.input) × (after.printed ≡ before.printed)
+    × RefusesFile (inputs_of task) (outputs_of_task task) old new before.told after.told
+Carries (task.Asm asm) (Asm answer) old new before after = (after.input ≡ before.input)
+    × (after.printed ≡ before.printed) × MayAssemble asm old new before.told after.told answer
+Carries (task.Link link) (Link answer) old new before after = (after.input ≡ before.input)
+    × (after.printed ≡ before.printed) × MayLink link old new before.told after.told answer
+Carries (task.Sim sim) (Sim answer) old new before after = MayRun sim old new before after answer
+Carries task outcome old new before after = ⊥
 
--- the words are refused, with one of the refusals that they have; or a task that they ask for is carried out
-abbrev pub ComesTo : List Text → Outcome → Streams → Streams → Type 0
-ComesTo words (Usage fault) old new = Plans words (Err fault) × (new.input ≡ old.input)
-    × Explains fault old.printed new.printed old.told new.told
-ComesTo words outcome old new = (task : Task) × Plans words (Ok task) × Carries task outcome old new
+-- the words are refused, with one of the refusals that they have, and no file is opened; or a task that they ask for is
+-- carried out
+abbrev pub ComesTo : List Text → Outcome → Store → Store → Streams → Streams → Type 0
+ComesTo words (Usage fault) old new before after = Plans words (Err fault) × (new ≡ old)
+    × (after.input ≡ before.input) × Explains fault before.printed after.printed before.told after.told
+ComesTo words outcome old new before after =
+    (task : Task) × Plans words (Ok task) × Carries task outcome old new before after
 
--- a command line comes to its outcome, and behind that the line of the outcome's fault is told
-abbrev pub Obeys : List Text → Outcome → Streams → Streams → Type 0
-Obeys words outcome old new =
-    (behind : Output) × ComesTo words outcome old (record new { told = behind })
-    × Tells (line_of outcome) behind new.told
+-- a command line comes to its outcome, and after that the line of the outcome's fault is told
+abbrev pub Obeys : List Text → Outcome → Store → Store → Streams → Streams → Type 0
+Obeys words outcome old new before after =
+    (told : Output) × ComesTo words outcome old new before (record after { told = told })
+    × Tells (line_of outcome) told after.told

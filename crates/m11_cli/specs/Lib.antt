@@ -1,3 +1,4 @@
+pub mod Arguments
 pub mod Commands
 pub mod Driver
 pub mod FaultLines

@@ -1,79 +1,84 @@
 //! All of the program's work, over whatever opens files, feeds and takes bytes.
 
-ghost use Rattle.std.specs.Prelude.{◌≡◌, ◌≢◌, is_some, map, vec_len};
-ghost use Rattle.std.specs.IoError.{error_kind};
+ghost use Rattle.std.specs.Prelude.{◌≡◌, map};
 ghost use Rattle.m11_cpu.specs.Dialogue.{Input, Output, both, input_of, output_of};
 ghost use Rattle.m11_cpu.specs.Simulation.{Simulates};
-ghost use Rattle.m11_cli.specs.Driver.{Assembles, Carries, ComesTo, Explains, Links, Obeys, Tells, streams};
+ghost use Rattle.m11_cli.specs.Driver.{Assembles, Carries, ComesTo, Explains, Links, Obeys, Store, Tells, TellsSome, store, streams};
 ghost use Rattle.m11_cli.specs.FaultLines.{line_of, open_line};
+ghost use Rattle.m11_files.specs.Files.{AreFiles, IsEmptied, IsEmptiedSome, creating, keeping_some};
+ghost use Rattle.m11_cli.specs.Opened.{asm_inputs, asm_outputs, link_inputs, link_outputs};
 ghost use Rattle.m11_cli.specs.Outcomes.{LeavesConsole, status_of};
 ghost use Rattle.m11_cli.specs.Tasks.{IsDoable};
+ghost use Rattle.m11_cli.specs.Arguments.{TellsOfWords, words_status};
 ghost use Rattle.m11_cli.specs.declared.outcome.Outcome.{Outcome};
-ghost use Rattle.m11_cli.specs.declared.outcome.Outcome.TheVariants.{NotOpened, Usage};
+ghost use Rattle.m11_cli.specs.declared.outcome.Outcome.TheVariants.{NotOpened};
 ghost use Rattle.m11_cli.specs.declared.tasks.Task.TheVariants.{Asm, Link, Sim};
-ghost use Rattle.m11_cli.specs.declared.usage.UsageFault.TheVariants.{NoMemory};
 
+use crate::arguments::{WordsFault, refusal_line};
 use crate::fault_lines::{fault_line, not_opened_line};
-use crate::opened::{AsmFiles, LinkFiles, OpenFault, open_asm_files, open_link_files, open_source};
+use crate::opened::{
+    AsmFiles, LinkFiles, OpenFault, open_asm_files, open_link_files, open_sim_file,
+};
 use crate::outcome::{Outcome, status};
 use crate::tasks::{AsmTask, LinkTask, SimTask, Task, plan};
-use crate::texts::TextTo;
 use crate::usage::UsageFault;
 use m11_asm::{AsmDone, AsmFault, asm_run};
-use m11_base::{Feed, Sink};
+use m11_base::{Feed, Sink, put_all};
 use m11_cpu::{SimDone, SimFault, sim_run};
+use m11_files::Opens;
 use m11_link::{LinkDone, LinkFault, link_run};
 use std::alloc::Global;
 use std::convert::AsStr;
-use std::fmt::Write;
-use std::io;
-use std::io::ErrorKind;
-use std::rt::Files;
 
-/// Does what the words ask for, and answers the status that the process is to leave. The first word
+/// Does what the words ask for, and returns the status that the process is to leave. The first word
 /// is the program's name.
 ///
 /// Help goes to `out`; refused words, a file that does not open, messages and the line of a fault go
 /// to `err`. The inputs are opened first, in order, each twice; then the outputs are created, a tape
-/// before its map. The first file that does not open ends the command, and leaves outputs that were
-/// created before it empty. `input` is what a program that is run reads and `out` takes what it
-/// prints, each byte at once; an assembly and a link read nothing of `input`.
-pub fn command<'a, R, I, O, E, S>(
-    rt: &R,
+/// before its map, and handed back when all has been written to them. The first file that does not
+/// open ends the command, and leaves outputs that were created before it empty. `input` is what a
+/// program that is run reads and `out` takes what it prints, each byte at once; an assembly and a
+/// link read nothing of `input`.
+pub fn command<'a, F, I, O, E, S>(
+    alloc: Global,
+    files: &mut F,
     input: &mut I,
     out: &mut O,
     err: &mut E,
     words: &'a [S],
 ) -> u8
 where
-    R: Files + AllocGlobal,
+    F: Opens,
     I: Feed,
     O: Sink,
     E: Sink,
     S: AsStr,
     ensures { (outcome : Outcome) × Obeys (map S.text words.entry.now) outcome
+        (store (F.files files.old) (F.refusals files.old)) (store (F.files files.new) (F.refusals files.new))
         (streams (I.text input.old) (I.faults input.old)
         (O.text out.old) (O.faults out.old) (E.text err.old) (E.faults err.old))
         (streams (I.text input.new) (I.faults input.new)
         (O.text out.new) (O.faults out.new) (E.text err.new) (E.faults err.new))
         × (result ≡ status_of outcome) × LeavesConsole outcome input.old input.new }
 {
-    let outcome = outcome_of(rt, input, out, err, words);
+    let outcome = outcome_of(alloc, files, input, out, err, words);
     finish(&outcome, err)
 }
 
-/// Stands for `command` where the system did not give the words: tells on `err` why, and answers
+/// Stands for `command` where the system did not give the words: tells on `err` why, and returns
 /// the status, that of want of memory or that of refused words.
-pub fn command_without_words<E: Sink>(error: &io::Error, err: &mut E) -> u8
-    ensures memory { error_kind error.now ≡ ErrorKind.OutOfMemory → result ≡ 5 }
-    ensures told { error_kind error.now ≡ ErrorKind.OutOfMemory → Tells (line_of (Usage NoMemory))
+#[tactic(auto, using(crate::proofs::Telling::tells))]
+pub fn command_without_words<E: Sink>(alloc: Global, fault: WordsFault, err: &mut E) -> u8
+    ensures status { result ≡ words_status fault }
+    ensures told { TellsOfWords fault
         (output_of (E.text err.old) (E.faults err.old)) (output_of (E.text err.new) (E.faults err.new)) }
-    ensures refused { error_kind error.now ≢ ErrorKind.OutOfMemory → result ≡ 2 }
 {
-    match error.kind() {
-        ErrorKind::OutOfMemory => finish(&Outcome::Usage(UsageFault::NoMemory), err),
-        _ => {
-            let _ = TextTo { sink: err }.writeln(error);
+    match fault {
+        WordsFault::NoMemory => finish(&Outcome::Usage(UsageFault::NoMemory), err),
+        WordsFault::NotText(number) => {
+            if let Ok(line) = refusal_line(alloc, number) {
+                let _ = put_all(err, line.as_bytes());
+            }
             2
         }
     }
@@ -93,51 +98,64 @@ fn finish<E: Sink>(outcome: &Outcome, err: &mut E) -> u8
 
 // What the words come to. A refusal is told where it is found.
 #[tactic(auto, using(crate::proofs::Telling::carried))]
-fn outcome_of<'a, R, I, O, E, S>(
-    rt: &R,
+fn outcome_of<'a, F, I, O, E, S>(
+    alloc: Global,
+    files: &mut F,
     input: &mut I,
     out: &mut O,
     err: &mut E,
     words: &'a [S],
 ) -> Outcome
 where
-    R: Files + AllocGlobal,
+    F: Opens,
     I: Feed,
     O: Sink,
     E: Sink,
     S: AsStr,
     ensures outcome { ComesTo (map S.text words.entry.now) result
+        (store (F.files files.old) (F.refusals files.old)) (store (F.files files.new) (F.refusals files.new))
         (streams (I.text input.old) (I.faults input.old)
         (O.text out.old) (O.faults out.old) (E.text err.old) (E.faults err.old))
         (streams (I.text input.new) (I.faults input.new)
         (O.text out.new) (O.faults out.new) (E.text err.new) (E.faults err.new)) }
     ensures console { LeavesConsole result input.old input.new }
 {
-    match plan(rt.alloc(), words) {
-        Ok(Task::Asm(task)) => assemble(rt, err, &task),
-        Ok(Task::Link(task)) => link(rt, err, &task),
-        Ok(Task::Sim(task)) => simulate(rt, input, out, err, &task),
+    match plan(alloc, words) {
+        Ok(Task::Asm(task)) => assemble(alloc, files, err, &task),
+        Ok(Task::Link(task)) => link(alloc, files, err, &task),
+        Ok(Task::Sim(task)) => simulate(alloc, files, input, out, err, &task),
         Err(fault) => {
-            explain(&fault, out, err);
+            explain(alloc, &fault, out, err);
             Outcome::Usage(fault)
         }
     }
 }
 
 // The parser's text: help goes to `out`, and a refusal to `err`.
-fn explain<O: Sink, E: Sink>(fault: &UsageFault, out: &mut O, err: &mut E)
+fn explain<O: Sink, E: Sink>(alloc: Global, fault: &UsageFault, out: &mut O, err: &mut E)
     ensures { Explains fault.now
         (output_of (O.text out.old) (O.faults out.old)) (output_of (O.text out.new) (O.faults out.new))
         (output_of (E.text err.old) (E.faults err.old)) (output_of (E.text err.new) (E.faults err.new)) }
 {
-    let _ = match fault {
-        UsageFault::Help(error) => TextTo { sink: out }.write(error),
-        UsageFault::Words(error) => TextTo { sink: err }.write(error),
+    match fault {
+        UsageFault::Help(error) => tell(alloc, error, out),
+        UsageFault::Words(error) => tell(alloc, error, err),
         UsageFault::BadOctal
         | UsageFault::OddAddress
         | UsageFault::BadAddress
-        | UsageFault::NoMemory => Ok(()),
-    };
+        | UsageFault::NoMemory => {}
+    }
+}
+
+// The text of an error, put at once. Where memory is refused for it, nothing is.
+#[tactic(auto, using(crate::proofs::Telling::tells_some, crate::proofs::Telling::tells_none))]
+fn tell<S: Sink>(alloc: Global, error: &clap::Error, sink: &mut S)
+    ensures { TellsSome (output_of (S.text sink.old) (S.faults sink.old))
+        (output_of (S.text sink.new) (S.faults sink.new)) }
+{
+    if let Ok(text) = error.to_string(alloc) {
+        let _ = put_all(sink, text.as_bytes());
+    }
 }
 
 // Tells that the file of a path does not open.
@@ -152,100 +170,144 @@ fn not_opened<E: Sink>(err: &mut E, path: &str) -> Outcome
 }
 
 // An assembly, where its files open.
-fn assemble<R: Files + AllocGlobal, E: Sink>(rt: &R, err: &mut E, task: &AsmTask<'_>) -> Outcome
+fn assemble<F: Opens, E: Sink>(
+    alloc: Global,
+    files: &mut F,
+    err: &mut E,
+    task: &AsmTask<'_>,
+) -> Outcome
     ensures { (input : Input) → (printed : Output) → Carries (Asm task.now) result
+        (store (F.files files.old) (F.refusals files.old)) (store (F.files files.new) (F.refusals files.new))
         (record { input = input; printed = printed; told = output_of (E.text err.old) (E.faults err.old) })
         (record { input = input; printed = printed; told = output_of (E.text err.new) (E.faults err.new) }) }
 {
-    match open_asm_files(rt, task) {
-        Ok(files) => Outcome::Asm(run_asm(rt.alloc(), files, err)),
+    match open_asm_files(alloc, files, task) {
+        Ok(opened) => Outcome::Asm(run_asm(alloc, files, opened, err, task)),
         Err(OpenFault::NotOpened(path)) => not_opened(err, path),
         Err(OpenFault::NoMemory) => Outcome::Asm(Err(AsmFault::NoMemory)),
     }
 }
 
-// An assembly of open files, whose messages go to `err`.
-#[tactic(auto, using(crate::proofs::Sources::runs, crate::proofs::Sources::seen_count))]
-fn run_asm<F: Feed + Drop, S: Sink + Drop, E: Sink>(
+// An assembly of open files, whose messages go to `err`. The object is handed back.
+fn run_asm<F: Opens, E: Sink>(
     alloc: Global,
-    files: AsmFiles<F, S>,
+    files: &mut F,
+    opened: AsmFiles<F::Input, F::Output>,
     err: &mut E,
+    task: &AsmTask<'_>,
 ) -> Result<AsmDone, AsmFault>
-    ensures { Assembles (vec_len files.sources.first)
+    ensures { (before : Store) → AreFiles F.Input.text before.files (asm_inputs task.now) opened.sources.first.items
+        → IsEmptied before.files (F.Output.text opened.object)
+        → F.files files.old ≡ creating (asm_outputs task.now) before.files → F.refusals files.old ≡ before.refusals
+        → Assembles task.now before (store (F.files files.new) (F.refusals files.new))
         (output_of (E.text err.old) (E.faults err.old)) (output_of (E.text err.new) (E.faults err.new)) result }
 {
-    let mut files = files;
-    let mut listing: Option<S> = None;
-    asm_run(
+    let AsmFiles {
+        mut sources,
+        mut object,
+    } = opened;
+    let mut listing: Option<F::Output> = None;
+    let answer = asm_run(
         alloc,
-        files.sources.first.as_mut_slice(),
-        files.sources.second.as_mut_slice(),
-        &mut files.object,
+        sources.first.as_mut_slice(),
+        sources.second.as_mut_slice(),
+        &mut object,
         &mut listing,
         err,
-    )
+    );
+    files.keep(task.object, object);
+    answer
 }
 
 // A link, where its files open.
-fn link<R: Files + AllocGlobal, E: Sink>(rt: &R, err: &mut E, task: &LinkTask<'_>) -> Outcome
+fn link<F: Opens, E: Sink>(
+    alloc: Global,
+    files: &mut F,
+    err: &mut E,
+    task: &LinkTask<'_>,
+) -> Outcome
     ensures { (input : Input) → (printed : Output) → Carries (Link task.now) result
+        (store (F.files files.old) (F.refusals files.old)) (store (F.files files.new) (F.refusals files.new))
         (record { input = input; printed = printed; told = output_of (E.text err.old) (E.faults err.old) })
         (record { input = input; printed = printed; told = output_of (E.text err.new) (E.faults err.new) }) }
 {
-    match open_link_files(rt, task) {
-        Ok(files) => Outcome::Link(run_link(rt.alloc(), files, task.bottom, err)),
+    match open_link_files(alloc, files, task) {
+        Ok(opened) => Outcome::Link(run_link(alloc, files, opened, err, task)),
         Err(OpenFault::NotOpened(path)) => not_opened(err, path),
         Err(OpenFault::NoMemory) => Outcome::Link(Err(LinkFault::NoMemory)),
     }
 }
 
-// A link of open files, whose messages go to `err`.
-#[tactic(auto, using(crate::proofs::Linked::link_runs, crate::proofs::Sources::seen_count))]
-fn run_link<F: Feed + Drop, S: Sink + Drop, E: Sink>(
+// A link of open files, whose messages go to `err`. The tape and the map are handed back.
+fn run_link<F: Opens, E: Sink>(
     alloc: Global,
-    files: LinkFiles<F, S>,
-    bottom: u16,
+    files: &mut F,
+    opened: LinkFiles<F::Input, F::Output>,
     err: &mut E,
+    task: &LinkTask<'_>,
 ) -> Result<LinkDone, LinkFault>
-    requires { vec_len files.objects.second ≡ vec_len files.objects.first }
-    ensures { Links (vec_len files.objects.first) (is_some files.map) bottom
+    ensures { (before : Store) → AreFiles F.Input.text before.files (link_inputs task.now) opened.objects.first.items
+        → AreFiles F.Input.text before.files (link_inputs task.now) opened.objects.second.items
+        → IsEmptied before.files (F.Output.text opened.tape)
+        → IsEmptiedSome F.Output.text before.files task.now.map opened.map
+        → F.files files.old ≡ creating (link_outputs task.now) before.files → F.refusals files.old ≡ before.refusals
+        → Links task.now before (store (F.files files.new) (F.refusals files.new))
         (output_of (E.text err.old) (E.faults err.old)) (output_of (E.text err.new) (E.faults err.new)) result }
 {
-    let mut files = files;
-    link_run(
+    let LinkFiles {
+        mut objects,
+        mut tape,
+        mut map,
+    } = opened;
+    let answer = link_run(
         alloc,
-        files.objects.first.as_mut_slice(),
-        files.objects.second.as_mut_slice(),
-        bottom,
-        &mut files.tape,
-        &mut files.map,
+        objects.first.as_mut_slice(),
+        objects.second.as_mut_slice(),
+        task.bottom,
+        &mut tape,
+        &mut map,
         err,
-    )
+    );
+    files.keep(task.tape, tape);
+    keep_some(files, task.map, map);
+    answer
+}
+
+// Hands back the output of a path, if there is one.
+fn keep_some<F: Opens>(files: &mut F, path: Option<&str>, output: Option<F::Output>)
+    ensures keeps { F.files files.new ≡ keeping_some F.Output.text path.entry output (F.files files.old) }
+    ensures counts { F.refusals files.new ≡ F.refusals files.old }
+{
+    if let (Some(path), Some(output)) = (path, output) {
+        files.keep(path, output);
+    }
 }
 
 // A run of a tape, where it opens.
-fn simulate<R, I, O, E>(
-    rt: &R,
+fn simulate<F, I, O, E>(
+    alloc: Global,
+    files: &mut F,
     input: &mut I,
     out: &mut O,
     err: &mut E,
     task: &SimTask<'_>,
 ) -> Outcome
 where
-    R: Files + AllocGlobal,
+    F: Opens,
     I: Feed,
     O: Sink,
     E: Sink,
     requires { IsDoable (Sim task.now) }
     ensures outcome { Carries (Sim task.now) result
+        (store (F.files files.old) (F.refusals files.old)) (store (F.files files.new) (F.refusals files.new))
         (streams (I.text input.old) (I.faults input.old)
         (O.text out.old) (O.faults out.old) (E.text err.old) (E.faults err.old))
         (streams (I.text input.new) (I.faults input.new)
         (O.text out.new) (O.faults out.new) (E.text err.new) (E.faults err.new)) }
     ensures console { LeavesConsole result input.old input.new }
 {
-    match open_source(rt, task.tape) {
-        Ok(tape) => Outcome::Sim(run_sim(rt.alloc(), tape, input, out, err, task)),
+    match open_sim_file(files, task) {
+        Ok(tape) => Outcome::Sim(run_sim(alloc, tape, input, out, err, task)),
         Err(OpenFault::NotOpened(path)) => not_opened(err, path),
         Err(OpenFault::NoMemory) => Outcome::Sim(Err(SimFault::NoMemory)),
     }

@@ -1,16 +1,13 @@
 //! The files of a task, opened.
 
-ghost use Rattle.std.specs.IoError.{error_kind};
-ghost use Rattle.std.specs.Prelude.{◌≡◌, ◌≢◌, IfErr, IfOk, is_some, length, vec_len};
-ghost use Rattle.m11_cli.specs.Opened.{IsAsmPath, IsLinkPath, NamesOneOf, NamesPath, NamesSome};
-ghost use Rattle.m11_cli.specs.declared.opened.OpenFault.TheVariants.{NotOpened, NoMemory};
+ghost use Rattle.std.specs.Prelude.{◌≡◌, ◌∷◌, IfErr, IfOk, OnErr, []};
+ghost use Rattle.m11_files.specs.Files.{AreFiles, Holds, IsEmptied, IsEmptiedSome, creating};
+ghost use Rattle.m11_cli.specs.Opened.{CountsOpening, LacksFirst, LacksOne, Names, Stops, asm_inputs, asm_outputs, fault_at, link_inputs, link_outputs, optional, sim_inputs, texts};
+ghost use Rattle.m11_cli.specs.declared.opened.OpenFault.TheVariants.{NoMemory};
 
-use crate::tasks::{AsmTask, LinkTask};
-use m11_base::{BufferedFeed, WriterSink};
-use std::alloc::AllocFailed;
-use std::io::{BufReader, ErrorKind};
-use std::rt::Files;
-use std::{fs, io};
+use crate::tasks::{AsmTask, LinkTask, SimTask};
+use m11_files::{OpenRefusal, Opens};
+use std::alloc::{AllocFailed, Global};
 
 /// Why the files of a task are not all open.
 #[derive(Debug, Drop)]
@@ -29,77 +26,114 @@ impl<T: Drop> From<AllocFailed<T>> for OpenFault<'_> {
     }
 }
 
-/// A source, an object or a tape, read through a buffer.
-pub(crate) type Source<F> = BufferedFeed<F>;
-
-/// Inputs that are read twice: each is there for either reading.
+/// Inputs that are read in two passes: each is there for either pass.
 #[derive(Drop)]
-pub(crate) struct Inputs<F> {
-    pub(crate) first: Vec<F>,
-    pub(crate) second: Vec<F>,
+pub(crate) struct Inputs<I> {
+    pub(crate) first: Vec<I>,
+    pub(crate) second: Vec<I>,
 }
 
 /// The sources and the object of an assembly.
 #[derive(Drop)]
-pub(crate) struct AsmFiles<F, S> {
-    pub(crate) sources: Inputs<F>,
-    pub(crate) object: S,
+pub(crate) struct AsmFiles<I, O> {
+    pub(crate) sources: Inputs<I>,
+    pub(crate) object: O,
 }
 
 /// The objects of a link, its tape, and its map if one is asked for.
 #[derive(Drop)]
-pub(crate) struct LinkFiles<F, S> {
-    pub(crate) objects: Inputs<F>,
-    pub(crate) tape: S,
-    pub(crate) map: Option<S>,
+pub(crate) struct LinkFiles<I, O> {
+    pub(crate) objects: Inputs<I>,
+    pub(crate) tape: O,
+    pub(crate) map: Option<O>,
 }
 
 /// Opens the sources, and then creates the object.
-#[tactic(auto, using(crate::proofs::Paths::object_path, crate::proofs::Paths::source_path))]
-pub(crate) fn open_asm_files<'a, R: Files + AllocGlobal>(
-    rt: &R,
+#[tactic(auto, using(crate::proofs::Opening::stops_at_input, crate::proofs::Opening::stops_at_first))]
+pub(crate) fn open_asm_files<'a, F: Opens>(
+    alloc: Global,
+    files: &mut F,
     task: &AsmTask<'a>,
-) -> Result<AsmFiles<Source<R::File>, WriterSink<R::File>>, OpenFault<'a>>
-    ensures first { IfOk result (λ files. vec_len files.sources.first ≡ vec_len task.now.sources) }
-    ensures second { IfOk result (λ files. vec_len files.sources.second ≡ vec_len task.now.sources) }
-    ensures path { IfErr result (IsAsmPath task.now) }
+) -> Result<AsmFiles<F::Input, F::Output>, OpenFault<'a>>
+    ensures first { IfOk result (λ opened.
+        AreFiles F.Input.text (F.files files.old) (asm_inputs task.now) opened.sources.first.items) }
+    ensures second { IfOk result (λ opened.
+        AreFiles F.Input.text (F.files files.old) (asm_inputs task.now) opened.sources.second.items) }
+    ensures object { IfOk result (λ opened.
+        IsEmptied (F.files files.old) (F.Output.text opened.object)) }
+    ensures created { IfOk result (λ opened.
+        F.files files.new ≡ creating (asm_outputs task.now) (F.files files.old)) }
+    ensures stops { IfErr result (Stops (F.files files.old) (F.files files.new)
+        (asm_inputs task.now) (asm_outputs task.now)) }
+    ensures counts { CountsOpening (F.refusals files.old) (F.refusals files.new) result }
 {
-    let sources = open_inputs(rt, task.sources.as_slice())?;
-    let object = create(rt, task.object)?;
+    let sources = open_inputs(alloc, files, task.sources.as_slice())?;
+    let object = create(files, task.object)?;
     Ok(AsmFiles { sources, object })
 }
 
 /// Opens the objects, then creates the tape, and then the map if one is asked for.
-#[tactic(auto, using(crate::proofs::Paths::object_of, crate::proofs::Paths::map_of, crate::proofs::Paths::tape_of))]
-pub(crate) fn open_link_files<'a, R: Files + AllocGlobal>(
-    rt: &R,
+#[tactic(auto, using(crate::proofs::Opening::creates_more, crate::proofs::Opening::stops_at_input, crate::proofs::Opening::stops_at_first, crate::proofs::Opening::stops_at_second))]
+pub(crate) fn open_link_files<'a, F: Opens>(
+    alloc: Global,
+    files: &mut F,
     task: &LinkTask<'a>,
-) -> Result<LinkFiles<Source<R::File>, WriterSink<R::File>>, OpenFault<'a>>
-    ensures first { IfOk result (λ files. vec_len files.objects.first ≡ vec_len task.now.objects) }
-    ensures second { IfOk result (λ files. vec_len files.objects.second ≡ vec_len task.now.objects) }
-    ensures map { IfOk result (λ files. is_some files.map ≡ is_some task.now.map) }
-    ensures path { IfErr result (IsLinkPath task.now) }
+) -> Result<LinkFiles<F::Input, F::Output>, OpenFault<'a>>
+    ensures first { IfOk result (λ opened.
+        AreFiles F.Input.text (F.files files.old) (link_inputs task.now) opened.objects.first.items) }
+    ensures second { IfOk result (λ opened.
+        AreFiles F.Input.text (F.files files.old) (link_inputs task.now) opened.objects.second.items) }
+    ensures tape { IfOk result (λ opened.
+        IsEmptied (F.files files.old) (F.Output.text opened.tape)) }
+    ensures map { IfOk result (λ opened.
+        IsEmptiedSome F.Output.text (F.files files.old) task.now.map opened.map) }
+    ensures created { IfOk result (λ opened.
+        F.files files.new ≡ creating (link_outputs task.now) (F.files files.old)) }
+    ensures stops { IfErr result (Stops (F.files files.old) (F.files files.new)
+        (link_inputs task.now) (link_outputs task.now)) }
+    ensures counts { CountsOpening (F.refusals files.old) (F.refusals files.new) result }
 {
-    let objects = open_inputs(rt, task.objects.as_slice())?;
-    let tape = create(rt, task.tape)?;
-    let map = create_some(rt, task.map)?;
+    let objects = open_inputs(alloc, files, task.objects.as_slice())?;
+    let tape = create(files, task.tape)?;
+    let map = create_some(files, task.map)?;
     Ok(LinkFiles { objects, tape, map })
 }
 
-// Inputs, in order, each opened twice before the next.
-#[tactic(auto, using(crate::proofs::Paths::input_path))]
-fn open_inputs<'a, R: Files + AllocGlobal>(
-    rt: &R,
-    paths: &[&'a str],
-) -> Result<Inputs<Source<R::File>>, OpenFault<'a>>
-    ensures first { IfOk result (λ inputs. vec_len inputs.first ≡ length paths.now) }
-    ensures second { IfOk result (λ inputs. vec_len inputs.second ≡ length paths.now) }
-    ensures path { IfErr result (NamesOneOf paths.now) }
+/// Opens the tape of a run.
+#[tactic(auto, using(crate::proofs::Opening::stops_at_one))]
+pub(crate) fn open_sim_file<'a, F: Opens>(
+    files: &mut F,
+    task: &SimTask<'a>,
+) -> Result<F::Input, OpenFault<'a>>
+    ensures opened { IfOk result (λ tape.
+        Holds (F.files files.old) task.now.tape.now (F.Input.text tape)) }
+    ensures files { F.files files.new ≡ F.files files.old }
+    ensures stops { IfErr result (Stops (F.files files.old) (F.files files.new)
+        (sim_inputs task.now) []) }
+    ensures counts { CountsOpening (F.refusals files.old) (F.refusals files.new) result }
 {
-    let mut first = Vec::new(rt.alloc());
-    let mut second = Vec::new(rt.alloc());
-    for path in paths {
-        let (once, again) = open_twice(rt, *path)?;
+    open_input(files, task.tape)
+}
+
+// Inputs, in order, each opened twice before the next.
+#[tactic(auto, using(crate::proofs::Opening::next_input, crate::proofs::Opening::all_inputs, crate::proofs::Opening::first_lacking))]
+fn open_inputs<'a, F: Opens>(
+    alloc: Global,
+    files: &mut F,
+    paths: &[&'a str],
+) -> Result<Inputs<F::Input>, OpenFault<'a>>
+    ensures first { IfOk result (λ inputs.
+        AreFiles F.Input.text (F.files files.old) (texts paths.now) inputs.first.items) }
+    ensures second { IfOk result (λ inputs.
+        AreFiles F.Input.text (F.files files.old) (texts paths.now) inputs.second.items) }
+    ensures files { F.files files.new ≡ F.files files.old }
+    ensures lacks { IfErr result (LacksFirst (F.files files.old) (texts paths.now)) }
+    ensures counts { CountsOpening (F.refusals files.old) (F.refusals files.new) result }
+{
+    let mut first = Vec::new(alloc);
+    let mut second = Vec::new(alloc);
+    'paths: for path in paths {
+        let (once, again) = open_twice(files, *path)?;
         first.push(once)?;
         second.push(again)?;
     }
@@ -107,65 +141,77 @@ fn open_inputs<'a, R: Files + AllocGlobal>(
 }
 
 // An input that is read twice.
-fn open_twice<'a, R: Files + AllocGlobal>(
-    rt: &R,
+fn open_twice<'a, F: Opens>(
+    files: &mut F,
     path: &'a str,
-) -> Result<(Source<R::File>, Source<R::File>), OpenFault<'a>>
-    ensures { IfErr result (NamesPath path.entry.now) }
+) -> Result<(F::Input, F::Input), OpenFault<'a>>
+    ensures first { IfOk result (λ inputs.
+        Holds (F.files files.old) path.entry.now (F.Input.text inputs.0)) }
+    ensures second { IfOk result (λ inputs.
+        Holds (F.files files.old) path.entry.now (F.Input.text inputs.1)) }
+    ensures files { F.files files.new ≡ F.files files.old }
+    ensures lacks { IfErr result (LacksOne (F.files files.old) path.entry.now) }
+    ensures counts { CountsOpening (F.refusals files.old) (F.refusals files.new) result }
 {
-    let once = open_source(rt, path)?;
-    let again = open_source(rt, path)?;
+    let once = open_input(files, path)?;
+    let again = open_input(files, path)?;
     Ok((once, again))
 }
 
-/// Opens an input, to be read once.
-pub(crate) fn open_source<'a, R: Files + AllocGlobal>(
-    rt: &R,
-    path: &'a str,
-) -> Result<Source<R::File>, OpenFault<'a>>
-    ensures { IfErr result (NamesPath path.entry.now) }
+// Opens an input, to be read once.
+fn open_input<'a, F: Opens>(files: &mut F, path: &'a str) -> Result<F::Input, OpenFault<'a>>
+    ensures opened { IfOk result (λ input.
+        Holds (F.files files.old) path.entry.now (F.Input.text input)) }
+    ensures files { F.files files.new ≡ F.files files.old }
+    ensures lacks { IfErr result (LacksOne (F.files files.old) path.entry.now) }
+    ensures counts { CountsOpening (F.refusals files.old) (F.refusals files.new) result }
 {
-    let file = match fs::open(rt, path) {
-        Ok(file) => file,
-        Err(error) => return Err(open_fault(&error, path)),
-    };
-    match BufReader::new(rt.alloc(), file) {
-        Ok(reader) => Ok(BufferedFeed::new(reader)),
-        Err(_) => Err(OpenFault::NoMemory),
+    match files.open(path) {
+        Ok(input) => Ok(input),
+        Err(refusal) => Err(fault_at(refusal, path)),
     }
 }
 
 // The output of a path, if there is one.
-fn create_some<'a, R: Files>(
-    rt: &R,
+fn create_some<'a, F: Opens>(
+    files: &mut F,
     path: Option<&'a str>,
-) -> Result<Option<WriterSink<R::File>>, OpenFault<'a>>
-    ensures made { IfOk result (λ output. is_some output ≡ is_some path.entry) }
-    ensures path { IfErr result (NamesSome path.entry) }
+) -> Result<Option<F::Output>, OpenFault<'a>>
+    ensures empty { IfOk result (λ output.
+        IsEmptiedSome F.Output.text (F.files files.old) path.entry output) }
+    ensures created { IfOk result (λ output.
+        F.files files.new ≡ creating (optional path.entry) (F.files files.old)) }
+    ensures kept { OnErr result (F.files files.new ≡ F.files files.old) }
+    ensures named { IfErr result (Names (optional path.entry)) }
+    ensures counts { CountsOpening (F.refusals files.old) (F.refusals files.new) result }
 {
     match path {
-        Some(path) => Ok(Some(create(rt, path)?)),
+        Some(path) => Ok(Some(create(files, path)?)),
         None => Ok(None),
     }
 }
 
-// An output, empty, written with no buffer.
-fn create<'a, R: Files>(rt: &R, path: &'a str) -> Result<WriterSink<R::File>, OpenFault<'a>>
-    ensures { IfErr result (NamesPath path.entry.now) }
+// An output, which is empty.
+fn create<'a, F: Opens>(files: &mut F, path: &'a str) -> Result<F::Output, OpenFault<'a>>
+    ensures empty { IfOk result (λ output. IsEmptied (F.files files.old) (F.Output.text output)) }
+    ensures created { IfOk result (λ output.
+        F.files files.new ≡ creating (path.entry.now ∷ []) (F.files files.old)) }
+    ensures kept { OnErr result (F.files files.new ≡ F.files files.old) }
+    ensures named { IfErr result (Names (path.entry.now ∷ [])) }
+    ensures counts { CountsOpening (F.refusals files.old) (F.refusals files.new) result }
 {
-    match fs::create(rt, path) {
-        Ok(file) => Ok(WriterSink::new(file)),
-        Err(error) => Err(open_fault(&error, path)),
+    match files.create(path) {
+        Ok(output) => Ok(output),
+        Err(refusal) => Err(fault_at(refusal, path)),
     }
 }
 
-// Why the file of a path did not open: memory may be what the system has too little of.
-fn open_fault<'a>(error: &io::Error, path: &'a str) -> OpenFault<'a>
-    ensures memory { error_kind error.now ≡ ErrorKind.OutOfMemory → result ≡ NoMemory }
-    ensures told { error_kind error.now ≢ ErrorKind.OutOfMemory → result ≡ NotOpened path.entry }
+// The fault of a refusal, which names the path.
+fn fault_at<'a>(refusal: OpenRefusal, path: &'a str) -> OpenFault<'a>
+    ensures { result ≡ fault_at refusal path.entry }
 {
-    match error.kind() {
-        ErrorKind::OutOfMemory => OpenFault::NoMemory,
-        _ => OpenFault::NotOpened(path),
+    match refusal {
+        OpenRefusal::NotOpened => OpenFault::NotOpened(path),
+        OpenRefusal::NoMemory => OpenFault::NoMemory,
     }
 }

@@ -1,41 +1,51 @@
-use Rattle.std.proofs.Common.{◌∙◌, sym}
+use Rattle.std.proofs.Common.{◌∙◌, ap}
+use Rattle.m11_files.specs.Files.{keeping, keeping_some}
 use Rattle.m11_link.specs.SecondReading.{Runs}
-use Rattle.m11_cli.specs.Driver.{link_outputs}
-use Rattle.m11_cli.proofs.Linked.{link_runs, same_output, same_presence, seen_output, seen_sink}
-use Rattle.m11_cli.proofs.Sources.{seen, seen_count}
+use Rattle.m11_cli.specs.Driver.{outputs}
+use Rattle.m11_cli.specs.Opened.{link_inputs}
+use Rattle.m11_cli.proofs.Linked.{emptied, kept, link_runs, same_output, seen_output, seen_sink}
+use Rattle.m11_cli.proofs.Sources.{are, seen}
 use Rattle.m11_cli.proofs.driver.run_link.Goals as goal
 
 pub returns : goal.returns
 returns g c =
-    let text = g.F.Feed.text in
-    let faults = g.F.Feed.faults in
-    let first = c.args.files.objects.first.items in
-    let second = c.args.files.objects.second.items in
-    let tape = seen_sink g.S.Sink c.args.files.tape in
-    let tape' = seen_sink g.S.Sink c.link_run.new.tape in
-    let map = seen_output g.S.Sink c.args.files.map in
-    let map' = seen_output g.S.Sink c.link_run.new.map in
+    let text = g.F.Input.Feed.text in
+    let faults = g.F.Input.Feed.faults in
+    let sink = g.F.Output.Sink in
+    let task = c.args.task.now in
+    let first = c.args.opened.objects.first.items in
+    let second = c.args.opened.objects.second.items in
+    let tape = seen_sink sink c.args.opened.tape in
+    let tape' = seen_sink sink c.link_run-answer.new.tape in
+    let map = seen_output sink c.args.opened.map in
+    let map' = seen_output sink c.link_run-answer.new.map in
     let told = seen_sink g.E.Sink c.args.err.now in
-    let told' = seen_sink g.E.Sink c.link_run.new.messages in
-    let ran : Runs text faults first c.link_run.new.first second c.link_run.new.second c.args.bottom
-    (link_outputs tape map told) (link_outputs tape' map' told') c.link_run.result =
+    let told' = seen_sink g.E.Sink c.link_run-answer.new.messages in
+    let ran : Runs text faults first c.link_run-answer.new.first second c.link_run-answer.new.second task.bottom
+    (outputs tape map told) (outputs tape' map' told') c.link_run-answer.result =
     rw (
       c.as_mut_slice.ensures.value,
       c.as_mut_slice-2.ensures.value,
-      same_output g.S.Sink c.args.files.map,
-      same_output g.S.Sink c.link_run.new.map,
-    ) at c.link_run.ensures in
-    record {
+      same_output sink c.args.opened.map,
+      same_output sink c.link_run-answer.new.map,
+    ) at c.link_run-answer.ensures in
+    λ before read again emptied-tape emptied-map created same. record {
       first = seen text faults first;
-      first' = seen text faults c.link_run.new.first;
+      first' = seen text faults c.link_run-answer.new.first;
       second = seen text faults second;
-      second' = seen text faults c.link_run.new.second;
+      second' = seen text faults c.link_run-answer.new.second;
       tape = tape;
       tape' = tape';
       map = map;
       map' = map';
-      counted = seen_count text faults first ∙ sym c.args.files.objects.first.ok.0;
-      counted-again = seen_count text faults second ∙ sym c.args.files.objects.second.ok.0 ∙ c.requires;
-      asked = same_presence g.S.Sink c.args.files.map;
-      runs = link_runs text faults _ _ _ _ _ _ _ c.link_run.result ran;
+      read = are text faults before.files (link_inputs task) first read;
+      read-again = are text faults before.files (link_inputs task) second again;
+      emptied = emptied-tape;
+      emptied-map = emptied sink before.files task.map c.args.opened.map emptied-map;
+      runs = link_runs text faults _ _ _ _ _ _ _ c.link_run-answer.result ran;
+      kept = c.keep_some.ensures.keeps
+          ∙ kept sink task.map c.link_run-answer.new.map _
+          ∙ ap (λ files. keeping_some (λ output. output.text) task.map map' files)
+          (c.keep.ensures.keeps ∙ ap (λ files. keeping task.tape.now (sink.text c.link_run-answer.new.tape) files) created);
+      opened = c.keep_some.ensures.counts ∙ c.keep.ensures.counts ∙ same;
     }

@@ -1,0 +1,23 @@
+-- Words that the system does not give. (This project's own.)
+use Rattle.std.specs.Prelude.{◌≡◌, ◌++◌, ◌⊎◌, List, [], ◌∷◌, ℕ, codes}
+use Rattle.std.specs.Fmt.{decimal}
+use Rattle.m11_cpu.specs.Dialogue.{Output}
+use Rattle.m11_cli.specs.Driver.{Tells}
+use Rattle.m11_cli.specs.FaultLines.{line_of}
+use Rattle.m11_cli.specs.declared.outcome.Outcome.TheVariants.{Usage}
+use Rattle.m11_cli.specs.declared.usage.UsageFault.TheVariants as usage
+use Rattle.m11_cli.specs.declared.arguments.WordsFault.{WordsFault}
+use Rattle.m11_cli.specs.declared.arguments.WordsFault.TheVariants.{NoMemory, NotText}
+
+abbrev pub words_status : WordsFault → ℕ
+words_status NoMemory = 5
+words_status (NotText number) = 2
+
+-- the line of a word that is no text
+unfoldable pub refusal_line : ℕ → List ℕ
+refusal_line number = codes "error: word " ++ decimal number ++ codes " is not valid UTF-8\n"
+
+-- that line, or nothing where memory is refused for it; or the line for want of memory
+abbrev pub TellsOfWords : WordsFault → Output → Output → Type 0
+TellsOfWords NoMemory old new = Tells (line_of (Usage usage.NoMemory)) old new
+TellsOfWords (NotText number) old new = Tells (refusal_line number) old new ⊎ (new ≡ old)
