@@ -1,0 +1,179 @@
+//! A case, read from its text: commands one after another, what each is given, and what each must leave.
+
+use crate::escapes::{byte_of_hex, byte_of_octal, unescaped, unescaped_text};
+use crate::fault::{CaseFault, LineFault};
+use m11_cli::MemoryFile;
+use std::alloc::Global;
+
+/// A command of a case: what it is given, and what it must leave.
+#[derive(Drop)]
+pub(crate) struct Command {
+    /// The words, of which the first is the program's name.
+    pub(crate) words: Vec<String>,
+    /// Files that are put where it runs, in the place of those of the same paths.
+    pub(crate) files: Vec<MemoryFile>,
+    /// Standard input.
+    pub(crate) input: Vec<u8>,
+    /// The status.
+    pub(crate) status: u8,
+    /// Standard output.
+    pub(crate) printed: Vec<u8>,
+    /// Standard error.
+    pub(crate) told: Vec<u8>,
+    /// The files that it creates, each with all its bytes, and no other.
+    pub(crate) outputs: Vec<MemoryFile>,
+}
+
+// What the lines of content after a line belong to.
+#[derive(Clone, Copy)]
+enum Place {
+    Nothing,
+    File,
+    Input,
+    Printed,
+    Told,
+    Output,
+}
+
+// The commands that were read, of which the last takes what comes.
+#[derive(Drop)]
+struct Reading {
+    commands: Vec<Command>,
+    place: Place,
+}
+
+/// Reads the text of a case.
+pub(crate) fn read_case(alloc: Global, text: &str) -> Result<Vec<Command>, CaseFault> {
+    let mut reading = Reading {
+        commands: Vec::new(alloc),
+        place: Place::Nothing,
+    };
+    let mut number: u64 = 0;
+    for line in text.split('\n') {
+        number = number.saturating_add(1);
+        if let Err(fault) = reading.line(alloc, line) {
+            return Err(CaseFault {
+                line: number,
+                fault,
+            });
+        }
+    }
+    Ok(reading.commands)
+}
+
+impl Reading {
+    // Takes a line.
+    fn line(&mut self, alloc: Global, line: &str) -> Result<(), LineFault> {
+        match line.as_bytes() {
+            [] | [b';', ..] => Ok(()),
+            [b'|', text @ ..] => {
+                let mut bytes = unescaped(alloc, text)?;
+                bytes.push(b'\n')?;
+                self.content(bytes.as_slice())
+            }
+            [b'+', text @ ..] => {
+                let bytes = unescaped(alloc, text)?;
+                self.content(bytes.as_slice())
+            }
+            [b'=', ..] => {
+                let bytes = bytes_of(alloc, line)?;
+                self.content(bytes.as_slice())
+            }
+            _ => self.part(alloc, line),
+        }
+    }
+
+    // Adds bytes to what content belongs to.
+    fn content(&mut self, bytes: &[u8]) -> Result<(), LineFault> {
+        let place = self.place;
+        let command = self.commands.last_mut().ok_or(LineFault::NoCommand)?;
+        match place {
+            Place::Nothing => return Err(LineFault::NoPlace),
+            Place::File => add_to_last(&mut command.files, bytes)?,
+            Place::Input => command.input.extend_from_slice(bytes)?,
+            Place::Printed => command.printed.extend_from_slice(bytes)?,
+            Place::Told => command.told.extend_from_slice(bytes)?,
+            Place::Output => add_to_last(&mut command.outputs, bytes)?,
+        }
+        Ok(())
+    }
+
+    // Takes a line that says what comes.
+    fn part(&mut self, alloc: Global, line: &str) -> Result<(), LineFault> {
+        let (name, rest) = line.split_once(' ').unwrap_or((line, ""));
+        if name == "words" {
+            self.commands.push(command_of(alloc, rest)?)?;
+            self.place = Place::Nothing;
+            return Ok(());
+        }
+        let command = self.commands.last_mut().ok_or(LineFault::NoCommand)?;
+        self.place = match name {
+            "file" => {
+                command.files.push(empty_file(alloc, rest)?)?;
+                Place::File
+            }
+            "out" => {
+                command.outputs.push(empty_file(alloc, rest)?)?;
+                Place::Output
+            }
+            "status" => {
+                command.status = rest.parse::<u8>().or(Err(LineFault::BadStatus))?;
+                Place::Nothing
+            }
+            "stdin" => Place::Input,
+            "stdout" => Place::Printed,
+            "stderr" => Place::Told,
+            _ => return Err(LineFault::UnknownPart),
+        };
+        Ok(())
+    }
+}
+
+// A command of these words, which is given nothing and must leave nothing.
+fn command_of(alloc: Global, texts: &str) -> Result<Command, LineFault> {
+    let mut words = Vec::new(alloc);
+    words.push(String::from_str(alloc, "m11")?)?;
+    for text in texts.split_ascii_whitespace() {
+        words.push(unescaped_text(alloc, text)?)?;
+    }
+    Ok(Command {
+        words,
+        files: Vec::new(alloc),
+        input: Vec::new(alloc),
+        status: 0,
+        printed: Vec::new(alloc),
+        told: Vec::new(alloc),
+        outputs: Vec::new(alloc),
+    })
+}
+
+// Adds bytes to the last of some files.
+fn add_to_last(files: &mut Vec<MemoryFile>, bytes: &[u8]) -> Result<(), LineFault> {
+    let file = files.last_mut().ok_or(LineFault::NoPlace)?;
+    file.bytes.extend_from_slice(bytes)?;
+    Ok(())
+}
+
+// A file of no bytes.
+fn empty_file(alloc: Global, path: &str) -> Result<MemoryFile, LineFault> {
+    Ok(MemoryFile {
+        path: unescaped_text(alloc, path)?,
+        bytes: Vec::new(alloc),
+    })
+}
+
+// The bytes of a line that gives them by their digits, after `=`, or after `= 0o` in octal, and before a comment.
+fn bytes_of(alloc: Global, line: &str) -> Result<Vec<u8>, LineFault> {
+    let (digits, _comment) = line.split_once(';').unwrap_or((line, ""));
+    let mut bytes = Vec::new(alloc);
+    let mut is_octal = false;
+    for text in digits.split_ascii_whitespace() {
+        match text {
+            "=" => {}
+            "0o" => is_octal = true,
+            _ if is_octal => bytes.push(byte_of_octal(text.as_bytes()).ok_or(LineFault::BadByte)?)?,
+            _ => bytes.push(byte_of_hex(text.as_bytes()).ok_or(LineFault::BadByte)?)?,
+        }
+    }
+    Ok(bytes)
+}

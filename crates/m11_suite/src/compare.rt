@@ -1,0 +1,115 @@
+//! What a command left, compared with what it must leave.
+
+ghost use Rattle.std.specs.Prelude.{◌≡◌, ◌↔◌, IsNone};
+
+use crate::case::Command;
+use m11_cli::MemoryFile;
+use std::fmt;
+
+/// What a command left.
+#[derive(Drop)]
+pub(crate) struct Answer<'a> {
+    pub(crate) status: u8,
+    pub(crate) printed: &'a [u8],
+    pub(crate) told: &'a [u8],
+    pub(crate) outputs: &'a [MemoryFile],
+}
+
+/// What differs first in what a command left.
+#[derive(Clone, Copy, Debug, Drop)]
+pub(crate) enum Difference<'a> {
+    /// The status that was found.
+    Status(u8),
+    /// The bytes of standard output, of standard error or of a file, from this place on, the first being 0.
+    Bytes(&'a str, usize),
+    /// A file that was not created.
+    Missing(&'a str),
+    /// A file that was created, and of which the case says nothing.
+    Untold(&'a str),
+}
+
+impl fmt::Display for Difference<'_> {
+    fn fmt<W: fmt::Write>(&self, f: &mut fmt::Formatter<W>) -> fmt::Result {
+        match self {
+            Difference::Status(found) => write!(f, "the status is {found}"),
+            Difference::Bytes(name, place) => write!(f, "{name} differs from byte {place} on"),
+            Difference::Missing(path) => write!(f, "{path} was not created"),
+            Difference::Untold(path) => write!(f, "{path} was created"),
+        }
+    }
+}
+
+/// The first difference of what a command left from what it must leave: of the status, then standard output, standard
+/// error, and the files.
+pub(crate) fn first_difference<'a>(
+    wanted: &'a Command,
+    found: &Answer<'a>,
+) -> Option<Difference<'a>> {
+    if found.status != wanted.status {
+        return Some(Difference::Status(found.status));
+    }
+    let printed = bytes_differ("stdout", found.printed, wanted.printed.as_slice());
+    let told = bytes_differ("stderr", found.told, wanted.told.as_slice());
+    printed
+        .or(told)
+        .or(missing(wanted.outputs.as_slice(), found.outputs))
+        .or(untold(wanted.outputs.as_slice(), found.outputs))
+}
+
+// The first file that must be created and was not, or has other bytes.
+fn missing<'a>(wanted: &'a [MemoryFile], found: &'a [MemoryFile]) -> Option<Difference<'a>> {
+    for file in wanted {
+        let path = file.path.as_str();
+        match file_of(found, path) {
+            None => return Some(Difference::Missing(path)),
+            Some(other) => {
+                let differs = bytes_differ(path, other.bytes.as_slice(), file.bytes.as_slice());
+                if differs.is_some() {
+                    return differs;
+                }
+            }
+        }
+    }
+    None
+}
+
+// The first file that was created and must not be.
+fn untold<'a>(wanted: &[MemoryFile], found: &'a [MemoryFile]) -> Option<Difference<'a>> {
+    for file in found {
+        let path = file.path.as_str();
+        if file_of(wanted, path).is_none() {
+            return Some(Difference::Untold(path));
+        }
+    }
+    None
+}
+
+// The file of a path.
+fn file_of<'a>(files: &'a [MemoryFile], path: &str) -> Option<&'a MemoryFile> {
+    for file in files {
+        if file.path.as_str() == path {
+            return Some(file);
+        }
+    }
+    None
+}
+
+// Where bytes differ first, if they do: at the end of the shorter where one begins with the other.
+fn bytes_differ<'a>(name: &'a str, found: &[u8], wanted: &[u8]) -> Option<Difference<'a>>
+    ensures { IsNone result ↔ (found.now ≡ wanted.now) }
+{
+    if found == wanted {
+        return None;
+    }
+    Some(Difference::Bytes(name, first_place(found, wanted)))
+}
+
+// The place of the first byte that isn't that of the other text, or the end.
+fn first_place(found: &[u8], wanted: &[u8]) -> usize {
+    for (place, byte) in found.iter().enumerate() {
+        if wanted.get(place) != Some(byte) {
+            return place;
+        }
+    }
+    found.len()
+}

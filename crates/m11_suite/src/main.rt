@@ -1,0 +1,71 @@
+//! Runs the suite: reads an index of cases, runs the commands of each case over files in memory, and tells of each case
+//! that differs what differs first. The count of cases that hold comes last.
+#![tactic(auto)]
+
+mod case;
+mod compare;
+mod escapes;
+mod fault;
+mod run;
+
+use crate::case::read_case;
+use crate::run::run_case;
+use anyhow::{Context, Result};
+use std::alloc::{AllocError, Global};
+use std::process::ExitCode;
+use std::rt::Files;
+use std::{env, fs};
+
+fn main(rt: HostRuntime) -> Result<ExitCode> {
+    let mut words = env::args(&rt)?;
+    let _program = words.next();
+    let index = words
+        .next()
+        .context("the index of the cases is to be named")?;
+    let holds = run_index(&rt, index.as_str())?;
+    Ok(if holds {
+        ExitCode::SUCCESS
+    } else {
+        ExitCode::FAILURE
+    })
+}
+
+// Runs the cases of an index, which lie beside it, and tells whether all hold. A line of the index is the name of a case,
+// nothing, or a comment after a `#`.
+fn run_index(rt: &(impl Files + AllocGlobal + Print), index: &str) -> Result<bool> {
+    let folder = folder_of(index);
+    let names = fs::read_to_string(rt, index).context(format_args!("reading {index}"))?;
+    let mut all: u64 = 0;
+    let mut holding: u64 = 0;
+    for line in names.as_str().lines() {
+        let name = line.trim();
+        if name.is_empty() || name.starts_with('#') {
+            continue;
+        }
+        all = all.saturating_add(1);
+        let path = format!(in rt.alloc(); "{folder}{name}.case")?;
+        let text = fs::read_to_string(rt, path.as_str()).context(format_args!("reading {path}"))?;
+        match told(rt.alloc(), text.as_str())? {
+            None => holding = holding.saturating_add(1),
+            Some(what) => rt.println(format_args!("{name}: {what}"))?,
+        }
+    }
+    rt.println(format_args!("{holding} of {all} cases hold"))?;
+    Ok(holding == all)
+}
+
+// What stands before the name of an index in its path.
+fn folder_of(index: &str) -> &str {
+    match index.rfind('/') {
+        Some(place) => &index[..=place],
+        None => "",
+    }
+}
+
+// What is to be told of a case, if anything differs in it.
+fn told(alloc: Global, text: &str) -> Result<Option<String>, AllocError> {
+    match read_case(alloc, text) {
+        Ok(commands) => run_case(alloc, commands),
+        Err(fault) => Ok(Some(format!(in alloc; "{fault}")?)),
+    }
+}
