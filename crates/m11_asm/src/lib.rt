@@ -13,6 +13,3 @@ mod statement;
 
 pub use fault::{AsmFault, AsmOutput};
 pub use run::{AsmDone, asm_run};
-
-#[cfg(test)]
-mod tests;

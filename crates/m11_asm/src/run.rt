@@ -101,6 +101,3 @@ fn put_count<U: Sink>(alloc: Global, messages: &mut U, flagged: u32) -> Result<(
     let line = count_line(alloc, flagged)?;
     put_message(messages, line.as_str())
 }
-
-#[cfg(test)]
-mod tests;

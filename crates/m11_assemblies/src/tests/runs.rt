@@ -1,4 +1,6 @@
-use crate::{AsmDone, AsmFault, AsmOutput, asm_run};
+//! Assemblies over devices that fail, and over several sources.
+
+use m11_asm::{AsmDone, AsmFault, AsmOutput, asm_run};
 use m11_base::{FuseFeed, FuseSink, MemoryFeed, MemorySink, Sink, WriterSink};
 use std::alloc::Global;
 use std::process::Abort;

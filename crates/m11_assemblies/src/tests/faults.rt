@@ -1,4 +1,6 @@
-use crate::{AsmFault, AsmOutput};
+//! Numbers and names of faults.
+
+use m11_asm::{AsmFault, AsmOutput};
 use std::alloc::AllocError;
 
 #[test]

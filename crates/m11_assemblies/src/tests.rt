@@ -1,0 +1,4 @@
+//! Assemblies, and their faults.
+
+mod faults;
+mod runs;
