@@ -9,7 +9,7 @@ ghost use Rattle.m11_cpu.specs.Loading.{PutsData, LoadsFrom, CountsFailure};
 use crate::fault::LoadFault;
 use crate::memory::Memory;
 use m11_base::Feed;
-use m11_obj::{TapePart, TapeReader};
+use m11_blocks::{TapePart, TapeReader};
 
 // Puts the data of the open block into memory.
 fn load_block<F: Feed>(
