@@ -30,7 +30,7 @@ use Rattle.m11_cpu.specs.Memory.{byte_at, with_byte, with_word, word_at}
 use Rattle.m11_cpu.specs.Near.{Keeps, is_plain, plain_at}
 use Rattle.m11_cpu.specs.Places.{deferred, fetch, fetch_operand, indexed, next_word, place_by, place_of, put_result, stepped_back, step_of, store}
 use Rattle.m11_cpu.specs.Quick.{Runs, StepsAtOnce}
-use Rattle.m11_cpu.specs.SingleOperands.{change_single, single, single_by, test, write}
+use Rattle.m11_cpu.specs.SingleOperands.{change_single, single, single_by, test_operand, write}
 use Rattle.m11_cpu.specs.Steps.{instruction, step, step_unless, turned}
 use Rattle.m11_cpu.specs.declared.abort.Abort.{Abort}
 use Rattle.m11_cpu.specs.declared.destination_use.DestinationUse.{DestinationUse}
@@ -273,7 +273,7 @@ single_writes operation size operand m n e f =
     ap (λ (u : Option DestinationUse). single_by u operation size operand m) e ∙ f
 
 pub single_reads : (operation : SingleOp) (size : Size) (operand : Operand) (m n : Machine)
-    → use_by_single operation ≡ Some Reads → test operation size operand m ≡ Comes (Ok tt, n)
+    → use_by_single operation ≡ Some Reads → test_operand operation size operand m ≡ Comes (Ok tt, n)
     → single operation size operand m ≡ Comes (Ok tt, n)
 unfolding single
 single_reads operation size operand m n e f =

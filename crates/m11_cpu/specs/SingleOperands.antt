@@ -19,8 +19,8 @@ unfoldable pub write : SingleOp → Size → Operand → Act (Unit {0})
 write operation size operand = place_of operand size >>= λ place m.
     put_result place size (single_result operation size 0 m.status.codes) m
 
-unfoldable pub test : SingleOp → Size → Operand → Act (Unit {0})
-test operation size operand = fetch_operand operand size >>= λ value m.
+unfoldable pub test_operand : SingleOp → Size → Operand → Act (Unit {0})
+test_operand operation size operand = fetch_operand operand size >>= λ value m.
     Comes (Ok tt, with_condition_codes (single_result operation size value m.status.codes).codes m)
 
 unfoldable pub change_at : SingleOp → Size → Place → Act (Unit {0})
@@ -33,7 +33,7 @@ change_single operation size operand = place_of operand size >>= change_at opera
 abbrev pub single_by : Option DestinationUse → SingleOp → Size → Operand → Act (Unit {0})
 single_by None operation size operand = jump operand
 single_by (Some Writes) operation size operand = write operation size operand
-single_by (Some Reads) operation size operand = test operation size operand
+single_by (Some Reads) operation size operand = test_operand operation size operand
 single_by (Some Changes) operation size operand = change_single operation size operand
 
 unfoldable pub single : SingleOp → Size → Operand → Act (Unit {0})

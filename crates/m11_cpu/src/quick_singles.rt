@@ -13,7 +13,7 @@ ghost use Rattle.m11_cpu.specs.DestinationUse.{use_by_single};
 ghost use Rattle.m11_cpu.specs.Machine.{register_of};
 ghost use Rattle.m11_cpu.specs.Near.{Ends, Keeps, is_near};
 ghost use Rattle.m11_cpu.specs.Quick.{Executed};
-ghost use Rattle.m11_cpu.specs.SingleOperands.{change_at, change_single, test, write};
+ghost use Rattle.m11_cpu.specs.SingleOperands.{change_at, change_single, test_operand, write};
 ghost use Rattle.m11_cpu.specs.declared.destination_use.DestinationUse.TheVariants.{Writes, Reads, Changes};
 
 use crate::machine::Machine;
@@ -38,10 +38,10 @@ impl Machine {
     }
 
     // TST and TSTB: the program counter behind it.
-    #[tactic(auto, using(crate::proofs::QuickDone::bind_comes, crate::proofs::QuickDone::comes_at), unfolding(crate::specs::SingleOperands::test))]
+    #[tactic(auto, using(crate::proofs::QuickDone::bind_comes, crate::proofs::QuickDone::comes_at), unfolding(crate::specs::SingleOperands::test_operand))]
     #[inline(always)]
     fn quick_test(&mut self, operation: SingleOp, size: Size, operand: Operand) -> Option<u16>
-        ensures some { IfSome result (λ _. Ends (test operation size operand) self.old self.new) }
+        ensures some { IfSome result (λ _. Ends (test_operand operation size operand) self.old self.new) }
         ensures counter { IfSome result (λ counter. counter ≡ register_of Pc self.new) }
         ensures keeps { Keeps self.old self.new }
         ensures none { result ≡ None → self.new ≡ self.old }

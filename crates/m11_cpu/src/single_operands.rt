@@ -1,7 +1,7 @@
 //! Instructions with one operand. (PDP-11/40 Processor Handbook, "Instruction set": single operand instructions.)
 
 ghost use Rattle.m11_cpu.specs.Dialogue.{Does, both, input_alone, output_alone};
-ghost use Rattle.m11_cpu.specs.SingleOperands.{change_at, change_single, single, test, write};
+ghost use Rattle.m11_cpu.specs.SingleOperands.{change_at, change_single, single, test_operand, write};
 
 use crate::abort::Abort;
 use crate::destination_use::{DestinationUse, use_by_single};
@@ -27,7 +27,7 @@ impl Machine {
         match use_by_single(operation) {
             None => self.jump(operand, feed),
             Some(DestinationUse::Writes) => self.write(operation, size, operand, feed, sink),
-            Some(DestinationUse::Reads) => self.test(operation, size, operand, feed),
+            Some(DestinationUse::Reads) => self.test_operand(operation, size, operand, feed),
             Some(DestinationUse::Changes) => self.change_single(
                 operation, size, operand, feed, sink,
             ),
@@ -54,16 +54,16 @@ impl Machine {
     }
 
     // TST and TSTB: nothing is stored.
-    #[tactic(auto, using(crate::proofs::Dialogues::dialogues), unfolding(crate::specs::SingleOperands::test))]
+    #[tactic(auto, using(crate::proofs::Dialogues::dialogues), unfolding(crate::specs::SingleOperands::test_operand))]
     #[inline(always)]
-    fn test<F: Feed>(
+    fn test_operand<F: Feed>(
         &mut self,
         operation: SingleOp,
         size: Size,
         operand: Operand,
         feed: &mut F,
     ) -> Result<(), Abort>
-        ensures { Does (test operation size operand self.old) (input_alone (F.text feed.old) (F.faults feed.old))
+        ensures { Does (test_operand operation size operand self.old) (input_alone (F.text feed.old) (F.faults feed.old))
             (input_alone (F.text feed.new) (F.faults feed.new)) (result, self.new) }
     {
         let value = self.fetch_operand(operand, size, feed)?;

@@ -28,7 +28,7 @@ use Rattle.m11_cpu.specs.Extended.{extended}
 use Rattle.m11_cpu.specs.Jumps.{call, enter, push, return_by, target, jump, mark, pop}
 use Rattle.m11_cpu.specs.Machine.{register_of, with_register}
 use Rattle.m11_cpu.specs.Places.{fetch, fetch_operand, next_word, place_of, put_result, store, back}
-use Rattle.m11_cpu.specs.SingleOperands.{single_by, change_at, change_single, single, write, test}
+use Rattle.m11_cpu.specs.SingleOperands.{single_by, change_at, change_single, single, write, test_operand}
 use Rattle.m11_cpu.specs.Steps.{instruction}
 use Rattle.m11_cpu_laws.specs.Writes.{AbortLeaves, IsElseAsBefore}
 use Rattle.m11_cpu.specs.declared.abort.Abort.{Abort}
@@ -170,7 +170,7 @@ module _ (I : Machine → Type 0) (receives : (n : Machine) (r : Receiver) → I
   single_use_leaves : (how : Option DestinationUse) (operation : SingleOp) (size : Size) (operand : Operand)
       (m : Machine) → I m
       → Always (single_by how operation size operand m) (λ y. Leaves I y)
-  unfolding jump write test change_single change_at
+  unfolding jump write test_operand change_single change_at
   single_use_leaves None operation size operand m i =
       kept_first I (target operand) _ m (jump_target_keeps I receives puts operand m i) (λ address n j. at_comes tt)
   single_use_leaves (Some use_of.Writes) operation size operand m i =

@@ -25,7 +25,7 @@ use Rattle.m11_cpu.specs.Jumps.{branched, counted_down, jump, mark, pop, return_
 use Rattle.m11_cpu.specs.Machine.{register_of, with_register}
 use Rattle.m11_cpu.specs.Memory.{byte_at, with_byte, with_word}
 use Rattle.m11_cpu.specs.Places.{back, fetch, fetch_operand, next_word, place_of}
-use Rattle.m11_cpu.specs.SingleOperands.{test}
+use Rattle.m11_cpu.specs.SingleOperands.{test_operand}
 use Rattle.m11_cpu_laws.specs.Writes.{IsNoneOf, word_bytes}
 use Rattle.m11_cpu.specs.declared.machine.Machine.{Machine}
 use Rattle.m11_cpu.specs.declared.operands.Place.{Place}
@@ -114,8 +114,8 @@ module _ (memory : List ℕ) where
       keeps_bind (Same memory) (fetch place size) _ m (fetch_quiet place size m e) (λ value n i. at_comes i)
 
   pub test_quiet : (operation : SingleOp) (size : Size) (operand : Operand) (m : Machine) → Same memory m
-      → Keeps (Same memory) (test operation size operand m)
-  unfolding test
+      → Keeps (Same memory) (test_operand operation size operand m)
+  unfolding test_operand
   test_quiet operation size operand m e =
       keeps_bind (Same memory) (fetch_operand operand size) _ m (source_quiet operand size m e)
       (λ value n i. at_comes i)
