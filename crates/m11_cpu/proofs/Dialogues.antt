@@ -9,9 +9,10 @@ use Rattle.m11_cpu.specs.declared.machine.Machine.{Machine}
 use Rattle.m11_arithmetic.specs.declared.results.Computed.{Computed}
 use Rattle.m11_base.specs.declared.operand.Size.{Size}
 use Rattle.m11_cpu.specs.declared.operands.Place.{Place}
+use Rattle.m11_cpu.specs.declared.operands.Place.TheVariants.{InMemory}
 use Rattle.m11_cpu.specs.DoubleOperands.{change_exclusive}
 use Rattle.m11_cpu.specs.Jumps.{push}
-use Rattle.m11_cpu.specs.Places.{put_result}
+use Rattle.m11_cpu.specs.Places.{in_memory, put_result}
 use Rattle.m11_cpu.specs.Acts.{Act, value, ◌>>=◌}
 use Rattle.m11_cpu.specs.Dialogue.{Reply, Dialogue, Comes, Asks, Sends, after, Exchange, Asked, Sent, Leads, Devices, Happened, Does, Replies, Takes, Input, Output}
 
@@ -215,6 +216,27 @@ bind_writes_aborts act next m m' i o o' e r h k =
     bind_aborts act next m m' _ _ e r (writes_beside (act m) i o o' _ h) k
 
 -- ---- an act by what a call has computed
+
+-- an act by a value that is known to be another one
+pub act_by : {A B : Type 0} (act : A → Act B) (x x' : A) (m : Machine) (old new : Devices)
+    (y : Result B Abort × Machine) → x ≡ x' → Does (act x' m) old new y → Does (act x m) old new y
+act_by {A = A} act x x' m old new y e h = let P : A → Type 0 = λ v. Does (act v m) old new y in subst P (sym e) h
+
+-- an act at a machine that a call has left
+pub at_machine : {A : Type 0} (act : Act A) (m m' : Machine) (old new : Devices) (y : Result A Abort × Machine)
+    → m' ≡ m → Does (act m') old new y → Does (act m) old new y
+at_machine act m m' old new y e h = let P : Machine → Type 0 = λ n. Does (act n) old new y in subst P e h
+
+-- an act where a step of a register has led
+pub at_pair : {B : Type 0} (act : ℕ → Act B) (to came : ℕ × Machine) (old new : Devices)
+    (y : Result B Abort × Machine) → came ≡ to → Does (act came.0 came.1) old new y → Does (act to.0 to.1) old new y
+at_pair act to came old new y e h = let P : ℕ × Machine → Type 0 = λ x. Does (act x.0 x.1) old new y in subst P e h
+
+-- the place in memory where a step of a register has led
+pub stepped_comes : (d : Devices) (to came : ℕ × Machine) → came ≡ to
+    → Does (in_memory to to.1) d d (Ok (InMemory came.0), came.1)
+stepped_comes d to came e =
+    let into : ℕ × Machine → Result Place Abort × Machine = λ x. (Ok (InMemory x.0), x.1) in comes d _ _ (ap into e)
 
 pub put_result_at : (place : Place) (size : Size) (computed computed' : Computed) (m : Machine) (old new : Devices)
     (y : Result (Unit {0}) Abort × Machine) → computed' ≡ computed → Does (put_result place size computed' m) old new y

@@ -76,7 +76,6 @@ impl Machine {
     }
 
     // The status of the receiver. Where no byte is there, and the input has not ended, it is asked for one.
-    #[tactic(auto, using(crate::proofs::Dialogues::dialogues), unfolding(crate::specs::Access::receiver_status))]
     fn receiver_status<F: Feed>(&mut self, feed: &mut F) -> Result<u16, Abort>
         ensures does { Does (receiver_status self.old) (input_alone (F.text feed.old) (F.faults feed.old))
             (input_alone (F.text feed.new) (F.faults feed.new)) (result, self.new) }

@@ -14,7 +14,6 @@ use m11_base::{DoubleOp, Feed, Operand, Register, Sink, Size};
 
 impl Machine {
     /// An operation on a source and a destination. The source is fetched first.
-    #[tactic(auto, using(crate::proofs::Dialogues::with_both), unfolding(crate::specs::DoubleOperands::double))]
     pub(crate) fn double<F: Feed, S: Sink>(
         &mut self,
         operation: DoubleOp,
@@ -57,7 +56,6 @@ impl Machine {
     }
 
     // MOV and MOVB: the destination is not read.
-    #[tactic(auto, using(crate::proofs::Dialogues::dialogues), unfolding(crate::specs::DoubleOperands::move_to))]
     #[inline(always)]
     fn move_to<S: Sink>(
         &mut self,
@@ -99,7 +97,6 @@ impl Machine {
     }
 
     // CMP and BIT: nothing is stored.
-    #[tactic(auto, using(crate::proofs::Dialogues::dialogues), unfolding(crate::specs::DoubleOperands::compare))]
     fn compare<F: Feed>(
         &mut self,
         operation: DoubleOp,
@@ -125,7 +122,6 @@ impl Machine {
     }
 
     // The destination is read, and the result put in its place.
-    #[tactic(auto, using(crate::proofs::Dialogues::with_both), unfolding(crate::specs::DoubleOperands::change_double))]
     fn change_double<F: Feed, S: Sink>(
         &mut self,
         operation: DoubleOp,
@@ -151,7 +147,6 @@ impl Machine {
     }
 
     /// XOR: its register is read first.
-    #[tactic(auto, using(crate::proofs::Dialogues::with_both), unfolding(crate::specs::DoubleOperands::exclusive_or))]
     pub(crate) fn exclusive_or<F: Feed, S: Sink>(
         &mut self,
         register: Register,
@@ -168,7 +163,6 @@ impl Machine {
     }
 
     // XOR of a word that was read, and the place of the destination.
-    #[tactic(auto, using(crate::proofs::Dialogues::with_both), unfolding(crate::specs::DoubleOperands::change_exclusive))]
     fn change_exclusive<F: Feed, S: Sink>(
         &mut self,
         source: u16,

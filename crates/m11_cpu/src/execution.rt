@@ -26,7 +26,6 @@ pub enum Ending {
 
 impl Machine {
     /// Does one instruction, whose code was read.
-    #[tactic(auto, using(crate::proofs::Dialogues::with_both), unfolding(crate::specs::Execution::execute))]
     #[inline(always)]
     pub(crate) fn execute<F: Feed, S: Sink>(
         &mut self,
@@ -99,7 +98,6 @@ impl Machine {
     }
 
     // The instructions of which the code is all.
-    #[tactic(auto, using(crate::proofs::Dialogues::dialogues), unfolding(crate::specs::Execution::bare))]
     fn bare<F: Feed>(&mut self, operation: BareOp, feed: &mut F) -> Result<Ending, Abort>
         ensures { Does (bare operation self.old) (input_alone (F.text feed.old) (F.faults feed.old))
             (input_alone (F.text feed.new) (F.faults feed.new)) (result, self.new) }
@@ -125,7 +123,6 @@ impl Machine {
     }
 
     // RTI and RTT: the program counter is popped, and then the processor status.
-    #[tactic(auto, using(crate::proofs::Dialogues::dialogues), unfolding(crate::specs::Execution::return_from_trap))]
     fn return_from_trap<F: Feed>(&mut self, feed: &mut F) -> Result<(), Abort>
         ensures { Does (return_from_trap self.old) (input_alone (F.text feed.old) (F.faults feed.old))
             (input_alone (F.text feed.new) (F.faults feed.new)) (result, self.new) }

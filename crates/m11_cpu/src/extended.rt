@@ -12,7 +12,6 @@ use m11_base::{ExtendedOp, Feed, Operand, Register, Size};
 
 impl Machine {
     /// MUL, DIV, ASH and ASHC: the source is fetched before the registers are read.
-    #[tactic(auto, using(crate::proofs::Dialogues::dialogues), unfolding(crate::specs::Extended::extended))]
     pub(crate) fn extended<F: Feed>(
         &mut self,
         operation: ExtendedOp,

@@ -34,7 +34,6 @@ impl Machine {
     }
 
     /// JMP.
-    #[tactic(auto, using(crate::proofs::Dialogues::dialogues), unfolding(crate::specs::Jumps::jump))]
     pub(crate) fn jump<F: Feed>(&mut self, operand: Operand, feed: &mut F) -> Result<(), Abort>
         ensures { Does (jump operand self.old) (input_alone (F.text feed.old) (F.faults feed.old))
             (input_alone (F.text feed.new) (F.faults feed.new)) (result, self.new) }
@@ -45,7 +44,6 @@ impl Machine {
     }
 
     // The address that an operand means. A register has none.
-    #[tactic(auto, using(crate::proofs::Dialogues::dialogues), unfolding(crate::specs::Jumps::target))]
     fn target<F: Feed>(&mut self, operand: Operand, feed: &mut F) -> Result<u16, Abort>
         ensures { Does (target operand self.old) (input_alone (F.text feed.old) (F.faults feed.old))
             (input_alone (F.text feed.new) (F.faults feed.new)) (result, self.new) }
@@ -57,7 +55,6 @@ impl Machine {
     }
 
     /// JSR.
-    #[tactic(auto, using(crate::proofs::Dialogues::with_both), unfolding(crate::specs::Jumps::call))]
     pub(crate) fn call<F: Feed, S: Sink>(
         &mut self,
         register: Register,
@@ -74,7 +71,6 @@ impl Machine {
 
     // Pushes the register, as it was before the push; the register has the address behind the call then, and the program
     // counter the target.
-    #[tactic(auto, using(crate::proofs::Dialogues::dialogues), unfolding(crate::specs::Jumps::enter))]
     fn enter<S: Sink>(&mut self, register: Register, target: u16, sink: &mut S) -> Result<(), Abort>
         ensures { Does (enter register target self.old) (output_alone (S.text sink.old) (S.faults sink.old))
             (output_alone (S.text sink.new) (S.faults sink.new)) (result, self.new) }
@@ -86,7 +82,6 @@ impl Machine {
     }
 
     /// RTS: the program counter has what the register had, and the register has what is popped.
-    #[tactic(auto, using(crate::proofs::Dialogues::dialogues), unfolding(crate::specs::Jumps::return_by))]
     pub(crate) fn return_by<F: Feed>(
         &mut self,
         register: Register,
@@ -102,7 +97,6 @@ impl Machine {
     }
 
     /// MARK: the stack is cut behind this many words of parameters, and register 5 is the link.
-    #[tactic(auto, using(crate::proofs::Dialogues::dialogues), unfolding(crate::specs::Jumps::mark))]
     pub(crate) fn mark<F: Feed>(&mut self, words: u8, feed: &mut F) -> Result<(), Abort>
         ensures { Does (mark words self.old) (input_alone (F.text feed.old) (F.faults feed.old))
             (input_alone (F.text feed.new) (F.faults feed.new)) (result, self.new) }

@@ -21,7 +21,6 @@ pub enum Place {
 
 impl Machine {
     /// The place of an operand, its register being stepped as the mode says.
-    #[tactic(auto, using(crate::proofs::Dialogues::dialogues), unfolding(crate::specs::Places::place_of))]
     #[inline(always)]
     pub(crate) fn place_of<F: Feed>(
         &mut self,
@@ -61,7 +60,6 @@ impl Machine {
     }
 
     // The place whose address is the word at this address.
-    #[tactic(auto, using(crate::proofs::Dialogues::dialogues), unfolding(crate::specs::Places::deferred))]
     #[inline(never)]
     fn deferred<F: Feed>(&mut self, address: u16, feed: &mut F) -> Result<Place, Abort>
         ensures { Does (deferred address self.old) (input_alone (F.text feed.old) (F.faults feed.old))
@@ -71,7 +69,6 @@ impl Machine {
     }
 
     // The address that a register and the next word of the program add up to.
-    #[tactic(auto, using(crate::proofs::Dialogues::dialogues), unfolding(crate::specs::Places::indexed))]
     #[inline(always)]
     fn indexed<F: Feed>(&mut self, register: Register, feed: &mut F) -> Result<u16, Abort>
         ensures { Does (indexed register self.old) (input_alone (F.text feed.old) (F.faults feed.old))
@@ -82,7 +79,6 @@ impl Machine {
     }
 
     /// The next word of the program. The program counter steps behind it once it is read.
-    #[tactic(auto, using(crate::proofs::Dialogues::dialogues), unfolding(crate::specs::Places::next_word))]
     #[inline(always)]
     pub(crate) fn next_word<F: Feed>(&mut self, feed: &mut F) -> Result<u16, Abort>
         ensures { Does (next_word self.old) (input_alone (F.text feed.old) (F.faults feed.old))
@@ -136,7 +132,6 @@ impl Machine {
     }
 
     /// The word or byte that an operand means, fetched wholly: its place, and what is there.
-    #[tactic(auto, using(crate::proofs::Dialogues::dialogues), unfolding(crate::specs::Places::fetch_operand))]
     #[inline(always)]
     pub(crate) fn fetch_operand<F: Feed>(
         &mut self,
@@ -181,7 +176,6 @@ impl Machine {
 
     /// Puts the result of an operation into a place, and then its condition codes, but where the place is the processor
     /// status, which stays as it was written.
-    #[tactic(auto, using(crate::proofs::Dialogues::dialogues), unfolding(crate::specs::Places::put_result))]
     #[inline(always)]
     pub(crate) fn put_result<S: Sink>(
         &mut self,

@@ -35,7 +35,6 @@ impl Machine {
     }
 
     // CLR, CLRB and SXT: the operand is not read.
-    #[tactic(auto, using(crate::proofs::Dialogues::with_both), unfolding(crate::specs::SingleOperands::write))]
     #[inline(always)]
     fn write<F: Feed, S: Sink>(
         &mut self,
@@ -54,7 +53,6 @@ impl Machine {
     }
 
     // TST and TSTB: nothing is stored.
-    #[tactic(auto, using(crate::proofs::Dialogues::dialogues), unfolding(crate::specs::SingleOperands::test_operand))]
     #[inline(always)]
     fn test_operand<F: Feed>(
         &mut self,
@@ -73,7 +71,6 @@ impl Machine {
     }
 
     // The operand is read, and the result put in its place.
-    #[tactic(auto, using(crate::proofs::Dialogues::with_both), unfolding(crate::specs::SingleOperands::change_single))]
     #[inline(always)]
     fn change_single<F: Feed, S: Sink>(
         &mut self,
@@ -91,7 +88,6 @@ impl Machine {
     }
 
     // What is in a place is read, and the result put there.
-    #[tactic(auto, using(crate::proofs::Dialogues::with_both), unfolding(crate::specs::SingleOperands::change_at))]
     #[inline(always)]
     fn change_at<F: Feed, S: Sink>(
         &mut self,

@@ -31,7 +31,6 @@ impl Machine {
     }
 
     // Reads the word at the program counter and executes its instruction.
-    #[tactic(auto, using(crate::proofs::Dialogues::with_both), unfolding(crate::specs::Steps::instruction))]
     #[inline(always)]
     fn instruction<F: Feed, S: Sink>(&mut self, feed: &mut F, sink: &mut S) -> Result<Ending, Abort>
         ensures { Does (instruction self.old)

@@ -31,7 +31,6 @@ impl Machine {
     }
 
     // Pushes the processor status and then the program counter.
-    #[tactic(auto, using(crate::proofs::Dialogues::dialogues), unfolding(crate::specs::Traps::push_state))]
     fn push_state<S: Sink>(&mut self, sink: &mut S) -> Result<(), Abort>
         ensures { Does (push_state self.old) (output_alone (S.text sink.old) (S.faults sink.old))
             (output_alone (S.text sink.new) (S.faults sink.new)) (result, self.new) }

@@ -1,5 +1,5 @@
+use Rattle.m11_cpu.proofs.Dialogues.{bind_reads, bind_reads_aborts}
 use Rattle.m11_cpu.specs.Steps.{instruction}
-use Rattle.m11_cpu.proofs.Dialogues.{bind_reads}
 use Rattle.m11_cpu.proofs.StepsDone.{execute_at}
 use Rattle.m11_cpu.proofs.machine.Machine.instruction.Goals as goal
 
@@ -8,3 +8,8 @@ unfolding instruction
 returns g c =
     bind_reads _ _ _ _ _ _ _ _ _ _ c.in_ok-word.ensures
     (execute_at _ _ _ _ _ _ c.decode.ensures.instruction c.execute.ensures)
+
+pub returns-in_err-word : goal.returns-in_err-word
+unfolding instruction
+returns-in_err-word g c =
+    bind_reads_aborts _ _ _ _ _ _ _ _ _ c.in_err-word.ensures c.from_residual.ensures.1

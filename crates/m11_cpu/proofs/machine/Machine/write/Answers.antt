@@ -1,5 +1,5 @@
 use Rattle.m11_cpu.specs.SingleOperands.{write}
-use Rattle.m11_cpu.proofs.Dialogues.{bind_reads, put_result_at, writes_beside}
+use Rattle.m11_cpu.proofs.Dialogues.{bind_reads, bind_reads_aborts, put_result_at, writes_beside}
 use Rattle.m11_cpu.proofs.machine.Machine.write.Goals as goal
 
 pub returns : goal.returns
@@ -7,3 +7,8 @@ unfolding write
 returns g c =
     bind_reads _ _ _ _ _ _ _ _ _ _ c.in_ok-place.ensures
     (put_result_at _ _ _ _ _ _ _ _ c.single-computed.ensures.computed (writes_beside _ _ _ _ _ c.put_result.ensures))
+
+pub returns-in_err-place : goal.returns-in_err-place
+unfolding write
+returns-in_err-place g c =
+    bind_reads_aborts _ _ _ _ _ _ _ _ _ c.in_err-place.ensures c.from_residual.ensures.1
