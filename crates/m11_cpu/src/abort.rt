@@ -3,7 +3,7 @@
 use crate::stop::LastingStop;
 
 /// Where a trap finds its program counter; the word behind it is its processor status.
-#[derive(Clone, Copy, Debug, PartialEq, Eq)]
+#[derive(Clone, Copy)]
 pub enum Vector {
     /// An address outside the memory, or an odd one of a word.
     BusError = 0o4,
@@ -20,7 +20,7 @@ pub enum Vector {
 }
 
 /// Why an instruction does not come to its end.
-#[derive(Clone, Copy, Debug, PartialEq, Eq)]
+#[derive(Clone, Copy)]
 pub enum Abort {
     /// It traps.
     Traps(Vector),

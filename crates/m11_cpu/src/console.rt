@@ -4,7 +4,7 @@ ghost use Rattle.std.specs.Prelude.{◌≡◌, ◌<◌};
 ghost use Rattle.m11_cpu.specs.Console.{device_at, is_waiting, receiver_bits, transmitter_bits};
 
 /// The receiver: what comes from the keyboard.
-#[derive(Clone, Copy, Debug, PartialEq, Eq)]
+#[derive(Clone, Copy)]
 pub struct Receiver {
     /// The byte that came last.
     pub(crate) byte: u8,
@@ -17,14 +17,14 @@ pub struct Receiver {
 }
 
 /// The transmitter: what goes to the printer. It is always ready.
-#[derive(Clone, Copy, Debug, PartialEq, Eq)]
+#[derive(Clone, Copy)]
 pub(crate) struct Transmitter {
     /// Bit 100 of its status, which is kept and raises nothing.
     pub(crate) is_enabled: bool,
 }
 
 /// A register of the console, or the processor status word, which answers at an address too.
-#[derive(Clone, Copy, Debug, PartialEq, Eq)]
+#[derive(Clone, Copy)]
 pub enum DeviceRegister {
     ReceiverStatus,
     ReceiverBuffer,

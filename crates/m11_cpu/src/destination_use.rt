@@ -6,7 +6,7 @@ ghost use Rattle.m11_cpu.specs.DestinationUse.{use_by_double, use_by_single};
 use m11_base::{DoubleOp, SingleOp};
 
 /// What an operation does with its destination.
-#[derive(Clone, Copy, Debug, PartialEq, Eq)]
+#[derive(Clone, Copy)]
 pub enum DestinationUse {
     /// It puts a result there, and does not read it.
     Writes,

@@ -12,7 +12,7 @@ use m11_base::{
 };
 
 /// How an instruction comes to its end.
-#[derive(Clone, Copy, Debug, PartialEq, Eq)]
+#[derive(Clone, Copy)]
 pub enum Ending {
     /// The next one follows; a trace trap where T is set.
     Next,

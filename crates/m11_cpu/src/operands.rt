@@ -11,7 +11,7 @@ use m11_arithmetic::Computed;
 use m11_base::{Feed, Mode, Operand, Register, Sink, Size};
 
 /// Where an operand is.
-#[derive(Clone, Copy, Debug, PartialEq, Eq)]
+#[derive(Clone, Copy, PartialEq, Eq)]
 pub enum Place {
     /// In a register.
     InRegister(Register),

@@ -9,7 +9,7 @@ use crate::stop::{Stop, Turn};
 use m11_base::{Feed, Sink};
 
 /// What a run came to.
-#[derive(Clone, Copy, Debug, PartialEq, Eq)]
+#[derive(Clone, Copy)]
 pub struct Ran {
     pub(crate) stop: Stop,
     /// How many steps were begun.
