@@ -1,10 +1,4 @@
-pub mod Addresses
-pub mod Commanded
 pub mod Decimals
-pub mod Entered
-pub mod Entries
 pub mod Linked
-pub mod Numbers
-pub mod Opening
 pub mod Sources
 pub mod Telling

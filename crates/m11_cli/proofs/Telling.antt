@@ -8,11 +8,11 @@ use Rattle.m11_base.specs.Sink.{AppendsBeginning}
 use Rattle.m11_cpu.specs.Dialogue.{Output}
 use Rattle.clap.specs.Words.{Text}
 use Rattle.m11_cli.specs.Driver.{Carries, ComesTo, Store, Streams, Tells, TellsSome}
-use Rattle.m11_cli.specs.Tasks.{Plans}
+use Rattle.m11_tasks.specs.Tasks.{Plans}
 use Rattle.m11_cli.specs.declared.outcome.Outcome.{Outcome}
 use Rattle.m11_cli.specs.declared.outcome.Outcome.TheVariants.{Usage, Asm, Link, Sim, NotOpened}
-use Rattle.m11_cli.specs.declared.tasks.Task.{Task}
-use Rattle.m11_cli.specs.declared.tasks.Task.TheVariants as task
+use Rattle.m11_tasks.specs.declared.tasks.Task.{Task}
+use Rattle.m11_tasks.specs.declared.tasks.Task.TheVariants as task
 
 -- a put that told of its success or of its failure
 pub tells : {X E : Type 0} (r : Result X E) (text : List ℕ) (old new : Output)

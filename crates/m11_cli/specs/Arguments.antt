@@ -5,7 +5,7 @@ use Rattle.m11_cpu.specs.Dialogue.{Output}
 use Rattle.m11_cli.specs.Driver.{Tells}
 use Rattle.m11_cli.specs.FaultLines.{line_of}
 use Rattle.m11_cli.specs.declared.outcome.Outcome.TheVariants.{Usage}
-use Rattle.m11_cli.specs.declared.usage.UsageFault.TheVariants as usage
+use Rattle.m11_tasks.specs.declared.usage.UsageFault.TheVariants as usage
 use Rattle.m11_cli.specs.declared.arguments.WordsFault.{WordsFault}
 use Rattle.m11_cli.specs.declared.arguments.WordsFault.TheVariants.{NoMemory, NotText}
 

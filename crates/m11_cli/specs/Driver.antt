@@ -23,17 +23,17 @@ use Rattle.m11_link.specs.Writes.{Outputs, outputs_of}
 use Rattle.m11_link.specs.declared.emit.LinkDone.{LinkDone}
 use Rattle.m11_cli.specs.FaultLines.{line_of, open_line}
 use Rattle.m11_files.specs.Files.{Files, AreFiles, Holds, IsEmptied, IsEmptiedSome, creating, keeping, keeping_some}
-use Rattle.m11_cli.specs.Opened.{CreatesSome, StopsAt, asm_inputs, asm_outputs, link_inputs, link_outputs, sim_inputs}
-use Rattle.m11_cli.specs.Tasks.{Plans}
+use Rattle.m11_tasks.specs.Opened.{CreatesSome, StopsAt, asm_inputs, asm_outputs, link_inputs, link_outputs, sim_inputs}
+use Rattle.m11_tasks.specs.Tasks.{Plans}
 use Rattle.m11_cli.specs.declared.outcome.Outcome.{Outcome}
 use Rattle.m11_cli.specs.declared.outcome.Outcome.TheVariants.{Usage, Asm, Link, Sim, NotOpened}
-use Rattle.m11_cli.specs.declared.tasks.AsmTask.{AsmTask}
-use Rattle.m11_cli.specs.declared.tasks.LinkTask.{LinkTask}
-use Rattle.m11_cli.specs.declared.tasks.SimTask.{SimTask}
-use Rattle.m11_cli.specs.declared.tasks.Task.{Task}
-use Rattle.m11_cli.specs.declared.tasks.Task.TheVariants as task
-use Rattle.m11_cli.specs.declared.usage.UsageFault.{UsageFault}
-use Rattle.m11_cli.specs.declared.usage.UsageFault.TheVariants.{Help, Words}
+use Rattle.m11_tasks.specs.declared.tasks.AsmTask.{AsmTask}
+use Rattle.m11_tasks.specs.declared.tasks.LinkTask.{LinkTask}
+use Rattle.m11_tasks.specs.declared.tasks.SimTask.{SimTask}
+use Rattle.m11_tasks.specs.declared.tasks.Task.{Task}
+use Rattle.m11_tasks.specs.declared.tasks.Task.TheVariants as task
+use Rattle.m11_tasks.specs.declared.usage.UsageFault.{UsageFault}
+use Rattle.m11_tasks.specs.declared.usage.UsageFault.TheVariants.{Help, Words}
 
 -- ---- what a process has
 

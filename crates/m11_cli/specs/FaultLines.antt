@@ -17,11 +17,11 @@ use Rattle.m11_layout.specs.declared.fault.LinkOutput.{LinkOutput}
 use Rattle.m11_layout.specs.declared.fault.LinkOutput.TheVariants.{Tape, Map, Messages}
 use Rattle.m11_blocks.specs.Blocks.{block_fault_name, block_fault_number}
 use Rattle.m11_obj.specs.Fault.{record_fault_name, record_fault_number}
-use Rattle.m11_cli.specs.Usage.{usage_name, usage_number}
+use Rattle.m11_tasks.specs.Usage.{usage_name, usage_number}
 use Rattle.m11_cli.specs.declared.outcome.Outcome.{Outcome}
 use Rattle.m11_cli.specs.declared.outcome.Outcome.TheVariants.{Usage, Asm, Link, Sim, NotOpened}
-use Rattle.m11_cli.specs.declared.usage.UsageFault.{UsageFault}
-use Rattle.m11_cli.specs.declared.usage.UsageFault.TheVariants.{Help, Words}
+use Rattle.m11_tasks.specs.declared.usage.UsageFault.{UsageFault}
+use Rattle.m11_tasks.specs.declared.usage.UsageFault.TheVariants.{Help, Words}
 
 -- a line of words: a blank is 32, a line feed 10
 abbrev pub line : List (List ℕ) → List ℕ

@@ -1,8 +1,4 @@
 pub mod Arguments
-pub mod Commands
 pub mod Driver
 pub mod FaultLines
-pub mod Opened
 pub mod Outcomes
-pub mod Tasks
-pub mod Usage

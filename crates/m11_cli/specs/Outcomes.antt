@@ -16,8 +16,8 @@ use Rattle.m11_blocks.specs.declared.tape_fault.TapeFault.{TapeFault}
 use Rattle.m11_blocks.specs.declared.tape_fault.TapeFault.TheVariants as tape
 use Rattle.m11_cli.specs.declared.outcome.Outcome.{Outcome}
 use Rattle.m11_cli.specs.declared.outcome.Outcome.TheVariants.{Usage, Asm, Link, Sim, NotOpened}
-use Rattle.m11_cli.specs.declared.usage.UsageFault.{UsageFault}
-use Rattle.m11_cli.specs.declared.usage.UsageFault.TheVariants.{Help, Words, BadOctal, OddAddress, BadAddress, NoMemory}
+use Rattle.m11_tasks.specs.declared.usage.UsageFault.{UsageFault}
+use Rattle.m11_tasks.specs.declared.usage.UsageFault.TheVariants.{Help, Words, BadOctal, OddAddress, BadAddress, NoMemory}
 
 -- the status of a command line that gave no task
 abbrev pub usage_status : UsageFault → ℕ

@@ -6,27 +6,26 @@ ghost use Rattle.m11_cpu.specs.Simulation.{Simulates};
 ghost use Rattle.m11_cli.specs.Driver.{Assembles, Carries, ComesTo, Explains, Links, Obeys, Store, Tells, TellsSome, store, streams};
 ghost use Rattle.m11_cli.specs.FaultLines.{line_of, open_line};
 ghost use Rattle.m11_files.specs.Files.{AreFiles, IsEmptied, IsEmptiedSome, creating, keeping_some};
-ghost use Rattle.m11_cli.specs.Opened.{asm_inputs, asm_outputs, link_inputs, link_outputs};
+ghost use Rattle.m11_tasks.specs.Opened.{asm_inputs, asm_outputs, link_inputs, link_outputs};
 ghost use Rattle.m11_cli.specs.Outcomes.{LeavesConsole, status_of};
-ghost use Rattle.m11_cli.specs.Tasks.{IsDoable};
+ghost use Rattle.m11_tasks.specs.Tasks.{IsDoable};
 ghost use Rattle.m11_cli.specs.Arguments.{TellsOfWords, words_status};
 ghost use Rattle.m11_cli.specs.declared.outcome.Outcome.{Outcome};
 ghost use Rattle.m11_cli.specs.declared.outcome.Outcome.TheVariants.{NotOpened};
-ghost use Rattle.m11_cli.specs.declared.tasks.Task.TheVariants.{Asm, Link, Sim};
+ghost use Rattle.m11_tasks.specs.declared.tasks.Task.TheVariants.{Asm, Link, Sim};
 
 use crate::arguments::{WordsFault, refusal_line};
 use crate::fault_lines::{fault_line, not_opened_line};
-use crate::opened::{
-    AsmFiles, LinkFiles, OpenFault, open_asm_files, open_link_files, open_sim_file,
-};
 use crate::outcome::{Outcome, status};
-use crate::tasks::{AsmTask, LinkTask, SimTask, Task, plan};
-use crate::usage::UsageFault;
 use m11_asm::{AsmDone, AsmFault, asm_run};
 use m11_base::{Feed, Sink, put_all};
 use m11_cpu::{SimDone, SimFault, sim_run};
 use m11_files::Opens;
 use m11_link::{LinkDone, LinkFault, link_run};
+use m11_tasks::{
+    AsmFiles, AsmTask, LinkFiles, LinkTask, OpenFault, SimTask, Task, UsageFault, open_asm_files,
+    open_link_files, open_sim_file, plan,
+};
 use std::alloc::Global;
 use std::convert::AsStr;
 

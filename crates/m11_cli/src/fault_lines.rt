@@ -10,12 +10,12 @@ ghost use Rattle.m11_layout.specs.declared.fault.LinkFault.TheVariants.{Block, R
 ghost use Rattle.m11_cli.specs.FaultLines.{asm_line, line_of, link_line, open_line, sim_line, usage_line};
 
 use crate::outcome::Outcome;
-use crate::usage::UsageFault;
 use m11_asm::{AsmFault, AsmOutput};
 use m11_base::{PutFault, Sink, put_all};
 use m11_cpu::{LoadFault, SimFault};
 use m11_link::{LinkFault, LinkOutput};
 use m11_obj::{BlockFault, RecordFault, TapeFault};
+use m11_tasks::UsageFault;
 
 /// Puts the line of the outcome's fault: `?M11`, the command, the fault's number and its name, and
 /// for a write the output's name, as `?M11 ASM 2 Write OBJECT`, or for a block or a record of an

@@ -3,11 +3,11 @@
 ghost use Rattle.std.specs.Prelude.{◌≡◌};
 ghost use Rattle.m11_cli.specs.Outcomes.{link_status, sim_status, status_of, stop_status};
 
-use crate::usage::UsageFault;
 use m11_asm::{AsmDone, AsmFault};
 use m11_cpu::{LoadFault, SimDone, SimFault, Stop};
 use m11_link::{LinkDone, LinkFault};
 use m11_obj::TapeFault;
+use m11_tasks::UsageFault;
 
 /// What a command came to.
 #[derive(Debug, Drop)]

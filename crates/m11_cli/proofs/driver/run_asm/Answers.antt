@@ -3,7 +3,7 @@ use Rattle.m11_asm.specs.Run.{Runs}
 use Rattle.m11_asm.specs.Writes.{texts}
 use Rattle.m11_cpu.specs.Dialogue.{output_of}
 use Rattle.m11_files.specs.Files.{keeping}
-use Rattle.m11_cli.specs.Opened.{asm_inputs}
+use Rattle.m11_tasks.specs.Opened.{asm_inputs}
 use Rattle.m11_cli.proofs.Sources.{are, runs, seen}
 use Rattle.m11_cli.proofs.driver.run_asm.Goals as goal
 

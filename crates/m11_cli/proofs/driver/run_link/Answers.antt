@@ -2,7 +2,7 @@ use Rattle.std.proofs.Common.{◌∙◌, ap}
 use Rattle.m11_files.specs.Files.{keeping, keeping_some}
 use Rattle.m11_link.specs.SecondReading.{Runs}
 use Rattle.m11_cli.specs.Driver.{outputs}
-use Rattle.m11_cli.specs.Opened.{link_inputs}
+use Rattle.m11_tasks.specs.Opened.{link_inputs}
 use Rattle.m11_cli.proofs.Linked.{emptied, kept, link_runs, same_output, seen_output, seen_sink}
 use Rattle.m11_cli.proofs.Sources.{are, seen}
 use Rattle.m11_cli.proofs.driver.run_link.Goals as goal

@@ -1,0 +1,6 @@
+pub mod Addresses
+pub mod Commanded
+pub mod Entered
+pub mod Entries
+pub mod Numbers
+pub mod Opening

@@ -1,0 +1,131 @@
+-- The commands and their arguments, in the words of `clap`'s definitions: what a parse reads of each.
+-- (This project's own: the shapes of the commands stand in no manual.)
+use Rattle.std.specs.Prelude.{◌≡◌, [], ◌∷◌, Some, true, false, codes, ℕ, pos}
+use Rattle.clap.specs.Words.{App, Rule, Shape, Text, app_of, new_app, new_rule, rule_of, with_subcommand}
+use Rattle.clap.specs.Simple.{new_shape}
+use Rattle.clap.specs.declared.builder.action.ArgAction.{ArgAction}
+use Rattle.clap.specs.declared.builder.action.ArgAction.TheVariants.{Set, Append}
+use Rattle.clap.specs.declared.builder.arg.Arg.{Arg}
+use Rattle.clap.specs.declared.builder.command.Command.{Command}
+use Rattle.clap.specs.declared.builder.command.Command.TheViews.{out-Command}
+use Rattle.clap.specs.declared.builder.value_parser.ValueParser.TheVariants.{Signed}
+
+-- an argument of which a parse reads this rule, for its own command alone
+pub record IsArgument (rule : Rule) (argument : Arg) : Type 0 where
+  pub is : rule_of argument ≡ rule
+  pub local : argument.global ≡ false
+
+-- a command of which a parse reads this, with no argument for others
+pub record IsCommand (app : App) (command : Command) : Type 0 where
+  pub is : app_of command ≡ app
+  pub local : (out-Command command).has_globals ≡ false
+
+-- an option with one value: a letter of this code, as `-o OBJ`, or its name, as `--output OBJ`
+abbrev pub option_rule : Text → ℕ → Rule
+option_rule name letter = record (new_rule name) {
+  short = Some letter;
+  long = Some name;
+  value_names = 1;
+  action = Some Set;
+}
+
+-- a word without a letter or a name before it, which has to be there
+abbrev pub operand_rule : Text → ArgAction → Rule
+operand_rule name action = record (new_rule name) {
+  value_names = 1;
+  action = Some action;
+  required = true;
+}
+
+-- `-o FILE`, `--output FILE`: the object or the tape to write, which has to be named
+abbrev pub output_rule : Rule
+output_rule = record (option_rule (codes "output") 111) { required = true }
+
+-- `SOURCE...`: the sources, in order
+abbrev pub sources_rule : Rule
+sources_rule = operand_rule (codes "sources") Append
+
+-- `asm -o OBJ SOURCE...`
+abbrev pub asm_shape : Shape
+asm_shape = record (new_shape (codes "asm")) { rules = output_rule ∷ sources_rule ∷ [] }
+
+abbrev pub asm_app : App
+asm_app = record { top = asm_shape; subs = [] }
+
+-- `-m MAP`, `--map MAP`: the map to write, if one is
+abbrev pub map_rule : Rule
+map_rule = option_rule (codes "map") 109
+
+-- where the relocatable sections of a link begin, where nothing is said
+abbrev pub default_bottom : ℕ
+default_bottom = 0o1000
+
+-- `-b OCTAL`, `--bottom OCTAL`: where they begin
+abbrev pub bottom_rule : Rule
+bottom_rule = option_rule (codes "bottom") 98
+
+-- `OBJECT...`: the objects, in order
+abbrev pub objects_rule : Rule
+objects_rule = operand_rule (codes "objects") Append
+
+-- `link -o TAPE [-m MAP] [-b OCTAL] OBJECT...`
+abbrev pub link_shape : Shape
+link_shape = record (new_shape (codes "link")) {
+  rules = output_rule ∷ map_rule ∷ bottom_rule ∷ objects_rule ∷ [];
+}
+
+abbrev pub link_app : App
+link_app = record { top = link_shape; subs = [] }
+
+-- the steps of a run: how many may be allowed, and how many are where nothing is said
+abbrev pub most_steps : ℕ
+most_steps = 1000000000
+
+abbrev pub default_steps : ℕ
+default_steps = 1000000
+
+-- the words of a memory: how few and how many there may be; all of them where nothing is said
+abbrev pub least_words : ℕ
+least_words = 4096
+
+abbrev pub most_words : ℕ
+most_words = 28672
+
+-- `-n STEPS`, `--steps STEPS`: how many steps are allowed, in decimal
+abbrev pub steps_rule : Rule
+steps_rule = record (option_rule (codes "steps") 110) { parser = Some (Signed (pos 0) (pos most_steps)) }
+
+-- `-s OCTAL`, `--start OCTAL`: where to start
+abbrev pub start_rule : Rule
+start_rule = option_rule (codes "start") 115
+
+-- `-k WORDS`, `--words WORDS`: how many words of memory there are, in decimal
+abbrev pub words_rule : Rule
+words_rule = record (option_rule (codes "words") 107) { parser = Some (Signed (pos least_words) (pos most_words)) }
+
+-- `TAPE`: the tape to run
+abbrev pub tape_rule : Rule
+tape_rule = operand_rule (codes "tape") Set
+
+-- `sim [-n STEPS] [-s OCTAL] [-k WORDS] TAPE`
+abbrev pub sim_shape : Shape
+sim_shape = record (new_shape (codes "sim")) {
+  rules = steps_rule ∷ start_rule ∷ words_rule ∷ tape_rule ∷ [];
+}
+
+abbrev pub sim_app : App
+sim_app = record { top = sim_shape; subs = [] }
+
+-- `m11`, before its commands
+abbrev pub bare : App
+bare = record {
+  top = record (new_app (codes "m11")).top {
+    disable_help_subcommand = true;
+    subcommand_required = true;
+  };
+  subs = [];
+}
+
+-- `m11` with its commands
+abbrev pub application : App
+application = with_subcommand (with_subcommand (with_subcommand bare asm_shape) link_shape) sim_shape

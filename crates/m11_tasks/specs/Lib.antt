@@ -1,0 +1,4 @@
+pub mod Commands
+pub mod Opened
+pub mod Tasks
+pub mod Usage

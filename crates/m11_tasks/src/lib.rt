@@ -1,0 +1,14 @@
+//! What the words of a command line ask for: a task with its paths and numbers, or the refusal of the words; and the
+//! files of a task, opened.
+#![tactic(auto)]
+
+mod commands;
+mod opened;
+mod tasks;
+mod usage;
+
+pub use opened::{
+    AsmFiles, Inputs, LinkFiles, OpenFault, open_asm_files, open_link_files, open_sim_file,
+};
+pub use tasks::{AsmTask, LinkTask, SimTask, Task, plan};
+pub use usage::UsageFault;
