@@ -30,28 +30,53 @@ fn main(rt: HostRuntime) -> Result<ExitCode> {
     })
 }
 
-// Runs the cases of an index, which lie beside it, and tells whether all hold. A line of the index is the name of a case,
-// nothing, or a comment after a `#`.
+// Runs the cases of an index, which lie beside it, and tells whether all hold.
 fn run_index(rt: &(impl Files + AllocGlobal + Print), index: &str) -> Result<bool> {
-    let folder = folder_of(index);
     let names = fs::read_to_string(rt, index).context(format_args!("reading {index}"))?;
+    let holds = run_cases(rt, folder_of(index), names.as_str());
+    drop(names);
+    holds
+}
+
+// Runs the cases of these lines, each of which is the name of a case, nothing, or a comment after a `#`. Tells how many
+// of them hold, and whether all do.
+fn run_cases(rt: &(impl Files + AllocGlobal + Print), folder: &str, names: &str) -> Result<bool> {
     let mut all: u64 = 0;
     let mut holding: u64 = 0;
-    for line in names.as_str().lines() {
+    for line in names.lines() {
         let name = line.trim();
         if name.is_empty() || name.starts_with('#') {
             continue;
         }
         all = all.saturating_add(1);
-        let path = format!(in rt.alloc(); "{folder}{name}.case")?;
-        let text = fs::read_to_string(rt, path.as_str()).context(format_args!("reading {path}"))?;
-        match told(rt.alloc(), text.as_str())? {
-            None => holding = holding.saturating_add(1),
-            Some(what) => rt.println(format_args!("{name}: {what}"))?,
+        if holds(rt, folder, name)? {
+            holding = holding.saturating_add(1);
         }
     }
     rt.println(format_args!("{holding} of {all} cases hold"))?;
     Ok(holding == all)
+}
+
+// Runs a case, and tells what differs in it, if anything does.
+fn holds(rt: &(impl Files + AllocGlobal + Print), folder: &str, name: &str) -> Result<bool> {
+    let text = text_of(rt, folder, name)?;
+    let what = told(rt.alloc(), text.as_str());
+    drop(text);
+    match what? {
+        None => Ok(true),
+        Some(what) => {
+            rt.println(format_args!("{name}: {what}"))?;
+            Ok(false)
+        }
+    }
+}
+
+// The text of a case.
+fn text_of(rt: &(impl Files + AllocGlobal), folder: &str, name: &str) -> Result<String> {
+    let path = format!(in rt.alloc(); "{folder}{name}.case")?;
+    let text = fs::read_to_string(rt, path.as_str()).context(format_args!("reading {path}"));
+    drop(path);
+    text
 }
 
 // What stands before the name of an index in its path.

@@ -12,44 +12,132 @@ pub(crate) fn run_case(
     alloc: Global,
     commands: Vec<Command>,
 ) -> Result<Option<String>, AllocError> {
+    let mut commands = commands;
     let mut files = Vec::new(alloc);
+    let told = run_commands(alloc, &mut files, commands.as_mut_slice());
+    drop(files);
+    drop(commands);
+    told
+}
+
+// Runs commands over the files so far, up to the first that leaves another answer than it must.
+fn run_commands(
+    alloc: Global,
+    files: &mut Vec<MemoryFile>,
+    commands: &mut [Command],
+) -> Result<Option<String>, AllocError> {
     let mut number: u64 = 0;
-    for mut given in commands {
+    for given in commands {
         number = number.saturating_add(1);
-        put_all_files(&mut files, &mut given.files)?;
-        let mut input = MemoryFeed::new(given.input.as_slice());
-        let mut out = MemorySink::new(alloc);
-        let mut err = MemorySink::new(alloc);
-        let mut opened = MemoryFiles::new(alloc, files.as_slice());
-        let words = given.words.as_slice();
-        let status = command(alloc, &mut opened, &mut input, &mut out, &mut err, words);
-        let mut outputs = outputs_of(alloc, opened.into_made())?;
-        let answer = Answer {
-            status,
-            printed: out.bytes(),
-            told: err.bytes(),
-            outputs: outputs.as_slice(),
-        };
-        if let Some(what) = first_difference(&given, &answer) {
-            return Ok(Some(format!(in alloc; "command {number}: {what}")?));
+        put_all_files(files, &mut given.files)?;
+        let told = run_command(alloc, files, given, number)?;
+        if told.is_some() {
+            return Ok(told);
         }
-        put_all_files(&mut files, &mut outputs)?;
     }
     Ok(None)
 }
 
-// The files that a command created, each with what was written to it: nothing where it was not handed back.
-fn outputs_of(alloc: Global, made: Vec<MadeFile>) -> Result<Vec<MemoryFile>, AllocError> {
-    let mut outputs = Vec::new(alloc);
-    for file in made {
-        let MadeFile { path, kept } = file;
-        let bytes = match kept {
-            Some(bytes) => bytes,
-            None => Vec::new(alloc),
-        };
-        outputs.push(MemoryFile { path, bytes })?;
+// Runs the command of a number, tells what differs in what it leaves, and else puts what it created among the files.
+fn run_command(
+    alloc: Global,
+    files: &mut Vec<MemoryFile>,
+    given: &Command,
+    number: u64,
+) -> Result<Option<String>, AllocError> {
+    let mut left = left_by(alloc, files.as_slice(), given)?;
+    let told = match difference_of(alloc, given, &left, number) {
+        Ok(None) => kept(files, &mut left.outputs),
+        told => told,
+    };
+    drop(left);
+    told
+}
+
+// What a command left, as its own.
+#[derive(Drop)]
+struct Left {
+    status: u8,
+    printed: MemorySink,
+    told: MemorySink,
+    outputs: Vec<MemoryFile>,
+}
+
+// What a command leaves where these files are.
+fn left_by(alloc: Global, files: &[MemoryFile], given: &Command) -> Result<Left, AllocError> {
+    let mut input = MemoryFeed::new(given.input.as_slice());
+    let mut left = Left {
+        status: 0,
+        printed: MemorySink::new(alloc),
+        told: MemorySink::new(alloc),
+        outputs: Vec::new(alloc),
+    };
+    let mut opened = MemoryFiles::new(alloc, files);
+    let words = given.words.as_slice();
+    left.status = command(
+        alloc,
+        &mut opened,
+        &mut input,
+        &mut left.printed,
+        &mut left.told,
+        words,
+    );
+    match put_outputs(alloc, &mut left.outputs, opened.into_made()) {
+        Ok(()) => Ok(left),
+        Err(error) => {
+            drop(left);
+            Err(error)
+        }
     }
-    Ok(outputs)
+}
+
+// The first difference of what a command left, told with the command's number.
+fn difference_of(
+    alloc: Global,
+    given: &Command,
+    left: &Left,
+    number: u64,
+) -> Result<Option<String>, AllocError> {
+    let answer = Answer {
+        status: left.status,
+        printed: left.printed.bytes(),
+        told: left.told.bytes(),
+        outputs: left.outputs.as_slice(),
+    };
+    match first_difference(given, &answer) {
+        Some(what) => Ok(Some(format!(in alloc; "command {number}: {what}")?)),
+        None => Ok(None),
+    }
+}
+
+// Puts what a command created among the files, of which nothing is to be told.
+fn kept(
+    files: &mut Vec<MemoryFile>,
+    outputs: &mut Vec<MemoryFile>,
+) -> Result<Option<String>, AllocError> {
+    put_all_files(files, outputs)?;
+    Ok(None)
+}
+
+// Adds the files that a command created, each with what was written to it: nothing where it was not handed back.
+fn put_outputs(
+    alloc: Global,
+    outputs: &mut Vec<MemoryFile>,
+    made: Vec<MadeFile>,
+) -> Result<(), AllocError> {
+    for file in made {
+        outputs.push(output_of(alloc, file))?;
+    }
+    Ok(())
+}
+
+fn output_of(alloc: Global, file: MadeFile) -> MemoryFile {
+    let MadeFile { path, kept } = file;
+    let bytes = match kept {
+        Some(bytes) => bytes,
+        None => Vec::new(alloc),
+    };
+    MemoryFile { path, bytes }
 }
 
 // Puts files among others, each in the place of that of its path, if there is one.
