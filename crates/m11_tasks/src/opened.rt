@@ -56,6 +56,7 @@ pub struct LinkFiles<I, O> {
 }
 
 /// Opens the sources, and then creates the object.
+#[tactic(auto, using(crate::proofs::Opening::stops_at_first))]
 pub fn open_asm_files<'a, F: Opens>(
     alloc: Global,
     files: &mut F,
