@@ -239,18 +239,27 @@ fn rest_behind_lines<'a>(text: &'a [u8], lines: &[&str]) -> Option<&'a [u8]> {
     Some(rest)
 }
 
+// What stands behind a heading and its lines, where a text begins with them.
+fn rest_behind_list<'a>(text: &'a [u8], heading: &str, lines: &[&str]) -> Option<&'a [u8]> {
+    let rest = rest_behind(text, &[heading.as_bytes(), b"\n"])?;
+    rest_behind_lines(rest, lines)
+}
+
+// What stands behind the names of a map, where a text begins with them.
+fn rest_behind_names<'a>(text: &'a [u8], wanted: Wanted<'_>) -> Option<&'a [u8]> {
+    let rest = rest_behind_list(text, "UNDEFINED", wanted.undefined)?;
+    if wanted.weak.is_empty() {
+        Some(rest)
+    } else {
+        rest_behind_list(rest, "WEAK", wanted.weak)
+    }
+}
+
 // What stands behind a map, where a text begins with it.
 fn rest_behind_map<'a>(text: &'a [u8], wanted: Wanted<'_>) -> Option<&'a [u8]> {
-    let mut rest = rest_behind_lines(text, &["SECTIONS"])?;
-    rest = rest_behind_lines(rest, wanted.sections)?;
-    rest = rest_behind_lines(rest, &["GLOBALS"])?;
-    rest = rest_behind_lines(rest, wanted.globals)?;
-    rest = rest_behind_lines(rest, &["UNDEFINED"])?;
-    rest = rest_behind_lines(rest, wanted.undefined)?;
-    if !wanted.weak.is_empty() {
-        rest = rest_behind_lines(rest, &["WEAK"])?;
-    }
-    rest = rest_behind_lines(rest, wanted.weak)?;
+    let rest = rest_behind_list(text, "SECTIONS", wanted.sections)?;
+    let rest = rest_behind_list(rest, "GLOBALS", wanted.globals)?;
+    let rest = rest_behind_names(rest, wanted)?;
     rest_behind_lines(rest, &[wanted.transfer, wanted.limit])
 }
 
@@ -308,19 +317,40 @@ fn feeds_of(alloc: Global, files: &[Vec<u8>]) -> Result<Vec<MemoryFeed<'_>>, All
     Ok(feeds)
 }
 
+// Links what two readings of feeds give, into texts.
+fn link_into<F: Feed>(
+    alloc: Global,
+    first: &mut [F],
+    second: &mut [F],
+    bottom: u16,
+    tape: &mut Vec<u8>,
+    map: &mut Vec<u8>,
+    messages: &mut Vec<u8>,
+) -> Result<LinkDone, LinkFault> {
+    link_run(
+        alloc,
+        first,
+        second,
+        bottom,
+        &mut WriterSink::new(tape),
+        &mut Some(WriterSink::new(map)),
+        &mut WriterSink::new(messages),
+    )
+}
+
 // Links what two readings of feeds give.
 fn linked_feeds<F: Feed>(alloc: Global, first: &mut [F], second: &mut [F], bottom: u16) -> Linked {
     let mut tape = Vec::new(alloc);
     let mut map = Vec::new(alloc);
     let mut messages = Vec::new(alloc);
-    let outcome = link_run(
+    let outcome = link_into(
         alloc,
         first,
         second,
         bottom,
-        &mut WriterSink::new(&mut tape),
-        &mut Some(WriterSink::new(&mut map)),
-        &mut WriterSink::new(&mut messages),
+        &mut tape,
+        &mut map,
+        &mut messages,
     );
     Linked {
         outcome,
@@ -342,14 +372,8 @@ pub(crate) fn linked_twice(
     Ok(linked_feeds(alloc, first.as_mut_slice(), second.as_mut_slice(), bottom))
 }
 
-// The link of files leaves this.
-pub(crate) fn links_files(
-    rt: &(impl Abort + AllocGlobal),
-    files: &[Vec<u8>],
-    bottom: u16,
-    wanted: Wanted<'_>,
-) -> Result<(), Fail> {
-    let linked = linked_twice(rt.alloc(), files, files, bottom)?;
+// A link left what is wanted.
+pub(crate) fn left(rt: &impl Abort, linked: &Linked, wanted: Wanted<'_>) -> Result<(), Fail> {
     linked.outcome?;
     assert!(rt; linked.has_tape(wanted.tape), "the tape");
     assert!(rt; linked.has_map(wanted), "the map");
@@ -365,7 +389,26 @@ pub(crate) fn links(
     wanted: Wanted<'_>,
 ) -> Result<(), Fail> {
     let files = files_of(rt.alloc(), objects)?;
-    links_files(rt, files.as_slice(), bottom, wanted)
+    let linked = linked_twice(rt.alloc(), files.as_slice(), files.as_slice(), bottom)?;
+    let shown = left(rt, &linked, wanted);
+    drop(linked);
+    shown
+}
+
+// A link ended with this, and where that is a fault nothing was written.
+fn ended(
+    rt: &impl Abort,
+    name: &str,
+    linked: &Linked,
+    outcome: Result<LinkDone, LinkFault>,
+) -> Result<(), Fail> {
+    linked.had_memory()?;
+    assert!(rt; linked.outcome == outcome, "{name}");
+    assert!(rt;
+        outcome.is_ok() || linked.is_empty(),
+        "{name}: what was written"
+    );
+    Ok(())
 }
 
 // The link of a file, which has a name for the reader, ends with this, and where that is a fault nothing was written.
@@ -379,13 +422,9 @@ pub(crate) fn ends_file(
     let mut first = [MemoryFeed::new(file)];
     let mut second = [MemoryFeed::new(file)];
     let linked = linked_feeds(rt.alloc(), &mut first, &mut second, bottom);
-    linked.had_memory()?;
-    assert_eq!(rt; linked.outcome, outcome, "{name}");
-    assert!(rt;
-        outcome.is_ok() || linked.is_empty(),
-        "{name}: what was written"
-    );
-    Ok(())
+    let shown = ended(rt, name, &linked, outcome);
+    drop(linked);
+    shown
 }
 
 // The link of an object is refused for this, and nothing is written.

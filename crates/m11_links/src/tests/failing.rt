@@ -2,10 +2,10 @@
 
 use super::{
     DEFINES_F, DIRECTORY, END_OF_GSD, END_OF_MODULE, IN_BLANK_SECTION, Linked, NO_START, ONE_WORD,
-    Object, READS_F, READS_F_LINKED, RELOCATIONS, TEXT, Wanted, file_of,
+    Object, READS_F, READS_F_LINKED, RELOCATIONS, TEXT, Wanted, file_of, left,
 };
 use m11_base::{FuseFeed, FuseSink, MemoryFeed, WriterSink};
-use m11_link::{LinkFault, LinkOutput, link_run};
+use m11_link::{LinkDone, LinkFault, LinkOutput, link_run};
 use std::alloc::Global;
 use std::process::Abort;
 use std::test::Fail;
@@ -62,19 +62,40 @@ impl Broken {
     }
 }
 
-// Links two files with a broken device, and outputs that take so many bytes a call at most.
-fn linked_broken(alloc: Global, files: [&[u8]; 2], broken: Broken, most: usize) -> Linked {
-    let mut tape = Vec::new(alloc);
-    let mut map = Vec::new(alloc);
-    let mut messages = Vec::new(alloc);
-    let outcome = link_run(
+// Links two files with a broken device into texts, by outputs that take so many bytes a call at most.
+fn link_broken(
+    alloc: Global,
+    files: [&[u8]; 2],
+    broken: Broken,
+    most: usize,
+    tape: &mut Vec<u8>,
+    map: &mut Vec<u8>,
+    messages: &mut Vec<u8>,
+) -> Result<LinkDone, LinkFault> {
+    link_run(
         alloc,
         &mut [broken.feed(0, files[0]), broken.feed(1, files[1])],
         &mut [broken.feed(2, files[0]), broken.feed(3, files[1])],
         0o1000,
-        &mut broken.sink(LinkOutput::Tape, &mut tape, most),
-        &mut Some(broken.sink(LinkOutput::Map, &mut map, most)),
-        &mut broken.sink(LinkOutput::Messages, &mut messages, most),
+        &mut broken.sink(LinkOutput::Tape, tape, most),
+        &mut Some(broken.sink(LinkOutput::Map, map, most)),
+        &mut broken.sink(LinkOutput::Messages, messages, most),
+    )
+}
+
+// The same, with what the texts are then.
+fn linked_broken(alloc: Global, files: [&[u8]; 2], broken: Broken, most: usize) -> Linked {
+    let mut tape = Vec::new(alloc);
+    let mut map = Vec::new(alloc);
+    let mut messages = Vec::new(alloc);
+    let outcome = link_broken(
+        alloc,
+        files,
+        broken,
+        most,
+        &mut tape,
+        &mut map,
+        &mut messages,
     );
     Linked {
         outcome,
@@ -98,11 +119,6 @@ fn begins(linked: &Linked, whole: &Linked) -> bool {
 fn is_whole(linked: &Linked, whole: &Linked) -> bool {
     begins(linked, whole) && begins(whole, linked)
 }
-
-// Two objects, and what their link leaves.
-type Links<'a> = ([Object<'a>; 2], Wanted<'a>);
-
-const BY_A_GLOBAL: Links<'static> = ([READS_F, DEFINES_F], READS_F_LINKED);
 
 const DEFINES_X_AND_REFERS_TO_Q: Object<'static> = &[
     &[
@@ -147,117 +163,144 @@ const DEFINES_X_AGAIN: Object<'static> = &[
     &[END_OF_MODULE],
 ];
 
-// A link with two messages.
-const WITH_MESSAGES: Links<'static> = (
-    [DEFINES_X_AND_REFERS_TO_Q, DEFINES_X_AGAIN],
-    Wanted {
-        tape: &[
-            &[0x01, 0x00, 0x08, 0x00, 0x00, 0x02, 0x00, 0x00, 0xF5],
-            &[0x01, 0x00, 0x08, 0x00, 0x02, 0x02, 0x02, 0x00, 0xF1],
-            NO_START,
-        ],
-        sections: &[
-            ". ABS. 000000 000000 RW,I,GBL,ABS,OVR",
-            "       001000 000004 RW,I,LCL,REL,CON",
-        ],
-        globals: &["X      000001 A"],
-        undefined: &["Q"],
-        weak: &[],
-        transfer: "TRANSFER 000001",
-        limit: "LIMIT 001000 001004",
-        told: &[
-            "UNDEFINED GLOBAL Q",
-            "MULTIPLE DEFINITION X      IN MODULE B",
-        ],
-    },
-);
+// What the two leave, with two messages.
+const WITH_MESSAGES: Wanted<'static> = Wanted {
+    tape: &[
+        &[0x01, 0x00, 0x08, 0x00, 0x00, 0x02, 0x00, 0x00, 0xF5],
+        &[0x01, 0x00, 0x08, 0x00, 0x02, 0x02, 0x02, 0x00, 0xF1],
+        NO_START,
+    ],
+    sections: &[
+        ". ABS. 000000 000000 RW,I,GBL,ABS,OVR",
+        "       001000 000004 RW,I,LCL,REL,CON",
+    ],
+    globals: &["X      000001 A"],
+    undefined: &["Q"],
+    weak: &[],
+    transfer: "TRANSFER 000001",
+    limit: "LIMIT 001000 001004",
+    told: &[
+        "UNDEFINED GLOBAL Q",
+        "MULTIPLE DEFINITION X      IN MODULE B",
+    ],
+};
 
-// A link, the device that fails in it, and how many bytes an output takes a call at most.
-static FAILING: [(Links<'static>, Device, usize); 10] = [
-    (BY_A_GLOBAL, Device::Feed(0), 512),
-    (BY_A_GLOBAL, Device::Feed(1), 512),
-    (BY_A_GLOBAL, Device::Feed(2), 512),
-    (BY_A_GLOBAL, Device::Feed(3), 512),
-    (BY_A_GLOBAL, Device::Output(LinkOutput::Tape), 512),
-    (BY_A_GLOBAL, Device::Output(LinkOutput::Tape), 1),
-    (BY_A_GLOBAL, Device::Output(LinkOutput::Map), 512),
-    (BY_A_GLOBAL, Device::Output(LinkOutput::Map), 1),
-    (WITH_MESSAGES, Device::Output(LinkOutput::Messages), 512),
-    (WITH_MESSAGES, Device::Output(LinkOutput::Messages), 1),
+// A device that fails, and how many bytes an output takes a call at most.
+type Failing = (Device, usize);
+
+static FAILING: [Failing; 8] = [
+    (Device::Feed(0), 512),
+    (Device::Feed(1), 512),
+    (Device::Feed(2), 512),
+    (Device::Feed(3), 512),
+    (Device::Output(LinkOutput::Tape), 512),
+    (Device::Output(LinkOutput::Tape), 1),
+    (Device::Output(LinkOutput::Map), 512),
+    (Device::Output(LinkOutput::Map), 1),
 ];
 
-// A link in which no device fails leaves what is wanted.
-fn links_whole(
-    rt: &(impl Abort + AllocGlobal),
-    files: [&[u8]; 2],
-    most: usize,
-    wanted: Wanted<'_>,
-) -> Result<Linked, Fail> {
-    let sound = Broken {
-        device: Device::Feed(0),
-        calls: u64::MAX,
-    };
-    let whole = linked_broken(rt.alloc(), files, sound, most);
-    whole.outcome?;
+static FAILING_MESSAGES: [Failing; 2] = [
+    (Device::Output(LinkOutput::Messages), 512),
+    (Device::Output(LinkOutput::Messages), 1),
+];
+
+// A link with a broken device left beginnings and ended with the device's fault, or left all: whether it did.
+fn ended_whole(
+    rt: &impl Abort,
+    linked: &Linked,
+    whole: &Linked,
+    broken: Broken,
+) -> Result<bool, Fail> {
+    let Broken { device, calls } = broken;
+    linked.had_memory()?;
     assert!(rt;
-        whole.has_tape(wanted.tape),
-        "the tape at {most} bytes a call"
+        begins(linked, whole),
+        "{device:?}: beginnings after {calls} calls"
     );
-    assert!(rt; whole.has_map(wanted), "the map at {most} bytes a call");
-    assert!(rt;
-        whole.tells(wanted.told),
-        "the messages at {most} bytes a call"
-    );
-    Ok(whole)
+    match linked.outcome {
+        Ok(_) => {
+            assert!(rt;
+                is_whole(linked, whole),
+                "{device:?}: the outputs of a whole link"
+            );
+            Ok(true)
+        }
+        Err(fault) => {
+            assert!(rt;
+                fault == device.fault(),
+                "{device:?}: the fault after {calls} calls"
+            );
+            Ok(false)
+        }
+    }
 }
 
-// A device fails after more and more calls, until a link ends without a failure: before that, each ends with the
-// device's fault and leaves beginnings.
+// A whole link left what is wanted, and a device fails after more and more calls, until a link ends without a failure.
 fn fails_in_turn(
     rt: &(impl Abort + AllocGlobal),
     files: [&[u8]; 2],
+    wanted: Wanted<'_>,
     device: Device,
     most: usize,
     whole: &Linked,
 ) -> Result<(), Fail> {
+    left(rt, whole, wanted)?;
     for calls in 0..1_000 {
-        let linked = linked_broken(rt.alloc(), files, Broken { device, calls }, most);
-        linked.had_memory()?;
-        assert!(rt;
-            begins(&linked, whole),
-            "{device:?}: beginnings after {calls} calls"
-        );
-        match linked.outcome {
-            Ok(_) => {
-                assert!(rt;
-                    is_whole(&linked, whole),
-                    "{device:?}: the outputs of a whole link"
-                );
-                return Ok(());
-            }
-            Err(fault) => {
-                assert!(rt;
-                    fault == device.fault(),
-                    "{device:?}: the fault after {calls} calls"
-                );
-            }
+        let broken = Broken { device, calls };
+        let linked = linked_broken(rt.alloc(), files, broken, most);
+        let ended = ended_whole(rt, &linked, whole, broken);
+        drop(linked);
+        if ended? {
+            return Ok(());
         }
     }
     assert!(rt; false, "{device:?}: a link without a failure");
     Ok(())
 }
 
-#[test]
-fn each_read_and_each_write_may_fail(rt: HostRuntime) -> Result<(), Fail> {
-    for row in &FAILING {
-        let ((objects, wanted), device, most) = *row;
-        let first = file_of(rt.alloc(), objects[0])?;
-        let second = file_of(rt.alloc(), objects[1])?;
-        let files = [first.as_slice(), second.as_slice()];
-        let whole = links_whole(&rt, files, most, wanted)?;
-        fails_in_turn(&rt, files, device, most, &whole)?;
+// The link of two files leaves what is wanted, and ends as it should where a device fails.
+fn may_fail(
+    rt: &(impl Abort + AllocGlobal),
+    files: [&[u8]; 2],
+    wanted: Wanted<'_>,
+    device: Device,
+    most: usize,
+) -> Result<(), Fail> {
+    let sound = Broken {
+        device,
+        calls: u64::MAX,
+    };
+    let whole = linked_broken(rt.alloc(), files, sound, most);
+    let shown = fails_in_turn(rt, files, wanted, device, most, &whole);
+    drop(whole);
+    shown
+}
+
+// Each row's device may fail in the link of two objects.
+fn devices_may_fail(
+    rt: &(impl Abort + AllocGlobal),
+    objects: [Object<'_>; 2],
+    wanted: Wanted<'_>,
+    rows: &[Failing],
+) -> Result<(), Fail> {
+    let first = file_of(rt.alloc(), objects[0])?;
+    let second = file_of(rt.alloc(), objects[1])?;
+    let files = [first.as_slice(), second.as_slice()];
+    for (device, most) in rows {
+        may_fail(rt, files, wanted, *device, *most)?;
     }
     Ok(())
+}
+
+#[test]
+fn each_read_and_each_write_may_fail(rt: HostRuntime) -> Result<(), Fail> {
+    devices_may_fail(&rt, [READS_F, DEFINES_F], READS_F_LINKED, &FAILING)
+}
+
+#[test]
+fn each_write_of_messages_may_fail(rt: HostRuntime) -> Result<(), Fail> {
+    let objects = [DEFINES_X_AND_REFERS_TO_Q, DEFINES_X_AGAIN];
+    devices_may_fail(&rt, objects, WITH_MESSAGES, &FAILING_MESSAGES)
 }
 
 // Whether a link whose outputs take nothing fails at its first write, that of the map.

@@ -105,7 +105,7 @@ const SELECTS_PROG: Given<'static> = Relocation(0o7, 0, Some(b"PROG  "), Some(0)
 const SELECTS_ABSOLUTE: Given<'static> = Relocation(0o7, 0, Some(b". ABS."), Some(0));
 
 // Whole files, and files that end where their records end.
-const FILES: &[Row<'static>] = &[
+static FILES: [Row<'static>; 28] = [
     ("a file may have no module", &[], Ok(())),
     (
         "a module may have no directory and no text",
@@ -274,7 +274,7 @@ const FILES: &[Row<'static>] = &[
 ];
 
 // Texts in PROG, and where they may stand.
-const TEXTS: &[Row<'static>] = &[
+static TEXTS: [Row<'static>; 6] = [
     (
         "a text may fill its section",
         &[
@@ -345,7 +345,7 @@ const EIGHT_BYTES: Given<'static> = Text(0, &[0, 0, 0, 0, 0, 0, 0, 0]);
 const TWO_BYTES: Given<'static> = Text(0, &[0, 0]);
 
 // A relocation's place counts from 4, at the first byte of the text before it.
-const PLACES: &[Row<'static>] = &[
+static PLACES: [Row<'static>; 14] = [
     (
         "the first word",
         &[
@@ -490,7 +490,7 @@ const PLACES: &[Row<'static>] = &[
 ];
 
 // What a relocation names, and what it needs before it.
-const NAMED: &[Row<'static>] = &[
+static NAMED: [Row<'static>; 9] = [
     (
         "the base of a section that wasn't entered",
         &[
@@ -587,11 +587,23 @@ const NAMED: &[Row<'static>] = &[
 ];
 
 #[test]
-fn records_are_judged_in_their_order(rt: HostRuntime) -> Result<(), Fail> {
-    are_judged(&rt, FILES, &[])?;
-    are_judged(&rt, TEXTS, &[EndOfModule])?;
-    are_judged(&rt, PLACES, &[EndOfModule])?;
-    are_judged(&rt, NAMED, &[EndOfModule])
+fn records_of_a_file_are_judged_in_their_order(rt: HostRuntime) -> Result<(), Fail> {
+    are_judged(&rt, &FILES, &[])
+}
+
+#[test]
+fn a_text_lies_in_its_section(rt: HostRuntime) -> Result<(), Fail> {
+    are_judged(&rt, &TEXTS, &[EndOfModule])
+}
+
+#[test]
+fn a_relocation_lies_in_its_text(rt: HostRuntime) -> Result<(), Fail> {
+    are_judged(&rt, &PLACES, &[EndOfModule])
+}
+
+#[test]
+fn a_relocation_names_what_is_known(rt: HostRuntime) -> Result<(), Fail> {
+    are_judged(&rt, &NAMED, &[EndOfModule])
 }
 
 // A module that selects its section, and the rest of it.
@@ -658,29 +670,38 @@ fn relocate_last(
     Ok(take(rules, relocation))
 }
 
+// What is answered to a displaced relocation of a global, by its first word, after 8,192 globals.
+fn relocated_last(
+    alloc: Global,
+    displacement: u8,
+    number: u16,
+) -> Result<Result<(), LinkFault>, LinkFault> {
+    let [low, high] = number.to_le_bytes();
+    let record = [4, 0, 4, displacement, low, high, 0, 0];
+    let mut rules = Rules::new(alloc);
+    let answer = relocate_last(&mut rules, &Bytes(&record));
+    drop(rules);
+    answer
+}
+
 #[test]
 fn the_8193rd_name_of_a_global_is_refused_in_a_relocation(rt: HostRuntime) -> Result<(), Fail> {
-    let rows = [
-        ("a known name", 4, 9_000u16, Ok(())),
-        ("the 8,193rd name", 4, 9_001, Err(LinkFault::TooManyGlobals)),
-        (
-            "the place is looked at first",
-            5,
-            9_001,
-            Err(LinkFault::BadDisplacement),
-        ),
-    ];
-    for (what, displacement, number, wanted) in rows {
-        let [low, high] = number.to_le_bytes();
-        let mut rules = Rules::new(rt.alloc());
-        let answer = relocate_last(
-            &mut rules,
-            &Bytes(&[4, 0, 4, displacement, low, high, 0, 0]),
-        );
-        drop(rules);
-        comes(&rt, what, answer?, wanted)?;
-    }
-    Ok(())
+    let known = relocated_last(rt.alloc(), 4, 9_000)?;
+    comes(&rt, "a known name", known, Ok(()))?;
+    let another = relocated_last(rt.alloc(), 4, 9_001)?;
+    comes(
+        &rt,
+        "the 8,193rd name",
+        another,
+        Err(LinkFault::TooManyGlobals),
+    )?;
+    let misplaced = relocated_last(rt.alloc(), 5, 9_001)?;
+    comes(
+        &rt,
+        "the place is looked at first",
+        misplaced,
+        Err(LinkFault::BadDisplacement),
+    )
 }
 
 // What is answered to a definition after 8,192 globals, one of them named twice, and a section of the same name.

@@ -4,6 +4,7 @@ use self::Made::{Entries, EntriesAndTwo, Modules, ModulesAndSections};
 use super::{DIRECTORY, END_OF_GSD, END_OF_MODULE, add_block, ends_file};
 use m11_link::{LinkDone, LinkFault};
 use std::alloc::{AllocError, Global};
+use std::process::Abort;
 use std::test::Fail;
 
 // A section of no bytes, relocatable, and a global that is referred to weakly or defined in a section: flags and type.
@@ -12,6 +13,9 @@ const SECTION: [u8; 2] = [0x20, 0x05];
 const WEAK_REFERENCE: [u8; 2] = [0x01, 0x04];
 
 const DEFINITION: [u8; 2] = [0x28, 0x04];
+
+// The number, and the flags and type of an entry.
+type Entry = (u16, [u8; 2]);
 
 // An entry of value 0, by its flags and type. Each number below 64,000 is another name.
 fn entry(number: u16, flags_and_type: [u8; 2]) -> [u8; 8] {
@@ -63,18 +67,20 @@ fn entries_and_two(
     alloc: Global,
     count: u16,
     flags_and_type: [u8; 2],
-    two: [(u16, [u8; 2]); 2],
+    first: Entry,
+    second: Entry,
 ) -> Result<Vec<u8>, AllocError> {
     let mut file = Vec::new(alloc);
     add_entries(&mut file, count, flags_and_type)?;
-    add_two(&mut file, two)?;
+    add_two(&mut file, first, second)?;
     add_end(&mut file)?;
     Ok(file)
 }
 
 // Adds a directory of two entries.
-fn add_two(file: &mut Vec<u8>, two: [(u16, [u8; 2]); 2]) -> Result<(), AllocError> {
-    let [(first, first_kind), (second, second_kind)] = two;
+fn add_two(file: &mut Vec<u8>, first: Entry, second: Entry) -> Result<(), AllocError> {
+    let (first, first_kind) = first;
+    let (second, second_kind) = second;
     add_block(
         file,
         &[
@@ -93,7 +99,7 @@ enum Made {
     // So many modules that each have these many entries.
     Entries(u32, u16, [u8; 2]),
     // A module that has these many entries, and two more in one directory.
-    EntriesAndTwo(u16, [u8; 2], [(u16, [u8; 2]); 2]),
+    EntriesAndTwo(u16, [u8; 2], Entry, Entry),
     // Empty modules, and one that begins with the same section twice.
     ModulesAndSections(u32),
 }
@@ -102,17 +108,19 @@ fn make(alloc: Global, made: Made) -> Result<Vec<u8>, AllocError> {
     match made {
         Modules(count) => empty_modules(alloc, count),
         Entries(modules, count, kind) => modules_of(alloc, modules, count, kind),
-        EntriesAndTwo(count, kind, two) => entries_and_two(alloc, count, kind, two),
+        EntriesAndTwo(count, kind, first, second) => {
+            entries_and_two(alloc, count, kind, first, second)
+        },
         ModulesAndSections(count) => {
             let mut file = empty_modules(alloc, count)?;
-            add_two(&mut file, [(1, SECTION), (1, SECTION)])?;
+            add_two(&mut file, (1, SECTION), (1, SECTION))?;
             Ok(file)
         }
     }
 }
 
 // What a file shows, how it is made, and why it is refused, if it is.
-const FILES: [(&str, Made, Option<LinkFault>); 12] = [
+static FILES: [(&str, Made, Option<LinkFault>); 12] = [
     ("32 modules", Modules(32), None),
     ("33 modules", Modules(33), Some(LinkFault::TooManyModules)),
     (
@@ -133,12 +141,12 @@ const FILES: [(&str, Made, Option<LinkFault>); 12] = [
     ),
     (
         "a section too many before one that is known",
-        EntriesAndTwo(256, SECTION, [(256, SECTION), (0, SECTION)]),
+        EntriesAndTwo(256, SECTION, (256, SECTION), (0, SECTION)),
         Some(LinkFault::TooManySections),
     ),
     (
         "a section that is known before one too many",
-        EntriesAndTwo(256, SECTION, [(0, SECTION), (256, SECTION)]),
+        EntriesAndTwo(256, SECTION, (0, SECTION), (256, SECTION)),
         Some(LinkFault::BadOrder),
     ),
     ("8192 globals", Entries(1, 8_192, WEAK_REFERENCE), None),
@@ -152,22 +160,31 @@ const FILES: [(&str, Made, Option<LinkFault>); 12] = [
         EntriesAndTwo(
             8_191,
             WEAK_REFERENCE,
-            [(8_191, WEAK_REFERENCE), (8_192, DEFINITION)],
+            (8_191, WEAK_REFERENCE),
+            (8_192, DEFINITION),
         ),
         Some(LinkFault::BadOrder),
     ),
     ("no module", Modules(0), None),
 ];
 
-#[test]
-fn there_are_at_most_32_modules_256_sections_and_8192_globals(rt: HostRuntime) -> Result<(), Fail> {
-    for (name, made, fault) in FILES {
-        let file = make(rt.alloc(), made)?;
-        let outcome = match fault {
+// Each file's link ends as its row says.
+fn end_as_they_should(
+    rt: &(impl Abort + AllocGlobal),
+    rows: &[(&str, Made, Option<LinkFault>)],
+) -> Result<(), Fail> {
+    for (name, made, fault) in rows {
+        let file = make(rt.alloc(), *made)?;
+        let outcome = match *fault {
             None => Ok(LinkDone { messages: 0 }),
             Some(fault) => Err(fault),
         };
-        ends_file(&rt, name, file.as_slice(), 0o1000, outcome)?;
+        ends_file(rt, name, file.as_slice(), 0o1000, outcome)?;
     }
     Ok(())
+}
+
+#[test]
+fn there_are_at_most_32_modules_256_sections_and_8192_globals(rt: HostRuntime) -> Result<(), Fail> {
+    end_as_they_should(&rt, &FILES)
 }

@@ -24,6 +24,9 @@ type Module<'a> = &'a [Entry<'a>];
 // What a row shows, the bottom, objects of one module each, and what their plan tells.
 type Row<'a> = (&'a str, u16, &'a [Module<'a>], &'a [Fact<'a>]);
 
+// What a row shows, the bottom, and objects whose program is too large.
+type TooLarge<'a> = (&'a str, u16, &'a [Module<'a>]);
+
 // What a plan tells.
 #[derive(Clone, Copy)]
 enum Fact<'a> {
@@ -49,76 +52,108 @@ enum Fact<'a> {
     Attributes(&'a [u8; 6], u8),
 }
 
-fn section(plan: &Plan, index: usize) -> Option<PlannedSection> {
-    if index < plan.section_count() {
-        Some(plan.section_at(index))
-    } else {
-        None
+fn has_base(plan: &Plan, module_index: usize, section: &[u8; 6], base: u16) -> bool {
+    match Name::pack(section) {
+        Some(name) => plan.base(module_index, name) == base,
+        None => false,
     }
 }
 
-fn global(plan: &Plan, index: usize) -> Option<PlannedGlobal> {
-    if index < plan.global_count() {
-        Some(plan.global_at(index))
-    } else {
-        None
+fn has_value(plan: &Plan, global: &[u8; 6], value: Option<u16>) -> bool {
+    match Name::pack(global) {
+        Some(name) => plan.value(name) == value,
+        None => false,
     }
 }
 
-fn reference(plan: &Plan, index: usize) -> Option<(Name, bool)> {
-    if index < plan.reference_count() {
-        Some(plan.reference_at(index))
-    } else {
-        None
+fn has_counts(plan: &Plan, sections: usize, globals: usize, references: usize) -> bool {
+    plan.section_count() == sections
+        && plan.global_count() == globals
+        && plan.reference_count() == references
+}
+
+fn has_section(
+    plan: &Plan,
+    index: usize,
+    (section, base, size, attributes): (&[u8; 6], u16, u16, u8),
+) -> bool {
+    match Name::pack(section) {
+        Some(name) if index < plan.section_count() => {
+            plan.section_at(index)
+                == PlannedSection {
+                    name,
+                    base,
+                    size,
+                    attributes: SectionFlags::from_bits_retain(attributes),
+                }
+        }
+        _ => false,
+    }
+}
+
+fn has_global(
+    plan: &Plan,
+    index: usize,
+    (global, value, module): (&[u8; 6], u16, &[u8; 6]),
+) -> bool {
+    match (Name::pack(global), Name::pack(module)) {
+        (Some(name), Some(module_name)) if index < plan.global_count() => {
+            plan.global_at(index)
+                == PlannedGlobal {
+                    name,
+                    value,
+                    module_name,
+                }
+        }
+        _ => false,
+    }
+}
+
+fn has_reference(plan: &Plan, index: usize, global: &[u8; 6], is_strong: bool) -> bool {
+    match Name::pack(global) {
+        Some(name) if index < plan.reference_count() => {
+            plan.reference_at(index) == (name, is_strong)
+        }
+        _ => false,
+    }
+}
+
+fn has_module(plan: &Plan, index: usize, module: &[u8; 6]) -> bool {
+    Name::pack(module) == Some(plan.module_name(index))
+}
+
+fn has_attributes(plan: &Plan, section: &[u8; 6], attributes: u8) -> bool {
+    match Name::pack(section) {
+        Some(name) => plan.attributes(name).bits() == attributes,
+        None => false,
     }
 }
 
 // Whether a plan tells this.
-fn tells(plan: &Plan, fact: &Fact<'_>) -> Option<bool> {
+fn tells(plan: &Plan, fact: &Fact<'_>) -> bool {
     match *fact {
-        Fact::Base(module_index, section, base) => {
-            Some(plan.base(module_index, Name::pack(section)?) == base)
+        Fact::Base(module_index, section, base) => has_base(plan, module_index, section, base),
+        Fact::Value(global, value) => has_value(plan, global, Some(value)),
+        Fact::Undefined(global) => has_value(plan, global, None),
+        Fact::Transfer(address) => plan.transfer() == address,
+        Fact::Limits(bottom, top) => plan.limits() == (bottom, top),
+        Fact::Counts(sections, globals, references) => {
+            has_counts(plan, sections, globals, references)
         }
-        Fact::Value(global, value) => Some(plan.value(Name::pack(global)?) == Some(value)),
-        Fact::Undefined(global) => Some(plan.value(Name::pack(global)?).is_none()),
-        Fact::Transfer(address) => Some(plan.transfer() == address),
-        Fact::Limits(bottom, top) => Some(plan.limits() == (bottom, top)),
-        Fact::Counts(sections, globals, references) => Some(
-            plan.section_count() == sections
-                && plan.global_count() == globals
-                && plan.reference_count() == references,
-        ),
         Fact::Section(index, name, base, size, attributes) => {
-            let wanted = PlannedSection {
-                name: Name::pack(name)?,
-                base,
-                size,
-                attributes: SectionFlags::from_bits_retain(attributes),
-            };
-            Some(section(plan, index)? == wanted)
+            has_section(plan, index, (name, base, size, attributes))
         }
-        Fact::Global(index, name, value, module_name) => {
-            let wanted = PlannedGlobal {
-                name: Name::pack(name)?,
-                value,
-                module_name: Name::pack(module_name)?,
-            };
-            Some(global(plan, index)? == wanted)
-        }
-        Fact::Reference(index, name, is_strong) => {
-            Some(reference(plan, index)? == (Name::pack(name)?, is_strong))
-        }
-        Fact::Module(index, name) => Some(plan.module_name(index) == Name::pack(name)?),
-        Fact::Attributes(name, attributes) => {
-            Some(plan.attributes(Name::pack(name)?).bits() == attributes)
-        }
+        Fact::Global(index, name, value, module) => has_global(plan, index, (name, value, module)),
+        Fact::Reference(index, name, is_strong) => has_reference(plan, index, name, is_strong),
+        Fact::Module(index, name) => has_module(plan, index, name),
+        Fact::Attributes(name, attributes) => has_attributes(plan, name, attributes),
     }
 }
 
 // Whether a plan tells all of these.
 fn tells_all(plan: &Plan, facts: &[Fact<'_>]) -> bool {
     for fact in facts {
-        if tells(plan, fact) != Some(true) {
+        if !tells(plan, fact) {
             return false;
         }
     }
@@ -166,18 +201,24 @@ fn refusal(alloc: Global, bottom: u16, modules: &[Module<'_>]) -> Option<LinkFau
     }
 }
 
+// Whether the plan of a row tells what it should.
+fn is_planned(alloc: Global, row: &Row<'_>) -> Result<bool, LinkFault> {
+    let (_, bottom, modules, facts) = *row;
+    let plan = plan(alloc, bottom, modules)?;
+    let is_right = tells_all(&plan, facts);
+    drop(plan);
+    Ok(is_right)
+}
+
 // Each row's plan tells what it should, or memory was refused.
 fn are_planned(rt: &(impl Abort + AllocGlobal), rows: &[Row<'_>]) -> Result<(), Fail> {
-    for (what, bottom, modules, facts) in rows {
-        let plan = plan(rt.alloc(), *bottom, modules)?;
-        let is_right = tells_all(&plan, facts);
-        drop(plan);
-        assert!(rt; is_right, "{what}");
+    for row in rows {
+        assert!(rt; is_planned(rt.alloc(), row)?, "{}", row.0);
     }
     Ok(())
 }
 
-const SECTIONS: &[Row<'static>] = &[
+static SECTIONS: [Row<'static>; 8] = [
     (
         "sections lie from the bottom in order of first appearance, contributions at even addresses",
         0o1000,
@@ -302,7 +343,7 @@ const SECTIONS: &[Row<'static>] = &[
     ),
 ];
 
-const GLOBALS: &[Row<'static>] = &[
+static GLOBALS: [Row<'static>; 3] = [
     (
         "the first definition of a global holds",
         0o1000,
@@ -393,7 +434,7 @@ const START_BEFORE_ITS_SECTION: Module<'static> = &[
     (PROGRAM_SECTION, b". ABS.", CON, 2),
 ];
 
-const TRANSFERS: &[Row<'static>] = &[
+static TRANSFERS: [Row<'static>; 7] = [
     (
         "the first even transfer address holds",
         0o1000,
@@ -439,10 +480,18 @@ const TRANSFERS: &[Row<'static>] = &[
 ];
 
 #[test]
-fn plans_tell_where_sections_lie_and_what_globals_are_worth(rt: HostRuntime) -> Result<(), Fail> {
-    are_planned(&rt, SECTIONS)?;
-    are_planned(&rt, GLOBALS)?;
-    are_planned(&rt, TRANSFERS)
+fn plans_tell_where_sections_lie(rt: HostRuntime) -> Result<(), Fail> {
+    are_planned(&rt, &SECTIONS)
+}
+
+#[test]
+fn plans_tell_what_globals_are_worth(rt: HostRuntime) -> Result<(), Fail> {
+    are_planned(&rt, &GLOBALS)
+}
+
+#[test]
+fn plans_tell_where_programs_start(rt: HostRuntime) -> Result<(), Fail> {
+    are_planned(&rt, &TRANSFERS)
 }
 
 // The two greatest sections that there may be.
@@ -451,8 +500,7 @@ const MOST: Module<'static> = &[
     (PROGRAM_SECTION, b"B     ", CON, 0o177777),
 ];
 
-// What a row shows, the bottom, and objects whose program is too large.
-const TOO_LARGE: &[(&str, u16, &[Module<'static>])] = &[
+static TOO_LARGE: [TooLarge<'static>; 4] = [
     (
         "a program that ends past 160000",
         0o157776,
@@ -467,14 +515,19 @@ const TOO_LARGE: &[(&str, u16, &[Module<'static>])] = &[
     ("the same of two modules", 0, &[MOST, MOST]),
 ];
 
-#[test]
-fn programs_that_are_too_large_have_no_plan(rt: HostRuntime) -> Result<(), Fail> {
-    for (what, bottom, modules) in TOO_LARGE {
+// Each row's objects have no plan.
+fn are_too_large(rt: &(impl Abort + AllocGlobal), rows: &[TooLarge<'_>]) -> Result<(), Fail> {
+    for (what, bottom, modules) in rows {
         let fault = refusal(rt.alloc(), *bottom, modules);
         has_memory(fault)?;
         assert!(rt; fault == Some(LinkFault::TooLarge), "{what}");
     }
     Ok(())
+}
+
+#[test]
+fn programs_that_are_too_large_have_no_plan(rt: HostRuntime) -> Result<(), Fail> {
+    are_too_large(&rt, &TOO_LARGE)
 }
 
 // Where memory was refused nothing more is looked at.

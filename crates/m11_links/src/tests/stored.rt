@@ -56,6 +56,9 @@ fn relocated(plan: &Plan, records: &[Given<'_>]) -> Result<[u8; 10], LinkFault> 
     Ok(text)
 }
 
+// What a row shows, relocations, and the text that they give.
+type Row<'a> = (&'a str, &'a [Given<'a>], [u8; 10]);
+
 const F: Option<&[u8; 6]> = Some(b"F     ");
 
 // A global that is defined nowhere.
@@ -63,8 +66,7 @@ const Q: Option<&[u8; 6]> = Some(b"Q     ");
 
 const DATA: Option<&[u8; 6]> = Some(b"DATA  ");
 
-// What a row shows, relocations, and the text that they give.
-const STORED: &[(&str, &[Given<'static>], [u8; 10])] = &[
+static STORED: [Row<'static>; 8] = [
     (
         "internal relocations count from the text's section",
         &[
@@ -133,8 +135,8 @@ const STORED: &[(&str, &[Given<'static>], [u8; 10])] = &[
 ];
 
 // Each row's relocations give its text.
-fn are_stored(rt: &impl Abort, plan: &Plan) -> Result<(), Fail> {
-    for (what, records, text) in STORED {
+fn are_stored(rt: &impl Abort, plan: &Plan, rows: &[Row<'_>]) -> Result<(), Fail> {
+    for (what, records, text) in rows {
         let stored = relocated(plan, records)?;
         assert!(rt; stored == *text, "{what}");
     }
@@ -144,90 +146,124 @@ fn are_stored(rt: &impl Abort, plan: &Plan) -> Result<(), Fail> {
 #[test]
 fn relocations_store_values_in_their_text(rt: HostRuntime) -> Result<(), Fail> {
     let plan = plan(rt.alloc())?;
-    let shown = are_stored(&rt, &plan);
+    let shown = are_stored(&rt, &plan, &STORED);
     drop(plan);
     shown
 }
 
-// A line of messages or of a map, by what it tells.
+// A line of messages or of a map, without its names.
 #[derive(Clone, Copy)]
-enum Told<'a> {
-    Undefined(&'a [u8; 6]),
-    // A name, and the module.
-    Multiple(&'a [u8; 6], &'a [u8; 6]),
-    Different(&'a [u8; 6], &'a [u8; 6]),
+enum Told {
+    // A name, and for two of them a module.
+    Undefined,
+    Multiple,
+    Different,
     // A name, the base, the size and the attributes.
-    Section(&'a [u8; 6], u16, u16, u8),
-    // A name, the value and the module.
-    Global(&'a [u8; 6], u16, &'a [u8; 6]),
-    Name(&'a [u8; 6]),
+    Section(u16, u16, u8),
+    // A name, the value and a module.
+    Global(u16),
+    Name,
     Transfer(u16),
     Limit(u16, u16),
 }
 
-// The line, where its names have codes.
-fn line_of(told: &Told<'_>) -> Option<Line> {
-    Some(match *told {
-        Told::Undefined(name) => undefined_line(Name::pack(name)?),
-        Told::Multiple(name, module) => multiple_line(Name::pack(name)?, Name::pack(module)?),
-        Told::Different(name, module) => different_line(Name::pack(name)?, Name::pack(module)?),
-        Told::Section(name, base, size, attributes) => {
-            let attributes = SectionFlags::from_bits_retain(attributes);
-            section_line(Name::pack(name)?, base, size, attributes)
+fn line_of(told: Told, name: Name, module: Name) -> Line {
+    match told {
+        Told::Undefined => undefined_line(name),
+        Told::Multiple => multiple_line(name, module),
+        Told::Different => different_line(name, module),
+        Told::Section(base, size, attributes) => {
+            section_line(name, base, size, SectionFlags::from_bits_retain(attributes))
         }
-        Told::Global(name, value, module) => {
-            global_line(Name::pack(name)?, value, Name::pack(module)?)
-        }
-        Told::Name(name) => name_line(Name::pack(name)?),
+        Told::Global(value) => global_line(name, value, module),
+        Told::Name => name_line(name),
         Told::Transfer(address) => transfer_line(address),
         Told::Limit(bottom, top) => limit_line(bottom, top),
-    })
+    }
 }
 
-const LINES: &[(Told<'static>, &str)] = &[
-    (Told::Undefined(b"Q     "), "UNDEFINED GLOBAL Q\n"),
-    (Told::Undefined(b"ABCDEF"), "UNDEFINED GLOBAL ABCDEF\n"),
-    // blanks at the end of a line are removed
-    (Told::Undefined(b"      "), "UNDEFINED GLOBAL\n"),
-    (Told::Name(b"      "), "\n"),
+// A line, its name and its module, blank where it has none, and its text.
+type LineRow<'a> = (Told, &'a [u8; 6], &'a [u8; 6], &'a str);
+
+static LINES: [LineRow<'static>; 14] = [
+    (Told::Undefined, b"Q     ", BLANK, "UNDEFINED GLOBAL Q\n"),
     (
-        Told::Multiple(b"Q     ", b"      "),
+        Told::Undefined,
+        b"ABCDEF",
+        BLANK,
+        "UNDEFINED GLOBAL ABCDEF\n",
+    ),
+    // blanks at the end of a line are removed
+    (Told::Undefined, BLANK, BLANK, "UNDEFINED GLOBAL\n"),
+    (Told::Name, BLANK, BLANK, "\n"),
+    (
+        Told::Multiple,
+        b"Q     ",
+        BLANK,
         "MULTIPLE DEFINITION Q      IN MODULE\n",
     ),
     (
-        Told::Multiple(b"X     ", b"B     "),
+        Told::Multiple,
+        b"X     ",
+        b"B     ",
         "MULTIPLE DEFINITION X      IN MODULE B\n",
     ),
     (
-        Told::Different(b". ABS.", b"B     "),
+        Told::Different,
+        b". ABS.",
+        b"B     ",
         "DIFFERENT ATTRIBUTES . ABS. IN MODULE B\n",
     ),
     (
-        Told::Section(b". ABS.", 0, 0, 0o104),
+        Told::Section(0, 0, 0o104),
+        b". ABS.",
+        BLANK,
         ". ABS. 000000 000000 RW,I,GBL,ABS,OVR\n",
     ),
     (
-        Told::Section(b"      ", 0o1000, 0, 0o040),
+        Told::Section(0o1000, 0, 0o040),
+        BLANK,
+        BLANK,
         "       001000 000000 RW,I,LCL,REL,CON\n",
     ),
     // all attributes
     (
-        Told::Section(b"PROG  ", 0o1000, 0o10, 0o365),
+        Told::Section(0o1000, 0o10, 0o365),
+        b"PROG  ",
+        BLANK,
         "PROG   001000 000010 RO,D,GBL,REL,OVR,SAV\n",
     ),
     (
-        Told::Global(b"F     ", 0o1006, b"B     "),
+        Told::Global(0o1006),
+        b"F     ",
+        b"B     ",
         "F      001006 B\n",
     ),
-    (Told::Name(b"Q     "), "Q\n"),
-    (Told::Transfer(1), "TRANSFER 000001\n"),
-    (Told::Limit(0o1000, 0o1014), "LIMIT 001000 001014\n"),
+    (Told::Name, b"Q     ", BLANK, "Q\n"),
+    (Told::Transfer(1), BLANK, BLANK, "TRANSFER 000001\n"),
+    (
+        Told::Limit(0o1000, 0o1014),
+        BLANK,
+        BLANK,
+        "LIMIT 001000 001014\n",
+    ),
 ];
+
+const BLANK: &[u8; 6] = b"      ";
+
+// Each row's line has its text.
+fn have_their_texts(rt: &impl Abort, rows: &[LineRow<'_>]) {
+    for (told, name, module, text) in rows {
+        if let (Some(name), Some(module)) = (Name::pack(name), Name::pack(module)) {
+            let line = line_of(*told, name, module);
+            assert!(rt; line.as_slice() == text.as_bytes(), "{text}");
+        } else {
+            assert!(rt; false, "{text}: no name");
+        }
+    }
+}
 
 #[test]
 fn lines_have_their_texts(rt: HostRuntime) {
-    for (told, text) in LINES {
-        let is_right = line_of(told).is_some_and(|line| line.as_slice() == text.as_bytes());
-        assert!(rt; is_right, "{text}");
-    }
+    have_their_texts(&rt, &LINES);
 }

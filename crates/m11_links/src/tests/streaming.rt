@@ -1,6 +1,6 @@
 //! How far the tape has come while a second reading goes on, and second readings that give other bytes.
 
-use super::{Content, DEFINES_F, Object, READS_F, READS_F_LINKED, files_of, linked_twice};
+use super::{Content, DEFINES_F, Linked, Object, READS_F, READS_F_LINKED, files_of, linked_twice};
 use m11_base::MemorySink;
 use m11_link::{Emit, Layout, LinkFault, Plan};
 use m11_obj::{Block, BlockFault};
@@ -25,83 +25,93 @@ fn lay_out(layout: &mut Layout, object: Object<'_>) -> Result<(), LinkFault> {
     layout.end_file()
 }
 
+// Lays out the two modules.
+fn lay_out_both(layout: &mut Layout) -> Result<(), LinkFault> {
+    lay_out(layout, READS_F)?;
+    lay_out(layout, DEFINES_F)
+}
+
 // The plan of the two modules.
 fn plan(alloc: Global) -> Result<Plan, LinkFault> {
     let mut layout = Layout::new(alloc, 0o1000);
-    lay_out(&mut layout, READS_F)?;
-    lay_out(&mut layout, DEFINES_F)?;
-    layout.end()
+    match lay_out_both(&mut layout) {
+        Ok(()) => layout.end(),
+        Err(fault) => {
+            drop(layout);
+            Err(fault)
+        }
+    }
 }
 
-// A second reading, with what it has written to the tape.
+// What a second reading writes, without a map.
 #[derive(Drop)]
-struct Reading {
-    emit: Emit,
+struct Outputs {
     tape: MemorySink,
     map: Option<MemorySink>,
     messages: MemorySink,
 }
 
-impl Reading {
-    // Feeds blocks.
-    fn feed(&mut self, blocks: &[Content<'_>]) -> Result<(), LinkFault> {
-        for content in blocks {
-            let block = block_of(content);
-            self.emit
-                .feed(&block, &mut self.tape, &mut self.map, &mut self.messages)?;
+impl Outputs {
+    // Feeds a block.
+    fn feed(&mut self, emit: &mut Emit, content: Content<'_>) -> Result<(), LinkFault> {
+        let block = block_of(content);
+        emit.feed(&block, &mut self.tape, &mut self.map, &mut self.messages)
+    }
+
+    fn end_file(&mut self, emit: &mut Emit) -> bool {
+        emit.end_file(&mut self.tape, &mut self.map, &mut self.messages)
+            .is_ok()
+    }
+
+    // Ends.
+    fn end(&mut self, emit: Emit) -> bool {
+        emit.end(&mut self.tape, &mut self.map, &mut self.messages)
+            .is_ok()
+    }
+
+    // Whether the tape has so many bytes.
+    fn has(&self, length: usize) -> bool {
+        self.tape.bytes().len() == length
+    }
+
+    // Feeds the blocks of an object, after each of which the tape has so many bytes, and ends it.
+    fn grows_by(&mut self, emit: &mut Emit, object: Object<'_>, lengths: &[usize]) -> bool {
+        for (content, length) in object.iter().zip(lengths) {
+            if self.feed(emit, content).is_err() || !self.has(*length) {
+                return false;
+            }
         }
-        Ok(())
+        self.end_file(emit)
     }
 
-    fn end_file(&mut self) -> Result<(), LinkFault> {
-        self.emit
-            .end_file(&mut self.tape, &mut self.map, &mut self.messages)
-    }
-
-    // Feeds blocks, behind which the tape has so many bytes.
-    fn has(&mut self, blocks: &[Content<'_>], length: usize) -> bool {
-        self.feed(blocks).is_ok() && self.tape.bytes().len() == length
-    }
-
-    // Whether the first module's text waits for the end of its module.
-    fn holds_first_module(&mut self) -> bool {
-        self.has(&READS_F[..5], 0) && self.has(&READS_F[5..], 12) && self.end_file().is_ok()
-    }
-
-    // Whether each text of the second module waits for the next one, and the last one for the end of the module.
-    fn holds_second_module(&mut self) -> bool {
-        self.has(&DEFINES_F[..4], 12)
-            && self.has(&DEFINES_F[4..7], 20)
-            && self.has(&DEFINES_F[7..9], 29)
-            && self.has(&DEFINES_F[9..], 38)
-            && self.end_file().is_ok()
-    }
-
-    // Ends, behind which the tape has so many bytes.
-    fn ends_with(self, length: usize) -> bool {
-        let mut reading = self;
-        let ended = reading
-            .emit
-            .end(&mut reading.tape, &mut reading.map, &mut reading.messages);
-        ended.is_ok() && reading.tape.bytes().len() == length
+    // Whether each text waits for the next one, and the last one of a module for the module's end.
+    fn holds_both_modules(&mut self, emit: &mut Emit) -> bool {
+        self.grows_by(emit, READS_F, &[0, 0, 0, 0, 0, 12])
+            && self.grows_by(emit, DEFINES_F, &[12, 12, 12, 12, 12, 20, 20, 20, 29, 38])
     }
 }
 
-// A second reading of the two modules before its first block.
-fn begun(alloc: Global) -> Result<Reading, LinkFault> {
-    Ok(Reading {
-        emit: Emit::new(alloc, plan(alloc)?),
+// Whether a second reading holds one text, and no more: the transfer block is written at its end.
+fn writes_texts_in_turn(mut emit: Emit, outputs: &mut Outputs) -> bool {
+    if outputs.holds_both_modules(&mut emit) {
+        outputs.end(emit) && outputs.has(45)
+    } else {
+        drop(emit);
+        false
+    }
+}
+
+// The same of a second reading of the two modules.
+fn holds_one_text(alloc: Global) -> Result<bool, LinkFault> {
+    let emit = Emit::new(alloc, plan(alloc)?);
+    let mut outputs = Outputs {
         tape: MemorySink::new(alloc),
         map: None,
         messages: MemorySink::new(alloc),
-    })
-}
-
-// Whether a second reading holds one text, and no more.
-fn holds_one_text(alloc: Global) -> Result<bool, LinkFault> {
-    let mut reading = begun(alloc)?;
-    let holds = reading.holds_first_module() && reading.holds_second_module();
-    Ok(holds && reading.ends_with(45))
+    };
+    let holds = writes_texts_in_turn(emit, &mut outputs);
+    drop(outputs);
+    Ok(holds)
 }
 
 #[test]
@@ -110,18 +120,8 @@ fn one_text_is_held_and_no_more(rt: HostRuntime) -> Result<(), Fail> {
     Ok(())
 }
 
-// Links the two modules, of which the second reading finds a byte in the second one's first block other than before.
-fn linked_with_changed_sum(rt: &(impl Abort + AllocGlobal)) -> Result<(), Fail> {
-    let objects = [READS_F, DEFINES_F];
-    let first = files_of(rt.alloc(), &objects)?;
-    let mut second = files_of(rt.alloc(), &objects)?;
-    let Some(last) = second.last_mut() else {
-        return Ok(());
-    };
-    if let Some(byte) = last.get_mut(6) {
-        *byte = byte.wrapping_add(1);
-    }
-    let linked = linked_twice(rt.alloc(), first.as_slice(), second.as_slice(), 0o1000)?;
+// What was left where the second reading differs in the first block of the second module.
+fn is_refused(rt: &impl Abort, linked: &Linked) {
     let fault = LinkFault::Block(BlockFault::BadSum);
     assert!(rt;
         matches!(linked.outcome, Err(found) if found == fault),
@@ -129,10 +129,25 @@ fn linked_with_changed_sum(rt: &(impl Abort + AllocGlobal)) -> Result<(), Fail> 
     );
     assert!(rt; linked.has_tape(&READS_F_LINKED.tape[..1]), "the tape");
     assert!(rt; linked.has_map(READS_F_LINKED), "the map");
-    Ok(())
+}
+
+// Changes a byte in the first block of the last file.
+fn change(files: &mut [Vec<u8>]) {
+    if let Some(file) = files.last_mut()
+        && let Some(byte) = file.get_mut(6)
+    {
+        *byte = byte.wrapping_add(1);
+    }
 }
 
 #[test]
 fn a_second_reading_that_differs_is_refused_where_it_does(rt: HostRuntime) -> Result<(), Fail> {
-    linked_with_changed_sum(&rt)
+    let objects = [READS_F, DEFINES_F];
+    let first = files_of(rt.alloc(), &objects)?;
+    let mut second = files_of(rt.alloc(), &objects)?;
+    change(second.as_mut_slice());
+    let linked = linked_twice(rt.alloc(), first.as_slice(), second.as_slice(), 0o1000)?;
+    is_refused(&rt, &linked);
+    drop(linked);
+    Ok(())
 }
