@@ -173,23 +173,35 @@ impl After<'_> {
     }
 }
 
-// How many steps of a program are begun until one stops, or up to its limit.
-fn steps_of(rt: &(impl Abort + AllocGlobal), program: Program<'_>) -> Result<u32, Fail> {
-    let mut machine = machine_of(rt, program)?;
+// How many steps of a program are begun on its machine until one stops, or up to its limit.
+fn count_steps(alloc: Global, program: Program<'_>, machine: &mut Machine) -> u32 {
     let mut input = FuseFeed::new(MemoryFeed::new(program.input), program.reads);
-    let mut output = FuseSink::new(MemorySink::new(rt.alloc()), program.writes, 1);
+    let mut output = FuseSink::new(MemorySink::new(alloc), program.writes, 1);
+    let mut steps = 0;
     for done in 0..program.limit {
+        steps = done + 1;
         if machine.step(&mut input, &mut output) != Turn::Next {
-            return Ok(done + 1);
+            break;
         }
     }
-    Ok(program.limit)
+    steps
 }
 
-// Runs the program of a row from its tape on, to what the row says.
-pub(crate) fn check(rt: &(impl Abort + AllocGlobal), row: &Row<'_>) -> Result<(), Fail> {
-    let (name, program) = (row.name, row.program);
+fn steps_of(rt: &(impl Abort + AllocGlobal), program: Program<'_>) -> Result<u32, Fail> {
     let mut machine = machine_of(rt, program)?;
+    Ok(count_steps(rt.alloc(), program, &mut machine))
+}
+
+// What was left behind a run has all of these.
+fn has_all(rt: &impl Abort, name: &str, after: &After<'_>, facts: &[Fact]) {
+    for fact in facts {
+        assert!(rt; after.has(*fact), "{name}: {fact:?}");
+    }
+}
+
+// Runs the program of a row on its machine, to what the row says.
+fn check_run(rt: &(impl Abort + AllocGlobal), row: &Row<'_>, machine: &mut Machine) {
+    let program = row.program;
     let mut input = CountedFeed {
         feed: FuseFeed::new(MemoryFeed::new(program.input), program.reads),
         given: 0,
@@ -197,16 +209,21 @@ pub(crate) fn check(rt: &(impl Abort + AllocGlobal), row: &Row<'_>) -> Result<()
     let mut sent = Vec::new(rt.alloc());
     let mut output = FuseSink::new(WriterSink::new(&mut sent), program.writes, 1);
     let ran = machine.run(program.limit, &mut input, &mut output);
-    assert_eq!(rt; ran, row.stop, "{name}");
-    assert_eq!(rt; steps_of(rt, program)?, row.steps, "{name}");
+    assert_eq!(rt; ran, row.stop, "{}", row.name);
     let after = After {
-        machine: &machine,
+        machine,
         asked: input.given,
         sent: sent.as_slice(),
     };
-    for fact in row.facts {
-        assert!(rt; after.has(*fact), "{name}: {fact:?}");
-    }
+    has_all(rt, row.name, &after, row.facts);
+}
+
+// Runs the program of a row from its tape on, to what the row says.
+pub(crate) fn check(rt: &(impl Abort + AllocGlobal), row: &Row<'_>) -> Result<(), Fail> {
+    let steps = steps_of(rt, row.program)?;
+    assert_eq!(rt; steps, row.steps, "{}", row.name);
+    let mut machine = machine_of(rt, row.program)?;
+    check_run(rt, row, &mut machine);
     Ok(())
 }
 

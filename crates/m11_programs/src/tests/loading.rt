@@ -57,7 +57,7 @@ struct Load {
 }
 
 // Whole tapes.
-const LOADED: [Load; 3] = [
+static LOADED: [Load; 3] = [
     Load {
         shows: "a block",
         tape: &HALTS,
@@ -95,7 +95,7 @@ const LOADED: [Load; 3] = [
 ];
 
 // Tapes that fail: the memory has what came before.
-const FAILED: [Load; 7] = [
+static FAILED: [Load; 7] = [
     Load {
         shows: "a wrong sum",
         tape: &HALTS_WITH_A_WRONG_SUM,

@@ -16,7 +16,9 @@ const OPERANDS: [u16; 4] = [0o000111, 0o000222, 0o000333, 0o000444];
 
 // Two instructions, by the second one's text, with the word at an address that they leave, where the addresses stand
 // from 2776 on and the operands from 4000 on.
-static STORES: [(&str, &[u16], u16, u16); 39] = [
+type Store<'a> = (&'a str, &'a [u16], u16, u16);
+
+static STORES: [Store<'static>; 39] = [
     (
         "MOV #55,(R1)",
         &[0o012701, 0o003000, 0o012711, 0o000055],
@@ -272,17 +274,22 @@ fn check_store(
     check(rt, &row)
 }
 
-#[test]
-fn each_mode_finds_the_word_or_the_byte_that_is_changed(rt: HostRuntime) -> Result<(), Fail> {
-    for row in &STORES {
-        let (name, words, address, value) = *row;
-        check_store(&rt, name, words, At(address, value))?;
+fn check_stores(rt: &(impl Abort + AllocGlobal), rows: &[Store<'_>]) -> Result<(), Fail> {
+    for (name, words, address, value) in rows {
+        check_store(rt, name, words, At(*address, *value))?;
     }
     Ok(())
 }
 
+#[test]
+fn each_mode_finds_the_word_or_the_byte_that_is_changed(rt: HostRuntime) -> Result<(), Fail> {
+    check_stores(&rt, &STORES)
+}
+
 // An instruction, by its text, with the vector that it traps through, its words, and the program counter that is pushed.
-static TRAPS: [(&str, u16, &[u16], u16); 19] = [
+type Trap<'a> = (&'a str, u16, &'a [u16], u16);
+
+static TRAPS: [Trap<'static>; 19] = [
     ("BPT", 0o14, &[0o000003], 0o001010),
     ("IOT", 0o20, &[0o000004], 0o001010),
     ("EMT 0", 0o30, &[0o104000], 0o001010),
@@ -330,17 +337,22 @@ fn check_trap(
     check(rt, &row)
 }
 
-#[test]
-fn each_trap_pushes_the_psw_and_the_program_counter(rt: HostRuntime) -> Result<(), Fail> {
-    for row in &TRAPS {
-        let (name, vector, words, pushed) = *row;
-        check_trap(&rt, name, vector, words, pushed)?;
+fn check_traps(rt: &(impl Abort + AllocGlobal), rows: &[Trap<'_>]) -> Result<(), Fail> {
+    for (name, vector, words, pushed) in rows {
+        check_trap(rt, name, *vector, words, *pushed)?;
     }
     Ok(())
 }
 
+#[test]
+fn each_trap_pushes_the_psw_and_the_program_counter(rt: HostRuntime) -> Result<(), Fail> {
+    check_traps(&rt, &TRAPS)
+}
+
 // Programs by their names, with the words at addresses that they leave.
-static WORDS: [(&str, &[Part<'static>], &[(u16, u16)]); 20] = [
+type Words<'a> = (&'a str, &'a [Part<'a>], &'a [(u16, u16)]);
+
+static WORDS: [Words<'static>; 20] = [
     (
         "RTS returns after JSR and restores the link: JSR R5,@#3000",
         &[
@@ -533,13 +545,16 @@ fn leaves(
     Ok(())
 }
 
-#[test]
-fn programs_leave_words_in_memory(rt: HostRuntime) -> Result<(), Fail> {
-    for row in &WORDS {
-        let (name, parts, words) = *row;
-        leaves(&rt, name, parts, words)?;
+fn all_leave(rt: &(impl Abort + AllocGlobal), rows: &[Words<'_>]) -> Result<(), Fail> {
+    for (name, parts, words) in rows {
+        leaves(rt, name, parts, words)?;
     }
     Ok(())
+}
+
+#[test]
+fn programs_leave_words_in_memory(rt: HostRuntime) -> Result<(), Fail> {
+    all_leave(&rt, &WORDS)
 }
 
 // Programs that start elsewhere, have less memory, or don't halt.

@@ -22,17 +22,15 @@ struct Run<'a> {
     line: &'a [u8],
 }
 
-// A run from 1000 on, where nothing fails.
-fn run_of<'a>(words: &'a [u16], stop: Stop, line: &'a [u8]) -> Run<'a> {
-    Run {
-        words,
-        start: 0o1000,
-        limit: 100_000,
-        calls: u64::MAX,
-        stop,
-        line,
-    }
-}
+// A run of a HALT from 1000 on, where nothing fails.
+const HALTS: Run<'static> = Run {
+    words: &[HALT],
+    start: 0o1000,
+    limit: 100_000,
+    calls: u64::MAX,
+    stop: Stop::Halt,
+    line: b"HALT AFTER 1 STEPS\nR0 ",
+};
 
 // What a run comes to, and what it tells where so many calls of its messages pass, of a byte each.
 fn told(
@@ -55,68 +53,104 @@ fn told(
     Ok((outcome, told))
 }
 
+static RUNS: [Run<'static>; 9] = [
+    HALTS,
+    // `BR .`
+    Run {
+        words: &[0o000777],
+        stop: Stop::Limit,
+        line: b"LIMIT AFTER 100000 STEPS\nR0 ",
+        ..HALTS
+    },
+    Run {
+        limit: 0,
+        stop: Stop::Limit,
+        line: b"LIMIT AFTER 0 STEPS\nR0 ",
+        ..HALTS
+    },
+    // `WAIT`
+    Run {
+        words: &[0o000001],
+        stop: Stop::Wait,
+        line: b"WAIT AFTER 1 STEPS\nR0 ",
+        ..HALTS
+    },
+    // `IOT`, without a stack.
+    Run {
+        words: &[NOP, NOP, NOP, NOP, NOP, NOP, NOP, NOP, NOP, 0o000004],
+        stop: Stop::StackFault,
+        line: b"STACK FAULT AFTER 10 STEPS\nR0 ",
+        ..HALTS
+    },
+    Run {
+        start: 0o1001,
+        stop: Stop::NoStart,
+        line: b"NO START AFTER 0 STEPS\nR0 ",
+        ..HALTS
+    },
+    // `TSTB @#177560`
+    Run {
+        words: &[NOP, NOP, NOP, NOP, NOP, NOP, NOP, 0o105737, 0o177560],
+        calls: 0,
+        stop: Stop::InputFault,
+        line: b"INPUT FAULT AFTER 8 STEPS\nR0 ",
+        ..HALTS
+    },
+    // `MOVB #101,@#177566`
+    Run {
+        words: &[NOP, 0o112737, 0o000101, 0o177566],
+        calls: 0,
+        stop: Stop::OutputFault,
+        line: b"OUTPUT FAULT AFTER 2 STEPS\nR0 ",
+        ..HALTS
+    },
+    // Each register and the processor status word in its place, as six octal digits: `MOV` to each of R0 to SP and
+    // to @#177776, and `JMP @#100000`.
+    Run {
+        words: &[
+            0o012700, 0o7, 0o012701, 0o10, 0o012702, 0o100, 0o012703, 0o1000, 0o012704, 0o10000,
+            0o012705, 0o177777, 0o012706, 0o157776, 0o012737, 0o357, 0o177776, 0o000137, 0o100000,
+        ],
+        limit: 9,
+        stop: Stop::Limit,
+        line: b"LIMIT AFTER 9 STEPS\n\
+            R0 000007 R1 000010 R2 000100 R3 001000 R4 010000 R5 177777 \
+            SP 157776 PC 100000 PSW 000357\n",
+        ..HALTS
+    },
+];
+
+// A run stops as it should, and its messages begin so.
+fn is_told(rt: &(impl Abort + AllocGlobal), run: Run<'_>) -> Result<(), Fail> {
+    let (outcome, text) = told(rt, run, u64::MAX)?;
+    assert_eq!(rt; outcome, Ok(SimDone { stop: run.stop }));
+    assert!(rt; text.as_slice().starts_with(run.line), "{:?}", run.stop);
+    Ok(())
+}
+
+fn are_told(rt: &(impl Abort + AllocGlobal), rows: &[Run<'_>]) -> Result<(), Fail> {
+    for run in rows {
+        is_told(rt, *run)?;
+    }
+    Ok(())
+}
+
 #[test]
 fn each_stop_is_told_with_its_name_and_its_steps(rt: HostRuntime) -> Result<(), Fail> {
-    let runs = [
-        run_of(&[HALT], Stop::Halt, b"HALT AFTER 1 STEPS\nR0 "),
-        // `BR .`
-        run_of(&[0o000777], Stop::Limit, b"LIMIT AFTER 100000 STEPS\nR0 "),
-        Run {
-            limit: 0,
-            ..run_of(&[HALT], Stop::Limit, b"LIMIT AFTER 0 STEPS\nR0 ")
-        },
-        // `WAIT`
-        run_of(&[0o000001], Stop::Wait, b"WAIT AFTER 1 STEPS\nR0 "),
-        // `IOT`, without a stack.
-        run_of(
-            &[NOP, NOP, NOP, NOP, NOP, NOP, NOP, NOP, NOP, 0o000004],
-            Stop::StackFault,
-            b"STACK FAULT AFTER 10 STEPS\nR0 ",
-        ),
-        Run {
-            start: 0o1001,
-            ..run_of(&[HALT], Stop::NoStart, b"NO START AFTER 0 STEPS\nR0 ")
-        },
-        // `TSTB @#177560`
-        Run {
-            calls: 0,
-            ..run_of(
-                &[NOP, NOP, NOP, NOP, NOP, NOP, NOP, 0o105737, 0o177560],
-                Stop::InputFault,
-                b"INPUT FAULT AFTER 8 STEPS\nR0 ",
-            )
-        },
-        // `MOVB #101,@#177566`
-        Run {
-            calls: 0,
-            ..run_of(
-                &[NOP, 0o112737, 0o000101, 0o177566],
-                Stop::OutputFault,
-                b"OUTPUT FAULT AFTER 2 STEPS\nR0 ",
-            )
-        },
-        // Each register and the processor status word in its place, as six octal digits: `MOV` to each of R0 to SP and
-        // to @#177776, and `JMP @#100000`.
-        Run {
-            limit: 9,
-            ..run_of(
-                &[
-                    0o012700, 0o7, 0o012701, 0o10, 0o012702, 0o100, 0o012703, 0o1000, 0o012704,
-                    0o10000, 0o012705, 0o177777, 0o012706, 0o157776, 0o012737, 0o357, 0o177776,
-                    0o000137, 0o100000,
-                ],
-                Stop::Limit,
-                b"LIMIT AFTER 9 STEPS\n\
-                    R0 000007 R1 000010 R2 000100 R3 001000 R4 010000 R5 177777 \
-                    SP 157776 PC 100000 PSW 000357\n",
-            )
-        },
-    ];
-    for run in runs {
-        let (outcome, text) = told(&rt, run, u64::MAX)?;
-        assert_eq!(rt; outcome, Ok(SimDone { stop: run.stop }));
-        assert!(rt; text.as_slice().starts_with(run.line), "{:?}", run.stop);
-    }
+    are_told(&rt, &RUNS)
+}
+
+// The messages of a run have this beginning of the whole, of as many bytes as calls passed.
+fn fails_after(
+    rt: &(impl Abort + AllocGlobal),
+    run: Run<'_>,
+    whole: &[u8],
+    calls: usize,
+) -> Result<(), Fail> {
+    let (outcome, text) = told(rt, run, calls as u64)?;
+    assert_eq!(rt; outcome, Err(SimFault::Write), "after {calls} calls");
+    assert!(rt; whole.starts_with(text.as_slice()), "a beginning");
+    assert_eq!(rt; text.len(), calls);
     Ok(())
 }
 
@@ -126,14 +160,15 @@ fn messages_that_fail_have_a_beginning_of_the_two_lines(rt: HostRuntime) -> Resu
     let whole: &[u8] = b"HALT AFTER 2 STEPS\n\
         R0 000001 R1 000000 R2 000000 R3 000000 R4 000000 R5 000000 \
         SP 000000 PC 001006 PSW 000000\n";
-    let run = run_of(&[0o012700, 0o000001, HALT], Stop::Halt, whole);
+    let run = Run {
+        words: &[0o012700, 0o000001, HALT],
+        line: whole,
+        ..HALTS
+    };
     let (_, all) = told(&rt, run, u64::MAX)?;
     assert!(rt; all.as_slice() == whole, "the messages");
     for calls in 0..whole.len() {
-        let (outcome, text) = told(&rt, run, calls as u64)?;
-        assert_eq!(rt; outcome, Err(SimFault::Write), "after {calls} calls");
-        assert!(rt; whole.starts_with(text.as_slice()), "a beginning");
-        assert_eq!(rt; text.len(), calls);
+        fails_after(&rt, run, whole, calls)?;
     }
     Ok(())
 }

@@ -38,6 +38,23 @@ struct Wanted<'a> {
     told: &'a [u8],
 }
 
+// What a run came to is what is wanted.
+fn is_wanted(
+    rt: &impl Abort,
+    name: &str,
+    wanted: Wanted<'_>,
+    outcome: Result<SimDone, SimFault>,
+    sent: &[u8],
+    told: &[u8],
+) {
+    assert_eq!(rt; outcome, wanted.outcome, "{name}");
+    assert!(rt; sent == wanted.sent, "{name}: what was sent");
+    assert!(rt;
+        told.starts_with(wanted.told) && told.is_empty() == wanted.told.is_empty(),
+        "{name}: the messages"
+    );
+}
+
 // Runs a tape over an input with devices that fail, to what is wanted.
 fn check(
     rt: &(impl Abort + AllocGlobal),
@@ -58,22 +75,15 @@ fn check(
         &mut FuseSink::new(WriterSink::new(&mut sent), passes.writes, 1),
         &mut FuseSink::new(WriterSink::new(&mut told), passes.tells, 200),
     );
-    assert_eq!(rt; outcome, wanted.outcome, "{name}");
-    assert!(rt; sent.as_slice() == wanted.sent, "{name}: what was sent");
-    assert!(rt;
-        told.as_slice().starts_with(wanted.told),
-        "{name}: the messages"
-    );
-    assert!(rt;
-        told.is_empty() == wanted.told.is_empty(),
-        "{name}: the messages"
-    );
+    is_wanted(rt, name, wanted, outcome, sent.as_slice(), told.as_slice());
     Ok(())
 }
 
 // A program that polls the console, by how many bytes it moves, so many reads and writes that pass, its stop, what it
 // sends, and what is told. The registers stand in two rows.
-static POLLING: [(u8, u64, u64, Stop, &[u8], &[u8]); 10] = [
+type Polling<'a> = (u8, u64, u64, Stop, &'a [u8], &'a [u8]);
+
+static POLLING: [Polling<'static>; 10] = [
     (
         1,
         0,
@@ -146,36 +156,41 @@ static POLLING: [(u8, u64, u64, Stop, &[u8], &[u8]); 10] = [
     (3, 9, 3, Stop::Halt, b"ABC", b"HALT AFTER 17 STEPS\n"),
 ];
 
-#[test]
-fn a_console_that_fails_stops_a_run_at_its_own_step(rt: HostRuntime) -> Result<(), Fail> {
-    let one = tape_of(&rt, &POLLS, 0o1000)?;
-    let three = tape_of(&rt, &POLLS_THREE, 0o1000)?;
-    for row in &POLLING {
-        let (moves, reads, writes, stop, sent, told) = *row;
-        let tape = if moves == 1 { &one } else { &three };
+// Each row's run of the program that moves one byte, or of the one that moves three, ends so.
+fn check_polling(
+    rt: &(impl Abort + AllocGlobal),
+    one: &[u8],
+    three: &[u8],
+    rows: &[Polling<'_>],
+) -> Result<(), Fail> {
+    for (moves, reads, writes, stop, sent, told) in rows {
         let passes = Passes {
-            reads,
-            writes,
+            reads: *reads,
+            writes: *writes,
             tells: 1,
         };
-        let outcome = Ok(SimDone { stop });
-        check(
-            &rt,
-            "a program that polls",
-            tape.as_slice(),
-            passes,
-            Wanted {
-                outcome,
-                sent,
-                told,
-            },
-        )?;
+        let wanted = Wanted {
+            outcome: Ok(SimDone { stop: *stop }),
+            sent,
+            told,
+        };
+        let tape = if *moves == 1 { one } else { three };
+        check(rt, "a program that polls", tape, passes, wanted)?;
     }
     Ok(())
 }
 
+#[test]
+fn a_console_that_fails_stops_a_run_at_its_own_step(rt: HostRuntime) -> Result<(), Fail> {
+    let one = tape_of(&rt, &POLLS, 0o1000)?;
+    let three = tape_of(&rt, &POLLS_THREE, 0o1000)?;
+    check_polling(&rt, one.as_slice(), three.as_slice(), &POLLING)
+}
+
 // Tapes that can't be loaded, and why.
-static REFUSED: [(&str, &[u8], LoadFault); 9] = [
+type Refused<'a> = (&'a str, &'a [u8], LoadFault);
+
+static REFUSED: [Refused<'static>; 9] = [
     (
         "no transfer block",
         &[],
@@ -231,39 +246,42 @@ static REFUSED: [(&str, &[u8], LoadFault); 9] = [
     ),
 ];
 
-#[test]
-fn a_run_that_ends_in_a_fault_leaves_the_console_alone(rt: HostRuntime) -> Result<(), Fail> {
-    let none = Passes {
+// A run of a tape that ends in a fault sends and tells nothing, though nothing may be read of the console.
+fn ends_in(
+    rt: &(impl Abort + AllocGlobal),
+    name: &str,
+    tape: &[u8],
+    tells: u64,
+    fault: SimFault,
+) -> Result<(), Fail> {
+    let passes = Passes {
         reads: 0,
         writes: 0,
-        tells: 1,
+        tells,
     };
-    for row in &REFUSED {
-        let (name, tape, fault) = *row;
-        let outcome = Err(SimFault::Load(fault));
-        check(
-            &rt,
-            name,
-            tape,
-            none,
-            Wanted {
-                outcome,
-                sent: b"",
-                told: b"",
-            },
-        )?;
+    let wanted = Wanted {
+        outcome: Err(fault),
+        sent: b"",
+        told: b"",
+    };
+    check(rt, name, tape, passes, wanted)
+}
+
+fn check_refused(rt: &(impl Abort + AllocGlobal), rows: &[Refused<'_>]) -> Result<(), Fail> {
+    for (name, tape, fault) in rows {
+        ends_in(rt, name, tape, 1, SimFault::Load(*fault))?;
     }
-    let silent = Passes { tells: 0, ..none };
-    let outcome = Err(SimFault::Write);
-    check(
+    Ok(())
+}
+
+#[test]
+fn a_run_that_ends_in_a_fault_leaves_the_console_alone(rt: HostRuntime) -> Result<(), Fail> {
+    check_refused(&rt, &REFUSED)?;
+    ends_in(
         &rt,
         "messages that can't be written",
         &HALTS,
-        silent,
-        Wanted {
-            outcome,
-            sent: b"",
-            told: b"",
-        },
+        0,
+        SimFault::Write,
     )
 }

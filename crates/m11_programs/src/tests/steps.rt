@@ -21,7 +21,10 @@ enum Call {
 // Calls on the machine of a program, each with what it leaves.
 type Calls<'a> = &'a [(Call, &'a [Fact])];
 
-static PROGRAMS: [(&str, &[Part<'static>], Calls<'static>); 3] = [
+// A program by what it shows, and calls on its machine.
+type Called<'a> = (&'a str, &'a [Part<'a>], Calls<'a>);
+
+static PROGRAMS: [Called<'static>; 3] = [
     (
         "A step after HALT and WAIT goes on after them",
         &[(0o1000, &[0o000000, 0o000001, 0o005200, 0o000000])],
@@ -87,11 +90,14 @@ fn check_calls(
     Ok(())
 }
 
-#[test]
-fn a_machine_that_has_stopped_may_be_stepped(rt: HostRuntime) -> Result<(), Fail> {
-    for row in &PROGRAMS {
-        let (name, parts, calls) = *row;
-        check_calls(&rt, name, parts, calls)?;
+fn check_all_calls(rt: &(impl Abort + AllocGlobal), rows: &[Called<'_>]) -> Result<(), Fail> {
+    for (name, parts, calls) in rows {
+        check_calls(rt, name, parts, calls)?;
     }
     Ok(())
+}
+
+#[test]
+fn a_machine_that_has_stopped_may_be_stepped(rt: HostRuntime) -> Result<(), Fail> {
+    check_all_calls(&rt, &PROGRAMS)
 }
