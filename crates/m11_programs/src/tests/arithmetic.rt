@@ -10,6 +10,7 @@ use m11_base::SingleOp::{
     Adc, Asl, Asr, Clr, Com, Dec, Inc, Jmp, Neg, Rol, Ror, Sbc, Swab, Sxt, Tst,
 };
 use m11_base::{BranchOp, ConditionCodes, DoubleOp, SingleOp, Size};
+use std::fmt::Debug;
 use std::process::Abort;
 
 // A value, or two, with the codes before the operation; a value with the codes after it.
@@ -351,111 +352,128 @@ fn pair(high: u16, low: u16, bits: u16) -> Pair {
 
 // Each row of two words has its result and codes.
 fn check_two_words(rt: &impl Abort, rows: &[TwoWords]) {
-    for (operation, (source, destination, before), (value, after)) in rows {
-        assert_eq!(rt;
-            double(
+    for row in rows {
+        let (operation, (source, destination, before), (value, after)) = row;
+        same(
+            rt,
+            row,
+            &double(
                 *operation,
                 Size::Word,
                 *source,
                 *destination,
-                codes(*before)
+                codes(*before),
             ),
-            computed(*value, *after),
-            "{operation:?} of {source:o} and {destination:o}"
+            &computed(*value, *after),
         );
     }
 }
 
 // Each row of two bytes has its result and codes.
 fn check_two_bytes(rt: &impl Abort, rows: &[TwoBytes]) {
-    for (operation, (source, destination, before), (value, after)) in rows {
+    for row in rows {
+        let (operation, (source, destination, before), (value, after)) = row;
         let (source, destination) = (u16::from(*source), u16::from(*destination));
-        assert_eq!(rt;
-            double(*operation, Size::Byte, source, destination, codes(*before)),
-            computed(u16::from(*value), *after),
-            "{operation:?} of {source:o} and {destination:o}"
+        same(
+            rt,
+            row,
+            &double(*operation, Size::Byte, source, destination, codes(*before)),
+            &computed(u16::from(*value), *after),
         );
     }
 }
 
 // Each row of two words has its codes.
 fn check_words_tested(rt: &impl Abort, rows: &[WordsTested]) {
-    for (operation, (source, destination, before), after) in rows {
-        assert_eq!(rt;
-            double(
+    for row in rows {
+        let (operation, (source, destination, before), after) = row;
+        same(
+            rt,
+            row,
+            &double(
                 *operation,
                 Size::Word,
                 *source,
                 *destination,
-                codes(*before)
+                codes(*before),
             )
             .codes,
-            codes(*after),
-            "{operation:?} of {source:o} and {destination:o}"
+            &codes(*after),
         );
     }
 }
 
 // Each row of two bytes has its codes.
 fn check_bytes_tested(rt: &impl Abort, rows: &[BytesTested]) {
-    for (operation, (source, destination, before), after) in rows {
+    for row in rows {
+        let (operation, (source, destination, before), after) = row;
         let (source, destination) = (u16::from(*source), u16::from(*destination));
-        assert_eq!(rt;
-            double(*operation, Size::Byte, source, destination, codes(*before)).codes,
-            codes(*after),
-            "{operation:?} of {source:o} and {destination:o}"
+        same(
+            rt,
+            row,
+            &double(*operation, Size::Byte, source, destination, codes(*before)).codes,
+            &codes(*after),
         );
     }
 }
 
 // Each row of one word has its result and codes.
 fn check_one_word(rt: &impl Abort, rows: &[OneWord]) {
-    for (operation, (operand, before), (value, after)) in rows {
-        assert_eq!(rt;
-            single(*operation, Size::Word, *operand, codes(*before)),
-            computed(*value, *after),
-            "{operation:?} of {operand:o}"
+    for row in rows {
+        let (operation, (operand, before), (value, after)) = row;
+        same(
+            rt,
+            row,
+            &single(*operation, Size::Word, *operand, codes(*before)),
+            &computed(*value, *after),
         );
     }
 }
 
 // Each row of one byte has its result and codes.
 fn check_one_byte(rt: &impl Abort, rows: &[OneByte]) {
-    for (operation, (operand, before), (value, after)) in rows {
+    for row in rows {
+        let (operation, (operand, before), (value, after)) = row;
         let operand = u16::from(*operand);
-        assert_eq!(rt;
-            single(*operation, Size::Byte, operand, codes(*before)),
-            computed(u16::from(*value), *after),
-            "{operation:?} of {operand:o}"
+        same(
+            rt,
+            row,
+            &single(*operation, Size::Byte, operand, codes(*before)),
+            &computed(u16::from(*value), *after),
         );
     }
 }
 
 // Each row has its result of XOR and codes.
 fn check_exclusive(rt: &impl Abort, rows: &[Exclusive]) {
-    for ((register, destination, before), (value, after)) in rows {
-        assert_eq!(rt;
-            exclusive_or(*register, *destination, codes(*before)),
-            computed(*value, *after),
-            "{register:o} and {destination:o}"
+    for row in rows {
+        let ((register, destination, before), (value, after)) = row;
+        same(
+            rt,
+            row,
+            &exclusive_or(*register, *destination, codes(*before)),
+            &computed(*value, *after),
         );
     }
 }
 
 // Each row has its product and codes.
 fn check_products(rt: &impl Abort, rows: &[Product]) {
-    for ((register, source), (high, low, after)) in rows {
-        assert_eq!(rt;
-            multiply(*register, *source),
-            pair(*high, *low, *after),
-            "{register:o} times {source:o}"
+    for row in rows {
+        let ((register, source), (high, low, after)) = row;
+        same(
+            rt,
+            row,
+            &multiply(*register, *source),
+            &pair(*high, *low, *after),
         );
     }
 }
 
 // Each row has its quotient, its remainder and codes, or codes alone where the division is refused.
 fn check_divisions(rt: &impl Abort, rows: &[Divided]) {
-    for ((high, low, divisor), (done, after)) in rows {
+    for row in rows {
+        let ((high, low, divisor), (done, after)) = row;
         let division = match done {
             Some((quotient, remainder)) => Division::Done {
                 quotient: *quotient,
@@ -464,32 +482,27 @@ fn check_divisions(rt: &impl Abort, rows: &[Divided]) {
             },
             None => Division::Refused(codes(*after)),
         };
-        assert_eq!(rt;
-            divide(*high, *low, *divisor),
-            division,
-            "{high:o} {low:o} by {divisor:o}"
-        );
+        same(rt, row, &divide(*high, *low, *divisor), &division);
     }
 }
 
 // Each row of a word has its result and codes.
 fn check_shifts(rt: &impl Abort, rows: &[Shifted]) {
-    for ((value, count), (shifted, after)) in rows {
-        assert_eq!(rt;
-            shift(*value, *count),
-            computed(*shifted, *after),
-            "{value:o} by {count:o}"
-        );
+    for row in rows {
+        let ((value, count), (shifted, after)) = row;
+        same(rt, row, &shift(*value, *count), &computed(*shifted, *after));
     }
 }
 
 // Each row of two words has its result and codes.
 fn check_pairs(rt: &impl Abort, rows: &[PairShifted]) {
-    for ((high, low, count), (shifted_high, shifted_low, after)) in rows {
-        assert_eq!(rt;
-            shift_pair(*high, *low, *count),
-            pair(*shifted_high, *shifted_low, *after),
-            "{high:o} {low:o} by {count:o}"
+    for row in rows {
+        let ((high, low, count), (shifted_high, shifted_low, after)) = row;
+        same(
+            rt,
+            row,
+            &shift_pair(*high, *low, *count),
+            &pair(*shifted_high, *shifted_low, *after),
         );
     }
 }
@@ -498,10 +511,12 @@ fn check_pairs(rt: &impl Abort, rows: &[PairShifted]) {
 fn check_branches(rt: &impl Abort, rows: &[(BranchOp, u32)]) {
     for (operation, taken) in rows {
         for bits in 0..16 {
-            assert_eq!(rt;
-                is_taken(*operation, codes(bits)),
-                *taken >> bits & 1 == 1,
-                "{operation:?} after {bits:o}"
+            let is_due = *taken >> bits & 1 == 1;
+            same(
+                rt,
+                &(*operation, bits),
+                &is_taken(*operation, codes(bits)),
+                &is_due,
             );
         }
     }
@@ -537,4 +552,9 @@ fn shifts_have_their_results_and_codes(rt: HostRuntime) {
 #[test]
 fn branches_are_taken_by_their_codes(rt: HostRuntime) {
     check_branches(&rt, &TAKEN);
+}
+
+// What a row gives is what it says.
+fn same<T: PartialEq + Debug>(rt: &impl Abort, row: &impl Debug, got: &T, wanted: &T) {
+    assert_eq!(rt; got, wanted, "{row:?}");
 }
