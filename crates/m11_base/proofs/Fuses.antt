@@ -1,9 +1,12 @@
 -- What comes through a fuse is what its feed gives.
-use Rattle.std.proofs.Common.{◌≡◌, ◌≢◌, ℕ, zero, suc, ◌-◌, ◌<◌, ◌≤◌, List, [], ◌∷◌, length, take, Option, Some, None, Result, Ok, Err, refl, sym, ap, ◌∙◌, arith, inl, inr, sub-one}
+use Rattle.std.proofs.Common.{◌≡◌, ◌≢◌, ℕ, zero, suc, ◌+◌, ◌-◌, ◌<◌, ◌≤◌, List, [], ◌∷◌, ◌++◌, length, take, drop, length-append, Option, Some, None, Result, Ok, Err, refl, sym, ap, subst, ◌∙◌, arith, inl, inr, sub-one}
 use Rattle.std.proofs.lemmas.Bool.{cases_lt, le-ltb, lt-ltb}
+use Rattle.std.proofs.lemmas.List.{length-take}
+use Rattle.std.proofs.Math.Seq.{take-append-add}
 use Rattle.m11_base.specs.Devices.{last_count}
 use Rattle.m11_base.specs.declared.fault.DeviceFault.{DeviceFault}
-use Rattle.m11_base.specs.Feed.{Text, Ending, Ends, Fails, MayFail, Gives, GivesByte, GivesEnd, GivesFailure, bytes_through_fuse, text_through_fuse}
+use Rattle.m11_base.specs.Feed.{Text, Ending, Ends, Fails, MayFail, Gives, GivesByte, GivesBytes, GivesEnd, GivesFailure, BeginsWith, ready_within, bytes_through_fuse, text_through_fuse}
+use Rattle.m11_base.proofs.Ready.{IsFront, is_front, front_and_rest}
 
 abbrev text : List ℕ → Ending → Text
 text bytes ending = record { bytes = bytes; ending = ending }
@@ -102,3 +105,81 @@ module _ (count inner : ℕ) (unfailed : inner ≢ last_count) where
       → Gives (text_through_fuse calls old) (text_through_fuse (calls - 1) new) count answer
   gives_through_fuse zero old new answer some h = absurd (omega arith)
   gives_through_fuse (suc calls) old new answer some h = rw sub-one (gives_through calls old new answer h)
+
+-- ---- bytes that are ready
+
+passed_between : (x y : Text) (xs rest : List ℕ) (ending : Ending) → x ≡ text (xs ++ rest) ending → y ≡ text rest ending
+    → GivesBytes (Some x) (Some y) xs
+passed_between x y xs rest ending e f = (
+  rest,
+  ap (λ (t : Text). t.bytes) e,
+  ap (λ (t : Text). Some t) (f ∙ ap (λ (d : Ending). text rest d) (sym (ap (λ (t : Text). t.ending) e))),
+)
+
+cut_after : (calls : ℕ) (xs rest : List ℕ) → length xs ≤ calls
+    → take calls (xs ++ rest) ≡ xs ++ take (calls - length xs) rest
+cut_after calls xs rest h =
+    let both : calls ≡ length xs + (calls - length xs) = omega arith in
+    ap (λ n. take n (xs ++ rest)) both ∙ take-append-add xs rest (calls - length xs)
+
+passed_through : (calls : ℕ) (xs rest : List ℕ) (blown whole : Ending) → length xs ≤ calls
+    → GivesBytes (Some (bytes_through_fuse calls (xs ++ rest) blown whole))
+    (Some (bytes_through_fuse (calls - length xs) rest blown whole)) xs
+passed_through calls xs rest blown whole h =
+    elim (cases_lt calls (length (xs ++ rest))) [
+      | inl lt ↦ passed_between _ _ xs (take (calls - length xs) rest) blown
+          (cut_text calls (xs ++ rest) blown whole lt ∙ ap (λ (t : List ℕ). text t blown) (cut_after calls xs rest h))
+          (cut_text (calls - length xs) rest blown whole (omega (arith, length-append xs rest)))
+      | inr le ↦ passed_between _ _ xs rest whole (whole_text calls (xs ++ rest) blown whole le)
+          (whole_text (calls - length xs) rest blown whole (omega (arith, length-append xs rest)))
+    ]
+
+passed_of : (calls : ℕ) (bytes xs rest : List ℕ) (blown whole : Ending) → length xs ≤ calls → bytes ≡ xs ++ rest
+    → GivesBytes (Some (bytes_through_fuse calls bytes blown whole))
+    (Some (bytes_through_fuse (calls - length xs) rest blown whole)) xs
+passed_of calls bytes xs rest blown whole h front = rw front (passed_through calls xs rest blown whole h)
+
+known_passed : (calls : ℕ) (xs bytes : List ℕ) (ending : Ending) (new : Option Text) → length xs ≤ calls
+    → GivesBytes (Some (text bytes ending)) new xs
+    → GivesBytes (text_through_fuse calls (Some (text bytes ending))) (text_through_fuse (calls - length xs) new) xs
+known_passed calls xs bytes MayFail new h given = tt
+known_passed calls xs bytes Ends new h given =
+    rw given.2 (passed_of calls bytes xs given.0 Fails MayFail h given.1)
+known_passed calls xs bytes Fails new h given =
+    rw given.2 (passed_of calls bytes xs given.0 Fails Fails h given.1)
+
+bytes_passed : (calls : ℕ) (xs : List ℕ) (old new : Option Text) → length xs ≤ calls → GivesBytes old new xs
+    → GivesBytes (text_through_fuse calls old) (text_through_fuse (calls - length xs) new) xs
+bytes_passed calls xs None new h given = tt
+bytes_passed calls xs (Some t) new h given = known_passed calls xs t.bytes t.ending new h given
+
+-- ready bytes that are passed use up as many calls
+pub passes_through_fuse : (calls faults count : ℕ) (old new : Option Text) (inner : List ℕ)
+    → count ≤ length (ready_within calls faults inner) → GivesBytes old new (take count inner)
+    → GivesBytes (text_through_fuse calls old) (text_through_fuse (calls - count) new)
+    (take count (ready_within calls faults inner))
+passes_through_fuse calls faults count old new inner h given =
+    let front = is_front calls faults count inner h in
+    let few : length (take count inner) ≤ calls = omega (arith, front.counted, front.allowed) in
+    let P : ℕ → Type 0 =
+    λ n. GivesBytes (text_through_fuse calls old) (text_through_fuse (calls - n) new) (take count inner) in
+    rw front.same (subst P front.counted (bytes_passed calls (take count inner) old new few given))
+
+begins_of : (calls : ℕ) (bytes xs rest : List ℕ) (blown whole : Ending) → length xs ≤ calls → bytes ≡ xs ++ rest
+    → BeginsWith (Some (bytes_through_fuse calls bytes blown whole)) xs
+begins_of calls bytes xs rest blown whole h front =
+    let given = passed_of calls bytes xs rest blown whole h front in (given.0, given.1)
+
+known_begins : (calls : ℕ) (bytes xs rest : List ℕ) (ending : Ending) → length xs ≤ calls → bytes ≡ xs ++ rest
+    → BeginsWith (text_through_fuse calls (Some (text bytes ending))) xs
+known_begins calls bytes xs rest MayFail h front = tt
+known_begins calls bytes xs rest Ends h front = begins_of calls bytes xs rest Fails MayFail h front
+known_begins calls bytes xs rest Fails h front = begins_of calls bytes xs rest Fails Fails h front
+
+-- what is ready through a fuse is a beginning of what comes through it
+pub begins_through_fuse : (calls count : ℕ) (old : Option Text) (inner : List ℕ) → count ≤ calls
+    → BeginsWith old inner → BeginsWith (text_through_fuse calls old) (take count inner)
+begins_through_fuse calls count None inner h begins = tt
+begins_through_fuse calls count (Some t) inner h begins =
+    known_begins calls t.bytes (take count inner) (drop count inner ++ begins.0) t.ending
+    (omega (arith, length-take count inner)) (begins.1 ∙ front_and_rest count inner begins.0)

@@ -3,6 +3,7 @@ pub mod Characters
 pub mod Digits
 pub mod FeedsRead
 pub mod Fuses
+pub mod Ready
 pub mod Known
 pub mod LastBlanks
 pub mod EachWord

@@ -1,5 +1,5 @@
--- Sources of bytes, read one byte a call. (This project's own.)
-use Rattle.std.specs.Prelude.{◌≡◌, ◌≢◌, ℕ, List, [], ◌∷◌, ◌++◌, length, take, ◌⊎◌, ⊤, Option, Some, None, MatchOption, Result, MatchResult, if◌then◌else◌, nat_lt, option_map, option_and_then}
+-- Sources of bytes, read one byte a call, or passed by many where they are there without a read. (This project's own.)
+use Rattle.std.specs.Prelude.{◌≡◌, ◌≢◌, ℕ, List, [], ◌∷◌, ◌++◌, length, take, ◌⊎◌, ⊤, Option, Some, None, MatchOption, Result, MatchResult, if◌then◌else◌, nat_lt, ◌==◌, option_map, option_and_then}
 use Rattle.m11_base.specs.Devices.{Rises, last_count}
 
 -- how a text ends: at its end, at a failure, or perhaps at a failure before its end
@@ -28,6 +28,17 @@ abbrev pub GivesByte : Option Text → Option Text → ℕ → Type 0
 GivesByte None new byte = ⊤
 GivesByte (Some t) new byte =
     (rest : List ℕ) × (t.bytes ≡ byte ∷ rest) × (new ≡ Some (record { bytes = rest; ending = t.ending }))
+
+-- more bytes were given
+abbrev pub GivesBytes : Option Text → Option Text → List ℕ → Type 0
+GivesBytes None new bytes = ⊤
+GivesBytes (Some t) new bytes =
+    (rest : List ℕ) × (t.bytes ≡ bytes ++ rest) × (new ≡ Some (record { bytes = rest; ending = t.ending }))
+
+-- of the bytes that are there without a read, those that are ready: no more than may still come, and none once the
+-- count of failures stands at its last value
+abbrev pub ready_within : ℕ → ℕ → List ℕ → List ℕ
+ready_within most count bytes = if count == last_count then [] else take most bytes
 
 -- the end was answered
 abbrev pub GivesEnd : Option Text → Option Text → Type 0

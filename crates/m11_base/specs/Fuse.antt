@@ -1,5 +1,18 @@
--- A sink behind a fuse. (This project's own.)
-use Rattle.std.specs.Prelude.{ℕ}
+-- A feed and a sink, each through a fuse. (This project's own.)
+use Rattle.std.specs.Prelude.{◌≡◌, ℕ, Option, Result, MatchResult}
+use Rattle.m11_base.specs.Devices.{Rises}
+use Rattle.m11_base.specs.Feed.{Text, Gives}
+
+-- the feed, how many calls it is still to be passed, and how often a call of the fuse failed
+pub record FusedFeed (F : Type 0) : Type 0 where
+  pub feed : F
+  pub calls : ℕ
+  pub faults : ℕ
+
+-- what a call of a feed answered, by what its text and its count of failures were and are
+abbrev pub Answers : {E : Type 0} → Option Text → Option Text → ℕ → ℕ → Result (Option ℕ) E → Type 0
+Answers old new old_count new_count answer = Gives old new old_count answer
+    × MatchResult answer (λ _. new_count ≡ old_count) (λ _. Rises old_count new_count)
 
 -- the sink, how many calls it is still to be passed, with how many bytes each at most, and how
 -- often a call of the fuse failed, or took none of the bytes that were there

@@ -1,9 +1,9 @@
 //! A feed over the buffered reader of the standard library.
 
 ghost use Rattle.std.specs.Prelude.{◌≡◌, MatchResult, MatchOption, OnSome, [], ◌∷◌};
-ghost use Rattle.std.specs.Io.Buffered.{reader_remaining};
+ghost use Rattle.std.specs.Io.Buffered.{reader_remaining, reader_buffer};
 ghost use Rattle.std.specs.Io.KnownBytes.{Consumes, IsAtEnd, Keeps};
-ghost use Rattle.m11_base.specs.Feed.{text_of_reader};
+ghost use Rattle.m11_base.specs.Feed.{text_of_reader, ready_within};
 
 use crate::fault::DeviceFault;
 use crate::feed::Feed;
@@ -11,8 +11,8 @@ use crate::stream::is_interrupted;
 use std::io;
 use std::io::{BufRead, BufReader, Read};
 
-/// Gives the bytes of a buffered reader, a byte from its buffer a call. The reader reads ahead, so this is
-/// for files, not for someone who types. A read that a signal interrupted is tried again. After
+/// Gives the bytes of a buffered reader; those in its buffer are ready. The reader reads ahead, so this is for files,
+/// not for someone who types. A read that a signal interrupted is tried again. After
 /// 18,446,744,073,709,551,615 bytes it fails at each call.
 #[derive(Drop)]
 pub struct BufferedFeed<R> {
@@ -42,6 +42,8 @@ impl<R: Read> Feed for BufferedFeed<R> {
 
     ghost left = { λ s. s.budget };
 
+    ghost ready_bytes = { λ s. ready_within s.budget s.faults (reader_buffer s.reader) };
+
     #[inline]
     fn next(&mut self) -> Result<Option<u8>, DeviceFault> {
         if self.faults == u64::MAX {
@@ -62,6 +64,21 @@ impl<R: Read> Feed for BufferedFeed<R> {
                 Err(DeviceFault)
             }
         }
+    }
+
+    #[inline]
+    fn ready(&self) -> &[u8] {
+        if self.faults == u64::MAX {
+            return &[];
+        }
+        let shown = self.reader.buffer();
+        &shown[..shown.len().min(self.budget as usize)]
+    }
+
+    #[inline]
+    fn pass(&mut self, count: usize) {
+        self.reader.consume(count);
+        self.budget -= count as u64;
     }
 }
 

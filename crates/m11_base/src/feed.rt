@@ -1,12 +1,13 @@
 //! Sources of bytes.
 
-ghost use Rattle.std.specs.Prelude.{◌≡◌, ◌<◌, ◌≤◌, ℕ, Option, MatchResult, MatchOption, IsErr};
+ghost use Rattle.std.specs.Prelude.{◌≡◌, ◌+◌, ◌<◌, ◌≤◌, ℕ, List, length, take, Option, MatchResult, MatchOption, IsErr};
 ghost use Rattle.m11_base.specs.Devices.{Rises, last_count};
-ghost use Rattle.m11_base.specs.Feed.{Text, Gives};
+ghost use Rattle.m11_base.specs.Feed.{Text, Gives, GivesBytes, BeginsWith};
 
 use crate::fault::DeviceFault;
 
-/// A source of bytes, read one at a time.
+/// A source of bytes. Only `next` reads: where bytes are there without a read, `ready` shows them and `pass` goes
+/// past them, many at a time.
 pub trait Feed {
     // The bytes still to come and how they end, where that is known.
     ghost text: { Self → Option Text };
@@ -16,6 +17,9 @@ pub trait Feed {
 
     // More than the bytes that may still come, so that reading to the end does end.
     ghost left: { Self → ℕ };
+
+    // The bytes that are there without a read: a beginning of those still to come, or none.
+    ghost ready_bytes: { Self → List ℕ };
 
     /// The next byte, or `None` at the end. An error gives nothing, and is counted.
     fn next(&mut self) -> Result<Option<u8>, DeviceFault>
@@ -27,4 +31,18 @@ pub trait Feed {
             (λ byte. MatchOption byte (left self.new ≤ left self.old)
             (λ _. left self.new < left self.old))
             (λ _. left self.new ≤ left self.old) };
+
+    /// The bytes that are there without a read. Where there are none, `next` may still give one.
+    fn ready(&self) -> &[u8]
+        ensures shown { result.now ≡ ready_bytes self.now }
+        ensures begins { BeginsWith (text self.now) result.now }
+        ensures within { length result.now ≤ left self.now }
+        ensures last { faults self.now ≡ last_count → length result.now ≡ 0 };
+
+    /// Goes past so many of the ready bytes, as if `next` had given them. Needs that so many are ready.
+    fn pass(&mut self, count: usize)
+        requires { count ≤ length (ready_bytes self.old) }
+        ensures passes { GivesBytes (text self.old) (text self.new) (take count (ready_bytes self.old)) }
+        ensures keeps { faults self.new ≡ faults self.old }
+        ensures shrinks { left self.new + count ≤ left self.old };
 }

@@ -1,8 +1,9 @@
 //! A feed and a sink that begin to fail after a number of calls, for tests of failing devices.
 
-ghost use Rattle.std.specs.Prelude.{◌≡◌, ◌≢◌, ◌≤◌, ◌<◌, ◌-◌, length, take, IfOk, IsErr};
-ghost use Rattle.m11_base.specs.Devices.{last_count};
-ghost use Rattle.m11_base.specs.Feed.{text_through_fuse};
+ghost use Rattle.std.specs.Prelude.{◌≡◌, ◌≢◌, ◌≤◌, ◌<◌, ◌+◌, ◌-◌, length, take, MatchResult, MatchOption, IfOk, IsErr};
+ghost use Rattle.m11_base.specs.Devices.{Rises, last_count};
+ghost use Rattle.m11_base.specs.Feed.{Gives, GivesBytes, ready_within, text_through_fuse};
+ghost use Rattle.m11_base.specs.Fuse.{Answers};
 ghost use Rattle.m11_base.specs.Sink.{Takes, Counts};
 
 use crate::fault::DeviceFault;
@@ -10,13 +11,23 @@ use crate::feed::Feed;
 use crate::sink::Sink;
 use std::marker::Model;
 
-/// Passes a number of calls to a feed, and then fails at each call.
+/// Passes a number of calls to a feed, and then fails at each call. A ready byte that is passed counts as a call.
 #[derive(Drop)]
 pub struct FuseFeed<F: Feed> {
     feed: F,
     calls: u64,
     faults: u64,
-    ghost counts_all: { F.faults feed ≤ faults },
+}
+
+impl<F: Feed> Model for FuseFeed<F> {
+    ghost use Rattle.std.specs.Prelude.{◌≤◌};
+    ghost use Rattle.m11_base.specs.Fuse.{FusedFeed};
+
+    ghost Value = { FusedFeed F };
+
+    ghost view = { λ s. record { feed = s.feed; calls = s.calls; faults = s.faults } };
+
+    ghost invariant = { λ s. F.faults s.feed ≤ s.faults };
 }
 
 impl<F: Feed> FuseFeed<F> {
@@ -24,6 +35,7 @@ impl<F: Feed> FuseFeed<F> {
     /// among them.
     pub fn new(feed: F, calls: u64) -> FuseFeed<F>
         requires { F.faults feed ≡ 0 }
+        ensures fuse { result ≡ record { feed = feed; calls = calls; faults = 0 } }
         ensures text { ⟦<FuseFeed<F> as Feed>⟧.text result ≡ text_through_fuse calls (F.text feed) }
         ensures unfailed { ⟦<FuseFeed<F> as Feed>⟧.faults result ≡ 0 }
     {
@@ -42,7 +54,26 @@ impl<F: Feed> Feed for FuseFeed<F> {
 
     ghost left = { λ s. F.left s.feed };
 
-    fn next(&mut self) -> Result<Option<u8>, DeviceFault> {
+    ghost ready_bytes = { λ s. ready_within s.calls s.faults (F.ready_bytes s.feed) };
+
+    fn next(&mut self) -> Result<Option<u8>, DeviceFault>
+        ensures gives { Gives (text_through_fuse self.old.calls (F.text self.old.feed))
+            (text_through_fuse self.new.calls (F.text self.new.feed)) self.old.faults result }
+        ensures counts { MatchResult result (λ _. self.new.faults ≡ self.old.faults)
+            (λ _. Rises self.old.faults self.new.faults) }
+        ensures last { self.old.faults ≡ last_count → IsErr result }
+        ensures shrinks { MatchResult result
+            (λ byte. MatchOption byte (F.left self.new.feed ≤ F.left self.old.feed)
+            (λ _. F.left self.new.feed < F.left self.old.feed))
+            (λ _. F.left self.new.feed ≤ F.left self.old.feed) }
+        ensures spends { self.old.faults ≢ last_count → self.new.calls ≡ self.old.calls - 1 }
+        // blown it fails, at the end of the text too
+        ensures blows { self.old.calls ≡ 0 → IsErr result }
+        // while calls are left, the answer is the feed's own
+        ensures passes { 0 < self.old.calls → self.old.faults ≢ last_count
+            → Answers (F.text self.old.feed) (F.text self.new.feed) (F.faults self.old.feed)
+            (F.faults self.new.feed) result }
+    {
         if self.faults == u64::MAX {
             return Err(DeviceFault);
         }
@@ -56,6 +87,28 @@ impl<F: Feed> Feed for FuseFeed<F> {
             self.faults += 1;
         }
         answer
+    }
+
+    fn ready(&self) -> &[u8] {
+        if self.faults == u64::MAX {
+            return &[];
+        }
+        let shown = self.feed.ready();
+        &shown[..shown.len().min(self.calls as usize)]
+    }
+
+    fn pass(&mut self, count: usize)
+        requires { count ≤ length (ready_within self.old.calls self.old.faults
+            (F.ready_bytes self.old.feed)) }
+        ensures passes { GivesBytes (text_through_fuse self.old.calls (F.text self.old.feed))
+            (text_through_fuse self.new.calls (F.text self.new.feed))
+            (take count (ready_within self.old.calls self.old.faults (F.ready_bytes self.old.feed))) }
+        ensures keeps { self.new.faults ≡ self.old.faults }
+        ensures shrinks { F.left self.new.feed + count ≤ F.left self.old.feed }
+        ensures spends { self.new.calls + count ≡ self.old.calls }
+    {
+        self.feed.pass(count);
+        self.calls -= count as u64;
     }
 }
 

@@ -35,6 +35,8 @@ impl<'a> Feed for MemoryFeed<'a> {
 
     ghost left = { λ s. length s.rest.now };
 
+    ghost ready_bytes = { λ s. s.rest.now };
+
     fn next(&mut self) -> Result<Option<u8>, DeviceFault> {
         match self.rest {
             [] => Ok(None),
@@ -43,6 +45,14 @@ impl<'a> Feed for MemoryFeed<'a> {
                 Ok(Some(*byte))
             }
         }
+    }
+
+    fn ready(&self) -> &[u8] {
+        self.rest
+    }
+
+    fn pass(&mut self, count: usize) {
+        self.rest = &self.rest[count..];
     }
 }
 

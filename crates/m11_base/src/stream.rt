@@ -10,7 +10,8 @@ use crate::sink::Sink;
 use std::io;
 use std::io::{ErrorKind, Read, Write};
 
-/// Gives the bytes of a reader. A read that a signal interrupted is tried again. After
+/// Gives the bytes of a reader, one a read, and none is ready: so nothing is read ahead, and it is for someone who
+/// types. A read that a signal interrupted is tried again. After
 /// 18,446,744,073,709,551,615 bytes it fails at each call.
 #[derive(Drop)]
 pub struct ReaderFeed<R> {
@@ -40,6 +41,8 @@ impl<R: Read> Feed for ReaderFeed<R> {
 
     ghost left = { λ s. s.budget };
 
+    ghost ready_bytes = { λ _. [] };
+
     fn next(&mut self) -> Result<Option<u8>, DeviceFault> {
         if self.faults == u64::MAX {
             return Err(DeviceFault);
@@ -60,6 +63,12 @@ impl<R: Read> Feed for ReaderFeed<R> {
             }
         }
     }
+
+    fn ready(&self) -> &[u8] {
+        &[]
+    }
+
+    fn pass(&mut self, _count: usize) {}
 }
 
 // The next byte of a reader, or `None` at its end.
