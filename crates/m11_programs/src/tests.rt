@@ -95,12 +95,23 @@ impl<F: Feed> Feed for CountedFeed<F> {
 
     ghost left = { λ s. F.left s.feed };
 
+    ghost ready_bytes = { λ s. F.ready_bytes s.feed };
+
     fn next(&mut self) -> Result<Option<u8>, DeviceFault> {
         let answer = self.feed.next();
         if matches!(answer, Ok(Some(_))) {
             self.given = self.given.saturating_add(1);
         }
         answer
+    }
+
+    fn ready(&self) -> &[u8] {
+        self.feed.ready()
+    }
+
+    fn pass(&mut self, count: usize) {
+        self.given = self.given.saturating_add(count);
+        self.feed.pass(count);
     }
 }
 

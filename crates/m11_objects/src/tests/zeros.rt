@@ -9,13 +9,15 @@ pub(crate) struct Zeros {
 }
 
 impl Feed for Zeros {
-    ghost use Rattle.std.specs.Prelude.{None};
+    ghost use Rattle.std.specs.Prelude.{None, []};
 
     ghost text = { λ _. None };
 
     ghost faults = { λ _. 0 };
 
     ghost left = { λ s. s.left };
+
+    ghost ready_bytes = { λ _. [] };
 
     fn next(&mut self) -> Result<Option<u8>, DeviceFault> {
         if self.left == 0 {
@@ -24,4 +26,10 @@ impl Feed for Zeros {
         self.left -= 1;
         Ok(Some(0))
     }
+
+    fn ready(&self) -> &[u8] {
+        &[]
+    }
+
+    fn pass(&mut self, _count: usize) {}
 }
