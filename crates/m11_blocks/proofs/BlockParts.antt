@@ -1,11 +1,11 @@
 -- A block is read part by part.
-use Rattle.std.proofs.Common.{◌≡◌, ◌≢◌, ◌∙◌, ℕ, List, [], ◌∷◌, ◌++◌, Ok, Err, refl, ap, append_assoc}
-use Rattle.std.proofs.lemmas.Bool.{ne_eqb}
+use Rattle.std.proofs.Common.{◌≡◌, ◌≢◌, ◌<◌, ◌∙◌, ℕ, List, [], ◌∷◌, ◌++◌, length, length-append, Ok, Err, refl, ap, append_assoc, arith}
+use Rattle.std.proofs.lemmas.Bool.{lt-ltb, ne_eqb}
 use Rattle.m11_blocks.specs.declared.limited.Lack.{Lack}
 use Rattle.m11_blocks.specs.declared.limited.Lack.TheVariants as lack
 use Rattle.m11_blocks.specs.declared.block_fault.BlockFault.{BlockFault}
 use Rattle.m11_blocks.specs.declared.block_fault.BlockFault.TheVariants as fault
-use Rattle.m11_blocks.specs.Limited.{Place, Took, Lacks, TookThenLacks, Inside, Refused, Read, ◌>>=◌, Why, EndsBetween, Reads, Stops}
+use Rattle.m11_blocks.specs.Limited.{Place, Took, TookInto, Lacks, TookThenLacks, Inside, Refused, Read, ◌>>=◌, Why, EndsBetween, Reads, Stops}
 use Rattle.m11_blocks.specs.Blocks.{start, second, count, content_of, summed, first_block, missing, why_of}
 use Rattle.m11_blocks.proofs.Limits.{took_nothing, took_then, reads_behind, stops_behind, first_stops, then_reads, then_stops}
 
@@ -21,6 +21,21 @@ missing_stops read a b given lack.TooMuch lacks e = (given, lacks, rw e tt)
 pub first_missing : {A : Type 0} (read : List ℕ → Read BlockFault A) (a b : Place) (why : Lack) → Lacks a b why
     → read [] ≡ Err Inside → Stops read a b (why_of (missing why))
 first_missing read a b why lacks e = missing_stops read a b [] why (a, took_nothing a, lacks) e
+
+-- ---- the content of a block
+
+content_short : (count : ℕ) (bytes : List ℕ) → length bytes < count → content_of count bytes ≡ Err Inside
+content_short count bytes short = rw (lt-ltb (length bytes) count short) refl
+
+-- a byte of it is missing, where none was ready
+pub content_missing : (count taken : ℕ) (a b c d : Place) (content after : List ℕ) (why : Lack) → Took a b content
+    → length content < count → taken ≡ 0 → TookInto b c content after taken → Lacks c d why
+    → Stops (content_of count) a d (why_of (missing why))
+content_missing count taken a b c d content after why took short none into lacks =
+    missing_stops (content_of count) a d (content ++ into.given) why
+    (c, took_then a b c content into.given took into.took, lacks)
+    (content_short count (content ++ into.given)
+    (omega (arith, length-append content into.given, into.counted)))
 
 -- ---- zeros and the start of a block
 

@@ -1,18 +1,18 @@
 -- What was read of a feed one piece after another, joined.
 use Rattle.std.proofs.Common.{◌≡◌, ℕ, List, [], ◌++◌, Option, Some, None, Ok, Err, refl, sym, ap, subst, ◌∙◌, arith, append_assoc, length-append}
-use Rattle.m11_base.specs.Feed.{Text}
+use Rattle.m11_base.specs.Feed.{Text, GivesBytes}
 use Rattle.m11_blocks.specs.declared.limited.Lack.{Lack}
 use Rattle.m11_blocks.specs.declared.limited.Lack.TheVariants as lack
-use Rattle.m11_blocks.specs.Limited.{Gave, Place, Took, TookThenLacks, Stop, Between, Inside, Refused, Read, ◌>>=◌, IsShort, Why, Fails, EndsBetween, EndsInside, Passes, Refuses, Never, Reads, Stops}
+use Rattle.m11_blocks.specs.Limited.{Place, Took, TookThenLacks, Stop, Between, Inside, Refused, Read, ◌>>=◌, IsShort, Why, Fails, EndsBetween, EndsInside, Passes, Refuses, Never, Reads, Stops}
 use Rattle.m11_blocks.proofs.ReadSteps.{bytes_then}
 
 -- ---- what was given
 
-gave_nothing : (t : Option Text) → Gave t t []
+gave_nothing : (t : Option Text) → GivesBytes t t []
 gave_nothing None = tt
 gave_nothing (Some t) = (t.bytes, refl, refl)
 
-gave_then : (t0 t1 t2 : Option Text) (xs ys : List ℕ) → Gave t0 t1 xs → Gave t1 t2 ys → Gave t0 t2 (xs ++ ys)
+gave_then : (t0 t1 t2 : Option Text) (xs ys : List ℕ) → GivesBytes t0 t1 xs → GivesBytes t1 t2 ys → GivesBytes t0 t2 (xs ++ ys)
 gave_then None t1 t2 xs ys g h = tt
 gave_then (Some t) t1 t2 xs ys g h =
     let next = rw g.2 at h in

@@ -3,7 +3,7 @@
 use Rattle.std.specs.Prelude.{◌≡◌, ℕ, ◌+◌, ◌<◌, List, ◌++◌, length, ⊤, Option, Some, None, Result, Ok, Err}
 use Rattle.std.specs.List.{AllByRecursion}
 use Rattle.m11_base.specs.Devices.{Rises}
-use Rattle.m11_base.specs.Feed.{Text, GivesByte, GivesEnd, GivesFailure}
+use Rattle.m11_base.specs.Feed.{Text, GivesByte, GivesBytes, GivesEnd, GivesFailure}
 use Rattle.m11_blocks.specs.declared.limited.Lack.{Lack}
 use Rattle.m11_blocks.specs.declared.limited.Lack.TheVariants as lack
 
@@ -12,12 +12,6 @@ abbrev pub most_bytes : ℕ
 most_bytes = 4194304
 
 -- ---- what a feed gave
-
--- the bytes stood first in the text, where it is known, and the others are left
-abbrev pub Gave : Option Text → Option Text → List ℕ → Type 0
-Gave None new given = ⊤
-Gave (Some t) new given =
-    (rest : List ℕ) × (t.bytes ≡ given ++ rest) × (new ≡ Some (record { bytes = rest; ending = t.ending }))
 
 -- a feed, by its text and its count of failures, and how many more bytes of it are within the limit
 pub record Place : Type 0 where
@@ -30,10 +24,17 @@ place text faults room = record { text = text; faults = faults; room = room }
 
 -- bytes were given, all within the limit, and the feed did not fail
 pub record Took (old new : Place) (given : List ℕ) : Type 0 where
-  pub gave : Gave old.text new.text given
+  pub gave : GivesBytes old.text new.text given
   pub faults : new.faults ≡ old.faults
   pub room : old.room ≡ length given + new.room
   pub bytes : AllByRecursion (λ byte. byte < 256) given
+
+-- so many bytes were given, and put to the end of a content
+pub record TookInto (old new : Place) (before after : List ℕ) (count : ℕ) : Type 0 where
+  pub given : List ℕ
+  pub took : Took old new given
+  pub added : after ≡ before ++ given
+  pub counted : length given ≡ count
 
 -- no byte came: the feed failed and counted it, or it ended, or its byte is past the limit
 abbrev pub Lacks : Place → Place → Lack → Type 0

@@ -10,7 +10,7 @@ ghost use Rattle.m11_blocks.specs.Blocks.{first_block, IsCut, AreRead, ReadsPart
 
 use crate::block_fault::BlockFault;
 use crate::frames::{Block, block_sum};
-use crate::limited::{Lack, MOST_BYTES, next_byte, next_word};
+use crate::limited::{Lack, MOST_BYTES, next_byte, next_word, take_ready};
 use m11_base::Feed;
 use std::marker::Model;
 
@@ -71,9 +71,13 @@ fn read_content<F: Feed>(
         (place (F.text feed.new) (F.faults feed.new) room.new) result }
 {
     content.clear();
-    'bytes: for _ in 0..count {
-        let byte = next_byte(feed, room)?;
-        content.push(byte);
+    let count = usize::from(count);
+    'parts: while content.len() < count {
+        let missing = count - content.len();
+        if take_ready(feed, room, content, missing) == 0 {
+            let byte = next_byte(feed, room)?;
+            content.push(byte);
+        }
     }
     Ok(())
 }

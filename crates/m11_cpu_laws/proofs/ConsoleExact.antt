@@ -1,30 +1,29 @@
 -- What the devices gave and took is what was asked and sent.
 use Rattle.std.proofs.Common.{◌≡◌, ℕ, Bool, true, false, List, [], ◌∷◌, ◌++◌, Option, Some, None, refl, sym, ◌∙◌, subst, ap, append_assoc}
 use Rattle.std.proofs.KnownBytes.{Appends-nil, Appends-trans}
-use Rattle.m11_base.specs.Feed.{Text, GivesByte, GivesEnd, GivesFailure}
-use Rattle.m11_blocks.specs.Limited.{Gave}
+use Rattle.m11_base.specs.Feed.{Text, GivesByte, GivesEnd, GivesFailure, GivesBytes}
 use Rattle.m11_cpu.specs.Dialogue.{Devices, Exchange, Asked, Sent, Reply, Gives, Ends, Fails, Did, Happened, Happens, Input, Output, Replies, Takes}
 use Rattle.m11_cpu_laws.specs.Laws.{given, taken, GainedJust, GaveJust}
 
-gave_nothing : (t : Option Text) → Gave t t []
+gave_nothing : (t : Option Text) → GivesBytes t t []
 gave_nothing None = tt
 gave_nothing (Some t) = (t.bytes, refl, refl)
 
-gave_then : (t0 t1 t2 : Option Text) (xs ys : List ℕ) → Gave t0 t1 xs → Gave t1 t2 ys → Gave t0 t2 (xs ++ ys)
+gave_then : (t0 t1 t2 : Option Text) (xs ys : List ℕ) → GivesBytes t0 t1 xs → GivesBytes t1 t2 ys → GivesBytes t0 t2 (xs ++ ys)
 gave_then None t1 t2 xs ys g h = tt
 gave_then (Some t) t1 t2 xs ys g h =
     let next = rw g.2 at h in
     (next.0, g.1 ∙ ap (λ (zs : List ℕ). xs ++ zs) next.1 ∙ sym (append_assoc xs ys next.0), next.2)
 
-gives_one : (t t' : Option Text) (byte : ℕ) → GivesByte t t' byte → Gave t t' (byte ∷ [])
+gives_one : (t t' : Option Text) (byte : ℕ) → GivesByte t t' byte → GivesBytes t t' (byte ∷ [])
 gives_one None t' byte h = tt
 gives_one (Some t) t' byte h = h
 
-ends_none : (t t' : Option Text) → GivesEnd t t' → Gave t t' []
+ends_none : (t t' : Option Text) → GivesEnd t t' → GivesBytes t t' []
 ends_none None t' h = tt
 ends_none (Some t) t' h = (t.bytes, refl, h.1)
 
-fails_none : (t t' : Option Text) (count : ℕ) → GivesFailure t t' count → Gave t t' []
+fails_none : (t t' : Option Text) (count : ℕ) → GivesFailure t t' count → GivesBytes t t' []
 fails_none None t' count h = tt
 fails_none (Some t) t' count h = (t.bytes, refl, h.1)
 

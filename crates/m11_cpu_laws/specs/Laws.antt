@@ -2,7 +2,7 @@
 -- is said of the console is this project's own.)
 use Rattle.std.specs.Prelude.{◌≡◌, ℕ, ◌+◌, true, false, List, [], ◌∷◌, ◌++◌, Option, Some, None, ⊤}
 use Rattle.std.specs.Io.KnownBytes.{Appends}
-use Rattle.m11_blocks.specs.Limited.{Gave}
+use Rattle.m11_base.specs.Feed.{GivesBytes}
 use Rattle.m11_cpu.specs.Dialogue.{Exchange, Asked, Sent, Gives, Ends, Fails, Input, Leads, Output}
 use Rattle.m11_cpu.specs.Runs.{run_counted}
 use Rattle.m11_cpu.specs.declared.machine.Machine.{Machine}
@@ -33,7 +33,7 @@ abbrev pub GaveJust : Option Input → Option Input → List ℕ → Type 0
 GaveJust None None bytes = bytes ≡ []
 GaveJust None (Some new) bytes = ⊥
 GaveJust (Some old) None bytes = ⊥
-GaveJust (Some old) (Some new) bytes = Gave old.text new.text bytes
+GaveJust (Some old) (Some new) bytes = GivesBytes old.text new.text bytes
 
 -- the output, where it is there, gained just these bytes
 abbrev pub GainedJust : Option Output → Option Output → List ℕ → Type 0

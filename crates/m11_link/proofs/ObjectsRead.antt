@@ -2,11 +2,11 @@
 use Rattle.std.proofs.Common.{◌≡◌, ◌∙◌, ℕ, ◌+◌, ◌<◌, ◌↔◌, Bool, true, false, IsTrue, IsErr, List, [], ◌∷◌, ◌++◌, length, take, Option, Some, None, Ok, refl, sym, ap, subst, append_assoc, arith}
 use Rattle.std.proofs.lemmas.List.{append-nil, length-append, take_at}
 use Rattle.m11_base.specs.Devices.{Rises}
-use Rattle.m11_base.specs.Feed.{Text, HasBytes, BeginsWith, GivesByte, GivesEnd}
+use Rattle.m11_base.specs.Feed.{Text, HasBytes, BeginsWith, GivesByte, GivesEnd, GivesBytes}
 use Rattle.m11_blocks.specs.declared.block_fault.BlockFault.{BlockFault}
 use Rattle.m11_blocks.specs.declared.block_fault.BlockFault.TheVariants as block
 use Rattle.m11_blocks.specs.Blocks.{first_block, why_of}
-use Rattle.m11_blocks.specs.Limited.{Fails, EndsBetween, EndsInside, Passes, Refuses, Gave, IsShort, Place, Reads, Stops, Took, most_bytes, place}
+use Rattle.m11_blocks.specs.Limited.{Fails, EndsBetween, EndsInside, Passes, Refuses, IsShort, Place, Reads, Stops, Took, most_bytes, place}
 use Rattle.m11_blocks.proofs.Limits.{took_nothing, took_then}
 use Rattle.m11_layout.specs.declared.fault.LinkFault.{LinkFault}
 use Rattle.m11_layout.specs.declared.fault.LinkFault.TheVariants as fault
@@ -17,20 +17,20 @@ use Rattle.m11_link.proofs.Steady.{block_shorter, object_comes}
 
 -- ---- what a feed gave of its text
 
-gave_all : (t0 t1 t2 : Option Text) (given : List ℕ) → Gave t0 t1 given → GivesEnd t1 t2 → HasBytes t0 given
+gave_all : (t0 t1 t2 : Option Text) (given : List ℕ) → GivesBytes t0 t1 given → GivesEnd t1 t2 → HasBytes t0 given
 gave_all None t1 t2 given g h = tt
 gave_all (Some t) t1 t2 given g h =
     let end = rw g.2 at h in g.1 ∙ ap (λ (l : List ℕ). given ++ l) end.0.0 ∙ append-nil given
 
-gave_beginning : (t0 t1 : Option Text) (given : List ℕ) → Gave t0 t1 given → BeginsWith t0 given
+gave_beginning : (t0 t1 : Option Text) (given : List ℕ) → GivesBytes t0 t1 given → BeginsWith t0 given
 gave_beginning None t1 given g = tt
 gave_beginning (Some t) t1 given g = (g.0, g.1)
 
-gave_more : (t0 t1 : Option Text) (given : List ℕ) → Gave t0 t1 given → (more : List ℕ) × HasBytes t0 (given ++ more)
+gave_more : (t0 t1 : Option Text) (given : List ℕ) → GivesBytes t0 t1 given → (more : List ℕ) × HasBytes t0 (given ++ more)
 gave_more None t1 given g = ([], tt)
 gave_more (Some t) t1 given g = (g.0, g.1)
 
-gave_byte : (t0 t1 t2 : Option Text) (given : List ℕ) (byte : ℕ) → Gave t0 t1 given → GivesByte t1 t2 byte
+gave_byte : (t0 t1 t2 : Option Text) (given : List ℕ) (byte : ℕ) → GivesBytes t0 t1 given → GivesByte t1 t2 byte
     → (more : List ℕ) × HasBytes t0 (given ++ byte ∷ more)
 gave_byte None t1 t2 given byte g h = ([], tt)
 gave_byte (Some t) t1 t2 given byte g h =

@@ -1,9 +1,12 @@
-use Rattle.std.proofs.Common.{◌≡◌, length}
+use Rattle.std.proofs.Common.{◌≤◌, ◌-◌, length}
 use Rattle.m11_blocks.specs.Limited.{place, Took}
 use Rattle.m11_blocks.proofs.blocks.read_content.Given as goal
 
-abbrev pub invariant-bytes : goal.invariant-bytes
-invariant-bytes g l =
+abbrev pub invariant-parts : goal.invariant-parts
+invariant-parts g l =
     Took (place (g.F.Feed.text l.initial.feed) (g.F.Feed.faults l.initial.feed) l.initial.room)
     (place (g.F.Feed.text l.feed) (g.F.Feed.faults l.feed) l.room) l.content.items
-    × (length l.content.items ≡ l.counter)
+    × (length l.content.items ≤ l.count)
+
+abbrev pub decreases-parts : goal.decreases-parts
+decreases-parts g l = l.count - length l.content.items
