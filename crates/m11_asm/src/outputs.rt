@@ -7,7 +7,7 @@ ghost use Rattle.m11_blocks.specs.Frames.{block};
 
 use crate::fault::{AsmFault, AsmOutput};
 use m11_base::{Sink, put_all};
-use m11_obj::{Record, block_bytes};
+use m11_obj::{Block, block_bytes};
 use std::alloc::Global;
 
 // All bytes of one piece, to the output that is named.
@@ -21,12 +21,12 @@ fn put_piece<S: Sink>(sink: &mut S, output: AsmOutput, piece: &[u8]) -> Result<(
     }
 }
 
-/// The block of a record, to the object.
-pub fn put_record<S: Sink>(alloc: Global, object: &mut S, record: &Record) -> Result<(), AsmFault>
+/// The block of a record of this content, to the object.
+pub fn put_record<S: Sink>(alloc: Global, object: &mut S, content: &Block) -> Result<(), AsmFault>
     ensures { Puts Object (S.text object.old) (S.text object.new) (S.faults object.old) (S.faults object.new)
-        (block «record».now ∷ []) result }
+        (block content.now.items ∷ []) result }
 {
-    let block = block_bytes(alloc, record.data())?;
+    let block = block_bytes(alloc, content.as_slice())?;
     put_piece(object, AsmOutput::Object, block.as_slice())
 }
 

@@ -276,7 +276,7 @@ impl Tables {
 
     /// Notes what a record tells, which the rules have taken.
     #[tactic(auto, unfolding(crate::specs::Gathering::gathered_behind))]
-    pub(crate) fn note(&mut self, bottom: u16, record: &Record) -> Result<(), AllocError>
+    pub(crate) fn note(&mut self, bottom: u16, record: &Record<'_>) -> Result<(), AllocError>
         ensures { Keeps self.new (gathered_behind_all bottom self.old (record_parts «record».now)) result }
     {
         match record.kind() {
@@ -290,7 +290,7 @@ impl Tables {
     }
 
     // The entries of a directory record.
-    fn note_entries(&mut self, bottom: u16, record: &Record) -> Result<(), AllocError>
+    fn note_entries(&mut self, bottom: u16, record: &Record<'_>) -> Result<(), AllocError>
         ensures { Keeps self.new (gathered_behind_all bottom self.old
             (map (λ entry. Entry entry) (record_entries «record».now))) result }
     {
@@ -304,7 +304,7 @@ impl Tables {
     }
 
     // The relocations of a record.
-    fn note_relocations(&mut self, bottom: u16, record: &Record) -> Result<(), AllocError>
+    fn note_relocations(&mut self, bottom: u16, record: &Record<'_>) -> Result<(), AllocError>
         ensures { Keeps self.new (gathered_behind_all bottom self.old
             (map (λ relocation. Relocated relocation) (record_relocations «record».now))) result }
     {

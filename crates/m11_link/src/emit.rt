@@ -203,7 +203,7 @@ impl Emit {
     fn write<S: Sink, T: Sink, U: Sink>(
         &mut self,
         location: Location,
-        record: &Record,
+        record: &Record<'_>,
         tape: &mut S,
         map: &mut Option<T>,
         messages: &mut U,

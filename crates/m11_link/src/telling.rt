@@ -91,7 +91,7 @@ impl Teller {
     pub(crate) fn note<S: Sink, U: Sink>(
         &mut self,
         location: Location,
-        record: &Record,
+        record: &Record<'_>,
         tape: &mut S,
         messages: &mut U,
     ) -> Result<(), LinkFault>
@@ -163,7 +163,7 @@ impl Teller {
     }
 
     // The relocations of a record, into the text that is held.
-    fn note_relocations(&mut self, record: &Record)
+    fn note_relocations(&mut self, record: &Record<'_>)
         ensures { self.new ≡ with_held (held_with_all (planned self.old.plan) self.old.held
             (record_relocations «record».now)) self.old }
     {
@@ -186,7 +186,7 @@ impl Teller {
     fn note_directory<S: Sink, U: Sink>(
         &mut self,
         module_index: usize,
-        record: &Record,
+        record: &Record<'_>,
         tape: &mut S,
         messages: &mut U,
     ) -> Result<(), LinkFault>
@@ -205,7 +205,7 @@ impl Teller {
     fn note_entries<U: Sink>(
         &mut self,
         module_index: usize,
-        record: &Record,
+        record: &Record<'_>,
         messages: &mut U,
     ) -> Result<(), LinkFault>
         ensures { (tape map : Output) → Goes

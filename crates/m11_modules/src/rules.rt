@@ -85,7 +85,7 @@ impl Rules {
     /// `NoText`, `BadDisplacement`, `UnknownSection`, `TextOutside`, then a limit. `NoMemory` where memory is refused.
     /// After a fault the rules are of no more use.
     #[tactic(auto, using(crate::proofs::KnownBehind::taken_behind))]
-    pub fn record(&mut self, record: &Record) -> Result<(), ModuleFault>
+    pub fn record(&mut self, record: &Record<'_>) -> Result<(), ModuleFault>
         ensures { (before : List Part) → self.old ≡ known_of before
             → TakesBehind before self.new (record_parts «record».now) result }
     {
@@ -103,7 +103,7 @@ impl Rules {
 
     // Takes one record, by what is known before it.
     #[tactic(auto, using(crate::proofs::Taking::taken_one, crate::proofs::Taking::none_taken))]
-    fn take_record(&mut self, record: &Record) -> Result<(), ModuleFault>
+    fn take_record(&mut self, record: &Record<'_>) -> Result<(), ModuleFault>
         ensures { Takes self.old self.new (record_parts «record».now) result }
     {
         match record.kind() {
@@ -179,7 +179,7 @@ impl Rules {
 
     // A directory record and its entries.
     #[tactic(auto, using(crate::proofs::Taking::taken_then, crate::proofs::Taking::refused_first))]
-    fn directory(&mut self, record: &Record) -> Result<(), ModuleFault>
+    fn directory(&mut self, record: &Record<'_>) -> Result<(), ModuleFault>
         ensures { Takes self.old self.new
             (Directory ∷ map (λ entry. Entry entry) (record_entries «record».now)) result }
     {
@@ -190,7 +190,7 @@ impl Rules {
     }
 
     // The entries of a directory record.
-    fn entries(&mut self, record: &Record) -> Result<(), ModuleFault>
+    fn entries(&mut self, record: &Record<'_>) -> Result<(), ModuleFault>
         ensures { Takes self.old self.new (map (λ entry. Entry entry) (record_entries «record».now)) result }
     {
         'entries: for index in 0..record.entry_count() {
@@ -270,7 +270,7 @@ impl Rules {
 
     // A relocation record and its relocations.
     #[tactic(auto, using(crate::proofs::Taking::taken_then, crate::proofs::Taking::refused_first))]
-    fn relocations(&mut self, record: &Record) -> Result<(), ModuleFault>
+    fn relocations(&mut self, record: &Record<'_>) -> Result<(), ModuleFault>
         ensures { Takes self.old self.new
             (Relocations ∷ map (λ relocation. Relocated relocation) (record_relocations «record».now)) result }
     {
@@ -292,7 +292,7 @@ impl Rules {
     }
 
     // The relocations of a record.
-    fn each_relocation(&mut self, record: &Record) -> Result<(), ModuleFault>
+    fn each_relocation(&mut self, record: &Record<'_>) -> Result<(), ModuleFault>
         ensures { Takes self.old self.new (map (λ relocation. Relocated relocation) (record_relocations «record».now)) result }
     {
         'relocations: for relocation in record.each_relocation() {

@@ -1,8 +1,7 @@
 -- The bytes that are written for a record are read as that record.
 use Rattle.std.proofs.Common.{◌≡◌, ℕ, List, Ok, refl, ap, ◌∙◌, arith}
-use Rattle.std.specs.Prelude.{is_ok}
 use Rattle.m11_obj.specs.Records.{Content, Gsd, EndOfGsd, Text, Relocations, InternalSymbols, EndOfModule, record_data, Fits}
-use Rattle.m11_obj.specs.Reading.{first_word, type_of, first_type, content_behind, content_of, IsRecord}
+use Rattle.m11_obj.specs.Reading.{first_word, type_of, first_type, content_behind, content_of}
 use Rattle.m11_obj.proofs.ReadAgain.{entries_again}
 use Rattle.m11_obj.proofs.RelocationsAgain.{relocations_again}
 
@@ -18,6 +17,3 @@ record_again EndOfModule fits = refl
 pub means : (content : Content) (bytes : List ℕ) → Fits content → bytes ≡ record_data content
     → content_of bytes ≡ Ok content
 means content bytes fits is = ap content_of is ∙ record_again content fits
-
-pub is_record : (content : Content) (bytes : List ℕ) → Fits content → bytes ≡ record_data content → IsRecord bytes
-is_record content bytes fits is = ap is_ok (means content bytes fits is)

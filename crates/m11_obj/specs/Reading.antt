@@ -2,9 +2,10 @@
 -- Volume and File Formats Manual, "Object file format".) Which types and commands are refused is this
 -- project's own: libraries, mapped arrays and complex relocation are left out. A missing byte is
 -- BadLength at the place where the bytes end.
-use Rattle.std.specs.Prelude.{◌≡◌, is_ok, true, ℕ, zero, suc, ◌+◌, ◌*◌, ◌%◌, Bool, ◌&&◌, List, [], ◌∷◌, length, slice_get, unwrap_or, Option, Some, None, Result, Ok, Err, nat_lt, nat_le, if◌then◌else◌}
+use Rattle.std.specs.Prelude.{◌≡◌, is_ok, true, ℕ, zero, suc, ◌+◌, ◌*◌, ◌%◌, ◌≤◌, Bool, ◌&&◌, List, [], ◌∷◌, length, slice_get, unwrap_or, Option, Some, None, Result, Ok, Err, nat_lt, nat_le, if◌then◌else◌}
 use Rattle.std.specs.Result.{result_unwrap_or}
 use Rattle.m11_base.specs.Rad50.{word_limit}
+use Rattle.m11_blocks.specs.Frames.{content_limit}
 use Rattle.m11_obj.specs.declared.fault.RecordFault.{RecordFault}
 use Rattle.m11_obj.specs.declared.fault.RecordFault.TheVariants.{UnknownType, BadLength, Library, MappedArray, Complex, UnknownRelocation, BadName}
 use Rattle.m11_obj.specs.declared.gsd.GsdKind.{GsdKind}
@@ -191,6 +192,10 @@ content_of bytes = do
 -- the bytes are those of some record
 abbrev pub IsRecord : List ℕ → Type 0
 IsRecord bytes = is_ok (content_of bytes) ≡ true
+
+-- and no more than a block holds
+abbrev pub IsHeldRecord : List ℕ → Type 0
+IsHeldRecord bytes = IsRecord bytes × (length bytes ≤ content_limit)
 
 -- what is read stands in the bytes as it is written
 abbrev pub SaysWhatStands : List ℕ → Type 0

@@ -34,22 +34,21 @@ pub enum RecordKind {
     EndOfModule,
 }
 
-/// A record, held as the content of its block. It never allocates.
+/// A record, which refers to the content of its block.
 #[derive(Drop)]
-pub struct Record {
-    content: Block,
+pub struct Record<'a> {
+    content: &'a [u8],
 }
 
-impl Model for Record {
+impl<'a> Model for Record<'a> {
     ghost use Rattle.std.specs.Prelude.{ℕ, List};
+    ghost use Rattle.m11_obj.specs.Reading.{IsHeldRecord};
 
     ghost Value = { List ℕ };
 
-    ghost view = { λ r. r.content.items };
+    ghost view = { λ r. r.content.now };
 
-    ghost use Rattle.m11_obj.specs.Reading.{IsRecord};
-
-    ghost invariant = { λ r. IsRecord r.content.items };
+    ghost invariant = { λ r. IsHeldRecord r.content.now };
 }
 
 // A content that has its type word alone.
@@ -61,88 +60,74 @@ fn with_type(code: u16) -> Block
     content
 }
 
-impl Record {
+// The contents of records, to be written as blocks.
+impl Record<'_> {
     ghost use Rattle.m11_obj.specs.Records.{Gsd, EndOfGsd, Text, Relocations, InternalSymbols, EndOfModule, record_data};
-    ghost use Rattle.m11_obj.specs.Reading.{content_of, IsRecord};
+    ghost use Rattle.m11_obj.specs.Reading.{content_of};
 
     /// A record of directory entries, in order. Needs at most 63 of them.
-    pub fn gsd(entries: &[GsdEntry]) -> Record
+    pub fn gsd(entries: &[GsdEntry]) -> Block
         requires { length entries.now ≤ entry_limit }
-        ensures bytes { result ≡ record_data (Gsd entries.now) }
-        ensures means { content_of result ≡ Ok (Gsd entries.now) }
+        ensures bytes { result.items ≡ record_data (Gsd entries.now) }
+        ensures means { content_of result.items ≡ Ok (Gsd entries.now) }
     {
         let mut content = with_type(1);
         for entry in entries {
             put_entry(&mut content, entry);
         }
-        Record { content }
+        content
     }
 
     /// The end of the directory.
-    pub fn end_of_gsd() -> Record
-        ensures bytes { result ≡ record_data EndOfGsd }
-        ensures means { content_of result ≡ Ok EndOfGsd }
+    pub fn end_of_gsd() -> Block
+        ensures bytes { result.items ≡ record_data EndOfGsd }
+        ensures means { content_of result.items ≡ Ok EndOfGsd }
     {
-        Record {
-            content: with_type(2),
-        }
+        with_type(2)
     }
 
     /// Text: the bytes at a load address, which counts from the base of the current section. Needs at
     /// most 508 bytes.
-    pub fn text(address: u16, bytes: &[u8]) -> Record
+    pub fn text(address: u16, bytes: &[u8]) -> Block
         requires { length bytes.now + 4 ≤ content_limit }
-        ensures bytes { result ≡ record_data (Text address bytes.now) }
-        ensures means { content_of result ≡ Ok (Text address bytes.now) }
+        ensures bytes { result.items ≡ record_data (Text address bytes.now) }
+        ensures means { content_of result.items ≡ Ok (Text address bytes.now) }
     {
         let mut content = with_type(3);
         put_word(&mut content, address);
         content.try_extend_from_slice(bytes).unwrap();
-        Record { content }
+        content
     }
 
     /// Relocations of the text before, in order. Needs that their bytes and the type word's fit a
     /// block, and that a byte is asked for only where the command has that form.
-    pub fn relocations(relocations: &[Relocation]) -> Record
+    pub fn relocations(relocations: &[Relocation]) -> Block
         requires room { length (relocations_bytes relocations.now) + 2 ≤ content_limit }
         requires form { All (λ relocation. FormExists relocation.is_byte relocation.target) relocations.now }
-        ensures bytes { result ≡ record_data (Relocations relocations.now) }
-        ensures means { content_of result ≡ Ok (Relocations relocations.now) }
+        ensures bytes { result.items ≡ record_data (Relocations relocations.now) }
+        ensures means { content_of result.items ≡ Ok (Relocations relocations.now) }
     {
         let mut content = with_type(4);
         for relocation in relocations {
             put_relocation(&mut content, relocation);
         }
-        Record { content }
+        content
     }
 
     /// The directory of internal symbols, with none in it.
-    pub fn internal_symbols() -> Record
-        ensures bytes { result ≡ record_data InternalSymbols }
-        ensures means { content_of result ≡ Ok InternalSymbols }
+    pub fn internal_symbols() -> Block
+        ensures bytes { result.items ≡ record_data InternalSymbols }
+        ensures means { content_of result.items ≡ Ok InternalSymbols }
     {
-        Record {
-            content: with_type(5),
-        }
+        with_type(5)
     }
 
     /// The end of the module.
-    pub fn end_of_module() -> Record
-        ensures bytes { result ≡ record_data EndOfModule }
-        ensures means { content_of result ≡ Ok EndOfModule }
+    pub fn end_of_module() -> Block
+        ensures bytes { result.items ≡ record_data EndOfModule }
+        ensures means { content_of result.items ≡ Ok EndOfModule }
     {
-        Record {
-            content: with_type(6),
-        }
-    }
-
-    /// The record's bytes, as they stand in its block.
-    pub fn data(&self) -> &[u8]
-        ensures bytes { result.now ≡ self.now }
-        ensures fits { length self.now ≤ content_limit }
-        ensures means { IsRecord self.now }
-    {
-        self.content.as_slice()
+        with_type(6)
     }
 }
 
@@ -199,20 +184,29 @@ fn relocation_bytes(bytes: &[u8]) -> &[u8]
 }
 
 // The fields.
-impl Record {
+impl Record<'_> {
+    /// The record's bytes, as they stand in its block.
+    pub fn data(&self) -> &[u8]
+        ensures bytes { result.now ≡ self.now }
+        ensures fits { length self.now ≤ content_limit }
+        ensures means { IsRecord self.now }
+    {
+        self.content
+    }
+
     /// The type of the record.
     pub fn kind(&self) -> RecordKind
         ensures kind { record_kind self.now ≡ Ok result }
         ensures text { result ≡ RecordKind.Text → IsSome (record_text self.now) }
     {
-        kind_at(self.content.as_slice())
+        kind_at(self.content)
     }
 
     /// The number of directory entries; a record of another type has none.
     pub fn entry_count(&self) -> usize
         ensures { result ≡ length (record_entries self.now) }
     {
-        let bytes = self.content.as_slice();
+        let bytes = self.content;
         match kind_at(bytes) {
             RecordKind::Gsd => (bytes.len() - 2) / 8,
             _ => 0,
@@ -224,7 +218,7 @@ impl Record {
         requires { index < length (record_entries self.now) }
         ensures { slice_get (record_entries self.now) index ≡ Some result }
     {
-        entry_at(self.content.as_slice(), index)
+        entry_at(self.content, index)
     }
 
     /// The load address of a text record, which counts from the base of the current section. Needs a
@@ -233,7 +227,7 @@ impl Record {
         requires { IsSome (record_text self.now) }
         ensures { option_map (λ text. text.0) (record_text self.now) ≡ Some result }
     {
-        text_at(self.content.as_slice()).0
+        text_at(self.content).0
     }
 
     /// The bytes of a text record, at most 512. Needs a text record.
@@ -242,7 +236,7 @@ impl Record {
         ensures bytes { option_map (λ text. text.1) (record_text self.now) ≡ Some result.now }
         ensures fits { length result.now ≤ content_limit }
     {
-        text_at(self.content.as_slice()).1
+        text_at(self.content).1
     }
 
     /// The relocation at an index, if there is one; a record of another type has none. It is read from
@@ -250,7 +244,7 @@ impl Record {
     pub fn relocation(&self, index: usize) -> Option<Relocation>
         ensures { result ≡ slice_get (record_relocations self.now) index }
     {
-        directory::relocation_at(relocation_bytes(self.content.as_slice()), index)
+        directory::relocation_at(relocation_bytes(self.content), index)
     }
 
     /// A walk over the relocations, in order, as they are at the indices from 0 on: at most 255.
@@ -258,13 +252,13 @@ impl Record {
         ensures all { result ≡ record_relocations self.now }
         ensures few { length result ≤ relocation_limit }
     {
-        directory::walk(relocation_bytes(self.content.as_slice()))
+        directory::walk(relocation_bytes(self.content))
     }
 }
 
 /// The record's bytes, as they stand in its block: at most 512 of them, and `block_bytes` makes the
 /// block of them.
-pub fn record_bytes(alloc: Global, record: &Record) -> Result<Vec<u8>, AllocError>
+pub fn record_bytes(alloc: Global, record: &Record<'_>) -> Result<Vec<u8>, AllocError>
     ensures bytes { IfOk result (λ v. v.items ≡ «record».now) }
     ensures fits { IfOk result (λ v. length v.items ≤ content_limit) }
     ensures means { IfOk result (λ v. IsRecord v.items) }
@@ -273,15 +267,15 @@ pub fn record_bytes(alloc: Global, record: &Record) -> Result<Vec<u8>, AllocErro
     Vec::from_slice(alloc, record.data())
 }
 
-/// The record that stands in a block's content. It takes no memory.
+/// The record that stands in a block's content, to which it refers. It takes no memory.
 ///
 /// Faults, of which the first in the order of the bytes is answered: `UnknownType` at a type of record
 /// or of entry that there is not, `Library` at record types 7 and 10, `MappedArray` at entry type 7,
 /// `Complex` at commands 17 and 217, `UnknownRelocation` at a command that there is not or that has no
 /// byte form, `BadName` at a word of a name from 175000 up, and `BadLength` where the bytes end before
 /// a field does.
-#[inline(always)]
-pub fn read_record(block: &Block) -> Result<Record, RecordFault>
+#[inline]
+pub fn read_record(block: &Block) -> Result<Record<'_>, RecordFault>
     ensures read { result ≡ record_of block.now.items }
 
     // What stands in the bytes as it is written is read, and nothing else is.
@@ -289,10 +283,7 @@ pub fn read_record(block: &Block) -> Result<Record, RecordFault>
     ensures all { (content : Content) → IsRecordOf content block.now.items
         → (content_of block.now.items ≡ Ok content) × (result ≡ Ok block.now.items) }
 {
-    // in line, so that no answer with room for a record is cleared before each call
-    let bytes = block.as_slice();
-    check_record(bytes)?;
-    let mut content = Block::new();
-    content.try_extend_from_slice(bytes).unwrap();
+    let content = block.as_slice();
+    check_record(content)?;
     Ok(Record { content })
 }

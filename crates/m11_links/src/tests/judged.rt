@@ -19,7 +19,8 @@ type Row<'a> = (&'a str, &'a [Given<'a>], Result<(), LinkFault>);
 
 // Takes a record.
 fn take(rules: &mut Rules, given: &Given<'_>) -> Result<(), LinkFault> {
-    let record = read_record(&given.block())?;
+    let block = given.block();
+    let record = read_record(&block)?;
     rules.record(&record)?;
     Ok(())
 }

@@ -48,7 +48,8 @@ fn plan(alloc: Global) -> Result<Plan, LinkFault> {
 fn relocated(plan: &Plan, records: &[Given<'_>]) -> Result<[u8; 10], LinkFault> {
     let mut text = [0o377; 10];
     for given in records {
-        let record = read_record(&given.block())?;
+        let block = given.block();
+        let record = read_record(&block)?;
         for relocation in record.each_relocation() {
             relocate(plan, 0, 0o1000, 0o1000, &relocation, &mut text);
         }

@@ -72,12 +72,12 @@ fn records_have_their_bytes_of_the_manual(rt: HostRuntime) -> Result<(), Fail> {
         (Record::internal_symbols(), [5, 0].as_slice()),
         (Record::end_of_module(), [6, 0].as_slice()),
     ];
-    for (record, bytes) in &rows {
-        same(&rt, &"a record", &record.data(), bytes);
+    for (content, bytes) in &rows {
+        same(&rt, &"a record", &content.as_slice(), bytes);
         // what is written for a record is read as it
-        let written = record_bytes(rt.alloc(), record)?;
-        let read = read_record(&block(&rt, &written))?;
-        same(&rt, &"read again", &read.data(), bytes);
+        let written = record_bytes(rt.alloc(), &read_record(content)?)?;
+        let again = block(&rt, &written);
+        same(&rt, &"read again", &read_record(&again)?.data(), bytes);
     }
     Ok(())
 }
@@ -111,7 +111,8 @@ static READ: [(&[u8], RecordKind, usize, Option<(u16, &[u8])>); 10] = [
 #[test]
 fn the_fields_of_a_record_are_read(rt: HostRuntime) -> Result<(), Fail> {
     for (bytes, kind, entries, text) in &READ {
-        let record = read_record(&block(&rt, bytes))?;
+        let content = block(&rt, bytes);
+        let record = read_record(&content)?;
         same(&rt, &"the bytes", &record.data(), bytes);
         same(&rt, &"the type", &record.kind(), kind);
         same(&rt, &"the entries", &record.entry_count(), entries);
@@ -123,7 +124,8 @@ fn the_fields_of_a_record_are_read(rt: HostRuntime) -> Result<(), Fail> {
     // the second of two entries
     let symbol = entry(b"F     ", 0o050, GsdKind::GlobalSymbol, 0o1006)?;
     let end = entry(b". ABS.", 0, GsdKind::TransferAddress, 1)?;
-    let directory = Record::gsd(&[end, symbol]);
+    let content = Record::gsd(&[end, symbol]);
+    let directory = read_record(&content)?;
     if directory.entry_count() == 2 {
         let second = directory.entry(1);
         let words = second.name.words();

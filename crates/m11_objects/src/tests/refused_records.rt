@@ -6,7 +6,8 @@ use m11_obj::{RecordFault, read_record};
 use std::process::Abort;
 
 fn fault_of(rt: &impl Abort, bytes: &[u8]) -> Option<RecordFault> {
-    read_record(&block(rt, bytes)).err()
+    let content = block(rt, bytes);
+    read_record(&content).err()
 }
 
 const BAD_LENGTH: Option<RecordFault> = Some(RecordFault::BadLength);

@@ -16,7 +16,7 @@ fn relocation(is_byte: bool, displacement: u8, target: Target) -> Relocation {
 }
 
 // The walk gives these relocations and then nothing more, and so does reading by number.
-fn has_relocations(rt: &impl Abort, record: &Record, wanted: &[Relocation]) {
+fn has_relocations(rt: &impl Abort, record: &Record<'_>, wanted: &[Relocation]) {
     let mut walk = record.each_relocation();
     for index in 0..wanted.len() + 2 {
         let relocation = wanted.get(index).copied();
@@ -110,7 +110,8 @@ fn relocations_stand_one_after_another(rt: HostRuntime) -> Result<(), Fail> {
         [3, 0, 0o11, 4].as_slice(),
         [6, 0, 0o11, 4].as_slice(),
     ] {
-        has_relocations(&rt, &read_record(&block(&rt, bytes))?, &[]);
+        let none = block(&rt, bytes);
+        has_relocations(&rt, &read_record(&none)?, &[]);
     }
     Ok(())
 }

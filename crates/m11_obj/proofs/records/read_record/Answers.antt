@@ -4,7 +4,7 @@ use Rattle.m11_obj.proofs.records.read_record.Goals as goal
 
 pub returns-in_err-check_record-clause-all : goal.returns-in_err-check_record-clause-all
 returns-in_err-check_record-clause-all c = λ content is.
-    absurd (no_fault content c.args.block.now.items c.as_slice-bytes.result.now _ c.as_slice-bytes.ensures.value
+    absurd (no_fault content c.args.block.now.items c.as_slice-content.result.now _ c.as_slice-content.ensures.value
     (sym c.in_err-check_record.was ∙ c.check_record.ensures.is) is)
 
 pub returns-clause-all : goal.returns-clause-all

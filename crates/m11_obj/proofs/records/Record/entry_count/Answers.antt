@@ -5,11 +5,11 @@ use Rattle.m11_obj.proofs.records.Record.entry_count.Goals as goal
 
 pub overflow_sub-result : goal.overflow_sub-result
 overflow_sub-result c =
-    omega (arith, entries_counted c.as_slice-bytes.result.now (c.in-Gsd.ensures.kind))
+    omega (arith, entries_counted c.self.inside.content.now (c.in-Gsd.ensures.kind))
 
 pub returns-in-Gsd : goal.returns-in-Gsd
 returns-in-Gsd c =
-    let counted = entries_counted c.as_slice-bytes.result.now (c.in-Gsd.ensures.kind) in
+    let counted = entries_counted c.self.inside.content.now (c.in-Gsd.ensures.kind) in
     let same =
-    ap (λ (bytes : List ℕ). length (record_entries bytes)) (c.as_slice-bytes.ensures.value ∙ c.self.view_is) in
+    ap (λ (bytes : List ℕ). length (record_entries bytes)) c.self.view_is in
     omega (arith, counted, same)

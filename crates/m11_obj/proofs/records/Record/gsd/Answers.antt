@@ -2,7 +2,7 @@ use Rattle.std.proofs.Common.{ap, ◌∙◌, length, arith, length-append}
 use Rattle.m11_blocks.specs.Frames.{word_bytes}
 use Rattle.m11_obj.specs.Gsd.{entry_bytes, EntryFits}
 use Rattle.m11_obj.specs.Records.{Gsd}
-use Rattle.m11_obj.proofs.RecordsAgain.{is_record, means}
+use Rattle.m11_obj.proofs.RecordsAgain.{means}
 use Rattle.m11_obj.proofs.Pieces.{pieces_all, fact_all, pieces_more, fact_more}
 use Rattle.m11_obj.proofs.records.Record.gsd.Goals as goal
 
@@ -17,15 +17,6 @@ loop-entry-preserved c =
       fact_more EntryFits c.args.entries.now c.loop-entry.entry-index entry c.loop-entry-test.true c.entry-item.is
           c.loop-entry.invariant.2 c.put_entry.ensures.fits,
     )
-
-pub invariant_of-result : goal.invariant_of-result
-invariant_of-result c =
-    is_record (Gsd c.args.entries.now) _ (
-      c.requires,
-      fact_all EntryFits c.args.entries.now c.loop-entry.entry-index c.loop-entry-test.false c.loop-entry.invariant.2,
-    )
-    (pieces_all entry_bytes (word_bytes 1) c.args.entries.now c.loop-entry.entry-index _ c.loop-entry-test.false
-    c.loop-entry.invariant.0)
 
 pub returns-clause-means : goal.returns-clause-means
 returns-clause-means c =

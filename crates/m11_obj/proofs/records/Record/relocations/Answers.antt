@@ -1,7 +1,7 @@
 use Rattle.m11_blocks.specs.Frames.{word_bytes, content_limit}
 use Rattle.m11_obj.specs.Relocations.{relocation_bytes, RelocationFits}
 use Rattle.m11_obj.specs.Records.{Relocations}
-use Rattle.m11_obj.proofs.RecordsAgain.{is_record, means}
+use Rattle.m11_obj.proofs.RecordsAgain.{means}
 use Rattle.m11_obj.proofs.Pieces.{pieces_all, fact_all, pieces_more, piece_has_room, fact_more}
 use Rattle.m11_obj.proofs.records.Record.relocations.Goals as goal
 
@@ -20,16 +20,6 @@ loop-relocation-preserved c =
       fact_more RelocationFits c.args.relocations.now c.loop-relocation.relocation-index relocation
           c.loop-relocation-test.true c.relocation-item.is c.loop-relocation.invariant.1 c.put_relocation.ensures.fits,
     )
-
-pub invariant_of-result : goal.invariant_of-result
-invariant_of-result c =
-    is_record (Relocations c.args.relocations.now) _ (
-      c.requires.room,
-      fact_all RelocationFits c.args.relocations.now c.loop-relocation.relocation-index
-          c.loop-relocation-test.false c.loop-relocation.invariant.1,
-    )
-    (pieces_all relocation_bytes (word_bytes 4) c.args.relocations.now c.loop-relocation.relocation-index _
-    c.loop-relocation-test.false c.loop-relocation.invariant.0)
 
 pub returns-clause-means : goal.returns-clause-means
 returns-clause-means c =
