@@ -63,11 +63,11 @@ pub(crate) fn size_of(entered: &IndexMap<Name, u16>, name: Name) -> Option<u16>
     }
 }
 
-// Whether there is no room for a name.
+// Whether there is no room for a name. It is looked for only where there are as many as may be.
 fn is_past(most: usize, names: &IndexSet<Name>, name: Name) -> bool
     ensures { result ≡ is_past most names.now.keys name }
 {
-    !names.contains(&name) && names.len() >= most
+    names.len() >= most && !names.contains(&name)
 }
 
 /// An entry of a directory.
