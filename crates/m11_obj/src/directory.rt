@@ -43,6 +43,7 @@ impl<'a> Iterator for Relocations<'a> {
 
     ghost remaining = { item_count (λ rest. rest) };
 
+    #[inline(always)]
     fn next(&mut self) -> Option<Relocation> {
         match first_relocation(self.rest) {
             Ok((relocation, rest)) => {

@@ -93,6 +93,7 @@ pub(crate) fn first_entry(bytes: &[u8]) -> Result<(GsdEntry, &[u8]), RecordFault
 
 // What a command is followed by, as its target.
 #[tactic(auto, unfolding(crate::specs::Reading::first_target))]
+#[inline(always)]
 fn first_target(command: Command, bytes: &[u8]) -> Result<(Target, &[u8]), RecordFault>
     ensures { Gives (λ x. (x.0, x.1.now)) result (first_target (form_in command) bytes.now) }
 {
@@ -116,8 +117,9 @@ fn first_target(command: Command, bytes: &[u8]) -> Result<(Target, &[u8]), Recor
     }
 }
 
-// An entry of a relocation directory.
+// An entry of a relocation directory. It is inlined, since a walk calls it for each.
 #[tactic(auto, unfolding(crate::specs::Reading::first_relocation))]
+#[inline(always)]
 pub(crate) fn first_relocation(bytes: &[u8]) -> Result<(Relocation, &[u8]), RecordFault>
     ensures { Gives (λ x. (x.0, x.1.now)) result (first_relocation bytes.now) }
 {
