@@ -2,14 +2,17 @@ pub mod AbortsLeave
 pub mod CallsBack
 pub mod ConsoleExact
 pub mod DestinationsWritten
+pub mod Exchanging
 pub mod Following
 pub mod Loads
 pub mod MemoryKept
 pub mod Parts
+pub mod PartsTell
 pub mod PlacesStored
 pub mod RunsJoined
 pub mod StepsInMemory
 pub mod StepsWrite
+pub mod StepsTell
 pub mod StopsStand
 pub mod TargetsFormed
 pub mod TrapsBack

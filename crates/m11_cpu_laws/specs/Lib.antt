@@ -1,4 +1,6 @@
 pub mod Exchanges
+pub mod Failures
 pub mod Laws
+pub mod Receiving
 pub mod Returns
 pub mod Writes

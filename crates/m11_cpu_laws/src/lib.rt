@@ -2,10 +2,12 @@
 //! a function that does nothing; no other crate names them.
 #![tactic(auto)]
 
+mod devices;
 mod laws;
 mod returns;
 mod writes;
 
+pub use devices::failures_stop;
 pub use laws::{console_is_exact, runs_are_joined, stops_stand};
 pub use returns::{calls_return, traps_return};
 pub use writes::memory_stays;
