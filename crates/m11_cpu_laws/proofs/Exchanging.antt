@@ -1,8 +1,7 @@
 -- What holds of the exchanges of each way through a dialogue, part by part.
-use Rattle.std.proofs.Common.{◌≡◌, Bool, true, false, cond, List, [], ◌∷◌, ◌++◌, append-nil, refl, sym, subst, ap, Option, Some, None, Result, Ok, Err, ℕ}
-use Rattle.std.specs.Prelude.{not, ◌&&◌}
+use Rattle.std.proofs.Common.{◌≡◌, Bool, true, false, cond, List, [], ◌∷◌, ◌++◌, append-nil, refl, sym, subst, Option, Some, None, Result, Ok, Err, ℕ}
 use Rattle.m11_cpu.specs.Acts.{Act, unless_aborted, ◌>>=◌}
-use Rattle.m11_cpu.specs.Dialogue.{after, Asked, Asks, Comes, Dialogue, Ends, Exchange, Fails, Gives, Leads, Reply, Sends, Sent}
+use Rattle.m11_cpu.specs.Dialogue.{after, Asked, Comes, Dialogue, Ends, Exchange, Fails, Gives, Leads, Sent}
 use Rattle.m11_cpu.specs.Stops.{stop_of}
 use Rattle.m11_cpu.specs.declared.abort.Abort.{Abort}
 use Rattle.m11_cpu.specs.declared.abort.Abort.TheVariants.{Traps, Stops}

@@ -5,6 +5,7 @@ pub mod DestinationsWritten
 pub mod Exchanging
 pub mod Following
 pub mod Loads
+pub mod LoadsHear
 pub mod MemoryKept
 pub mod Parts
 pub mod PartsTell

@@ -1,5 +1,5 @@
 -- What is asked and sent by each part of an instruction.
-use Rattle.std.proofs.Common.{◌≡◌, ℕ, ◌+◌, ◌-◌, ◌*◌, ◌%◌, ◌==◌, Bool, true, false, cond, List, [], ◌∷◌, Option, Some, None, Result, Ok, Err, refl}
+use Rattle.std.proofs.Common.{◌≡◌, ℕ, ◌+◌, ◌-◌, ◌*◌, ◌%◌, ◌==◌, Bool, true, false, cond, List, [], ◌∷◌, Option, Some, None, Result, Ok, refl}
 use Rattle.std.specs.Prelude.{ℤ, not, ◌&&◌}
 use Rattle.m11_base.specs.Instructions.{instruction_of}
 use Rattle.m11_base.specs.declared.instruction.BareOp.{BareOp}
@@ -27,11 +27,11 @@ use Rattle.m11_arithmetic.specs.Extended.{division_of}
 use Rattle.m11_arithmetic.specs.declared.results.Computed.{Computed}
 use Rattle.m11_arithmetic.specs.declared.results.Division.{Division}
 use Rattle.m11_arithmetic.specs.declared.results.Division.TheVariants.{Done, Refused}
-use Rattle.m11_cpu.specs.Access.{high_byte_of, is_inside, is_odd, load_byte, load_device, load_odd, load_register, load_word, nothing_taken, receive, received, receiver_status, send, sent, store_byte, store_device, store_odd, store_register, store_word}
+use Rattle.m11_cpu.specs.Access.{high_byte_of, is_inside, is_odd, load_byte, load_device, load_register, load_word, nothing_taken, receive, received, receiver_status, send, sent, store_byte, store_device, store_register, store_word}
 use Rattle.m11_cpu.specs.Acts.{Act, value, ◌>>=◌}
 use Rattle.m11_cpu.specs.Console.{device_at, is_waiting, receiver_bits}
 use Rattle.m11_cpu.specs.DestinationUse.{use_by_double, use_by_single}
-use Rattle.m11_cpu.specs.Dialogue.{Asked, Asks, Comes, Dialogue, Ends, Exchange, Fails, Gives, Leads, Reply, Sends, Sent}
+use Rattle.m11_cpu.specs.Dialogue.{Asked, Comes, Dialogue, Ends, Exchange, Fails, Gives, Leads, Reply, Sent}
 use Rattle.m11_cpu.specs.DoubleOperands.{change_double, change_exclusive, compare, double, double_at, double_by, exclusive_or, move_to, store_moved}
 use Rattle.m11_cpu.specs.Execution.{bare, execute, numbered, on_register, return_from_trap, then_next}
 use Rattle.m11_cpu.specs.Extended.{after_division, extended, extended_by, low_word_of}

@@ -1,7 +1,7 @@
 -- What a step asks and sends, and which stop it comes to.
-use Rattle.std.proofs.Common.{◌≡◌, ℕ, ◌%◌, Bool, true, false, cond, List, [], ◌∷◌, ◌++◌, append-nil, Option, Some, None, Result, Ok, Err, refl, sym, ◌∙◌, subst}
+use Rattle.std.proofs.Common.{◌≡◌, Bool, true, false, cond, List, [], ◌∷◌, ◌++◌, append-nil, Option, Some, None, Result, Ok, Err, refl, sym, ◌∙◌, subst}
 use Rattle.m11_base.specs.declared.operand.Register.TheVariants.{Pc}
-use Rattle.m11_cpu.specs.Dialogue.{after, Asked, Comes, Dialogue, Ends, Exchange, Fails, Gives, Leads, Sent}
+use Rattle.m11_cpu.specs.Dialogue.{Asked, Comes, Ends, Exchange, Fails, Gives, Leads, Sent}
 use Rattle.m11_cpu.specs.Jumps.{push}
 use Rattle.m11_cpu.specs.Machine.{register_of}
 use Rattle.m11_cpu.specs.Status.{psw_of}

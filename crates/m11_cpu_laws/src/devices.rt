@@ -1,11 +1,14 @@
 //! What a step has to do with its devices.
 
-ghost use Rattle.std.specs.Prelude.{List};
+ghost use Rattle.std.specs.Prelude.{List, ℕ, Result};
+ghost use Rattle.m11_cpu.specs.Access.{load_byte, load_word};
 ghost use Rattle.m11_cpu.specs.Dialogue.{Exchange, Leads};
 ghost use Rattle.m11_cpu.specs.Steps.{step};
+ghost use Rattle.m11_cpu.specs.declared.abort.Abort.{Abort};
 ghost use Rattle.m11_cpu.specs.declared.machine.Machine.{Machine};
 ghost use Rattle.m11_cpu.specs.declared.stop.Turn.{Turn};
 ghost use Rattle.m11_cpu_laws.specs.Failures.{device_stop, GoesOn, StopsAtFailure};
+ghost use Rattle.m11_cpu_laws.specs.Receiving.{Hears, LoadHears};
 ghost use Rattle.m11_cpu_laws.specs.Writes.{MakesSteps};
 
 /// A device that fails stops the step, and nothing else does so by the stops 6 and 7. Where no stop stood before, the
@@ -18,4 +21,18 @@ pub fn failures_stop()
         → Leads (step m) exchanges (turn, m') → StopsAtFailure exchanges (device_stop turn) }
     ensures goes_on { (m m' : Machine) (turn : Turn) (exchanges : List Exchange)
         → Leads (step m) exchanges (turn, m') → GoesOn turn m' }
+{}
+
+/// What the receiver hears. Over a step nothing is asked once the input has returned its end, in that step or before;
+/// the receiver's byte is then the last byte that was given, or the one before; and done stands only where a byte was
+/// given, or where it stood before. A load asks only at 177560, where done is clear and the end was not returned, and
+/// clears done only at 177562. So no byte is asked for ahead. (SIMH PDP-11 manual, console terminal.)
+#[tactic(auto, using(crate::proofs::StepsTell::step_hears, crate::proofs::LoadsHear::load_word_hears, crate::proofs::LoadsHear::load_byte_hears))]
+pub fn receiver_hears()
+    ensures step { (m m' : Machine) (turn : Turn) (exchanges : List Exchange)
+        → Leads (step m) exchanges (turn, m') → Hears m.receiver exchanges m'.receiver }
+    ensures word { (address : ℕ) (m m' : Machine) (came : Result ℕ Abort) (exchanges : List Exchange)
+        → Leads (load_word address m) exchanges (came, m') → LoadHears address m exchanges m' }
+    ensures byte { (address : ℕ) (m m' : Machine) (came : Result ℕ Abort) (exchanges : List Exchange)
+        → Leads (load_byte address m) exchanges (came, m') → LoadHears address m exchanges m' }
 {}

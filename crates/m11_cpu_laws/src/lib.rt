@@ -7,7 +7,7 @@ mod laws;
 mod returns;
 mod writes;
 
-pub use devices::failures_stop;
+pub use devices::{failures_stop, receiver_hears};
 pub use laws::{console_is_exact, runs_are_joined, stops_stand};
 pub use returns::{calls_return, traps_return};
 pub use writes::memory_stays;
