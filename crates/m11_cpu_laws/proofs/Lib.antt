@@ -16,5 +16,6 @@ pub mod StepsWrite
 pub mod StepsTell
 pub mod StopsStand
 pub mod TargetsFormed
+pub mod TracesFollow
 pub mod TrapsBack
 pub mod WordsPut

@@ -3,4 +3,5 @@ pub mod Failures
 pub mod Laws
 pub mod Receiving
 pub mod Returns
+pub mod Tracing
 pub mod Writes

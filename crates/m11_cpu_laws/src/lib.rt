@@ -5,9 +5,11 @@
 mod devices;
 mod laws;
 mod returns;
+mod steps;
 mod writes;
 
 pub use devices::{failures_stop, receiver_hears};
 pub use laws::{console_is_exact, runs_are_joined, stops_stand};
 pub use returns::{calls_return, traps_return};
+pub use steps::trace_trap_follows;
 pub use writes::memory_stays;

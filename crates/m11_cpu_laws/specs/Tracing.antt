@@ -1,0 +1,56 @@
+-- What follows an instruction in its step. (PDP-11/40 Processor Handbook, "Trace trap", "Processor traps", RTT. That T
+-- as it is after the instruction decides is this project's own.)
+use Rattle.std.specs.Prelude.{◌≡◌, ℕ, true, false, List, [], ◌++◌, Ok, Err, Some}
+use Rattle.m11_base.specs.Instructions.{instruction_of}
+use Rattle.m11_base.specs.declared.instruction.BareOp.TheVariants as bare
+use Rattle.m11_base.specs.declared.instruction.Insn.{Insn}
+use Rattle.m11_base.specs.declared.instruction.Insn.TheVariants as insn
+use Rattle.m11_cpu.specs.Dialogue.{Exchange, Leads}
+use Rattle.m11_cpu.specs.Execution.{execute}
+use Rattle.m11_cpu.specs.Places.{next_word}
+use Rattle.m11_cpu.specs.Steps.{instruction, step}
+use Rattle.m11_cpu.specs.Stops.{stop_of}
+use Rattle.m11_cpu.specs.Traps.{trap}
+use Rattle.m11_cpu.specs.declared.abort.Abort.{Abort}
+use Rattle.m11_cpu.specs.declared.abort.Abort.TheVariants.{Traps, Stops}
+use Rattle.m11_cpu.specs.declared.abort.Vector.TheVariants.{Breakpoint}
+use Rattle.m11_cpu.specs.declared.execution.Ending.{Ending}
+use Rattle.m11_cpu.specs.declared.machine.Machine.{Machine}
+use Rattle.m11_cpu.specs.declared.stop.Stop.TheVariants.{Halt, Wait}
+use Rattle.m11_cpu.specs.declared.stop.Turn.{Turn}
+use Rattle.m11_cpu.specs.declared.stop.Turn.TheVariants.{Next, Stopped}
+
+-- nothing more is asked or sent, and the step comes to this turn and this machine
+abbrev pub IsOver : Turn → Machine → List Exchange → Turn × Machine → Type 0
+IsOver turn m exchanges came = (exchanges ≡ []) × (came ≡ (turn, m))
+
+-- the trap through 14 follows where T is set in the machine that the instruction left, and nothing where it is clear
+pub record TrapsIfTraced (left : Machine) (exchanges : List Exchange) (came : Turn × Machine) : Type 0 where
+  pub traced : left.status.trace ≡ true → Leads (trap Breakpoint left) exchanges came
+  pub untraced : left.status.trace ≡ false → IsOver Next left exchanges came
+
+-- after RTT, HALT and WAIT nothing follows, whatever T is
+abbrev pub Follows : Insn → Machine → List Exchange → Turn × Machine → Type 0
+Follows (insn.Bare bare.Rtt) left exchanges came = IsOver Next left exchanges came
+Follows (insn.Bare bare.Halt) left exchanges came = IsOver (Stopped Halt) left exchanges came
+Follows (insn.Bare bare.Wait) left exchanges came = IsOver (Stopped Wait) left exchanges came
+Follows other left exchanges came = TrapsIfTraced left exchanges came
+
+-- after an abort its own trap follows alone, or the stop
+abbrev pub FollowsAbort : Abort → Machine → List Exchange → Turn × Machine → Type 0
+FollowsAbort (Traps vector) left exchanges came = Leads (trap vector left) exchanges came
+FollowsAbort (Stops stop) left exchanges came =
+    IsOver (Stopped (stop_of stop)) (record left { stopped = Some stop }) exchanges came
+
+-- the instruction at the program counter is read and ends, and what the step does then
+abbrev pub InstructionEnds : Machine → Type 0
+InstructionEnds m = (word : ℕ) (fetched left : Machine) (ending : Ending) (first second third : List Exchange)
+    (came : Turn × Machine) → Leads (next_word m) first (Ok word, fetched)
+    → Leads (execute (instruction_of word) fetched) second (Ok ending, left)
+    → Leads (step m) ((first ++ second) ++ third) came → Follows (instruction_of word) left third came
+
+-- it is aborted, where it is read or later
+abbrev pub InstructionAborts : Machine → Type 0
+InstructionAborts m = (abort : Abort) (left : Machine) (first second : List Exchange) (came : Turn × Machine)
+    → Leads (instruction m) first (Err abort, left) → Leads (step m) (first ++ second) came
+    → FollowsAbort abort left second came
