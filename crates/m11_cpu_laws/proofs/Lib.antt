@@ -1,4 +1,5 @@
 pub mod AbortsLeave
+pub mod AddressesTrap
 pub mod CallsBack
 pub mod ConsoleExact
 pub mod DestinationsWritten

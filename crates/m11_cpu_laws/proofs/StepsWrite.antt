@@ -62,10 +62,10 @@ at_most bytes old new (Ok done) k = k
 at_most bytes old new (Err abort) k = fewer bytes old new k
 
 -- what a push leaves: the stack pointer too
-abbrev Pushes : Machine → Result (Unit {0}) Abort × Machine → Type 0
+abbrev pub Pushes : Machine → Result (Unit {0}) Abort × Machine → Type 0
 Pushes m y = Stores (one_pushed m) m.memory y × (y.1.registers ≡ (stack_deepened m).registers)
 
-push_pushes : (v : ℕ) (m : Machine) → Always (push v m) (λ y. Pushes m y)
+pub push_pushes : (v : ℕ) (m : Machine) → Always (push v m) (λ y. Pushes m y)
 unfolding push
 push_pushes v m = record {
   each = λ es y h. (

@@ -2,12 +2,14 @@
 //! a function that does nothing; no other crate names them.
 #![tactic(auto)]
 
+mod addresses;
 mod devices;
 mod laws;
 mod returns;
 mod steps;
 mod writes;
 
+pub use addresses::bad_addresses_trap;
 pub use devices::{failures_stop, receiver_hears};
 pub use laws::{console_is_exact, runs_are_joined, stops_stand};
 pub use returns::{calls_return, traps_return};

@@ -1,0 +1,86 @@
+-- Addresses at which nothing is found. (PDP-11/40 Processor Handbook, "Processor traps", JMP, JSR; SIMH PDP-11 manual,
+-- console terminal. That a trap's own push stops the machine instead is this project's own.)
+use Rattle.std.specs.Prelude.{◌≡◌, ℕ, ◌-◌, ◌%◌, ◌==◌, Bool, true, false, not, ◌&&◌, ◌||◌, nat_lt, List, None, Result, Ok, Err}
+use Rattle.m11_base.specs.declared.instruction.Insn.{Insn}
+use Rattle.m11_base.specs.declared.operand.Mode.TheVariants as mode
+use Rattle.m11_base.specs.declared.operand.Operand.{Operand}
+use Rattle.m11_cpu.specs.Dialogue.{Comes, Dialogue, Exchange, Leads}
+use Rattle.m11_cpu.specs.Execution.{execute}
+use Rattle.m11_cpu.specs.Machine.{memory_size}
+use Rattle.m11_cpu.specs.Traps.{trap}
+use Rattle.m11_cpu.specs.declared.abort.Abort.{Abort}
+use Rattle.m11_cpu.specs.declared.abort.Abort.TheVariants.{Traps, Stops}
+use Rattle.m11_cpu.specs.declared.abort.Vector.{Vector}
+use Rattle.m11_cpu.specs.declared.abort.Vector.TheVariants.{BusError, Reserved, Breakpoint, InputOutput, Emulator, Trap}
+use Rattle.m11_cpu.specs.declared.machine.Machine.{Machine}
+use Rattle.m11_cpu.specs.declared.stop.Stop.TheVariants.{Halt, Limit, Wait, StackFault, NoStart, InputFault, OutputFault}
+use Rattle.m11_cpu.specs.declared.stop.Turn.{Turn}
+use Rattle.m11_cpu.specs.declared.stop.Turn.TheVariants.{Next, Stopped}
+use Rattle.m11_cpu_laws.specs.Failures.{device_stop}
+use Rattle.m11_cpu_laws.specs.Writes.{push_address, stack_deepened}
+
+-- ---- addresses
+
+-- the five registers past the memory: four of the console, and the processor status word
+abbrev pub has_register : ℕ → Bool
+has_register address =
+    address == 0o177560 || (address == 0o177562 || (address == 0o177564 || (address == 0o177566
+    || address == 0o177776)))
+
+abbrev pub is_in_memory : ℕ → Machine → Bool
+is_in_memory address m = nat_lt address (memory_size m)
+
+-- no word is there: the address is odd, or it is neither in memory nor a register's
+abbrev pub no_word_at : ℕ → Machine → Bool
+no_word_at address m = address % 2 == 1 || (not (is_in_memory address m) && not (has_register address))
+
+-- no byte is there: it is neither in memory nor in the word of a register
+abbrev pub no_byte_at : ℕ → Machine → Bool
+no_byte_at address m = not (is_in_memory address m) && not (has_register (address - address % 2))
+
+-- ---- traps
+
+-- the trap through 4, among the aborts of a part of an instruction
+abbrev pub is_through_4 : Abort → Bool
+is_through_4 (Traps BusError) = true
+is_through_4 (Traps Reserved) = false
+is_through_4 (Traps Breakpoint) = false
+is_through_4 (Traps InputOutput) = false
+is_through_4 (Traps Emulator) = false
+is_through_4 (Traps Trap) = false
+is_through_4 (Stops stop) = false
+
+abbrev pub traps_through_4 : {A : Type 0} → Result A Abort → Bool
+traps_through_4 (Ok value) = false
+traps_through_4 (Err abort) = is_through_4 abort
+
+-- a load or a store traps through 4 exactly where this is so
+abbrev pub TrapsWhere : {A : Type 0} → Bool → Dialogue (Result A Abort × Machine) → Type 0
+TrapsWhere {A = A} bad access = (exchanges : List Exchange) (came : Result A Abort) (m' : Machine)
+    → Leads access exchanges (came, m') → traps_through_4 came ≡ bad
+
+-- JMP and JSR of a register trap through 10
+abbrev pub TrapsThrough10 : Insn → Operand → Machine → Type 0
+TrapsThrough10 code operand m = operand.mode ≡ mode.Register → execute code m ≡ Comes (Err (Traps Reserved), m)
+
+-- ---- a trap's own push
+
+abbrev pub is_stack_fault : Turn → Bool
+is_stack_fault Next = false
+is_stack_fault (Stopped Halt) = false
+is_stack_fault (Stopped Limit) = false
+is_stack_fault (Stopped Wait) = false
+is_stack_fault (Stopped StackFault) = true
+is_stack_fault (Stopped NoStart) = false
+is_stack_fault (Stopped InputFault) = false
+is_stack_fault (Stopped OutputFault) = false
+
+-- no word is there for one of the two pushes
+abbrev pub cannot_push : Machine → Bool
+cannot_push m = no_word_at (push_address m) m || no_word_at (push_address (stack_deepened m)) m
+
+-- a trap of which no push fails at a device stops by STACK FAULT exactly where a push finds no word
+abbrev pub TrapFaults : Vector → Machine → Type 0
+TrapFaults vector m = (exchanges : List Exchange) (turn : Turn) (m' : Machine)
+    → Leads (trap vector m) exchanges (turn, m') → device_stop turn ≡ None
+    → is_stack_fault turn ≡ cannot_push m
