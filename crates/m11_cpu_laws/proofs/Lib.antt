@@ -11,9 +11,11 @@ pub mod MemoryKept
 pub mod Parts
 pub mod PartsTell
 pub mod PlacesStored
+pub mod RegistersKept
 pub mod RunsJoined
 pub mod StepsInMemory
 pub mod StepsWrite
+pub mod StepsKeepRegisters
 pub mod StepsTell
 pub mod StopsStand
 pub mod TargetsFormed

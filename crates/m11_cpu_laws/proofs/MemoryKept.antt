@@ -63,11 +63,11 @@ kept_word address v old memory e = record {
       ∙ ap (λ (bytes : List ℕ). byte_at bytes other) e;
 }
 
-none_left : (address : ℕ) (some others : List ℕ) → IsNoneOf address (some ++ others) → IsNoneOf address some
+pub none_left : (address : ℕ) (some others : List ℕ) → IsNoneOf address (some ++ others) → IsNoneOf address some
 none_left address [] others h = tt
 none_left address (a ∷ some) others h = (h.0, none_left address some others h.1)
 
-none_right : (address : ℕ) (some others : List ℕ) → IsNoneOf address (some ++ others) → IsNoneOf address others
+pub none_right : (address : ℕ) (some others : List ℕ) → IsNoneOf address (some ++ others) → IsNoneOf address others
 none_right address [] others h = h
 none_right address (a ∷ some) others h = none_right address some others h.1
 

@@ -37,7 +37,7 @@ sent_keeps : (taken : Bool) (m : Machine) → Keeps (λ n. n.registers ≡ m.reg
 sent_keeps true m = at_comes refl
 sent_keeps false m = at_comes refl
 
-device_keeps : (register : Option DeviceRegister) (v : ℕ) (m : Machine)
+pub device_keeps : (register : Option DeviceRegister) (v : ℕ) (m : Machine)
     → Keeps (λ n. n.registers ≡ m.registers) (store_register register v m)
 unfolding send
 device_keeps (Some ReceiverStatus) v m = at_comes refl
@@ -47,7 +47,7 @@ device_keeps (Some TransmitterBuffer) v m = at_sends (λ taken. sent_keeps taken
 device_keeps (Some ProcessorStatus) v m = at_comes refl
 device_keeps None v m = at_comes refl
 
-registers_kept : (address v : ℕ) (m : Machine) → Keeps (λ n. n.registers ≡ m.registers) (store_word address v m)
+pub registers_kept : (address v : ℕ) (m : Machine) → Keeps (λ n. n.registers ≡ m.registers) (store_word address v m)
 unfolding store_word store_device
 registers_kept address v m =
     at_cond (is_odd address) (at_comes refl)

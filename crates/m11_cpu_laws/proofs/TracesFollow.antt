@@ -42,7 +42,7 @@ abbrev EndsBy : Ending → Result Ending Abort → Type 0
 EndsBy by (Ok came) = came ≡ by
 EndsBy by (Err abort) = ⊤
 
-whatever : {A : Type 0} (d : Dialogue A) → Always d (λ y. ⊤)
+pub whatever : {A : Type 0} (d : Dialogue A) → Always d (λ y. ⊤)
 whatever d = record { each = λ es y h. tt }
 
 ends_then : {A : Type 0} (act : Act A) (by : Ending) (m : Machine)
@@ -117,7 +117,7 @@ follows_abort (Stops lasting) m es y h = over (stopped_by lasting m).0 (stopped_
 
 -- ---- the rest of a dialogue
 
-leads_rest : {A B : Type 0} (d : Dialogue A) (es fs : List Exchange) (x : A) (next : A → Dialogue B) (y : B)
+pub leads_rest : {A B : Type 0} (d : Dialogue A) (es fs : List Exchange) (x : A) (next : A → Dialogue B) (y : B)
     → Leads d es x → Leads (after d next) (es ++ fs) y → Leads (next x) fs y
 unfolding Leads
 leads_rest {A = A} (Comes x) [] fs z next y e h =

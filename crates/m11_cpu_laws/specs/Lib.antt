@@ -3,6 +3,7 @@ pub mod Exchanges
 pub mod Failures
 pub mod Laws
 pub mod Receiving
+pub mod Registers
 pub mod Returns
 pub mod Tracing
 pub mod Writes

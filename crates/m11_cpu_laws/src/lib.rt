@@ -5,6 +5,7 @@
 mod addresses;
 mod devices;
 mod laws;
+mod registers;
 mod returns;
 mod steps;
 mod writes;
@@ -12,6 +13,7 @@ mod writes;
 pub use addresses::bad_addresses_trap;
 pub use devices::{failures_stop, receiver_hears};
 pub use laws::{console_is_exact, runs_are_joined, stops_stand};
+pub use registers::registers_stay;
 pub use returns::{calls_return, traps_return};
 pub use steps::trace_trap_follows;
 pub use writes::memory_stays;

@@ -1,0 +1,68 @@
+-- Which registers an instruction and its traps may change; each other register stays. (PDP-11/40 Processor Handbook,
+-- "Addressing modes", "Instruction set", "Processor traps".)
+use Rattle.std.specs.Prelude.{◌≡◌, ℕ, Bool, true, false, ◌||◌, if◌then◌else◌, List, [], ◌∷◌, ◌++◌, Ok}
+use Rattle.m11_base.specs.Instructions.{instruction_of}
+use Rattle.m11_base.specs.Operands.{register_number}
+use Rattle.m11_base.specs.declared.instruction.BareOp.TheVariants.{Rti, Rtt}
+use Rattle.m11_base.specs.declared.instruction.Insn.{Insn}
+use Rattle.m11_base.specs.declared.instruction.Insn.TheVariants as insn
+use Rattle.m11_base.specs.declared.instruction.NumberOp.TheVariants.{Mark}
+use Rattle.m11_base.specs.declared.instruction.RegisterOp.TheVariants.{Jsr, Xor}
+use Rattle.m11_base.specs.declared.operand.Mode.{Mode}
+use Rattle.m11_base.specs.declared.operand.Mode.TheVariants as mode
+use Rattle.m11_base.specs.declared.operand.Operand.{Operand}
+use Rattle.m11_base.specs.declared.operand.Register.{Register}
+use Rattle.m11_base.specs.declared.operand.Register.TheVariants.{Pc, R5, Sp}
+use Rattle.m11_cpu.specs.Dialogue.{Exchange, Leads}
+use Rattle.m11_cpu.specs.Extended.{low_word_of}
+use Rattle.m11_cpu.specs.Machine.{register_of}
+use Rattle.m11_cpu.specs.Places.{next_word}
+use Rattle.m11_cpu.specs.Steps.{step}
+use Rattle.m11_cpu.specs.declared.machine.Machine.{Machine}
+use Rattle.m11_cpu.specs.declared.stop.Turn.{Turn}
+use Rattle.m11_cpu_laws.specs.Returns.{is_stepping}
+use Rattle.m11_cpu_laws.specs.Writes.{IsNoneOf, stores_double, stores_single}
+
+-- each register but the program counter and those of these numbers holds what it held
+pub record RegistersStay (changed : List ℕ) (old new : Machine) : Type 0 where
+  pub stays : (register : Register) → IsNoneOf (register_number register) (register_number Pc ∷ changed)
+      → register_of register new ≡ register_of register old
+
+-- the register that an operand's mode steps
+abbrev pub stepped : Operand → List ℕ
+stepped operand = if is_stepping operand.mode then register_number operand.register ∷ [] else []
+
+-- that of a destination: stepped, or stored to where it is itself the operand
+abbrev pub is_direct : Mode → Bool
+is_direct mode.Register = true
+is_direct other = false
+
+abbrev pub stepped_or_stored : Operand → List ℕ
+stepped_or_stored operand =
+    if is_direct operand.mode || is_stepping operand.mode then register_number operand.register ∷ [] else []
+
+abbrev pub by_destination : Bool → Operand → List ℕ
+by_destination stores operand = if stores then stepped_or_stored operand else stepped operand
+
+-- the register of the low word is the same or the next one: R or 1
+abbrev pub changed_by : Insn → List ℕ
+changed_by (insn.Double operation size source destination) =
+    stepped source ++ by_destination (stores_double operation) destination
+changed_by (insn.Extended operation register source) =
+    stepped source ++ (register_number register ∷ register_number (low_word_of register) ∷ [])
+changed_by (insn.Register Jsr register operand) =
+    stepped operand ++ (register_number register ∷ register_number Sp ∷ [])
+changed_by (insn.Register Xor register operand) = stepped_or_stored operand
+changed_by (insn.Sob register words) = register_number register ∷ []
+changed_by (insn.Single operation size operand) = by_destination (stores_single operation) operand
+changed_by (insn.Rts register) = register_number register ∷ register_number Sp ∷ []
+changed_by (insn.Number Mark number) = register_number R5 ∷ register_number Sp ∷ []
+changed_by (insn.Bare Rti) = register_number Sp ∷ []
+changed_by (insn.Bare Rtt) = register_number Sp ∷ []
+changed_by other = []
+
+-- a step of the instruction that was fetched: a trap steps the stack pointer too
+abbrev pub StepRegisters : Machine → Type 0
+StepRegisters m = (word : ℕ) (fetched m' : Machine) (turn : Turn) (first rest : List Exchange)
+    → Leads (next_word m) first (Ok word, fetched) → Leads (step m) (first ++ rest) (turn, m')
+    → RegistersStay (register_number Sp ∷ changed_by (instruction_of word)) m m'
