@@ -1,5 +1,6 @@
 pub mod AbortsLeave
 pub mod AddressesTrap
+pub mod CallMade
 pub mod CallsBack
 pub mod ConsoleExact
 pub mod DestinationsWritten

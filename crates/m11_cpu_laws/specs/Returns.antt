@@ -112,6 +112,16 @@ CallsReturn register operand m = (exchanges : List Exchange) (address : ℕ) (fo
     → IsCall register operand m → Leads (target operand (advanced Pc 2 m)) exchanges (Ok address, formed)
     → CallReturns register operand m exchanges address
 
+-- some machine makes such a call, with nothing asked or sent
+pub record CallIsMade : Type 0 where
+  pub register : Register
+  pub operand : Operand
+  pub machine : Machine
+  pub address : ℕ
+  pub formed : Machine
+  pub is_call : IsCall register operand machine
+  pub target_formed : target operand (advanced Pc 2 machine) ≡ Comes (Ok address, formed)
+
 -- ---- traps
 
 -- both pushes of a trap go to memory

@@ -1,0 +1,52 @@
+-- One machine that makes a call: JSR R5,(R1) stands at address 0, R1 is 6, and the stack pointer is 4.
+use Rattle.std.proofs.Common.{◌<◌, false, [], ◌∷◌, None, refl, arith}
+use Rattle.m11_base.specs.Instructions.{row_of, rows}
+use Rattle.m11_base.specs.declared.operand.Mode.TheVariants as mode
+use Rattle.m11_base.specs.declared.operand.Register.{Register}
+use Rattle.m11_base.specs.declared.operand.Register.TheVariants.{R0, R1, R2, R3, R4, R5, Sp, Pc}
+use Rattle.m11_cpu.specs.Acts.{◌>>=◌}
+use Rattle.m11_cpu.specs.Jumps.{target}
+use Rattle.m11_cpu.specs.Machine.{advanced, register_of}
+use Rattle.m11_cpu.specs.Places.{place_of}
+use Rattle.m11_cpu.specs.Status.{status_of}
+use Rattle.m11_cpu.specs.declared.machine.Machine.{Machine}
+use Rattle.m11_cpu_laws.specs.Returns.{CallIsMade}
+
+abbrev calling : Machine
+calling = record {
+  memory = 0o111 ∷ 0o11 ∷ 0 ∷ 0 ∷ [];
+  registers = 0 ∷ 6 ∷ 0 ∷ 0 ∷ 0 ∷ 0 ∷ 4 ∷ 0 ∷ [];
+  status = status_of 0;
+  receiver = record { byte = 0; is_done = false; is_enabled = false; has_ended = false };
+  transmitter = record { is_enabled = false };
+  stopped = None;
+}
+
+words : (register : Register) → register_of register calling < 0o200000
+words R0 = omega arith
+words R1 = omega arith
+words R2 = omega arith
+words R3 = omega arith
+words R4 = omega arith
+words R5 = omega arith
+words Sp = omega arith
+words Pc = omega arith
+
+pub call_made : CallIsMade
+unfolding target place_of ◌>>=◌ row_of rows
+call_made = record {
+  register = R5;
+  operand = record { mode = mode.RegisterDeferred; register = R1 };
+  machine = calling;
+  address = 6;
+  formed = advanced Pc 2 calling;
+  is_call = record {
+    running = record { not_stopped = refl; not_traced = refl; registers = refl; words = words };
+    code = ((refl, omega arith), refl);
+    linked = omega arith;
+    keeps_link = refl;
+    keeps_stack = refl;
+    pushed = (refl, omega arith);
+  };
+  target_formed = refl;
+}
