@@ -3,4 +3,5 @@ pub mod Comparing
 pub mod DoublePrecision
 pub mod Dividing
 pub mod Exact
+pub mod PairShifting
 pub mod Shifting

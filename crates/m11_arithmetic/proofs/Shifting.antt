@@ -19,18 +19,18 @@ use Rattle.m11_arithmetic.proofs.Exact.{held_in_word, word_again, word_holds, si
 abbrev pub times : ℤ → ℕ → ℤ
 times number n = number *ℤ pos (2 ^ n)
 
-times_none : (number : ℤ) → times number 0 ≡ number
+pub times_none : (number : ℤ) → times number 0 ≡ number
 times_none (pos a) = ap pos (omega arith)
 times_none (negsuc a) = ap (λ n. neg_ℤ (pos n)) (let e : suc a * 1 ≡ suc a = omega arith in e)
 
-doubled : (a n : ℕ) → a * 2 ^ suc n ≡ a * 2 ^ n + a * 2 ^ n
+pub doubled : (a n : ℕ) → a * 2 ^ suc n ≡ a * 2 ^ n + a * 2 ^ n
 doubled a n = grind (arith, pow-suc)
 
 doubled_below : (n : ℕ) → neg_ℤ (pos (n + n)) ≡ neg_ℤ (pos n) +ℤ neg_ℤ (pos n)
 doubled_below n = omega (arith, ints)
 
 -- one time more is the number and the number
-times_more : (number : ℤ) (n : ℕ) → times number (suc n) ≡ times number n +ℤ times number n
+pub times_more : (number : ℤ) (n : ℕ) → times number (suc n) ≡ times number n +ℤ times number n
 times_more (pos a) n = ap pos (doubled a n)
 times_more (negsuc a) n = ap (λ m. neg_ℤ (pos m)) (doubled (suc a) n) ∙ doubled_below (suc a * 2 ^ n)
 
@@ -63,11 +63,11 @@ steps_hold value n below held_in =
     ∙ word_again (times (signed Word value) n) (held_in_word (times (signed Word value) n) held_in)
 
 -- doubling keeps the sign
-sign_of_double : (number : ℤ) → int_lt (number +ℤ number) (pos 0) ≡ int_lt number (pos 0)
+pub sign_of_double : (number : ℤ) → int_lt (number +ℤ number) (pos 0) ≡ int_lt number (pos 0)
 sign_of_double (pos a) = le-ltb (a + a) 0 (omega arith) ∙ sym (le-ltb a 0 (omega arith))
 sign_of_double (negsuc a) = refl
 
-sign_of_times : (number : ℤ) (n : ℕ) → int_lt (times number n) (pos 0) ≡ int_lt number (pos 0)
+pub sign_of_times : (number : ℤ) (n : ℕ) → int_lt (times number n) (pos 0) ≡ int_lt number (pos 0)
 sign_of_times number zero = ap (λ z. int_lt z (pos 0)) (times_none number)
 sign_of_times number (suc n) =
     ap (λ z. int_lt z (pos 0)) (times_more number n) ∙ sign_of_double (times number n) ∙ sign_of_times number n
@@ -165,7 +165,7 @@ left value count n below places_is =
     subst P (sym places_is) (left_by value n below)
 
 -- a quotient rounded down
-quotient_below : (number : ℤ) (divisor : ℕ) → 0 < divisor
+pub quotient_below : (number : ℤ) (divisor : ℕ) → 0 < divisor
     → (int_div_euclid number (pos divisor) *ℤ pos divisor) ≤ℤ number
 quotient_below (pos a) divisor positive =
     let split : a / divisor * divisor + a % divisor ≡ a = div-add-mod' a divisor in
@@ -186,7 +186,7 @@ one_more (suc q) divisor =
     let e : negsuc (suc q) +ℤ pos 1 ≡ negsuc q = omega (arith, ints) in
     ap (λ z. z *ℤ pos divisor) e
 
-quotient_above : (number : ℤ) (divisor : ℕ) → 0 < divisor
+pub quotient_above : (number : ℤ) (divisor : ℕ) → 0 < divisor
     → number <ℤ ((int_div_euclid number (pos divisor) +ℤ pos 1) *ℤ pos divisor)
 quotient_above (pos a) divisor positive =
     let split : a / divisor * divisor + a % divisor ≡ a = div-add-mod' a divisor in
@@ -226,17 +226,17 @@ floored value divisor quotient below positive quotient_is =
       word_again quotient fits,
     )
 
-by_one : (number : ℤ) → number ≡ int_div_euclid number (pos 1)
+pub by_one : (number : ℤ) → number ≡ int_div_euclid number (pos 1)
 by_one (pos a) = ap pos (omega arith)
 by_one (negsuc a) = ap negsuc (omega arith)
 
-halves : (number : ℤ) (n : ℕ)
+pub halves : (number : ℤ) (n : ℕ)
     → int_div_euclid (int_div_euclid number (pos (2 ^ n))) (pos 2) ≡ int_div_euclid number (pos (2 ^ suc n))
 halves (pos a) n = ap pos (shr-shr a n 1 ∙ ap (λ k. a / 2 ^ k) (let e : n + 1 ≡ suc n = omega arith in e))
 halves (negsuc a) n = ap negsuc (shr-shr a n 1 ∙ ap (λ k. a / 2 ^ k) (let e : n + 1 ≡ suc n = omega arith in e))
 
 -- the steps are a division
-steps_right_are : (number : ℤ) (n : ℕ) → steps_right n number ≡ int_div_euclid number (pos (2 ^ n))
+pub steps_right_are : (number : ℤ) (n : ℕ) → steps_right n number ≡ int_div_euclid number (pos (2 ^ n))
 steps_right_are number zero = by_one number
 steps_right_are number (suc n) = ap (λ z. int_div_euclid z (pos 2)) (steps_right_are number n) ∙ halves number n
 

@@ -1,7 +1,7 @@
 -- What a reader of the handbook expects of the results and codes, in its own words. (PDP-11/40 Processor
 -- Handbook, "Instruction set": branches, double precision; "Extended instruction set".)
 use Rattle.std.specs.Prelude.{ℕ, zero, suc, ◌+◌, ◌*◌, ◌%◌, ◌^◌, ◌<◌, ◌≤◌, ◌≡◌, ◌≢◌, ◌↔◌, ◌⊎◌, nat_lt, nat_le, Bool, true, false, ◌||◌, IsTrue, ℤ, pos, ◌+ℤ◌, ◌-ℤ◌, ◌*ℤ◌, ◌<ℤ◌, ◌≤ℤ◌, unsigned_abs, int_lt, ◌==◌}
-use Rattle.std.specs.Int.{int_div_euclid}
+use Rattle.std.specs.Int.{cast_signed, int_div_euclid, w32}
 use Rattle.m11_base.specs.declared.instruction.ConditionCodes.{ConditionCodes}
 use Rattle.m11_base.specs.declared.instruction.DoubleOp.TheVariants.{Add, Sub, Cmp}
 use Rattle.m11_base.specs.declared.instruction.SingleOp.TheVariants.{Adc, Sbc}
@@ -11,6 +11,7 @@ use Rattle.m11_base.specs.declared.operand.Size.TheVariants.{Word}
 use Rattle.m11_arithmetic.specs.declared.results.Computed.{Computed}
 use Rattle.m11_arithmetic.specs.declared.results.Division.{Division}
 use Rattle.m11_arithmetic.specs.declared.results.Division.TheVariants.{Done, Refused}
+use Rattle.m11_arithmetic.specs.declared.results.Pair.{Pair}
 use Rattle.m11_arithmetic.specs.Sizes.{size_limit, pair_limit, signed, modulo}
 use Rattle.m11_arithmetic.specs.Doubles.{double_result}
 use Rattle.m11_arithmetic.specs.Singles.{single_result}
@@ -139,3 +140,35 @@ pub record IsShiftedRight (value n : ℕ) (result : Computed) : Type 0 where
   pub by_steps : signed Word result.value ≡ steps_right n (signed Word value)
   pub sign_kept : result.codes.overflow ≡ false
   pub carry : result.codes.carry ≡ right_last n (signed Word value)
+
+-- ---- shifts of 32 bits
+
+-- 32 bits behind so many steps to the left
+abbrev pub pair_steps_left : ℕ → ℕ → ℕ
+pair_steps_left zero value = value
+pair_steps_left (suc n) value = (pair_steps_left n value + pair_steps_left n value) % pair_limit
+
+-- the sign differs from the first one behind some step
+abbrev pub PairSignChanges : ℕ → ℕ → Type 0
+PairSignChanges value n = (k : ℕ) × (k ≤ n)
+    × (int_lt (cast_signed w32 (pair_steps_left k value)) (pos 0) ≢ int_lt (cast_signed w32 value) (pos 0))
+
+-- the bit that left at the last of so many steps to the left
+abbrev pub pair_left_last : ℕ → ℕ → Bool
+pair_left_last zero value = false
+pair_left_last (suc n) value = nat_le 0o20000000000 (pair_steps_left n value)
+
+-- 32 bits n places to the left
+pub record IsPairShiftedLeft (value n : ℕ) (result : Pair) : Type 0 where
+  pub value_times : double_word result.high result.low ≡ value * 2 ^ n % pair_limit
+  pub by_steps : double_word result.high result.low ≡ pair_steps_left n value
+  pub sign_changes : IsTrue result.codes.overflow ↔ PairSignChanges value n
+  pub carry : result.codes.carry ≡ pair_left_last n value
+
+-- 32 bits n places to the right: the number divided by 2 to the n, rounded down
+pub record IsPairShiftedRight (value n : ℕ) (result : Pair) : Type 0 where
+  pub from : (joined result.high result.low *ℤ pos (2 ^ n)) ≤ℤ cast_signed w32 value
+  pub to : cast_signed w32 value <ℤ ((joined result.high result.low +ℤ pos 1) *ℤ pos (2 ^ n))
+  pub by_steps : joined result.high result.low ≡ steps_right n (cast_signed w32 value)
+  pub sign_kept : result.codes.overflow ≡ false
+  pub carry : result.codes.carry ≡ right_last n (cast_signed w32 value)

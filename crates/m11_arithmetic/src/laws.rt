@@ -6,8 +6,8 @@ ghost use Rattle.m11_base.specs.declared.instruction.ConditionCodes.{ConditionCo
 ghost use Rattle.m11_base.specs.declared.operand.Size.TheVariants.{Word, Byte};
 ghost use Rattle.m11_arithmetic.specs.Sizes.{signed};
 ghost use Rattle.m11_arithmetic.specs.Extended.{joined, division_of};
-ghost use Rattle.m11_arithmetic.specs.Shifts.{places, shift_result};
-ghost use Rattle.m11_arithmetic.specs.Laws.{CompareThenBranch, Adds, Subtracts, IsProduct, IsDivided, IsShiftedLeft, IsShiftedRight};
+ghost use Rattle.m11_arithmetic.specs.Shifts.{places, shift_pair_result, shift_result};
+ghost use Rattle.m11_arithmetic.specs.Laws.{CompareThenBranch, Adds, double_word, Subtracts, IsPairShiftedLeft, IsPairShiftedRight, IsProduct, IsDivided, IsShiftedLeft, IsShiftedRight};
 
 /// Behind CMP each conditional branch is taken exactly where the relation of its name holds of the
 /// source and the destination: BLT, BGE, BGT and BLE of the numbers with signs; BLO, BHIS, BHI and BLOS
@@ -51,10 +51,14 @@ pub fn division()
 /// give that double it; V is set exactly where the sign differed from the first one behind some step,
 /// and C is the bit that left at the last step. ASH by n places to the right gives the number divided
 /// by 2 to the n, rounded down, which is what n steps give that halve it; V is clear, and C is the bit
-/// that left at the last step.
+/// that left at the last step. ASHC does the same to the 32 bits of two words.
 pub fn arithmetic_shifts()
     ensures left { (value count n : ℕ) → value < 0o200000 → places count ≡ pos n
         → IsShiftedLeft value n (shift_result value count) }
     ensures right { (value count n : ℕ) → value < 0o200000 → places count ≡ neg_ℤ (pos n)
         → IsShiftedRight value n (shift_result value count) }
+    ensures pair_left { (high low count n : ℕ) → high < 0o200000 → low < 0o200000 → places count ≡ pos n
+        → IsPairShiftedLeft (double_word high low) n (shift_pair_result high low count) }
+    ensures pair_right { (high low count n : ℕ) → high < 0o200000 → low < 0o200000 → places count ≡ neg_ℤ (pos n)
+        → IsPairShiftedRight (double_word high low) n (shift_pair_result high low count) }
 {}
