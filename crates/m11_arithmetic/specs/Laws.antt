@@ -143,12 +143,12 @@ pub record IsShiftedRight (value n : ℕ) (result : Computed) : Type 0 where
 
 -- ---- shifts of 32 bits
 
--- 32 bits behind so many steps to the left
+-- 32 bits after so many steps to the left
 abbrev pub pair_steps_left : ℕ → ℕ → ℕ
 pair_steps_left zero value = value
 pair_steps_left (suc n) value = (pair_steps_left n value + pair_steps_left n value) % pair_limit
 
--- the sign differs from the first one behind some step
+-- the sign differs from the first one after some step
 abbrev pub PairSignChanges : ℕ → ℕ → Type 0
 PairSignChanges value n = (k : ℕ) × (k ≤ n)
     × (int_lt (cast_signed w32 (pair_steps_left k value)) (pos 0) ≢ int_lt (cast_signed w32 value) (pos 0))

@@ -14,6 +14,7 @@ pub mod PartsTell
 pub mod PlacesStored
 pub mod RegistersKept
 pub mod RunsJoined
+pub mod StackFaults
 pub mod StepsInMemory
 pub mod StepsWrite
 pub mod StepsKeepRegisters

@@ -168,7 +168,7 @@ module _ (r : Register) (held : ℕ) (counts : register_number r ≢ register_nu
         );
       }
 
-  -- behind the forming of a destination
+  -- after the forming of a destination
   then_held : (operand : Operand) (size : Size) (next : Place → Act (Unit {0})) (m : Machine)
       → IsNoneOf (register_number r) (stepped_or_stored operand) → Holds m
       → ((place : Place) (n : Machine) → Apart place → Holds n → Keeps Holds (next place n))

@@ -46,7 +46,7 @@ at_end P fs y p =
     let Q : List Exchange → Type 0 = λ xs. P xs y in every_comes y _ (subst Q (sym (append-nil fs)) p)
 
 -- no exchange stops by a stack fault
-no_stack_fault : (es : List Exchange) → StopsAtFailure es (Some stop.StackFault) → ⊥
+pub no_stack_fault : (es : List Exchange) → StopsAtFailure es (Some stop.StackFault) → ⊥
 no_stack_fault [] h = cc
 no_stack_fault (Asked (Gives byte) ∷ es) h = no_stack_fault es h
 no_stack_fault (Asked Ends ∷ es) h = no_stack_fault es h

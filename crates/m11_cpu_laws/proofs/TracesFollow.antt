@@ -72,7 +72,7 @@ execute_ends (insn.Condition operation named) m = at_comes refl
 execute_ends (insn.Branch operation words) m = at_comes refl
 execute_ends (insn.Reserved word) m = at_comes tt
 
--- ---- what comes behind
+-- ---- what comes after
 
 over : (turn : Turn) (m : Machine) (es : List Exchange) (y : Turn × Machine) → Leads (Comes (turn, m)) es y
     → IsOver turn m es y

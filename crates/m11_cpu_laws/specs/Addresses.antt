@@ -7,15 +7,18 @@ use Rattle.m11_base.specs.declared.operand.Operand.{Operand}
 use Rattle.m11_cpu.specs.Dialogue.{Comes, Dialogue, Exchange, Leads}
 use Rattle.m11_cpu.specs.Execution.{execute}
 use Rattle.m11_cpu.specs.Machine.{memory_size}
+use Rattle.m11_cpu.specs.Steps.{instruction}
 use Rattle.m11_cpu.specs.Traps.{trap}
 use Rattle.m11_cpu.specs.declared.abort.Abort.{Abort}
 use Rattle.m11_cpu.specs.declared.abort.Abort.TheVariants.{Traps, Stops}
 use Rattle.m11_cpu.specs.declared.abort.Vector.{Vector}
 use Rattle.m11_cpu.specs.declared.abort.Vector.TheVariants.{BusError, Reserved, Breakpoint, InputOutput, Emulator, Trap}
+use Rattle.m11_cpu.specs.declared.execution.Ending.{Ending}
 use Rattle.m11_cpu.specs.declared.machine.Machine.{Machine}
 use Rattle.m11_cpu.specs.declared.stop.Stop.TheVariants.{Halt, Limit, Wait, StackFault, NoStart, InputFault, OutputFault}
 use Rattle.m11_cpu.specs.declared.stop.Turn.{Turn}
 use Rattle.m11_cpu.specs.declared.stop.Turn.TheVariants.{Next, Stopped}
+use Rattle.m11_cpu_laws.specs.Exchanges.{ComesWithin}
 use Rattle.m11_cpu_laws.specs.Failures.{device_stop}
 use Rattle.m11_cpu_laws.specs.Writes.{push_address, stack_deepened}
 
@@ -84,3 +87,16 @@ abbrev pub TrapFaults : Vector → Machine → Type 0
 TrapFaults vector m = (exchanges : List Exchange) (turn : Turn) (m' : Machine)
     → Leads (trap vector m) exchanges (turn, m') → device_stop turn ≡ None
     → is_stack_fault turn ≡ cannot_push m
+
+-- a trap of the machine that the instruction left stops by STACK FAULT, and finds no word for a push
+pub record TrapFaulted (left : Machine) (exchanges : List Exchange) (m' : Machine) : Type 0 where
+  pub vector : Vector
+  pub trapped : Leads (trap vector left) exchanges (Stopped StackFault, m')
+  pub no_word : cannot_push left ≡ true
+
+-- a step comes to STACK FAULT by such a trap alone: its instruction's, or the trace trap
+pub record StepFaulted (m : Machine) (exchanges : List Exchange) (m' : Machine) : Type 0 where
+  pub came : Result Ending Abort
+  pub left : Machine
+  pub executed : ComesWithin (instruction m) exchanges (came, left)
+  pub by_trap : TrapFaulted left executed.rest m'

@@ -1,6 +1,6 @@
 //! Addresses at which nothing is found.
 
-ghost use Rattle.std.specs.Prelude.{ℕ};
+ghost use Rattle.std.specs.Prelude.{List, ℕ};
 ghost use Rattle.m11_base.specs.declared.instruction.Insn.TheVariants as insn;
 ghost use Rattle.m11_base.specs.declared.instruction.RegisterOp.TheVariants.{Jsr};
 ghost use Rattle.m11_base.specs.declared.instruction.SingleOp.TheVariants.{Jmp};
@@ -8,15 +8,20 @@ ghost use Rattle.m11_base.specs.declared.operand.Operand.{Operand};
 ghost use Rattle.m11_base.specs.declared.operand.Register.{Register};
 ghost use Rattle.m11_base.specs.declared.operand.Size.{Size};
 ghost use Rattle.m11_cpu.specs.Access.{load_byte, load_word, store_byte, store_word};
+ghost use Rattle.m11_cpu.specs.Dialogue.{Exchange, Leads};
+ghost use Rattle.m11_cpu.specs.Steps.{step};
 ghost use Rattle.m11_cpu.specs.declared.abort.Vector.{Vector};
 ghost use Rattle.m11_cpu.specs.declared.machine.Machine.{Machine};
-ghost use Rattle.m11_cpu_laws.specs.Addresses.{no_byte_at, no_word_at, TrapFaults, TrapsThrough10, TrapsWhere};
+ghost use Rattle.m11_cpu.specs.declared.stop.Stop.TheVariants.{StackFault};
+ghost use Rattle.m11_cpu.specs.declared.stop.Turn.TheVariants.{Stopped};
+ghost use Rattle.m11_cpu_laws.specs.Writes.{MakesSteps};
+ghost use Rattle.m11_cpu_laws.specs.Addresses.{no_byte_at, no_word_at, StepFaulted, TrapFaults, TrapsThrough10, TrapsWhere};
 
 /// Bad addresses trap. A load or a store of a word traps through 4 exactly where the address is odd, or is neither in
 /// memory nor a register's; one of a byte exactly where it is neither in memory nor in the word of a register. JMP and
 /// JSR of a register trap through 10. A trap of which no push fails at a device stops by STACK FAULT exactly where a
-/// push finds no word. (PDP-11/40 Processor Handbook, "Processor traps", JMP, JSR.)
-#[tactic(auto, using(crate::proofs::AddressesTrap::load_word_traps, crate::proofs::AddressesTrap::load_byte_traps, crate::proofs::AddressesTrap::store_word_traps, crate::proofs::AddressesTrap::store_byte_traps, crate::proofs::AddressesTrap::jump_traps, crate::proofs::AddressesTrap::call_traps, crate::proofs::AddressesTrap::trap_faults))]
+/// push finds no word; and a step comes to it by such a trap alone, its instruction's or the trace trap. (PDP-11/40 Processor Handbook, "Processor traps", JMP, JSR.)
+#[tactic(auto, using(crate::proofs::AddressesTrap::load_word_traps, crate::proofs::AddressesTrap::load_byte_traps, crate::proofs::AddressesTrap::store_word_traps, crate::proofs::AddressesTrap::store_byte_traps, crate::proofs::AddressesTrap::jump_traps, crate::proofs::AddressesTrap::call_traps, crate::proofs::AddressesTrap::trap_faults, crate::proofs::StackFaults::step_faulted))]
 pub fn bad_addresses_trap()
     ensures loads_word { (address : ℕ) (m : Machine) → TrapsWhere (no_word_at address m) (load_word address m) }
     ensures loads_byte { (address : ℕ) (m : Machine) → TrapsWhere (no_byte_at address m) (load_byte address m) }
@@ -29,4 +34,6 @@ pub fn bad_addresses_trap()
     ensures call { (register : Register) (operand : Operand) (m : Machine)
         → TrapsThrough10 (insn.Register Jsr register operand) operand m }
     ensures push { (vector : Vector) (m : Machine) → TrapFaults vector m }
+    ensures step { (m m' : Machine) (exchanges : List Exchange) → MakesSteps m
+        → Leads (step m) exchanges (Stopped StackFault, m') → StepFaulted m exchanges m' }
 {}

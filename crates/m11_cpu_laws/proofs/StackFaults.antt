@@ -1,0 +1,88 @@
+-- By which traps a step comes to STACK FAULT.
+use Rattle.std.proofs.Common.{◌≡◌, Bool, true, false, cond, List, Option, Some, None, Result, Ok, Err, refl, sym, subst, ap, ◌∙◌}
+use Rattle.m11_cpu.specs.Dialogue.{Comes, Exchange, Leads}
+use Rattle.m11_cpu.specs.Steps.{ended, instruction, step, step_unless, turned}
+use Rattle.m11_cpu.specs.Stops.{stop_of}
+use Rattle.m11_cpu.specs.Traps.{stopped_by, trap}
+use Rattle.m11_cpu.specs.declared.abort.Abort.{Abort}
+use Rattle.m11_cpu.specs.declared.abort.Abort.TheVariants.{Traps, Stops}
+use Rattle.m11_cpu.specs.declared.abort.Vector.{Vector}
+use Rattle.m11_cpu.specs.declared.abort.Vector.TheVariants.{Breakpoint}
+use Rattle.m11_cpu.specs.declared.execution.Ending.{Ending}
+use Rattle.m11_cpu.specs.declared.execution.Ending.TheVariants as ending
+use Rattle.m11_cpu.specs.declared.machine.Machine.{Machine}
+use Rattle.m11_cpu.specs.declared.stop.LastingStop.{LastingStop}
+use Rattle.m11_cpu.specs.declared.stop.LastingStop.TheVariants as lasting
+use Rattle.m11_cpu.specs.declared.stop.Stop.TheVariants.{Halt, StackFault, Wait}
+use Rattle.m11_cpu.specs.declared.stop.Turn.{Turn}
+use Rattle.m11_cpu.specs.declared.stop.Turn.TheVariants.{Next, Stopped}
+use Rattle.m11_cpu_laws.specs.Addresses.{is_stack_fault, StepFaulted, TrapFaulted}
+use Rattle.m11_cpu_laws.specs.Failures.{StopsAtFailure}
+use Rattle.m11_cpu_laws.proofs.AddressesTrap.{trap_faults}
+use Rattle.m11_cpu_laws.proofs.Exchanging.{abort_stop}
+use Rattle.m11_cpu_laws.proofs.Parts.{parts}
+use Rattle.m11_cpu_laws.proofs.PartsTell.{instruction_tells}
+use Rattle.m11_cpu_laws.proofs.StepsTell.{no_stack_fault}
+use Rattle.m11_cpu_laws.proofs.StopsStand.{at_once}
+
+abbrev fault_in : Turn × Machine → Bool
+fault_in y = is_stack_fault y.0
+
+no_fault : {A : Type 0} (turn : Turn) (n m' : Machine) (es : List Exchange) → is_stack_fault turn ≡ false
+    → Leads {A = Turn × Machine} (Comes (turn, n)) es (Stopped StackFault, m') → A
+no_fault turn n m' es e h =
+    let from : Turn × Machine = (turn, n) in
+    let to : Turn × Machine = (Stopped StackFault, m') in
+    let f : true ≡ false = ap fault_in (at_once from to es h) ∙ e in absurd (cc)
+
+by_trap : (v : Vector) (left m' : Machine) (es : List Exchange) → Leads (trap v left) es (Stopped StackFault, m')
+    → TrapFaulted left es m'
+by_trap v left m' es h = record {
+  vector = v;
+  trapped = h;
+  no_word = sym (trap_faults v left es (Stopped StackFault) m' h refl);
+}
+
+traced : (trace : Bool) (left m' : Machine) (es : List Exchange)
+    → Leads {A = Turn × Machine} (cond trace (trap Breakpoint left) (Comes (Next, left))) es (Stopped StackFault, m')
+    → TrapFaulted left es m'
+traced true left m' es h = by_trap Breakpoint left m' es h
+traced false left m' es h = no_fault Next left m' es refl h
+
+stopped : (stop : LastingStop) (left m' : Machine) (first es : List Exchange)
+    → StopsAtFailure first (Some (stop_of stop)) → Leads {A = Turn × Machine} (Comes (stopped_by stop left)) es (Stopped StackFault, m')
+    → TrapFaulted left es m'
+stopped lasting.StackFault left m' first es failed h = absurd (no_stack_fault first failed)
+stopped lasting.InputFault left m' first es failed h =
+    no_fault (stopped_by lasting.InputFault left).0 (stopped_by lasting.InputFault left).1 m' es refl h
+stopped lasting.OutputFault left m' first es failed h =
+    no_fault (stopped_by lasting.OutputFault left).0 (stopped_by lasting.OutputFault left).1 m' es refl h
+
+faulted : (r : Result Ending Abort) (left m' : Machine) (first es : List Exchange)
+    → StopsAtFailure first (abort_stop r) → Leads (turned r left) es (Stopped StackFault, m') → TrapFaulted left es m'
+unfolding turned ended
+faulted (Ok ending.Next) left m' first es failed h = traced left.status.trace left m' es h
+faulted (Ok ending.Untraced) left m' first es failed h = no_fault Next left m' es refl h
+faulted (Ok ending.Halts) left m' first es failed h = no_fault (Stopped Halt) left m' es refl h
+faulted (Ok ending.Waits) left m' first es failed h = no_fault (Stopped Wait) left m' es refl h
+faulted (Err (Traps v)) left m' first es failed h = by_trap v left m' es h
+faulted (Err (Stops stop)) left m' first es failed h = stopped stop left m' first es failed h
+
+going_faulted : (m m' : Machine) (es : List Exchange) → Leads (step_unless None m) es (Stopped StackFault, m')
+    → StepFaulted m es m'
+going_faulted m m' es h =
+    let p = parts (instruction m) (λ came. turned came.0 came.1) es (Stopped StackFault, m') h in
+    record {
+      came = p.value.0;
+      left = p.value.1;
+      executed = p.within;
+      by_trap = faulted p.value.0 p.value.1 m' p.within.first p.within.rest
+          ((instruction_tells m).each p.within.first p.value p.within.leads).failed p.goes_on;
+    }
+
+pub step_faulted : (m m' : Machine) (es : List Exchange) → m.stopped ≡ None
+    → Leads (step m) es (Stopped StackFault, m') → StepFaulted m es m'
+unfolding step
+step_faulted m m' es e h =
+    let P : Option LastingStop → Type 0 = λ s. Leads (step_unless s m) es (Stopped StackFault, m') in
+    going_faulted m m' es (subst P e h)
