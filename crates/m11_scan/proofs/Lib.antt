@@ -1,0 +1,4 @@
+mod NextPieces
+mod OneMore
+mod OnlyCut
+mod OrderedTokens

@@ -1,0 +1,86 @@
+-- Cutting a text one piece after the other.
+use Rattle.std.proofs.Common.{◌≡◌, ℕ, zero, suc, ◌+◌, ◌-◌, ◌<◌, List, [], ◌∷◌, ◌++◌, length, drop, take, map, refl, sym, ap, ◌∙◌, subst, arith}
+use Rattle.std.proofs.lemmas.List.{drop-drop, length-drop, append_assoc, map-append, take_rest}
+use Rattle.m11_scan.specs.declared.sort.Sort.{Sort}
+use Rattle.m11_scan.specs.declared.sort.Form.{Form}
+use Rattle.m11_scan.specs.declared.sort.Form.TheVariants.{Cut, Blank, Comment, Skipped}
+use Rattle.m11_scan.specs.declared.pieces.Piece.{Piece}
+use Rattle.m11_scan.specs.declared.cutting.Token.{Token}
+use Rattle.m11_scan.specs.Pieces.{first_piece}
+use Rattle.m11_scan.specs.Cutting.{Lexeme, lexemes_at, lexemes_from, pieces_after, pieces_of}
+use Rattle.m11_scan.specs.Views.{lexeme}
+
+-- what is left over of a piece is passed over
+pub pieces_after-drop : (n : ℕ) (text : List ℕ) → pieces_after n text ≡ pieces_of (drop n text)
+pieces_after-drop zero text = refl
+pieces_after-drop (suc n) [] = refl
+pieces_after-drop (suc n) (byte ∷ text) = pieces_after-drop n text
+
+drop_first : (n byte : ℕ) (text : List ℕ) → 0 < n → drop n (byte ∷ text) ≡ drop (n - 1) text
+drop_first zero byte text positive = absurd (omega arith)
+drop_first (suc n) byte text positive = let e : n ≡ suc n - 1 = omega arith in ap (λ m. drop m text) e
+
+-- the pieces of a text are its first one, and those of what stands after it
+pub pieces_of-first : (text : List ℕ) → 0 < length text → 0 < (first_piece text).length
+    → pieces_of text ≡ first_piece text ∷ pieces_of (drop (first_piece text).length text)
+pieces_of-first [] nonempty begins = absurd (omega arith)
+pieces_of-first (byte ∷ text) nonempty begins =
+    ap (λ rest. first_piece (byte ∷ text) ∷ rest)
+    (pieces_after-drop ((first_piece (byte ∷ text)).length - 1) text
+    ∙ ap pieces_of (sym (drop_first (first_piece (byte ∷ text)).length byte text begins)))
+
+-- a slice from a place on is what stands after that place
+pub cut_from : (line text : List ℕ) (start : ℕ) (piece : Piece) → text ≡ line
+    → piece ≡ first_piece (take (length text - start) (drop start text)) → piece ≡ first_piece (drop start line)
+cut_from line text start piece same is =
+    is ∙ ap first_piece (take_rest text start ∙ ap (drop start) same)
+
+-- what is no token gives none
+no_lexeme : (line : List ℕ) (start end : ℕ) (form : Form) → ((sort : Sort) → form ≡ Cut sort → ⊥)
+    → lexemes_at line start end form ≡ []
+no_lexeme line start end (Cut sort) other = absurd (other sort refl)
+no_lexeme line start end Blank other = refl
+no_lexeme line start end Comment other = refl
+no_lexeme line start end Skipped other = refl
+
+module _ (line : List ℕ) (start : ℕ) (piece : Piece) (inside : start < length line)
+    (is : piece ≡ first_piece (drop start line)) (begins : 0 < piece.length) where
+  next_pieces : pieces_of (drop start line) ≡ piece ∷ pieces_of (drop (start + piece.length) line)
+  next_pieces =
+      let nonempty : 0 < length (drop start line) = simp length-drop (omega arith) in
+      let P : Piece → Type 0 = λ p. 0 < p.length in
+      pieces_of-first (drop start line) nonempty (subst P is begins)
+      ∙ ap (λ p. p ∷ pieces_of (drop p.length (drop start line))) (sym is)
+      ∙ ap (λ text. piece ∷ pieces_of text) (drop-drop piece.length start line)
+
+  next_lexemes : lexemes_from line start (pieces_of (drop start line))
+      ≡ lexemes_at line start (start + piece.length) piece.form
+      ++ lexemes_from line (start + piece.length) (pieces_of (drop (start + piece.length) line))
+  next_lexemes = ap (lexemes_from line start) next_pieces
+
+  module _ (tokens : List Token) (whole : List Lexeme)
+      (before : map (lexeme line) tokens ++ lexemes_from line start (pieces_of (drop start line)) ≡ whole) where
+    -- a token joins those before it
+    pub token_joins : (sort : Sort) (more : List Token) → piece.form ≡ Cut sort
+        → more ≡ tokens ++ record { sort = sort; start = start; end = start + piece.length } ∷ []
+        → map (lexeme line) more
+        ++ lexemes_from line (start + piece.length) (pieces_of (drop (start + piece.length) line)) ≡ whole
+    token_joins sort more form pushed =
+        let token : Token = record { sort = sort; start = start; end = start + piece.length } in
+        let rest : List Lexeme = lexemes_from line (start + piece.length) (pieces_of (drop (start + piece.length) line)) in
+        ap (λ ts. map (lexeme line) ts ++ rest) pushed
+        ∙ ap (λ ls. ls ++ rest) (map-append (lexeme line) tokens (token ∷ []))
+        ∙ append_assoc (map (lexeme line) tokens) (lexeme line token ∷ []) rest
+        ∙ ap (λ ls. map (lexeme line) tokens ++ ls)
+        (sym (next_lexemes ∙ ap (λ f. lexemes_at line start (start + piece.length) f ++ rest) form))
+        ∙ before
+
+    -- any other piece gives none
+    pub other_passes : ((sort : Sort) → piece.form ≡ Cut sort → ⊥)
+        → map (lexeme line) tokens
+        ++ lexemes_from line (start + piece.length) (pieces_of (drop (start + piece.length) line)) ≡ whole
+    other_passes other =
+        let rest : List Lexeme = lexemes_from line (start + piece.length) (pieces_of (drop (start + piece.length) line)) in
+        ap (λ ls. map (lexeme line) tokens ++ ls)
+        (sym (next_lexemes ∙ ap (λ ls. ls ++ rest) (no_lexeme line start (start + piece.length) piece.form other)))
+        ∙ before

@@ -1,0 +1,82 @@
+-- The pieces of a line: tokens, blanks, the comment, and characters that begin no token. (MACRO-11 Language Reference
+-- Manual, "Symbols and expressions" and "Character set". Which characters begin no token, and what becomes of `'` and
+-- `"` at the end of a line, is this project's own.)
+use Rattle.std.specs.Prelude.{ℕ, ◌+◌, min, ◌==◌, if◌then◌else◌, List, [], ◌∷◌, length, drop}
+use Rattle.std.specs.List.{prefix_len}
+use Rattle.m11_base.specs.Mnemonics.{folded, is_name_character}
+use Rattle.m11_scan.specs.Characters.{is_blank, is_digit}
+use Rattle.m11_scan.specs.declared.sort.Sort.{Sort}
+use Rattle.m11_scan.specs.declared.sort.Sort.TheVariants.{Name, Number, DecimalNumber, LocalSymbol, Character, TwoCharacters, Packed, BinaryRadix, OctalRadix, DecimalRadix, Complement, Plus, Minus, Times, Over, And, Or, Less, Greater, Percent, NumberSign, At, Open, Close, Comma, Colon, TwoColons, Equals, TwoEquals}
+use Rattle.m11_scan.specs.declared.sort.Form.{Form}
+use Rattle.m11_scan.specs.declared.sort.Form.TheVariants.{Cut, Blank, Comment, Skipped}
+use Rattle.m11_scan.specs.declared.pieces.Piece.{Piece}
+
+-- what a character is that is a piece by itself
+abbrev pub mark_form : ℕ → Form
+mark_form byte =
+    if byte == 43 then Cut Plus
+    else (if byte == 45 then Cut Minus
+    else (if byte == 42 then Cut Times
+    else (if byte == 47 then Cut Over
+    else (if byte == 38 then Cut And
+    else (if byte == 33 then Cut Or
+    else (if byte == 60 then Cut Less
+    else (if byte == 62 then Cut Greater
+    else (if byte == 37 then Cut Percent
+    else (if byte == 35 then Cut NumberSign
+    else (if byte == 64 then Cut At
+    else (if byte == 40 then Cut Open
+    else (if byte == 41 then Cut Close
+    else (if byte == 44 then Cut Comma
+    else (if byte == 58 then Cut Colon
+    else (if byte == 61 then Cut Equals
+    else Skipped)))))))))))))))
+
+-- the piece that a text begins with
+abbrev pub token : Sort → ℕ → Piece
+token sort length = record { form = Cut sort; length = length }
+
+-- digits, with a point or a `$` directly after them where one stands there
+abbrev pub number_ending : ℕ → List ℕ → Piece
+number_ending digits [] = token Number digits
+number_ending digits (byte ∷ rest) =
+    if byte == 46 then token DecimalNumber (digits + 1)
+    else (if byte == 36 then token LocalSymbol (digits + 1) else token Number digits)
+
+abbrev pub number_piece : List ℕ → Piece
+number_piece text = number_ending (prefix_len is_digit text) (drop (prefix_len is_digit text) text)
+
+-- `^` by the letter after it, in either case
+abbrev pub caret_piece : List ℕ → Piece
+caret_piece [] = record { form = Skipped; length = 1 }
+caret_piece (letter ∷ rest) =
+    if folded letter == 66 then token BinaryRadix 2
+    else (if folded letter == 79 then token OctalRadix 2
+    else (if folded letter == 68 then token DecimalRadix 2
+    else (if folded letter == 67 then token Complement 2
+    else (if folded letter == 82 then token Packed (prefix_len is_name_character rest + 2)
+    else record { form = Skipped; length = 1 }))))
+
+-- a character that counts for two where it stands twice
+abbrev pub doubled_piece : ℕ → Sort → Sort → List ℕ → Piece
+doubled_piece byte single double [] = token single 1
+doubled_piece byte single double (next ∷ rest) = if next == byte then token double 2 else token single 1
+
+abbrev pub mark_piece : List ℕ → Piece
+mark_piece [] = record { form = Skipped; length = 1 }
+mark_piece (byte ∷ rest) =
+    if byte == 39 then token Character (min (length (byte ∷ rest)) 2)
+    else (if byte == 34 then token TwoCharacters (min (length (byte ∷ rest)) 3)
+    else (if byte == 94 then caret_piece rest
+    else (if byte == 58 then doubled_piece 58 Colon TwoColons rest
+    else (if byte == 61 then doubled_piece 61 Equals TwoEquals rest
+    else record { form = mark_form byte; length = 1 }))))
+
+unfoldable pub first_piece : List ℕ → Piece
+first_piece [] = record { form = Skipped; length = 1 }
+first_piece (byte ∷ rest) =
+    if is_digit byte then number_piece (byte ∷ rest)
+    else (if is_name_character byte then token Name (prefix_len is_name_character (byte ∷ rest))
+    else (if is_blank byte then record { form = Blank; length = 1 }
+    else (if byte == 59 then record { form = Comment; length = length (byte ∷ rest) }
+    else mark_piece (byte ∷ rest))))

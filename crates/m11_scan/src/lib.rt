@@ -1,0 +1,19 @@
+//! What one line of a source says: its tokens, its numbers and names, and the letters that flag it. No symbol has a
+//! value here, and nothing takes memory. (MACRO-11 Language Reference Manual, "Source program format" and "Symbols and
+//! expressions".)
+#![tactic(auto)]
+
+mod characters;
+mod cutting;
+mod laws;
+mod letters;
+mod line;
+mod pieces;
+mod sort;
+
+pub use cutting::{Token, tokens, tokens_from};
+pub use laws::{there_is_one_cut, tokens_lie_in_order};
+pub use letters::Letters;
+pub use line::{LINE_LIMIT, Line};
+pub use pieces::Piece;
+pub use sort::{Form, Sort};

@@ -1,0 +1,78 @@
+//! A line of a source. (MACRO-11 Language Reference Manual, "Source program format".)
+
+ghost use Rattle.std.specs.Prelude.{◌≡◌, ◌≤◌, length};
+ghost use Rattle.m11_scan.specs.Lines.{line_limit, line_of, no_line, with_byte};
+
+use arrayvec::ArrayVec;
+use std::marker::Model;
+
+/// The most characters of a line that count.
+pub const LINE_LIMIT: usize = 132;
+
+/// The first 132 characters of a line, and whether it has more.
+#[derive(Drop, Debug)]
+pub struct Line {
+    bytes: ArrayVec<u8, LINE_LIMIT>,
+    is_over_long: bool,
+}
+
+impl Model for Line {
+    ghost use Rattle.std.specs.Prelude.{◌≤◌, length};
+    ghost use Rattle.m11_scan.specs.Lines.{SourceLine};
+
+    ghost Value = { SourceLine };
+
+    ghost view = { λ line. record { text = line.bytes.items; is_over_long = line.is_over_long } };
+
+    ghost invariant = { λ line. length line.bytes.items ≤ 132 };
+}
+
+impl Line {
+    /// A line without a character.
+    pub fn new() -> Line
+        ensures { result ≡ no_line }
+    {
+        Line {
+            bytes: ArrayVec::new(),
+            is_over_long: false,
+        }
+    }
+
+    /// The line of some characters.
+    #[tactic(auto, using(crate::proofs::OneMore::steps))]
+    pub fn from_bytes(bytes: &[u8]) -> Line
+        ensures { result ≡ line_of bytes.now }
+    {
+        let mut line = Line::new();
+        'bytes: for byte in bytes {
+            line.push(*byte);
+        }
+        line
+    }
+
+    /// One more character; what is past the limit is dropped.
+    pub fn push(&mut self, byte: u8)
+        ensures { self.new ≡ with_byte self.old byte }
+    {
+        if self.bytes.is_full() {
+            self.is_over_long = true;
+        } else {
+            self.bytes.push(byte);
+        }
+    }
+
+    /// The characters that count, at most 132.
+    pub fn text(&self) -> &[u8]
+        ensures text { result.now ≡ self.now.text }
+        ensures limited { length result.now ≤ line_limit }
+    {
+        self.bytes.as_slice()
+    }
+
+    /// Whether characters past the limit were dropped.
+    pub fn is_over_long(&self) -> bool
+        ensures { result ≡ self.now.is_over_long }
+    {
+        self.is_over_long
+    }
+}

@@ -1,0 +1,40 @@
+//! Lines and sets of letters.
+
+use super::same;
+use bitflags::Flags;
+use m11_scan::{Letters, Line, tokens};
+
+#[test]
+fn a_line_has_132_characters(rt: HostRuntime) {
+    for (count, kept, is_over_long) in [
+        (131, 131, false),
+        (132, 132, false),
+        (133, 132, true),
+        (200, 132, true),
+    ] {
+        let mut line = Line::new();
+        for _ in 0..count {
+            line.push(b'+');
+        }
+        same(&rt, &count, &line.text().len(), &kept);
+        same(&rt, &count, &line.is_over_long(), &is_over_long);
+        same(&rt, &count, &tokens(&line).len(), &kept);
+    }
+}
+
+#[test]
+fn letters_stand_in_the_order_of_the_alphabet(rt: HostRuntime) {
+    let some = Letters::U
+        .with(Letters::A)
+        .with(Letters::Q)
+        .with(Letters::A);
+    same(&rt, &"some", &some.text().as_slice(), &b"AQU".as_slice());
+    same(&rt, &"none", &Letters::none().text().len(), &0);
+    let all = Letters::from_bits_retain(0xffff);
+    same(
+        &rt,
+        &"all",
+        &all.text().as_slice(),
+        &b"ABDEILMNOPQRTU".as_slice(),
+    );
+}
