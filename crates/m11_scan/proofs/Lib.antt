@@ -2,3 +2,5 @@ mod NextPieces
 mod OneMore
 mod OnlyCut
 mod OrderedTokens
+mod Packed
+mod Spelling

@@ -1,6 +1,8 @@
 pub mod Characters
 pub mod Letters
 pub mod Lines
+pub mod Names
+pub mod Numbers
 pub mod Pieces
 pub mod Cuts
 pub mod Cutting

@@ -8,12 +8,18 @@ mod cutting;
 mod laws;
 mod letters;
 mod line;
+mod names;
+mod numbers;
 mod pieces;
+mod radix;
 mod sort;
 
 pub use cutting::{Token, tokens, tokens_from};
 pub use laws::{there_is_one_cut, tokens_lie_in_order};
 pub use letters::Letters;
 pub use line::{LINE_LIMIT, Line};
+pub use names::{read_name, read_packed};
+pub use numbers::{Number, read_number};
 pub use pieces::Piece;
+pub use radix::Radix;
 pub use sort::{Form, Sort};

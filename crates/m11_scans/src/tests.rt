@@ -2,6 +2,7 @@
 
 mod cuts;
 mod lines;
+mod terms;
 
 use std::fmt::{Debug, Display};
 use std::process::Abort;

@@ -1,0 +1,71 @@
+//! Names, and the characters of `^R`. (MACRO-11 Language Reference Manual, "Symbols" and "Radix-50 operator".)
+
+ghost use Rattle.std.specs.Prelude.{◌≡◌, true};
+ghost use Rattle.std.specs.Option.{is_some};
+ghost use Rattle.m11_base.specs.Mnemonics.{character_at, six_of};
+ghost use Rattle.m11_base.specs.Rad50.{name_of};
+ghost use Rattle.m11_scan.specs.Names.{has_name_characters_alone, packed_letters, packed_word, word_or_none};
+ghost use Rattle.m11_scan.specs.Views.{bits_of};
+
+use crate::letters::Letters;
+use crate::numbers::Number;
+use m11_base::{Name, Rad50};
+
+/// The name of a text: its first six characters in upper case, with blanks where there are fewer. A text of letters, digits, `$`
+/// and `.` has one.
+pub fn read_name(text: &[u8]) -> Option<Name>
+    ensures name { result ≡ name_of (six_of text.now) }
+    ensures some { has_name_characters_alone text.now ≡ true → is_some result ≡ true }
+{
+    Name::pack(&six_characters(text))
+}
+
+// The first six characters of a text in upper case, with blanks where there are fewer.
+fn six_characters(text: &[u8]) -> [u8; 6]
+    ensures { result ≡ six_of text.now }
+{
+    [
+        character_at(text, 0),
+        character_at(text, 1),
+        character_at(text, 2),
+        character_at(text, 3),
+        character_at(text, 4),
+        character_at(text, 5),
+    ]
+}
+
+/// The word of the characters after a `^R`: of the first three in upper case, with blanks where there are fewer. Where there is
+/// none a term is missing: 0 and Q.
+pub fn read_packed(characters: &[u8]) -> Number
+    ensures value { result.value ≡ packed_word characters.now }
+    ensures letters { bits_of result.letters ≡ packed_letters characters.now }
+{
+    let word = Rad50::pack(&[
+        character_at(characters, 0),
+        character_at(characters, 1),
+        character_at(characters, 2),
+    ]);
+    Number {
+        value: word_or_none(word),
+        letters: Letters::Q.when(characters.is_empty()),
+    }
+}
+
+fn word_or_none(word: Option<u16>) -> u16
+    ensures { result ≡ word_or_none word }
+{
+    match word {
+        Some(word) => word,
+        None => 0,
+    }
+}
+
+// A text's character at a place in upper case, or a blank after its end.
+fn character_at(text: &[u8], place: usize) -> u8
+    ensures { result ≡ character_at text.now place }
+{
+    match text.get(place) {
+        Some(byte) => byte.to_ascii_uppercase(),
+        None => b' ',
+    }
+}

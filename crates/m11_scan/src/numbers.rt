@@ -1,0 +1,66 @@
+//! Numbers. (MACRO-11 Language Reference Manual, "Numbers".)
+
+ghost use Rattle.std.specs.Prelude.{◌≡◌, ◌-◌, ◌%◌, ◌≤◌, nat_lt};
+ghost use Rattle.m11_scan.specs.Numbers.{has_digit_outside, number_letters, number_of, spelled};
+ghost use Rattle.m11_scan.specs.Views.{bits_of};
+
+use crate::letters::Letters;
+use crate::radix::Radix;
+
+/// A number as a word, and the letters that its writing has.
+#[derive(Clone, Copy, PartialEq, Eq, Debug)]
+pub struct Number {
+    /// The number modulo 65536.
+    pub value: u16,
+    /// N where a digit lies outside the radix, T where the number is over 65535, Q where a character is missing.
+    pub letters: Letters,
+}
+
+/// The number that digits spell in a radix. A character that is none counts as its code less 48. Where one of them lies outside it, the number is decimal and has N; one over 65535
+/// counts modulo 65536 and has T.
+pub fn read_number(digits: &[u8], radix: Radix) -> Number
+    ensures value { result.value ≡ number_of radix digits.now % 65536 }
+    ensures letters { bits_of result.letters ≡ number_letters radix digits.now }
+{
+    let is_outside = has_digit_outside(digits, radix.base());
+    let base = if is_outside { 10 } else { radix.base() };
+    let (value, is_large) = spell(digits, base);
+    let letters = Letters::T.when(is_large).with(Letters::N.when(is_outside));
+    Number { value, letters }
+}
+
+// Whether some digit is none of a base.
+fn has_digit_outside(digits: &[u8], base: u32) -> bool
+    requires { base ≤ 10 }
+    ensures { result ≡ has_digit_outside base digits.now }
+{
+    let limit = base + 48;
+    digits.iter().any(|digit| u32::from(*digit) >= limit)
+}
+
+// The number that digits spell in a base, modulo 65536, and whether it is over 65535.
+#[tactic(auto, using(crate::proofs::Spelling::steps))]
+fn spell(digits: &[u8], base: u32) -> (u16, bool)
+    requires least { 2 ≤ base }
+    requires most { base ≤ 10 }
+    ensures value { result.0 ≡ spelled base digits.now % 65536 }
+    ensures large { result.1 ≡ nat_lt 65535 (spelled base digits.now) }
+{
+    let mut value: u32 = 0;
+    let mut is_large = false;
+    'digits: for digit in digits {
+        let next = value * base + digit_value(*digit);
+        if next > 65535 {
+            is_large = true;
+        }
+        value = next % 65536;
+    }
+    (value as u16, is_large)
+}
+
+fn digit_value(digit: u8) -> u32
+    ensures value { result ≡ digit - 48 }
+    ensures most { result ≤ 255 }
+{
+    u32::from(digit.saturating_sub(b'0'))
+}

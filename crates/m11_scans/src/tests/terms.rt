@@ -1,0 +1,149 @@
+//! Numbers, names and packed characters. (MACRO-11 Language Reference Manual, "Numbers", "Symbols", "Radix-50 operator".)
+
+use super::same;
+use m11_scan::{Radix, read_name, read_number, read_packed};
+use std::process::Abort;
+
+// Digits in a radix, the word that they come to, and its letters.
+struct Digits {
+    digits: &'static str,
+    radix: Radix,
+    value: u16,
+    letters: &'static str,
+}
+
+static DIGITS: [Digits; 13] = [
+    Digits {
+        digits: "0",
+        radix: Radix::Octal,
+        value: 0,
+        letters: "",
+    },
+    Digits {
+        digits: "17",
+        radix: Radix::Octal,
+        value: 15,
+        letters: "",
+    },
+    Digits {
+        digits: "18",
+        radix: Radix::Octal,
+        value: 18,
+        letters: "N",
+    },
+    Digits {
+        digits: "17",
+        radix: Radix::Decimal,
+        value: 17,
+        letters: "",
+    },
+    Digits {
+        digits: "101",
+        radix: Radix::Binary,
+        value: 5,
+        letters: "",
+    },
+    Digits {
+        digits: "12",
+        radix: Radix::Binary,
+        value: 12,
+        letters: "N",
+    },
+    Digits {
+        digits: "177777",
+        radix: Radix::Octal,
+        value: 0o177777,
+        letters: "",
+    },
+    Digits {
+        digits: "200000",
+        radix: Radix::Octal,
+        value: 0,
+        letters: "T",
+    },
+    Digits {
+        digits: "65535",
+        radix: Radix::Decimal,
+        value: 65535,
+        letters: "",
+    },
+    Digits {
+        digits: "65536",
+        radix: Radix::Decimal,
+        value: 0,
+        letters: "T",
+    },
+    Digits {
+        digits: "99999",
+        radix: Radix::Octal,
+        value: 0o103237,
+        letters: "NT",
+    },
+    Digits {
+        digits: "0000000000000000000007",
+        radix: Radix::Octal,
+        value: 7,
+        letters: "",
+    },
+    Digits {
+        digits: "10000000000000000000007",
+        radix: Radix::Octal,
+        value: 7,
+        letters: "T",
+    },
+];
+
+fn check(rt: &impl Abort, rows: &[Digits]) {
+    for row in rows {
+        let found = read_number(row.digits.as_bytes(), row.radix);
+        same(rt, &row.digits, &found.value, &row.value);
+        same(
+            rt,
+            &row.digits,
+            &found.letters.text().as_slice(),
+            &row.letters.as_bytes(),
+        );
+    }
+}
+
+#[test]
+fn a_number_is_decimal_where_a_digit_lies_outside(rt: HostRuntime) {
+    check(&rt, &DIGITS);
+}
+
+#[test]
+fn six_characters_of_a_name_count_in_either_case(rt: HostRuntime) {
+    same(
+        &rt,
+        &"longer",
+        &read_name(b"returns"),
+        &read_name(b"RETURNED"),
+    );
+    same(
+        &rt,
+        &"shorter",
+        &(read_name(b"a") == read_name(b"AB")),
+        &false,
+    );
+    same(&rt, &"blanks", &read_name(b"$.1"), &read_name(b"$.1  "));
+    same(&rt, &"no name", &read_name(b"A?"), &None);
+}
+
+#[test]
+fn three_characters_are_packed(rt: HostRuntime) {
+    for (characters, value, letters) in [
+        ("ABC", 0o003223, ""),
+        ("abcd", 0o003223, ""),
+        ("A", 0o003100, ""),
+        ("", 0, "Q"),
+    ] {
+        let found = read_packed(characters.as_bytes());
+        same(&rt, &characters, &found.value, &value);
+        same(
+            &rt,
+            &characters,
+            &found.letters.text().as_slice(),
+            &letters.as_bytes(),
+        );
+    }
+}
