@@ -6,4 +6,5 @@ pub mod Numbers
 pub mod Pieces
 pub mod Cuts
 pub mod Cutting
+pub mod Texts
 pub mod Views

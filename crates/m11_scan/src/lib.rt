@@ -13,6 +13,7 @@ mod numbers;
 mod pieces;
 mod radix;
 mod sort;
+mod texts;
 
 pub use cutting::{Token, tokens, tokens_from};
 pub use laws::{there_is_one_cut, tokens_lie_in_order};
@@ -23,3 +24,4 @@ pub use numbers::{Number, read_number};
 pub use pieces::Piece;
 pub use radix::Radix;
 pub use sort::{Form, Sort};
+pub use texts::{Enclosed, bare_length, bracketed, delimited, separator_length};

@@ -3,6 +3,7 @@
 mod cuts;
 mod lines;
 mod terms;
+mod texts;
 
 use std::fmt::{Debug, Display};
 use std::process::Abort;

@@ -1,0 +1,121 @@
+//! Texts that a directive or a call of a macro takes from its line itself. (MACRO-11 Language Reference Manual, ".ASCII
+//! directive" and "Arguments in macro definitions and macro calls".)
+
+ghost use Rattle.std.specs.Prelude.{◌≡◌, ◌≤◌, length};
+ghost use Rattle.std.specs.List.{prefix_len};
+ghost use Rattle.m11_scan.specs.Characters.{is_blank};
+ghost use Rattle.m11_scan.specs.Texts.{bracketed, delimited, is_bare, separator_length};
+
+use crate::characters::is_blank;
+
+/// A text between two delimiters, or one whose second delimiter is missing.
+#[derive(Clone, Copy, PartialEq, Eq, Debug)]
+pub struct Enclosed {
+    /// How many characters stand in it.
+    pub length: usize,
+    /// Whether its end was found. If not, it goes to the end of the line.
+    pub is_closed: bool,
+}
+
+/// The text up to a delimiter, such as the one that stood before it. It may be empty.
+pub fn delimited(text: &[u8], delimiter: u8) -> Enclosed
+    ensures text { result ≡ delimited delimiter text.now }
+    ensures within { result.length ≤ length text.now }
+{
+    let mut count = 0;
+    let mut rest = text;
+    'characters: while let [byte, tail @ ..] = rest {
+        if *byte == delimiter {
+            return Enclosed {
+                length: count,
+                is_closed: true,
+            };
+        }
+        count += 1;
+        rest = tail;
+    }
+    Enclosed {
+        length: count,
+        is_closed: false,
+    }
+}
+
+/// The text after a `<`, up to the `>` that closes it. Brackets in it are nested.
+pub fn bracketed(text: &[u8]) -> Enclosed
+    ensures text { result ≡ bracketed text.now }
+    ensures within { result.length ≤ length text.now }
+{
+    let mut depth: usize = 0;
+    let mut count = 0;
+    let mut rest = text;
+    'characters: while let [byte, tail @ ..] = rest {
+        if *byte == b'<' {
+            depth += 1;
+        } else if *byte == b'>' {
+            if depth == 0 {
+                return Enclosed {
+                    length: count,
+                    is_closed: true,
+                };
+            }
+            depth -= 1;
+        }
+        count += 1;
+        rest = tail;
+    }
+    Enclosed {
+        length: count,
+        is_closed: false,
+    }
+}
+
+/// How many characters an actual has that isn't bracketed: those before a comma, a blank, a tab or a `;`.
+pub fn bare_length(text: &[u8]) -> usize
+    ensures length { result ≡ prefix_len is_bare text.now }
+    ensures within { result ≤ length text.now }
+{
+    let mut count = 0;
+    let mut rest = text;
+    'characters: while let [byte, tail @ ..] = rest {
+        if !is_bare(*byte) {
+            return count;
+        }
+        count += 1;
+        rest = tail;
+    }
+    count
+}
+
+fn is_bare(byte: u8) -> bool
+    ensures { result ≡ is_bare byte }
+{
+    !(is_blank(byte) || byte == b',' || byte == b';')
+}
+
+fn blanks_length(text: &[u8]) -> usize
+    ensures length { result ≡ prefix_len is_blank text.now }
+    ensures within { result ≤ length text.now }
+{
+    let mut count = 0;
+    let mut rest = text;
+    'blanks: while let [byte, tail @ ..] = rest {
+        if !is_blank(*byte) {
+            return count;
+        }
+        count += 1;
+        rest = tail;
+    }
+    count
+}
+
+/// How many characters separate two actuals: blanks, one comma, or both. It may be none.
+pub fn separator_length(text: &[u8]) -> usize
+    ensures length { result ≡ separator_length text.now }
+    ensures within { result ≤ length text.now }
+{
+    let blanks = blanks_length(text);
+    match &text[blanks..] {
+        [b',', rest @ ..] => blanks_length(rest) + blanks + 1,
+        _ => blanks,
+    }
+}
