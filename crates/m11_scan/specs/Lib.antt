@@ -1,4 +1,5 @@
 pub mod Characters
+pub mod Expressions
 pub mod Letters
 pub mod Lines
 pub mod Names

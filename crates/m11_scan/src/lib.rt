@@ -5,6 +5,7 @@
 
 mod characters;
 mod cutting;
+mod expressions;
 mod laws;
 mod letters;
 mod line;
@@ -16,6 +17,7 @@ mod sort;
 mod texts;
 
 pub use cutting::{Token, tokens, tokens_from};
+pub use expressions::expression_length;
 pub use laws::{there_is_one_cut, tokens_lie_in_order};
 pub use letters::Letters;
 pub use line::{LINE_LIMIT, Line};

@@ -1,6 +1,7 @@
 //! A file a subject; alike calls stand in tables.
 
 mod cuts;
+mod expressions;
 mod lines;
 mod terms;
 mod texts;

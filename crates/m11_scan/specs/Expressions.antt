@@ -1,0 +1,76 @@
+-- Where an expression ends. (MACRO-11 Language Reference Manual, "Terms" and "Expressions". That a term or a `>` may be missing is
+-- this project's own.)
+use Rattle.std.specs.Prelude.{ℕ, suc, ◌+◌, ◌-◌, ◌==◌, Bool, true, false, if◌then◌else◌, List, [], ◌∷◌, Option, Some, None}
+use Rattle.m11_scan.specs.declared.cutting.Token.{Token}
+use Rattle.m11_scan.specs.declared.expressions.Role.{Role}
+use Rattle.m11_scan.specs.declared.expressions.Role.TheVariants.{Term, Prefix, Sign, Operator, Opens, Closes, Foreign}
+use Rattle.m11_scan.specs.declared.expressions.Within.{Within}
+use Rattle.m11_scan.specs.declared.sort.Sort.{Sort}
+use Rattle.m11_scan.specs.declared.sort.Sort.TheVariants.{Name, Number, DecimalNumber, LocalSymbol, Character, TwoCharacters, Packed, BinaryRadix, OctalRadix, DecimalRadix, Complement, Plus, Minus, Times, Over, And, Or, Less, Greater, Percent, NumberSign, At, Open, Close, Comma, Colon, TwoColons, Equals, TwoEquals}
+
+abbrev pub sort_of : Token → Sort
+sort_of token = token.sort
+
+-- what a token can be in an expression
+abbrev pub role_of : Sort → Role
+role_of Name = Term
+role_of Number = Term
+role_of DecimalNumber = Term
+role_of LocalSymbol = Term
+role_of Character = Term
+role_of TwoCharacters = Term
+role_of Packed = Term
+role_of BinaryRadix = Prefix
+role_of OctalRadix = Prefix
+role_of DecimalRadix = Prefix
+role_of Complement = Prefix
+role_of Percent = Prefix
+role_of Plus = Sign
+role_of Minus = Sign
+role_of Times = Operator
+role_of Over = Operator
+role_of And = Operator
+role_of Or = Operator
+role_of Less = Opens
+role_of Greater = Closes
+role_of NumberSign = Foreign
+role_of At = Foreign
+role_of Open = Foreign
+role_of Close = Foreign
+role_of Comma = Foreign
+role_of Colon = Foreign
+role_of TwoColons = Foreign
+role_of Equals = Foreign
+role_of TwoEquals = Foreign
+
+-- a place in an expression, where something holds
+abbrev pub place_if : Bool → ℕ → Bool → Option Within
+place_if holds depth is_due = if holds then Some (record { depth = depth; is_due = is_due }) else None
+
+-- the place after a token, if an expression goes on with it: a term, what stands before a term and `<` only where a term is due;
+-- what stands between two terms anywhere, since a term may be missing; `>` where a bracket is open
+abbrev pub goes_on : Role → Within → Option Within
+goes_on Term place = place_if place.is_due place.depth false
+goes_on Prefix place = place_if place.is_due place.depth true
+goes_on Sign place = place_if true place.depth true
+goes_on Operator place = place_if true place.depth true
+goes_on Opens place = place_if place.is_due (place.depth + 1) true
+goes_on Closes place = if place.depth == 0 then None else place_if true (place.depth - 1) false
+goes_on Foreign place = None
+
+abbrev pub count_from : Option Within → (Within → ℕ) → ℕ
+count_from None count = 0
+count_from (Some place) count = suc (count place)
+
+-- how many tokens an expression takes from a place on
+abbrev pub taken : List Sort → Within → ℕ
+taken [] place = 0
+taken (sort ∷ sorts) place = count_from (goes_on (role_of sort) place) (λ next. taken sorts next)
+
+-- at first a term is due
+abbrev pub begin : Within
+begin = record { depth = 0; is_due = true }
+
+-- how many tokens the expression has that a list of tokens begins with
+abbrev pub expression_length : List Sort → ℕ
+expression_length sorts = taken sorts begin

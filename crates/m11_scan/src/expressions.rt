@@ -1,0 +1,121 @@
+//! Where an expression ends. (MACRO-11 Language Reference Manual, "Terms" and "Expressions".)
+
+ghost use Rattle.std.specs.Prelude.{◌≡◌, ◌<◌, ◌≤◌, length, map};
+ghost use Rattle.m11_scan.specs.Expressions.{expression_length, goes_on, place_if, role_of, sort_of};
+
+use crate::cutting::Token;
+use crate::sort::Sort;
+
+/// What a token can be in an expression.
+#[derive(Clone, Copy, PartialEq, Eq, Debug)]
+pub enum Role {
+    /// A term: a name, a number, a character.
+    Term,
+    /// `^B`, `^O`, `^D`, `^C` or `%`, which stand before a term.
+    Prefix,
+    /// `+` or `-`, which stand before a term or between two.
+    Sign,
+    /// `*`, `/`, `&` or `!`, which stand between two terms.
+    Operator,
+    /// `<`
+    Opens,
+    /// `>`
+    Closes,
+    /// No part of an expression.
+    Foreign,
+}
+
+/// A place in an expression.
+#[derive(Clone, Copy, PartialEq, Eq, Debug)]
+pub struct Within {
+    /// How many brackets are open.
+    pub depth: usize,
+    /// Whether a term is due.
+    pub is_due: bool,
+}
+
+/// How many tokens the expression has that a list of tokens begins with. It is decided by their sorts alone. A term may be missing,
+/// and so may a `>`.
+pub fn expression_length(tokens: &[Token]) -> usize
+    ensures length { result ≡ expression_length (map sort_of tokens.now) }
+    ensures within { result ≤ length tokens.now }
+{
+    let mut place = Within {
+        depth: 0,
+        is_due: true,
+    };
+    let mut count = 0;
+    let mut rest = tokens;
+    'tokens: while let [token, others @ ..] = rest {
+        match goes_on(role_of(token.sort), place) {
+            Some(next) => place = next,
+            None => return count,
+        }
+        count += 1;
+        rest = others;
+    }
+    count
+}
+
+// The place after a token of a role, if an expression goes on with it.
+fn goes_on(role: Role, place: Within) -> Option<Within>
+    requires { place.depth < usize.MAX }
+    ensures { result ≡ goes_on role place }
+{
+    match role {
+        Role::Term => place_if(place.is_due, place.depth, false),
+        Role::Prefix => place_if(place.is_due, place.depth, true),
+        Role::Sign | Role::Operator => place_if(true, place.depth, true),
+        Role::Opens => place_if(place.is_due, place.depth + 1, true),
+        Role::Closes => {
+            if place.depth == 0 {
+                None
+            } else {
+                place_if(true, place.depth - 1, false)
+            }
+        }
+        Role::Foreign => None,
+    }
+}
+
+fn place_if(holds: bool, depth: usize, is_due: bool) -> Option<Within>
+    ensures { result ≡ place_if holds depth is_due }
+{
+    if holds {
+        Some(Within { depth, is_due })
+    } else {
+        None
+    }
+}
+
+fn role_of(sort: Sort) -> Role
+    ensures { result ≡ role_of sort }
+{
+    match sort {
+        Sort::Name
+        | Sort::Number
+        | Sort::DecimalNumber
+        | Sort::LocalSymbol
+        | Sort::Character
+        | Sort::TwoCharacters
+        | Sort::Packed => Role::Term,
+        Sort::BinaryRadix
+        | Sort::OctalRadix
+        | Sort::DecimalRadix
+        | Sort::Complement
+        | Sort::Percent => Role::Prefix,
+        Sort::Plus | Sort::Minus => Role::Sign,
+        Sort::Times | Sort::Over | Sort::And | Sort::Or => Role::Operator,
+        Sort::Less => Role::Opens,
+        Sort::Greater => Role::Closes,
+        Sort::NumberSign
+        | Sort::At
+        | Sort::Open
+        | Sort::Close
+        | Sort::Comma
+        | Sort::Colon
+        | Sort::TwoColons
+        | Sort::Equals
+        | Sort::TwoEquals => Role::Foreign,
+    }
+}
