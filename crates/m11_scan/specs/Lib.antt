@@ -1,5 +1,6 @@
 pub mod Characters
 pub mod Expressions
+pub mod Grammar
 pub mod Letters
 pub mod Lines
 pub mod Names

@@ -1,9 +1,13 @@
-//! Laws of the cut of a line into pieces. Each is the contract of a function that does nothing.
+//! Laws of the cut of a line into pieces, of expressions and of brackets. Each is the contract of a function that does nothing.
 
-ghost use Rattle.std.specs.Prelude.{◌≡◌, ℕ, List, length};
+ghost use Rattle.std.specs.Prelude.{◌≡◌, ◌∷◌, ◌++◌, ℕ, List, false, length, true};
 ghost use Rattle.m11_scan.specs.Cuts.{AreOrdered, IsCut, joined_from};
 ghost use Rattle.m11_scan.specs.Cutting.{pieces_of, tokens_of};
+ghost use Rattle.m11_scan.specs.Expressions.{expression_length};
+ghost use Rattle.m11_scan.specs.Grammar.{IsNested, IsWritten, MayFollow};
+ghost use Rattle.m11_scan.specs.Texts.{bracketed};
 ghost use Rattle.m11_scan.specs.declared.pieces.Piece.{Piece};
+ghost use Rattle.m11_scan.specs.declared.sort.Sort.{Sort};
 
 /// Each text is cut into pieces, and into no others: from left to right, each is the longest beginning of what is left
 /// that has the form of a piece.
@@ -18,4 +22,19 @@ pub fn there_is_one_cut()
 pub fn tokens_lie_in_order()
     ensures ordered { (line : List ℕ) → AreOrdered (length line) 0 (tokens_of line) }
     ensures whole { (line : List ℕ) → joined_from line 0 (tokens_of line) ≡ line }
+{}
+
+/// What is written as an expression is taken whole, up to a token that may follow one: terms with signs and prefixes before them,
+/// joined by operators, and expressions in brackets.
+#[tactic(auto, using(crate::proofs::WrittenExpressions::written_length))]
+pub fn written_expressions_are_taken_whole()
+    ensures { (sorts rest : List Sort) → IsWritten false sorts → MayFollow rest
+        → expression_length (sorts ++ rest) ≡ length sorts }
+{}
+
+/// A text whose brackets are nested is what stands in brackets, up to the `>` after it.
+#[tactic(auto, using(crate::proofs::NestedBrackets::nested_bracketed))]
+pub fn nested_brackets_are_read_whole()
+    ensures { (text rest : List ℕ) → IsNested text
+        → bracketed (text ++ 62 ∷ rest) ≡ record { length = length text; is_closed = true } }
 {}

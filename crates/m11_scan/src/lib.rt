@@ -18,7 +18,10 @@ mod texts;
 
 pub use cutting::{Token, tokens, tokens_from};
 pub use expressions::expression_length;
-pub use laws::{there_is_one_cut, tokens_lie_in_order};
+pub use laws::{
+    nested_brackets_are_read_whole, there_is_one_cut, tokens_lie_in_order,
+    written_expressions_are_taken_whole,
+};
 pub use letters::Letters;
 pub use line::{LINE_LIMIT, Line};
 pub use names::{read_name, read_packed};

@@ -1,0 +1,35 @@
+-- Expressions and brackets as they are written. (MACRO-11 Language Reference Manual, "Terms", "Expressions", and "Arguments in macro
+-- definitions and macro calls".)
+use Rattle.std.specs.Prelude.{◌≡◌, ◌≢◌, ℕ, Bool, true, false, List, [], ◌∷◌, ◌++◌}
+use Rattle.m11_scan.specs.declared.expressions.Role.TheVariants.{Term, Prefix, Sign, Operator}
+use Rattle.m11_scan.specs.declared.sort.Sort.{Sort}
+use Rattle.m11_scan.specs.declared.sort.Sort.TheVariants.{Less, Greater}
+use Rattle.m11_scan.specs.Expressions.{role_of}
+
+-- terms (true) and expressions (false) in which nothing is missing
+pub data IsWritten : Bool → List Sort → Type 0 where
+  -- a name, a number or a character is a term
+  Single : (sort : Sort) → role_of sort ≡ Term → IsWritten true (sort ∷ [])
+  -- so is a term with what stands before it
+  Prefixed : (sort : Sort) (sorts : List Sort) → role_of sort ≡ Prefix → IsWritten true sorts → IsWritten true (sort ∷ sorts)
+  Signed : (sort : Sort) (sorts : List Sort) → role_of sort ≡ Sign → IsWritten true sorts → IsWritten true (sort ∷ sorts)
+  -- and an expression in brackets
+  Grouped : (sorts : List Sort) → IsWritten false sorts → IsWritten true (Less ∷ (sorts ++ Greater ∷ []))
+  -- a term is an expression
+  Alone : (sorts : List Sort) → IsWritten true sorts → IsWritten false sorts
+  -- so is an expression, what stands between two terms, and a term
+  Added : (front : List Sort) (sort : Sort) (sorts : List Sort) → IsWritten false front → role_of sort ≡ Sign
+      → IsWritten true sorts → IsWritten false (front ++ sort ∷ sorts)
+  Joined : (front : List Sort) (sort : Sort) (sorts : List Sort) → IsWritten false front → role_of sort ≡ Operator
+      → IsWritten true sorts → IsWritten false (front ++ sort ∷ sorts)
+
+-- what may stand after an expression: nothing, or a token that doesn't stand between two terms
+abbrev pub MayFollow : List Sort → Type 0
+MayFollow [] = Unit {0}
+MayFollow (sort ∷ sorts) = (role_of sort ≢ Sign) × (role_of sort ≢ Operator)
+
+-- texts whose brackets are nested
+pub data IsNested : List ℕ → Type 0 where
+  Empty : IsNested []
+  Plain : (byte : ℕ) (text : List ℕ) → byte ≢ 60 → byte ≢ 62 → IsNested text → IsNested (byte ∷ text)
+  Bracketed : (text rest : List ℕ) → IsNested text → IsNested rest → IsNested (60 ∷ (text ++ 62 ∷ rest))
