@@ -4,6 +4,7 @@
 #![tactic(auto)]
 
 mod characters;
+mod conditions;
 mod cutting;
 mod expressions;
 mod laws;
@@ -16,6 +17,7 @@ mod radix;
 mod sort;
 mod texts;
 
+pub use conditions::{Condition, read_condition};
 pub use cutting::{Token, tokens, tokens_from};
 pub use expressions::expression_length;
 pub use laws::{

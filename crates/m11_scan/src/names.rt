@@ -21,7 +21,7 @@ pub fn read_name(text: &[u8]) -> Option<Name>
 }
 
 // The first six characters of a text in upper case, with blanks where there are fewer.
-fn six_characters(text: &[u8]) -> [u8; 6]
+pub(crate) fn six_characters(text: &[u8]) -> [u8; 6]
     ensures { result ≡ six_of text.now }
 {
     [

@@ -1,7 +1,7 @@
 //! Numbers, names and packed characters. (MACRO-11 Language Reference Manual, "Numbers", "Symbols", "Radix-50 operator".)
 
 use super::same;
-use m11_scan::{Radix, read_name, read_number, read_packed};
+use m11_scan::{Condition, Radix, read_condition, read_name, read_number, read_packed};
 use std::process::Abort;
 
 // Digits in a radix, the word that they come to, and its letters.
@@ -145,5 +145,28 @@ fn three_characters_are_packed(rt: HostRuntime) {
             &found.letters.text().as_slice(),
             &letters.as_bytes(),
         );
+    }
+}
+
+#[test]
+fn conditions_have_their_names(rt: HostRuntime) {
+    for (name, condition) in [
+        ("EQ", Some(Condition::Zero)),
+        ("ne", Some(Condition::NotZero)),
+        ("GT", Some(Condition::Positive)),
+        ("Lt", Some(Condition::Negative)),
+        ("GE", Some(Condition::NotNegative)),
+        ("LE", Some(Condition::NotPositive)),
+        ("DF", Some(Condition::Defined)),
+        ("NDF", Some(Condition::NotDefined)),
+        ("B", Some(Condition::Blank)),
+        ("NB", Some(Condition::NotBlank)),
+        ("IDN", Some(Condition::Identical)),
+        ("DIF", Some(Condition::Different)),
+        ("XX", None),
+        ("EQ1", None),
+        ("", None),
+    ] {
+        same(&rt, &name, &read_condition(name.as_bytes()), &condition);
     }
 }

@@ -1,0 +1,34 @@
+-- The names of conditions. (MACRO-11 Language Reference Manual, "Conditional assembly block directives".)
+use Rattle.std.specs.Prelude.{ℕ, List, [], ◌∷◌, codes, find, Option, Some, None}
+use Rattle.std.specs.Str.{bytes_eq}
+use Rattle.m11_scan.specs.declared.conditions.Condition.{Condition}
+use Rattle.m11_scan.specs.declared.conditions.Condition.TheVariants.{Zero, NotZero, Positive, Negative, NotNegative, NotPositive, Defined, NotDefined, Blank, NotBlank, Identical, Different}
+use Rattle.m11_scan.specs.declared.conditions.ConditionRow.{ConditionRow}
+
+abbrev pub named : List ℕ → Condition → ConditionRow
+named name condition = record { name = name; condition = condition }
+
+-- the conditions, each with its name of six characters
+abbrev pub condition_rows : List ConditionRow
+condition_rows =
+    named (codes "EQ    ") Zero
+    ∷ named (codes "NE    ") NotZero
+    ∷ named (codes "GT    ") Positive
+    ∷ named (codes "LT    ") Negative
+    ∷ named (codes "GE    ") NotNegative
+    ∷ named (codes "LE    ") NotPositive
+    ∷ named (codes "DF    ") Defined
+    ∷ named (codes "NDF   ") NotDefined
+    ∷ named (codes "B     ") Blank
+    ∷ named (codes "NB    ") NotBlank
+    ∷ named (codes "IDN   ") Identical
+    ∷ named (codes "DIF   ") Different
+    ∷ []
+
+abbrev pub condition_in : Option ConditionRow → Option Condition
+condition_in (Some row) = Some row.condition
+condition_in None = None
+
+-- the condition of a name of six characters, if it is one
+abbrev pub condition_named : List ℕ → Option Condition
+condition_named name = condition_in (find (λ row. bytes_eq row.name name) condition_rows)
