@@ -8,7 +8,7 @@ Lines of MODULE, whose numbers are octal; what follows a `;` is a comment:
     module NAME                     the module's name
     section NAME FLAGS SIZE         a program section
     refer NAME                      a global that another module defines
-    define NAME VALUE               a global, so many bytes behind the section that was entered last
+    define NAME VALUE               a global, n bytes after the section that was entered last
     start SECTION VALUE             where the program starts
     text SECTION ADDRESS: WORDS     words of a section, from an address of it on
     store PLACE NAME                at a place of the last text, a global's address
@@ -62,7 +62,7 @@ def directory_entry(words):
 
 
 def body_records(words):
-    """The records of a line behind the directory, if it has any."""
+    """The records of a line after the directory, if it has any."""
     match words:
         case ["text", section, address, *data]:
             selected = record(4, bytes([0o7, 0]) + name_bytes(section) + word_bytes(0))

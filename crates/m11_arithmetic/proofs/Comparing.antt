@@ -1,4 +1,4 @@
--- CMP and the branches behind it.
+-- CMP and the branches after it.
 use Rattle.std.proofs.Common.{◌≡◌, sym, ◌∙◌, ap, ℕ, ◌^◌, ◌<◌, ℤ, pos, ◌-ℤ◌, ◌≤ℤ◌, ◌<ℤ◌, of_z, w8, w16, arith, Bool, true}
 use Rattle.std.specs.Prelude.{int_lt, nat_lt, not, ◌||◌, ◌==◌, IsTrue, ◌↔◌}
 use Rattle.std.proofs.lemmas.Bool.{eqb-true, eq-eqb}
@@ -34,7 +34,7 @@ is_less : (size : Size) (first second : ℕ) → first < size_limit size → sec
 is_less Word = word_less
 is_less Byte = byte_less
 
--- Z tells that the two are the same, and C that the first is lower
+-- Z says that the two are the same, and C that the first is lower
 is_same : (size : Size) (first second : ℕ) → first < size_limit size → second < size_limit size
     → (modulo (size_limit size) (pos first -ℤ pos second) == 0) ≡ (first == second)
 is_same Word first second first_below second_below = grind (arith, ints, nat_tests)
@@ -52,20 +52,20 @@ same_signed Word first second first_below second_below same =
 same_signed Byte first second first_below second_below same =
     sym (of_z-to_z w8 first first_below) ∙ ap (of_z w8) same ∙ of_z-to_z w8 second second_below
 
--- what the tests of two numbers with signs tell
+-- what the tests of two numbers with signs report
 module _ (first second : ℤ) (less same : Bool) (less_is : less ≡ int_lt first second)
     (same_is : (same ≡ true) ↔ (first ≡ second)) where
-  tells_less : IsTrue less ↔ (first <ℤ second)
-  tells_less = grind (arith, ints)
+  reports_less : IsTrue less ↔ (first <ℤ second)
+  reports_less = grind (arith, ints)
 
-  tells_greater_or_equal : IsTrue (not less) ↔ (second ≤ℤ first)
-  tells_greater_or_equal = grind (arith, ints)
+  reports_greater_or_equal : IsTrue (not less) ↔ (second ≤ℤ first)
+  reports_greater_or_equal = grind (arith, ints)
 
-  tells_greater : IsTrue (not (same || less)) ↔ (second <ℤ first)
-  tells_greater = grind (arith, ints)
+  reports_greater : IsTrue (not (same || less)) ↔ (second <ℤ first)
+  reports_greater = grind (arith, ints)
 
-  tells_less_or_equal : IsTrue (same || less) ↔ (first ≤ℤ second)
-  tells_less_or_equal = grind (arith, ints)
+  reports_less_or_equal : IsTrue (same || less) ↔ (first ≤ℤ second)
+  reports_less_or_equal = grind (arith, ints)
 
 relations : (size : Size) (first second : ℕ) (codes : ConditionCodes)
     → (signed size first ≡ signed size second → first ≡ second)
@@ -78,13 +78,13 @@ relations size first second codes same less zero carry =
     (λ e. ap (signed size) (eqb-true first second (sym zero ∙ e)), λ e. zero ∙ eq-eqb first second (same e)) in record {
       equal = grind (arith, nat_tests);
       not_equal = grind (arith, nat_tests);
-      less = tells_less (signed size first) (signed size second) (differ codes.negative codes.overflow) codes.zero less
+      less = reports_less (signed size first) (signed size second) (differ codes.negative codes.overflow) codes.zero less
           same_is;
-      greater_or_equal = tells_greater_or_equal (signed size first) (signed size second)
+      greater_or_equal = reports_greater_or_equal (signed size first) (signed size second)
           (differ codes.negative codes.overflow) codes.zero less same_is;
-      greater = tells_greater (signed size first) (signed size second) (differ codes.negative codes.overflow)
+      greater = reports_greater (signed size first) (signed size second) (differ codes.negative codes.overflow)
           codes.zero less same_is;
-      less_or_equal = tells_less_or_equal (signed size first) (signed size second)
+      less_or_equal = reports_less_or_equal (signed size first) (signed size second)
           (differ codes.negative codes.overflow) codes.zero less same_is;
       lower = grind (arith, nat_tests);
       higher_or_same = grind (arith, nat_tests);

@@ -20,7 +20,7 @@ use Rattle.m11_arithmetic.specs.Branches.{is_taken}
 
 -- ---- comparisons
 
--- these branches are taken behind a comparison exactly where the relation of their names holds. (BLO is
+-- these branches are taken after a comparison exactly where the relation of their names holds. (BLO is
 -- another name of BCS, and BHIS of BCC.)
 pub record AreCompared (size : Size) (first second : ℕ) (codes : ConditionCodes) : Type 0 where
   pub equal : IsTrue (is_taken Beq codes) ↔ (first ≡ second)
@@ -45,7 +45,7 @@ CompareThenBranch size = (first second : ℕ) (codes : ConditionCodes) → first
 abbrev pub double_word : ℕ → ℕ → ℕ
 double_word high low = high * 0o200000 + low
 
--- the sum's 32 bits, and the carry of the whole, which is C behind either of the last two operations
+-- the sum's 32 bits, and the carry of the whole, which is C after either of the last two operations
 pub record AreAdded (source destination : ℕ) (low middle high : Computed) : Type 0 where
   pub value : double_word high.value low.value ≡ (source + destination) % pair_limit
   pub carry : (middle.codes.carry || high.codes.carry) ≡ nat_le pair_limit (source + destination)
@@ -58,7 +58,7 @@ Adds source_high source_low high low codes =
     let high_sum = double_result Add Word source_high carried.value carried.codes in
     AreAdded (double_word source_high source_low) (double_word high low) low_sum carried high_sum
 
--- the bits of the difference, and the borrow of the whole, which is C behind either of the last two
+-- the bits of the difference, and the borrow of the whole, which is C after either of the last two
 -- operations
 pub record AreSubtracted (source destination : ℕ) (low middle high : Computed) : Type 0 where
   pub value : double_word high.value low.value ≡ modulo pair_limit (pos destination -ℤ pos source)
@@ -101,17 +101,17 @@ IsDivided dividend divisor (Refused codes) =
 
 -- ---- shifts
 
--- a word behind so many steps to the left: each doubles it, and what the word can't hold is lost
+-- a word after n steps to the left: each doubles it, and what the word can't hold is lost
 abbrev pub steps_left : ℕ → ℕ → ℕ
 steps_left zero value = value
 steps_left (suc n) value = (steps_left n value + steps_left n value) % 0o200000
 
--- the sign differs from the first one behind some step
+-- the sign differs from the first one after some step
 abbrev pub SignChanges : ℕ → ℕ → Type 0
 SignChanges value n = (k : ℕ) × (k ≤ n)
     × (int_lt (signed Word (steps_left k value)) (pos 0) ≢ int_lt (signed Word value) (pos 0))
 
--- the bit that left at the last of so many steps to the left
+-- the bit that left at the last of n steps to the left
 abbrev pub left_last : ℕ → ℕ → Bool
 left_last zero value = false
 left_last (suc n) value = nat_le 0o100000 (steps_left n value)
@@ -123,12 +123,12 @@ pub record IsShiftedLeft (value n : ℕ) (result : Computed) : Type 0 where
   pub sign_changes : IsTrue result.codes.overflow ↔ SignChanges value n
   pub carry : result.codes.carry ≡ left_last n value
 
--- a number behind so many steps to the right: each halves it, rounded down
+-- a number after n steps to the right: each halves it, rounded down
 abbrev pub steps_right : ℕ → ℤ → ℤ
 steps_right zero number = number
 steps_right (suc n) number = int_div_euclid (steps_right n number) (pos 2)
 
--- the bit that left at the last of so many steps to the right
+-- the bit that left at the last of n steps to the right
 abbrev pub right_last : ℕ → ℤ → Bool
 right_last zero number = false
 right_last (suc n) number = modulo 2 (steps_right n number) == 1
@@ -143,7 +143,7 @@ pub record IsShiftedRight (value n : ℕ) (result : Computed) : Type 0 where
 
 -- ---- shifts of 32 bits
 
--- 32 bits after so many steps to the left
+-- 32 bits after n steps to the left
 abbrev pub pair_steps_left : ℕ → ℕ → ℕ
 pair_steps_left zero value = value
 pair_steps_left (suc n) value = (pair_steps_left n value + pair_steps_left n value) % pair_limit
@@ -153,7 +153,7 @@ abbrev pub PairSignChanges : ℕ → ℕ → Type 0
 PairSignChanges value n = (k : ℕ) × (k ≤ n)
     × (int_lt (cast_signed w32 (pair_steps_left k value)) (pos 0) ≢ int_lt (cast_signed w32 value) (pos 0))
 
--- the bit that left at the last of so many steps to the left
+-- the bit that left at the last of n steps to the left
 abbrev pub pair_left_last : ℕ → ℕ → Bool
 pair_left_last zero value = false
 pair_left_last (suc n) value = nat_le 0o20000000000 (pair_steps_left n value)

@@ -13,7 +13,7 @@ use Rattle.m11_arithmetic.specs.Extended.{joined}
 abbrev pub places : ℕ → ℤ
 places count = if nat_lt (count % 64) 32 then pos (count % 64) else negsuc (63 - count % 64)
 
--- a number moved to the left by so many places, or to the right where there are less than 0: each place
+-- a number moved to the left by n places, or to the right where there are less than 0: each place
 -- doubles it, or halves it and rounds down
 abbrev pub shifted : ℤ → ℤ → ℤ
 shifted number (pos n) = number *ℤ pos (2 ^ n)

@@ -49,7 +49,7 @@ less_carry size value carry =
     let left = modulo (size_limit size) (pos value -ℤ pos (from_bool carry)) in
     with_codes size left (value == sign_bit size && carry) (value == 0 && carry)
 
--- a value after a step of one place: C is the bit that left, and V tells whether N and C differ
+-- a value after a step of one place: C is the bit that left, and V says whether N and C differ
 abbrev pub stepped : Size → ℕ → Bool → Computed
 stepped size value bit = with_codes size value (differ (int_lt (signed size value) (pos 0)) bit) bit
 
@@ -70,7 +70,7 @@ abbrev pub rotated_right : Size → ℕ → Bool → Computed
 rotated_right size value carry =
     stepped size (value / 2 + from_bool carry * sign_bit size) (value % 2 == 1)
 
--- ROL, and with no carry ASL: a place to the left, the carry behind
+-- ROL, and with no carry ASL: a place to the left, the carry after
 abbrev pub rotated_left : Size → ℕ → Bool → Computed
 rotated_left size value carry =
     stepped size ((2 * value + from_bool carry) % size_limit size) (nat_le (sign_bit size) value)

@@ -9,7 +9,7 @@ ghost use Rattle.m11_arithmetic.specs.Extended.{joined, division_of};
 ghost use Rattle.m11_arithmetic.specs.Shifts.{places, shift_pair_result, shift_result};
 ghost use Rattle.m11_arithmetic.specs.Laws.{CompareThenBranch, Adds, double_word, Subtracts, IsPairShiftedLeft, IsPairShiftedRight, IsProduct, IsDivided, IsShiftedLeft, IsShiftedRight};
 
-/// Behind CMP each conditional branch is taken exactly where the relation of its name holds of the
+/// After CMP each conditional branch is taken exactly where the relation of its name holds of the
 /// source and the destination: BLT, BGE, BGT and BLE of the numbers with signs; BLO, BHIS, BHI and BLOS
 /// of those without; BEQ and BNE of either. BLO is BCS, and BHIS is BCC.
 pub fn branches_after_compare()
@@ -18,7 +18,7 @@ pub fn branches_after_compare()
 {}
 
 /// ADD of the low words, ADC to the high word and ADD of the high words add numbers of 32 bits: the sum
-/// modulo 2 to the 32, whose carry is C behind ADC or C behind the last ADD.
+/// modulo 2 to the 32, whose carry is C after ADC or C after the last ADD.
 pub fn double_precision_addition()
     ensures { (source_high source_low high low : ℕ) (codes : ConditionCodes) → source_high < 0o200000
         → source_low < 0o200000
@@ -26,7 +26,7 @@ pub fn double_precision_addition()
 {}
 
 /// SUB of the low words, SBC from the high word and SUB of the high words subtract numbers of 32 bits:
-/// the difference modulo 2 to the 32, whose borrow is C behind SBC or C behind the last SUB.
+/// the difference modulo 2 to the 32, whose borrow is C after SBC or C after the last SUB.
 pub fn double_precision_subtraction()
     ensures { (source_high source_low high low : ℕ) (codes : ConditionCodes) → source_high < 0o200000
         → source_low < 0o200000
@@ -48,7 +48,7 @@ pub fn division()
 {}
 
 /// ASH by n places to the left gives the value times 2 to the n modulo 65536, which is what n steps
-/// give that double it; V is set exactly where the sign differed from the first one behind some step,
+/// give that double it; V is set exactly where the sign differed from the first one after some step,
 /// and C is the bit that left at the last step. ASH by n places to the right gives the number divided
 /// by 2 to the n, rounded down, which is what n steps give that halve it; V is clear, and C is the bit
 /// that left at the last step. ASHC does the same to the 32 bits of two words.

@@ -23,7 +23,7 @@ pub struct Pair {
     pub codes: ConditionCodes,
 }
 
-/// What a division comes to.
+/// The results of a division.
 #[derive(Clone, Copy, Debug, PartialEq, Eq)]
 pub enum Division {
     /// Both results, and the codes that they set.

@@ -9,7 +9,7 @@ use crate::extended::joined;
 use crate::results::{Computed, Pair, pair_of, with_codes};
 use m11_base::Size;
 
-/// What ASH computes of its register. Of `count` the six lowest bits count, as a number with a sign: so many
+/// What ASH computes of its register. Of `count` the six lowest bits count, as a number with a sign: that many
 /// places to the left, or to the right where it is negative. C is the last bit that left, and V is set
 /// where the sign changed on the way. (PDP-11/40 Processor Handbook, "Extended instruction set": ASH.)
 #[tactic(auto, unfolding(crate::specs::Shifts::shift_result))]
@@ -53,7 +53,7 @@ fn shifted(number: i64, count: u16) -> i64
     }
 }
 
-// A number of at most 32 bits, doubled so many times.
+// A number of at most 32 bits, doubled n times.
 fn moved_left(number: i64, count: u16) -> i64
     requires number { FitsSigned w32 number }
     requires count { count < 32 }

@@ -113,7 +113,7 @@ fn rotated_right(size: Size, value: u16, carry: bool) -> Computed
     stepped(size, value / 2 + front, value % 2 == 1)
 }
 
-// The value a place to the left, with the carry behind it.
+// The value a place to the left, with the carry after it.
 #[inline(always)]
 fn rotated_left(size: Size, value: u16, carry: bool) -> Computed
     requires { value < size_limit size }

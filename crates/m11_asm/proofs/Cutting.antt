@@ -7,7 +7,7 @@ use Rattle.m11_base.proofs.Known.{Appends-Appends}
 use Rattle.m11_blocks.specs.Frames.{word_bytes}
 use Rattle.m11_obj.specs.Records.{Content}
 use Rattle.m11_asm.specs.Placement.{Piece, pieces_at}
-use Rattle.m11_asm.specs.Object.{head, Placed, place_content, texts_of, text_contents, text_content, content_block, without_last, without_last_behind, last_alone, last_behind, has_none}
+use Rattle.m11_asm.specs.Object.{head, Placed, place_content, texts_of, text_contents, text_content, content_block, without_last, without_last_after, last_alone, last_after, has_none}
 use Rattle.m11_asm.specs.OpenText.{alone, with_piece, takes_in, texts_from, AddsWord, PutsTexts, PutsFront}
 use Rattle.m11_asm.specs.declared.object.LastText.{LastText}
 use Rattle.std.proofs.Math.Seq.{drop-cons}
@@ -17,7 +17,7 @@ use Rattle.m11_asm.specs.declared.fault.AsmOutput.TheVariants.{Object}
 use Rattle.m11_asm.specs.Writes.{StopsPutting}
 use Rattle.m11_asm.specs.Writes as writes
 use Rattle.m11_asm.proofs.LongestFronts.{texts_are_longest}
-use Rattle.m11_asm.proofs.Putting.{stops_before, stops_behind}
+use Rattle.m11_asm.proofs.Putting.{stops_before, stops_after}
 use Rattle.std.proofs.Math.Bool.{and-false}
 
 -- a new text of a piece
@@ -50,31 +50,31 @@ first_contents [] ys = refl
 first_contents (x ∷ xs) ys = ap (λ (t : List Content). place_content x ∷ text_content x ∷ t) (contents_later xs ys)
 
 -- ---- the last text
-without_last_behind-push : (y : Placed) (xs : List Placed) (x : Placed) → without_last_behind y (xs ++ x ∷ []) ≡ y ∷ xs
-without_last_behind-push y [] x = refl
-without_last_behind-push y (z ∷ xs) x = ap (λ (t : List Placed). y ∷ t) (without_last_behind-push z xs x)
+without_last_after-push : (y : Placed) (xs : List Placed) (x : Placed) → without_last_after y (xs ++ x ∷ []) ≡ y ∷ xs
+without_last_after-push y [] x = refl
+without_last_after-push y (z ∷ xs) x = ap (λ (t : List Placed). y ∷ t) (without_last_after-push z xs x)
 
 pub without_last-push : (xs : List Placed) (x : Placed) → without_last (xs ++ x ∷ []) ≡ xs
 without_last-push [] x = refl
-without_last-push (y ∷ xs) x = without_last_behind-push y xs x
+without_last-push (y ∷ xs) x = without_last_after-push y xs x
 
-last_behind-push : (y : Placed) (xs : List Placed) (x : Placed) → last_behind y (xs ++ x ∷ []) ≡ x ∷ []
-last_behind-push y [] x = refl
-last_behind-push y (z ∷ xs) x = last_behind-push z xs x
+last_after-push : (y : Placed) (xs : List Placed) (x : Placed) → last_after y (xs ++ x ∷ []) ≡ x ∷ []
+last_after-push y [] x = refl
+last_after-push y (z ∷ xs) x = last_after-push z xs x
 
 pub last_alone-push : (xs : List Placed) (x : Placed) → last_alone (xs ++ x ∷ []) ≡ x ∷ []
 last_alone-push [] x = refl
-last_alone-push (y ∷ xs) x = last_behind-push y xs x
+last_alone-push (y ∷ xs) x = last_after-push y xs x
 
-without_last_behind-more : (z : Placed) (xs : List Placed) (x y : Placed) (ys : List Placed)
-    → without_last_behind z (xs ++ x ∷ y ∷ ys) ≡ z ∷ (xs ++ x ∷ without_last_behind y ys)
-without_last_behind-more z [] x y ys = refl
-without_last_behind-more z (w ∷ xs) x y ys = ap (λ (t : List Placed). z ∷ t) (without_last_behind-more w xs x y ys)
+without_last_after-more : (z : Placed) (xs : List Placed) (x y : Placed) (ys : List Placed)
+    → without_last_after z (xs ++ x ∷ y ∷ ys) ≡ z ∷ (xs ++ x ∷ without_last_after y ys)
+without_last_after-more z [] x y ys = refl
+without_last_after-more z (w ∷ xs) x y ys = ap (λ (t : List Placed). z ∷ t) (without_last_after-more w xs x y ys)
 
 without_last-more : (xs : List Placed) (x y : Placed) (ys : List Placed)
-    → without_last (xs ++ x ∷ y ∷ ys) ≡ xs ++ x ∷ without_last_behind y ys
+    → without_last (xs ++ x ∷ y ∷ ys) ≡ xs ++ x ∷ without_last_after y ys
 without_last-more [] x y ys = refl
-without_last-more (z ∷ xs) x y ys = without_last_behind-more z xs x y ys
+without_last-more (z ∷ xs) x y ys = without_last_after-more z xs x y ys
 
 abbrev IsSome : List Placed → Type 0
 IsSome texts = (x : Placed) × (xs : List Placed) × (texts ≡ x ∷ xs)
@@ -129,7 +129,7 @@ module _ (initial now : Option (List ℕ)) (faults faults' : ℕ) (words left : 
 
   taken_apart : takes_in text (record { place = place; word = word }) ≡ false → (x : Placed) (xs : List Placed)
       → texts_from (alone (record { place = place; word = word })) (pieces_at ((place + 2) % 65536) left) ≡ x ∷ xs
-      → without_last (texts_of (pieces_at 0 words)) ≡ s.closed ++ text ∷ without_last_behind x xs
+      → without_last (texts_of (pieces_at 0 words)) ≡ s.closed ++ text ∷ without_last_after x xs
   taken_apart refused x xs e =
       let whole : texts_of (pieces_at 0 words) ≡ s.closed ++ text ∷ x ∷ xs =
       s.whole ∙ ap (λ (b : Bool). s.closed
@@ -151,7 +151,7 @@ module _ (initial now : Option (List ℕ)) (faults faults' : ℕ) (words left : 
       (map content_block (text_contents true (without_last (texts_of (pieces_at 0 words))))) fault
   stopped_here next faults'' text' fault h =
       let some = some_text (alone (record { place = place; word = word })) (pieces_at ((place + 2) % 65536) left) in
-      let later = without_last_behind some.0 some.1 in
+      let later = without_last_after some.0 some.1 in
       let parts : map content_block (text_contents true (without_last (texts_of (pieces_at 0 words))))
       ≡ map content_block (text_contents true s.closed)
       ++ (map content_block (text_contents is_first (text ∷ [])) ++ map content_block (text_contents false later)) =
@@ -164,7 +164,7 @@ module _ (initial now : Option (List ℕ)) (faults faults' : ℕ) (words left : 
       (contents_of_one is_first later)
       ∙ ap (λ (t : List (List ℕ)). map content_block (text_contents true s.closed) ++ t)
       (map-append content_block (text_contents is_first (text ∷ [])) (text_contents false later)) in
-      rw parts (stops_behind Object initial now faults faults' (map content_block (text_contents true s.closed)) next
+      rw parts (stops_after Object initial now faults faults' (map content_block (text_contents true s.closed)) next
       faults''
       (map content_block (text_contents is_first (text ∷ [])) ++ map content_block (text_contents false later)) s.put
       s.same fault
@@ -242,5 +242,5 @@ front_then a b c f g i size texts whole same (Ok last) h = (
       (writes.joined (map content_block (text_contents true (without_last texts)))) whole h.2),
 )
 front_then a b c f g i size texts whole same (Err fault) h =
-    stops_behind Object a b f g (map content_block (head size)) c i
+    stops_after Object a b f g (map content_block (head size)) c i
     (map content_block (text_contents true (without_last texts))) whole same fault h

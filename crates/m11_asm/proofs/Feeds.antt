@@ -11,7 +11,7 @@ use Rattle.m11_asm.specs.Lines.{RawLine, input_of}
 use Rattle.m11_asm.specs.Held.{Held, Holds, Leads, GoesTo, StopsAt, symbols, FailsAt, FailAt}
 use Rattle.m11_asm.proofs.Joined.{leads_then, goes_then, stops_then, ended_more, stops_more}
 
--- what the sources done gave, and where the reading of it has come to
+-- what the sources done gave, and where the reading of it has reached
 pub record SoFar {F : Type 0} (text : F → Option Text) (faults : F → ℕ) (initial now : List F) (index : ℕ)
     (before : List RawLine) (unclosed : List ℕ) (held : Held) : Type 0 where
   pub sources : List (List ℕ)
@@ -21,12 +21,12 @@ pub record SoFar {F : Type 0} (text : F → Option Text) (faults : F → ℕ) (i
   pub leads : Leads before unclosed (input_of sources) before' unclosed'
   pub holds : Holds before' unclosed' held
 
-input_behind : (ss : List (List ℕ)) (s : List ℕ) (os : List (List ℕ))
+input_after : (ss : List (List ℕ)) (s : List ℕ) (os : List (List ℕ))
     → input_of (ss ++ s ∷ os) ≡ input_of ss ++ (symbols s ++ input_of os)
-input_behind ss s os = flat_map-append (λ source. symbols source) ss (s ∷ os)
+input_after ss s os = flat_map-append (λ source. symbols source) ss (s ∷ os)
 
 input_push : (ss : List (List ℕ)) (s : List ℕ) → input_of (ss ++ s ∷ []) ≡ input_of ss ++ symbols s
-input_push ss s = input_behind ss s [] ∙ ap (λ (t : List (Option ℕ)). input_of ss ++ t) (append-nil (symbols s))
+input_push ss s = input_after ss s [] ∙ ap (λ (t : List (Option ℕ)). input_of ss ++ t) (append-nil (symbols s))
 
 module _ {F : Type 0} (text : F → Option Text) (faults : F → ℕ) where
   pub begin : (initial : List F) (before : List RawLine) (unclosed : List ℕ) (held : Held) → Holds before unclosed held
@@ -48,7 +48,7 @@ module _ {F : Type 0} (text : F → Option Text) (faults : F → ℕ) where
       let read = feeds.all_read text faults initial now index s.sources s.read h in
       (read.0, s.sources, read.1, (s.before', s.unclosed', s.leads, s.holds))
 
-  -- one more source, at the place that the loop has come to
+  -- one more source, at the place that the loop has reached
   module _ (initial now : List F) (index : ℕ) (before : List RawLine) (unclosed : List ℕ) (held new : Held)
       (s : SoFar text faults initial now index before unclosed held)
       (inside : index < length now) (d x z : F) (x-is : x ≡ get_or now index d) where
@@ -56,12 +56,12 @@ module _ {F : Type 0} (text : F → Option Text) (faults : F → ℕ) where
     none_failed = feeds.none_failed text faults initial now index s.sources s.read inside d x z x-is
 
     module _ (source : List ℕ) (has : HasBytes (text x) source) where
-      -- what the sources behind it would give
+      -- what the sources after it would give
       given : (others : List (List ℕ)) × GiveAll text initial (s.sources ++ source ∷ others)
       given = feeds.given_more text faults initial now index s.sources s.read inside d x z x-is source has
 
       input_parts : input_of (s.sources ++ source ∷ given.0) ≡ (input_of s.sources ++ symbols source) ++ input_of given.0
-      input_parts = input_behind s.sources source given.0
+      input_parts = input_after s.sources source given.0
           ∙ sym (append_assoc (input_of s.sources) (symbols source) (input_of given.0))
 
       stops_here : (e : AsmFault) → StopsAt s.before' s.unclosed' (symbols source) e

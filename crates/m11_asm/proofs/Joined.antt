@@ -8,13 +8,13 @@ use Rattle.m11_asm.specs.declared.fault.AsmFault.TheVariants.{TooMuchSource, Not
 use Rattle.m11_asm.specs.declared.reading.Progress.{Progress}
 use Rattle.m11_asm.specs.declared.reading.Progress.TheVariants as progress
 use Rattle.m11_asm.specs.Lines.{RawLine}
-use Rattle.m11_asm.specs.Reading.{Reading}
+use Rattle.m11_asm.specs.Reading.{SourceReading}
 use Rattle.m11_asm.specs.Held.{Held, Holds, reading_at, Leads, Decides, GoesTo, StopsAt, symbols, FailsAt}
 use Rattle.std.proofs.lemmas.List.{append-nil}
 
 -- ---- one input after another
 module _ (before : List RawLine) (unclosed : List ℕ) (xs : List (Option ℕ)) where
-  decides_more : (decided : Reading) (more : List (Option ℕ)) → Decides before unclosed xs decided
+  decides_more : (decided : SourceReading) (more : List (Option ℕ)) → Decides before unclosed xs decided
       → Decides before unclosed (xs ++ more) decided
   decides_more decided more h rest =
       ap (λ (input : List (Option ℕ)). reading_at before unclosed input) (append_assoc xs more rest) ∙ h (more ++ rest)
@@ -39,7 +39,7 @@ module _ (before : List RawLine) (unclosed : List ℕ) (xs : List (Option ℕ)) 
         ap (λ (input : List (Option ℕ)). reading_at before unclosed input) (append_assoc xs ys rest)
         ∙ leads (ys ++ rest) ∙ h rest
 
-    decides_then : (decided : Reading) → Decides before' unclosed' ys decided
+    decides_then : (decided : SourceReading) → Decides before' unclosed' ys decided
         → Decides before unclosed (xs ++ ys) decided
     decides_then decided h rest =
         ap (λ (input : List (Option ℕ)). reading_at before unclosed input) (append_assoc xs ys rest)
@@ -123,9 +123,9 @@ module _ (text : Option Text) (faults faults' : ℕ) (before : List RawLine) (un
       stops_never s = s
   fails_by (Write output) same source h s = absurd s
 
-symbols_behind : (xs : List ℕ) (byte : ℕ) (more : List ℕ)
+symbols_after : (xs : List ℕ) (byte : ℕ) (more : List ℕ)
     → symbols ((xs ++ byte ∷ []) ++ more) ≡ (map (λ b. Some b) xs ++ Some byte ∷ []) ++ symbols more
-symbols_behind xs byte more =
+symbols_after xs byte more =
     map-append (xs ++ byte ∷ []) more (None ∷ []) ∙ ap (λ (t : List (Option ℕ)). t ++ symbols more) (map-push xs byte)
 
 module _ (text text1 text2 : Option Text) (faults faults' : ℕ) (before : List RawLine) (unclosed part : List ℕ)
@@ -159,14 +159,14 @@ module _ (text text1 text2 : Option Text) (faults faults' : ℕ) (before : List 
       same,
       (part ++ byte ∷ []) ++ whole.0,
       whole.1,
-      rw (symbols_behind part byte whole.0)
+      rw (symbols_after part byte whole.0)
           (ended_more before unclosed (map (λ b. Some b) part ++ Some byte ∷ []) new (symbols whole.0)
           (goes_then before unclosed (map (λ byte. Some byte) part) b u leads (Some byte ∷ []) new progress.Ended h)),
     )
 
     pub byte_fails : (e : AsmFault) → StopsAt b u (Some byte ∷ []) e → FailsAt text faults faults' before unclosed new e
     byte_fails e h = fails_by text faults faults' before unclosed new e same ((part ++ byte ∷ []) ++ whole.0) whole.1
-        (rw (symbols_behind part byte whole.0)
+        (rw (symbols_after part byte whole.0)
         (stops_more before unclosed (map (λ b. Some b) part ++ Some byte ∷ []) e (symbols whole.0)
         (stops_then before unclosed (map (λ byte. Some byte) part) b u leads (Some byte ∷ []) e h)))
 

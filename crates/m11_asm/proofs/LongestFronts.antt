@@ -1,4 +1,4 @@
--- The texts that an open text and the pieces behind it make are those of the longest fronts.
+-- The texts that an open text and the pieces after it make are those of the longest fronts.
 use Rattle.std.proofs.Common.{◌≡◌, ℕ, ◌+◌, ◌*◌, ◌≤◌, zero, suc, leb, Bool, true, false, cond, List, [], ◌∷◌, ◌++◌, map, take, drop, length, refl, sym, ap, subst, ◌∙◌, append_assoc, arith}
 use Rattle.std.specs.Prelude.{⊤, ◌&&◌, ◌==◌}
 use Rattle.std.specs.List.{flat_map}
@@ -12,7 +12,7 @@ use Rattle.m11_asm.specs.Placement.{Piece}
 use Rattle.m11_asm.specs.Object.{Placed, stand_from, are_one_text, bytes_of, text_of_front, longest_front, texts_by, texts_of}
 use Rattle.m11_asm.specs.OpenText.{alone, with_piece, takes_in, texts_from}
 
--- each front is one text, and with the piece behind it would be none
+-- each front is one text, and with the piece after it would be none
 abbrev AreLongest : List (List Piece) → Type 0
 AreLongest [] = ⊤
 AreLongest (front ∷ []) = are_one_text front ≡ true
@@ -60,7 +60,7 @@ text-push h hs p = ap (λ (b : List ℕ). record { place = h.place; bytes = b })
 one_alone : (p : Piece) → are_one_text (p ∷ []) ≡ true
 one_alone p = rw (eq-eqb p.place p.place refl) refl
 
--- the texts behind an open front, which becomes the first front of them
+-- the texts after an open front, which becomes the first front of them
 record From (front pieces : List Piece) : Type 0 where
   more : List Piece
   rest : List (List Piece)
@@ -122,8 +122,8 @@ from h hs (p ∷ ps) one =
     by_taking : (b : Bool) → takes_in (text_of_front (h ∷ hs)) p ≡ b
         → ((first : Piece) (others : List Piece) → are_one_text (first ∷ others) ≡ true → From (first ∷ others) ps)
         → From (h ∷ hs) (p ∷ ps)
-    by_taking true e behind = from_taken h hs p ps e (behind h (hs ++ p ∷ []) (takes_one_text h hs p one ∙ e))
-    by_taking false e behind = from_closed h hs p ps one e (behind p [] (one_alone p))
+    by_taking true e following = from_taken h hs p ps e (following h (hs ++ p ∷ []) (takes_one_text h hs p one ∙ e))
+    by_taking false e following = from_closed h hs p ps one e (following p [] (one_alone p))
 
 -- ---- fronts that are longest are those of the definition
 
@@ -151,7 +151,7 @@ one_text-front x xs ys e =
     (le-leb (2 * length (x ∷ xs)) 32
     (omega (arith, length-append (x ∷ xs) ys, leb-true (2 * length ((x ∷ xs) ++ ys)) 32 most)))
 
--- what one text can't hold, it can't with more behind
+-- what one text can't hold, it can't with more after
 no_text-more : (x : Piece) (xs : List Piece) (p : Piece) (ps : List Piece) → are_one_text ((x ∷ xs) ++ p ∷ []) ≡ false
     → are_one_text ((x ∷ xs) ++ p ∷ ps) ≡ false
 no_text-more x xs p ps e = by_test (are_one_text ((x ∷ xs) ++ p ∷ ps)) refl
@@ -174,13 +174,13 @@ none_more n = omega arith
 one_fewer : (m n : ℕ) → m + suc n ≡ suc m + n
 one_fewer m n = omega arith
 
-take_behind : (xs : List Piece) (p : Piece) (ps : List Piece) (n : ℕ)
+take_after : (xs : List Piece) (p : Piece) (ps : List Piece) (n : ℕ)
     → take (length xs + suc n) (xs ++ p ∷ ps) ≡ xs ++ p ∷ take n ps
-take_behind [] p ps n = ap (λ (m : ℕ). take m (p ∷ ps)) (z+-suc n)
-take_behind (x ∷ xs) p ps n = ap (λ (m : ℕ). take m (x ∷ (xs ++ p ∷ ps))) (shifted (length xs) (suc n))
-    ∙ ap (λ (t : List Piece). x ∷ t) (take_behind xs p ps n)
+take_after [] p ps n = ap (λ (m : ℕ). take m (p ∷ ps)) (z+-suc n)
+take_after (x ∷ xs) p ps n = ap (λ (m : ℕ). take m (x ∷ (xs ++ p ∷ ps))) (shifted (length xs) (suc n))
+    ∙ ap (λ (t : List Piece). x ∷ t) (take_after xs p ps n)
 
--- the longest front of so many pieces more than it has
+-- the longest front of n pieces more than it has
 longest_front-end : (x : Piece) (xs : List Piece) → are_one_text (x ∷ xs) ≡ true
     → longest_front (length (x ∷ xs)) (x ∷ xs) ≡ x ∷ xs
 longest_front-end x xs one =
@@ -202,7 +202,7 @@ longest_front-more x xs p ps one none (suc n) =
     let fewer : ℕ = length xs + suc n in
     ap (λ (m : ℕ). longest_front m whole) (shifted (length xs) (suc n))
     ∙ ap (λ (t : List Piece). cond (are_one_text t) t (longest_front fewer whole))
-    (ap (λ (m : ℕ). take m whole) (sym (shifted (length xs) (suc n))) ∙ take_behind (x ∷ xs) p ps n)
+    (ap (λ (m : ℕ). take m whole) (sym (shifted (length xs) (suc n))) ∙ take_after (x ∷ xs) p ps n)
     ∙ ap (λ (b : Bool). cond b ((x ∷ xs) ++ p ∷ take n ps) (longest_front fewer whole))
     (no_text-more x xs p (take n ps) none)
     ∙ ap (λ (m : ℕ). longest_front m whole) (one_fewer (length xs) n)

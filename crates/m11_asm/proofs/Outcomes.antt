@@ -17,8 +17,8 @@ use Rattle.m11_asm.specs.Outcome as outcome
 use Rattle.m11_asm.specs.Outcome.{writes_of, outcome_of, outcome_of_reading}
 use Rattle.m11_asm.specs.Program.{flagged_lines, StopsWriting, WritesProgram}
 use Rattle.m11_asm.specs.Writes.{Gains}
-use Rattle.m11_asm.specs.Run.{Runs, Counted}
-use Rattle.m11_asm.proofs.Readings.{cut_behind, behind}
+use Rattle.m11_asm.specs.Run.{AsmRuns, Counted}
+use Rattle.m11_asm.proofs.Readings.{cut_after, following}
 use Rattle.std.proofs.lemmas.List.{append-nil}
 
 -- nothing is held at first
@@ -37,10 +37,10 @@ pub at_first : (held : Held) → held ≡ record { line = []; bytes = 0; lines =
     → Holds [] [] held
 at_first held e = let P : Held → Type 0 = λ h. Holds [] [] h in subst P (sym e) nothing_held
 
-behind_nothing : (bytes : List ℕ)
-    → behind bytes (record { lines = []; unclosed = [] }) ≡ record { lines = []; unclosed = bytes }
-behind_nothing [] = refl
-behind_nothing (byte ∷ bytes) = ap (λ (c : Cut). in_front byte c.lines c.unclosed) (behind_nothing bytes)
+after_nothing : (bytes : List ℕ)
+    → following bytes (record { lines = []; unclosed = [] }) ≡ record { lines = []; unclosed = bytes }
+after_nothing [] = refl
+after_nothing (byte ∷ bytes) = ap (λ (c : Cut). in_front byte c.lines c.unclosed) (after_nothing bytes)
 
 -- ---- what stands undecided is a program without `.END`
 not_begun : (bytes : List ℕ) → length bytes ≡ 0 → is_empty bytes ≡ true
@@ -75,7 +75,7 @@ stands : (before : List RawLine) (unclosed : List ℕ) (held : Held) → Holds b
     → reading_at before unclosed [] ≡ reading.Unended before
 stands before unclosed held holds =
     let whole : cut (map (λ byte. Some byte) unclosed ++ []) ≡ record { lines = []; unclosed = unclosed } =
-    cut_behind unclosed [] holds.in_line ∙ behind_nothing unclosed in
+    cut_after unclosed [] holds.in_line ∙ after_nothing unclosed in
     ap (λ (c : Cut). reading.reading_from before c.lines c.unclosed) whole
     ∙ ap (λ (t : reading.Turn). reading.read_on t before (reading.Unended before)) (no_turn before unclosed held holds)
 
@@ -85,7 +85,7 @@ pub undecided : (input : List (Option ℕ)) (before : List RawLine) (unclosed : 
 undecided input before unclosed held leads holds =
     ap reading.reading_of (sym (append-nil input)) ∙ leads [] ∙ stands before unclosed held holds
 
-decided : (input : List (Option ℕ)) (r : reading.Reading) → Decides [] [] input r → reading.reading_of input ≡ r
+decided : (input : List (Option ℕ)) (r : reading.SourceReading) → Decides [] [] input r → reading.reading_of input ≡ r
 decided input r h = ap reading.reading_of (sym (append-nil input)) ∙ h []
 
 -- ---- a program that was read
@@ -108,7 +108,7 @@ module _ {F : Type 0} (text : F → Option Text) (faults : F → ℕ) (feeds fee
       → (result : Result AsmDone AsmFault)
       → MatchResult result (λ done. (done.flagged ≡ length flagged) × Gains old new (writes_of lines flagged))
       (StopsWriting old new (writes_of lines flagged))
-      → Runs text faults feeds feeds' old new result
+      → AsmRuns text faults feeds feeds' old new result
   runs_by lines flagged sources none given is (Ok done) h =
       (none, sources, given, writes_of lines flagged, length flagged, is, h)
   runs_by lines flagged sources none given is (Err (Write output)) h =
@@ -122,7 +122,7 @@ module _ {F : Type 0} (text : F → Option Text) (faults : F → ℕ) (feeds fee
   pub runs_of : (sources : List (List ℕ)) (held : Held) (p : Progress) → NoneFailed faults feeds feeds'
       → GiveAll text feeds sources → GoesTo [] [] (input_of sources) held p
       → (result : Result AsmDone AsmFault) → WritesProgram old new held p result
-      → Runs text faults feeds feeds' old new result
+      → AsmRuns text faults feeds feeds' old new result
   runs_of sources held p none given goes result h =
       let program = program_of sources held p goes in
       runs_by program.0 (flagged_lines p (reading.lines_in program.0)) sources none given program.2 result
@@ -130,7 +130,7 @@ module _ {F : Type 0} (text : F → Option Text) (faults : F → ℕ) (feeds fee
 
   -- what stopped the reading
   pub refused_of : (held : Held) (fault : AsmFault) → FailAt text faults feeds feeds' [] [] held fault
-      → Gains old new [] → Runs text faults feeds feeds' old new (Err fault)
+      → Gains old new [] → AsmRuns text faults feeds feeds' old new (Err fault)
   refused_of held Read h nothing =
       ((h.0, h.1, h.2, h.3, undecided (input_of h.0 ++ map (λ byte. Some byte) h.1) h.3 h.4 held h.5 h.6), nothing)
   refused_of held NoMemory h nothing = inl (h.0, nothing)

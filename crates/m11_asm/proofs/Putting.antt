@@ -37,9 +37,9 @@ module _ (output : AsmOutput) (a b : Option (List ℕ)) (f g : ℕ) (xs : List (
 
   -- some pieces put, and then more
   module _ (c : Option (List ℕ)) (i : ℕ) (ys : List (List ℕ)) (whole : Appends a b (joined xs)) (same : g ≡ f) where
-    pub stops_behind : (fault : AsmFault) → StopsPutting output b c g i ys fault
+    pub stops_after : (fault : AsmFault) → StopsPutting output b c g i ys fault
         → StopsPutting output a c f i (xs ++ ys) fault
-    stops_behind (Write failed) h = (
+    stops_after (Write failed) h = (
       h.0,
       rw same at h.1,
       xs ++ h.2,
@@ -50,19 +50,19 @@ module _ (output : AsmOutput) (a b : Option (List ℕ)) (f g : ℕ) (xs : List (
       rw (joined-append xs h.2, append_assoc (joined xs) (joined h.2) h.3)
           (Appends-Appends a b c (joined xs) (joined h.2 ++ h.3) whole h.7),
     )
-    stops_behind NoMemory h = (
+    stops_after NoMemory h = (
       h.0 ∙ same,
       xs ++ h.1,
       h.2,
       ap (λ (t : List (List ℕ)). xs ++ t) h.3 ∙ sym (append_assoc xs h.1 h.2),
       rw (joined-append xs h.1) (Appends-Appends a b c (joined xs) (joined h.1) whole h.4),
     )
-    stops_behind TooMuchSource h = absurd h
-    stops_behind NotYet h = absurd h
-    stops_behind Read h = absurd h
+    stops_after TooMuchSource h = absurd h
+    stops_after NotYet h = absurd h
+    stops_after Read h = absurd h
 
     pub puts_then : {A : Type 0} (result : Result A AsmFault) → Puts output b c g i ys result
         → Puts output a c f i (xs ++ ys) result
     puts_then (Ok done) h =
         (h.0 ∙ same, rw (joined-append xs ys) (Appends-Appends a b c (joined xs) (joined ys) whole h.1))
-    puts_then (Err fault) h = stops_behind fault h
+    puts_then (Err fault) h = stops_after fault h

@@ -1,4 +1,4 @@
--- How a reading goes on behind one more symbol of its input.
+-- How a reading goes on after one more symbol of its input.
 use Rattle.std.proofs.Common.{◌≡◌, ℕ, ◌+◌, ◌<◌, Bool, true, false, ltb, List, [], ◌∷◌, ◌++◌, length, map, Option, Some, refl, sym, ap, ◌∙◌, arith, inl, inr}
 use Rattle.std.specs.Prelude.{◌==◌}
 use Rattle.std.proofs.lemmas.Bool.{lt-ltb}
@@ -13,28 +13,28 @@ abbrev pub raw : List ℕ → Bool → RawLine
 raw bytes has_line_feed = record { bytes = bytes; has_line_feed = has_line_feed }
 
 -- bytes of one line before a cut
-abbrev pub behind : List ℕ → Cut → Cut
-behind [] c = c
-behind (byte ∷ bytes) c = in_front byte (behind bytes c).lines (behind bytes c).unclosed
+abbrev pub following : List ℕ → Cut → Cut
+following [] c = c
+following (byte ∷ bytes) c = in_front byte (following bytes c).lines (following bytes c).unclosed
 
-pub cut_behind : (bytes : List ℕ) (input : List (Option ℕ)) → HasNoLineFeed bytes
-    → cut (map (λ byte. Some byte) bytes ++ input) ≡ behind bytes (cut input)
-cut_behind [] input h = refl
-cut_behind (byte ∷ bytes) input h =
-    let e = cut_behind bytes input h.1 in
+pub cut_after : (bytes : List ℕ) (input : List (Option ℕ)) → HasNoLineFeed bytes
+    → cut (map (λ byte. Some byte) bytes ++ input) ≡ following bytes (cut input)
+cut_after [] input h = refl
+cut_after (byte ∷ bytes) input h =
+    let e = cut_after bytes input h.1 in
     rw h.0 (ap (λ (c : Cut). in_front byte c.lines c.unclosed) e)
 
-behind_line : (bytes : List ℕ) (line : RawLine) (lines : List RawLine) (unclosed : List ℕ)
-    → behind bytes (record { lines = line ∷ lines; unclosed = unclosed })
+after_line : (bytes : List ℕ) (line : RawLine) (lines : List RawLine) (unclosed : List ℕ)
+    → following bytes (record { lines = line ∷ lines; unclosed = unclosed })
     ≡ record { lines = raw (bytes ++ line.bytes) line.has_line_feed ∷ lines; unclosed = unclosed }
-behind_line [] line lines unclosed = refl
-behind_line (byte ∷ bytes) line lines unclosed =
-    ap (λ (c : Cut). in_front byte c.lines c.unclosed) (behind_line bytes line lines unclosed)
+after_line [] line lines unclosed = refl
+after_line (byte ∷ bytes) line lines unclosed =
+    ap (λ (c : Cut). in_front byte c.lines c.unclosed) (after_line bytes line lines unclosed)
 
-behind_none : (bytes unclosed : List ℕ)
-    → behind bytes (record { lines = []; unclosed = unclosed }) ≡ record { lines = []; unclosed = bytes ++ unclosed }
-behind_none [] unclosed = refl
-behind_none (byte ∷ bytes) unclosed = ap (λ (c : Cut). in_front byte c.lines c.unclosed) (behind_none bytes unclosed)
+after_none : (bytes unclosed : List ℕ)
+    → following bytes (record { lines = []; unclosed = unclosed }) ≡ record { lines = []; unclosed = bytes ++ unclosed }
+after_none [] unclosed = refl
+after_none (byte ∷ bytes) unclosed = ap (λ (c : Cut). in_front byte c.lines c.unclosed) (after_none bytes unclosed)
 
 -- ---- a byte that ends no line, and the end of a line
 
@@ -67,8 +67,8 @@ pub line_ends : (before : List RawLine) (unclosed : List ℕ) (symbol : Option �
 line_ends before unclosed symbol has_line_feed rest h e =
     let whole : cut (map (λ b. Some b) unclosed ++ symbol ∷ rest)
     ≡ record { lines = raw unclosed has_line_feed ∷ (cut rest).lines; unclosed = (cut rest).unclosed } =
-    cut_behind unclosed (symbol ∷ rest) h ∙ ap (behind unclosed) e
-    ∙ behind_line unclosed (raw [] has_line_feed) (cut rest).lines (cut rest).unclosed
+    cut_after unclosed (symbol ∷ rest) h ∙ ap (following unclosed) e
+    ∙ after_line unclosed (raw [] has_line_feed) (cut rest).lines (cut rest).unclosed
     ∙ ap (λ (bytes : List ℕ). record
     { lines = raw bytes has_line_feed ∷ (cut rest).lines; unclosed = (cut rest).unclosed }) (append_nil unclosed) in
     ap (λ (c : Cut). reading_from before c.lines c.unclosed) whole
@@ -97,18 +97,18 @@ unclosed_lines before unclosed some h = elim (either (ltb most_bytes (bytes_in b
   | inr within ↦ rw (within, some, lt-ltb most_lines (lines_in before + 1) h) refl
 ]
 
--- whatever comes behind these bytes, their line is refused
+-- whatever comes after these bytes, their line is refused
 refused_by_cut : (before : List RawLine) (unclosed : List ℕ)
     → ((more : List ℕ) → unclosed_turn before (unclosed ++ more) ≡ Refuses TooMuchSource)
     → ((more : List ℕ) (has_line_feed : Bool)
     → turn_at before (raw (unclosed ++ more) has_line_feed) ≡ Refuses TooMuchSource)
     → (lines : List RawLine) (more : List ℕ)
-    → reading_from before (behind unclosed (record { lines = lines; unclosed = more })).lines
-    (behind unclosed (record { lines = lines; unclosed = more })).unclosed ≡ Refused TooMuchSource
+    → reading_from before (following unclosed (record { lines = lines; unclosed = more })).lines
+    (following unclosed (record { lines = lines; unclosed = more })).unclosed ≡ Refused TooMuchSource
 refused_by_cut before unclosed open_refused line_refused [] more =
-    rw (behind_none unclosed more) (ap (λ (t : Turn). read_on t before (Unended before)) (open_refused more))
+    rw (after_none unclosed more) (ap (λ (t : Turn). read_on t before (Unended before)) (open_refused more))
 refused_by_cut before unclosed open_refused line_refused (line ∷ lines) more =
-    rw (behind_line unclosed line lines more)
+    rw (after_line unclosed line lines more)
     (ap (λ (t : Turn). read_on t before
     (reading_from (before ++ raw (unclosed ++ line.bytes) line.has_line_feed ∷ []) lines more))
     (line_refused line.bytes line.has_line_feed))
@@ -119,7 +119,7 @@ refused_at : (before : List RawLine) (unclosed : List ℕ) (rest : List (Option 
     → turn_at before (raw (unclosed ++ more) has_line_feed) ≡ Refuses TooMuchSource)
     → reading_at before unclosed rest ≡ Refused TooMuchSource
 refused_at before unclosed rest h open_refused line_refused =
-    ap (λ (c : Cut). reading_from before c.lines c.unclosed) (cut_behind unclosed rest h)
+    ap (λ (c : Cut). reading_from before c.lines c.unclosed) (cut_after unclosed rest h)
     ∙ refused_by_cut before unclosed open_refused line_refused (cut rest).lines (cut rest).unclosed
 
 too_many_bytes : (before : List RawLine) (unclosed : List ℕ) (rest : List (Option ℕ)) → HasNoLineFeed unclosed

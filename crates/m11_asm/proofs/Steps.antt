@@ -8,7 +8,7 @@ use Rattle.m11_asm.specs.declared.fault.AsmFault.TheVariants.{TooMuchSource, Not
 use Rattle.m11_asm.specs.declared.reading.Progress.{Progress}
 use Rattle.m11_asm.specs.declared.reading.Progress.TheVariants as progress
 use Rattle.m11_asm.specs.Lines.{RawLine, cut, closed_by, cleaned, as_read, is_empty, is_line, line_text, size_of, without_return}
-use Rattle.m11_asm.specs.Statements.{statement_of, words_of}
+use Rattle.m11_asm.specs.Statement.{statement_of, words_of}
 use Rattle.m11_asm.specs.Reading.{Refused, Turn, GoesOn, Ends, Refuses, turn_at, line_turn, read_on, bytes_in, lines_in, most_bytes, most_lines}
 use Rattle.m11_asm.specs.Placement.{words_in, line_words, place_after, section_size}
 use Rattle.m11_asm.specs.Held.{Held, Holds, reading_at, Decides, GoesTo, StopsAt, TakesLine, with_line}
@@ -89,7 +89,7 @@ module _ (before : List RawLine) (unclosed : List ℕ) (old : Held) (holds : Hol
   leads_by turn e rest = line_ends before unclosed symbol has_line_feed rest holds.in_line (closes rest)
       ∙ ap (λ (t : Turn). read_on t before (reading_at (before ++ raw unclosed has_line_feed ∷ []) [] rest)) e
 
-  -- what is held behind the line
+  -- what is held after the line
   module _ (text : List ℕ) (bytes : ℕ) (is : is_line (raw unclosed has_line_feed) ≡ true)
       (text-is : text ≡ line_text (raw unclosed has_line_feed))
       (bytes-are : bytes ≡ old.bytes + cond has_line_feed 1 0) (few : bytes ≤ most_bytes)
@@ -118,9 +118,9 @@ module _ (before : List RawLine) (unclosed : List ℕ) (old : Held) (holds : Hol
         ap (λ (b : Bool). cond {A = ℕ} b 1 0) is in
         omega (arith, holds.program.lines-is, lines_in-push before (raw unclosed has_line_feed))
 
-    holds_behind : Holds (before ++ raw unclosed has_line_feed ∷ []) []
+    holds_after : Holds (before ++ raw unclosed has_line_feed ∷ []) []
         (with_line (record old { line = text; bytes = bytes }))
-    holds_behind = record {
+    holds_after = record {
       bytes-is = omega (arith, holds.bytes-is, bytes_in-push before (raw unclosed has_line_feed));
       line-is = refl;
       in_line = tt;
@@ -134,7 +134,7 @@ module _ (before : List RawLine) (unclosed : List ℕ) (old : Held) (holds : Hol
         → TakesLine (record old { line = text; bytes = bytes }) new result
         → MatchResult result (GoesTo before unclosed (symbol ∷ []) new) (StopsAt before unclosed (symbol ∷ []))
     takes_line new (Ok progress.GoesOn) h =
-        (before ++ raw unclosed has_line_feed ∷ [], [], leads_by GoesOn (says ∙ h.0), rw h.1 holds_behind)
+        (before ++ raw unclosed has_line_feed ∷ [], [], leads_by GoesOn (says ∙ h.0), rw h.1 holds_after)
     takes_line new (Ok progress.Ended) h = (
       before,
       leads_by Ends (says ∙ h.0),
@@ -151,7 +151,7 @@ module _ (before : List RawLine) (unclosed : List ℕ) (old : Held) (holds : Hol
     takes_line new (Err Read) h = absurd h
     takes_line new (Err (Write output)) h = absurd h
 
--- the end of a source behind a line feed: no line
+-- the end of a source after a line feed: no line
 module _ (before : List RawLine) (unclosed : List ℕ) (old : Held) (holds : Holds before unclosed old)
     (empty : old.line ≡ []) where
   nothing_read : cleaned unclosed ≡ []

@@ -1,4 +1,4 @@
--- Texts cut at places, from the front and from behind.
+-- Texts cut at places, from the front and from after.
 use Rattle.std.proofs.Common.{◌≡◌, ℕ, zero, suc, ◌<◌, Bool, true, false, not, cond, List, [], ◌∷◌, ◌++◌, length, take, drop, map, Option, Some, None, refl, sym, ap, ◌∙◌, arith, inl, inr, add-one, ◌⊎◌}
 use Rattle.std.specs.Prelude.{position, unwrap_or, ◌==◌, ◌&&◌}
 use Rattle.std.specs.List.{position_or_len, list_all}
@@ -8,7 +8,7 @@ use Rattle.std.proofs.lemmas.List.Folds.{length-prefix_len}
 use Rattle.std.proofs.lemmas.List.{drop-drop, length-drop}
 use Rattle.m11_asm.specs.Lines.{is_empty, without_return}
 use Rattle.m11_base.specs.Mnemonics.{folded, is_name_character}
-use Rattle.m11_asm.specs.Statements.{elements_of, onto_first, is_blank, without_blanks_behind, statement_in, directive_of}
+use Rattle.m11_asm.specs.Statement.{elements_of, onto_first, is_blank, without_blanks_after, statement_in, directive_of}
 use Rattle.std.proofs.Math.Bool.{and-false}
 
 -- a place that was found
@@ -46,9 +46,9 @@ place_at_comma : (byte : ℕ) (text : List ℕ) → (byte == 44) ≡ true
     → position_or_len (λ byte'. byte' == 44) (byte ∷ text) ≡ 0
 place_at_comma byte text e = rw e refl
 
-place_behind : (byte : ℕ) (text : List ℕ) → (byte == 44) ≡ false
+place_past : (byte : ℕ) (text : List ℕ) → (byte == 44) ≡ false
     → position_or_len (λ byte'. byte' == 44) (byte ∷ text) ≡ suc (position_or_len (λ byte'. byte' == 44) text)
-place_behind byte text e = rw e (omega arith)
+place_past byte text e = rw e (omega arith)
 
 elements-comma : (byte : ℕ) (text : List ℕ) → (byte == 44) ≡ true → elements_of (byte ∷ text) ≡ [] ∷ elements_of text
 elements-comma byte text e = rw e refl
@@ -63,7 +63,7 @@ elements_at [] n e h = absurd (omega arith)
 elements_at (byte ∷ text) n e h = elim (either (byte == 44)) [
   | inl comma ↦ let start : 0 ≡ n = sym (place_at_comma byte text comma) ∙ e in
       rw (← start) (elements-comma byte text comma)
-  | inr other ↦ let next : suc (position_or_len (λ byte'. byte' == 44) text) ≡ n = sym (place_behind byte text other)
+  | inr other ↦ let next : suc (position_or_len (λ byte'. byte' == 44) text) ≡ n = sym (place_past byte text other)
       ∙ e in
       rw (← next) (elements-other byte text other
       ∙ ap (onto_first byte) (elements_at text (position_or_len (λ byte'. byte' == 44) text) refl (omega arith)))
@@ -78,26 +78,26 @@ elements_alone : (text : List ℕ) → position_or_len (λ byte. byte == 44) tex
 elements_alone [] e = refl
 elements_alone (byte ∷ text) e = elim (either (byte == 44)) [
   | inl comma ↦ let start = place_at_comma byte text comma in absurd (omega arith)
-  | inr other ↦ let next = place_behind byte text other in
+  | inr other ↦ let next = place_past byte text other in
       elements-other byte text other ∙ ap (onto_first byte) (elements_alone text (omega arith))
 ]
 
 pub elements_without : (text : List ℕ) → None ≡ position (λ byte. byte == 44) text → elements_of text ≡ text ∷ []
 elements_without text e = elements_alone text (not_found (λ byte. byte == 44) text (sym e))
 
-pub elements_split : (text front back behind : List ℕ) (n : ℕ) → Some n ≡ position (λ byte. byte == 44) text
-    → front ≡ take n text → back ≡ drop n text → behind ≡ drop 1 back
-    → (elements_of text ≡ front ∷ elements_of behind) × (length behind < length text)
-elements_split text front back behind n e f b h =
+pub elements_split : (text front back following : List ℕ) (n : ℕ) → Some n ≡ position (λ byte. byte == 44) text
+    → front ≡ take n text → back ≡ drop n text → following ≡ drop 1 back
+    → (elements_of text ≡ front ∷ elements_of following) × (length following < length text)
+elements_split text front back following n e f b h =
     let place = found (λ byte. byte == 44) text n (sym e) in
-    let behind-is : behind ≡ drop (suc n) text =
+    let after-is : following ≡ drop (suc n) text =
     h ∙ ap (drop 1) b ∙ drop-drop 1 n text ∙ ap (λ k. drop k text) (add-one n) in (
       elements_with text n e ∙ ap (λ (t : List ℕ). t ∷ elements_of (drop (suc n) text)) (sym f)
-          ∙ ap (λ (t : List ℕ). front ∷ elements_of t) (sym behind-is),
-      rw behind-is (omega (arith, length-drop (suc n) text, place.1)),
+          ∙ ap (λ (t : List ℕ). front ∷ elements_of t) (sym after-is),
+      rw after-is (omega (arith, length-drop (suc n) text, place.1)),
     )
 
--- blanks behind a text
+-- blanks after a text
 and-true : (b : Bool) → (b && true) ≡ b
 and-true true = refl
 and-true false = refl
@@ -111,20 +111,20 @@ not_all : (text : List ℕ) (last : ℕ) → is_blank last ≡ false → list_al
 not_all [] last e = and-true (is_blank last) ∙ e
 not_all (byte ∷ text) last e = ap (λ b. is_blank byte && b) (not_all text last e) ∙ and-false (is_blank byte)
 
-pub blank_behind : (head : List ℕ) (last : ℕ) → is_blank last ≡ true
-    → without_blanks_behind (head ++ last ∷ []) ≡ without_blanks_behind head
-blank_behind [] last e = ap (λ b. cond b [] (last ∷ [])) (and-true (is_blank last) ∙ e)
-blank_behind (byte ∷ head) last e =
-    ap (λ b. cond (is_blank byte && b) [] (byte ∷ without_blanks_behind (head ++ last ∷ [])))
+pub blank_after : (head : List ℕ) (last : ℕ) → is_blank last ≡ true
+    → without_blanks_after (head ++ last ∷ []) ≡ without_blanks_after head
+blank_after [] last e = ap (λ b. cond b [] (last ∷ [])) (and-true (is_blank last) ∙ e)
+blank_after (byte ∷ head) last e =
+    ap (λ b. cond (is_blank byte && b) [] (byte ∷ without_blanks_after (head ++ last ∷ [])))
     (all_with_blank head last e)
-    ∙ ap (λ (t : List ℕ). cond (is_blank byte && list_all is_blank head) [] (byte ∷ t)) (blank_behind head last e)
+    ∙ ap (λ (t : List ℕ). cond (is_blank byte && list_all is_blank head) [] (byte ∷ t)) (blank_after head last e)
 
-pub other_behind : (head : List ℕ) (last : ℕ) → is_blank last ≡ false
-    → without_blanks_behind (head ++ last ∷ []) ≡ head ++ last ∷ []
-other_behind [] last e = ap (λ b. cond b [] (last ∷ [])) (and-true (is_blank last) ∙ e)
-other_behind (byte ∷ head) last e =
-    ap (λ b. cond b [] (byte ∷ without_blanks_behind (head ++ last ∷ []))) (not_all (byte ∷ head) last e)
-    ∙ ap (λ (t : List ℕ). byte ∷ t) (other_behind head last e)
+pub other_after : (head : List ℕ) (last : ℕ) → is_blank last ≡ false
+    → without_blanks_after (head ++ last ∷ []) ≡ head ++ last ∷ []
+other_after [] last e = ap (λ b. cond b [] (last ∷ [])) (and-true (is_blank last) ∙ e)
+other_after (byte ∷ head) last e =
+    ap (λ b. cond b [] (byte ∷ without_blanks_after (head ++ last ∷ []))) (not_all (byte ∷ head) last e)
+    ∙ ap (λ (t : List ℕ). byte ∷ t) (other_after head last e)
 
 -- a text that isn't empty begins with an operator
 pub statement_with : (text : List ℕ) → 0 < length text → (n : ℕ)
@@ -137,22 +137,22 @@ statement_with (byte ∷ text) h n e =
     (drop k (byte ∷ text))) (length-prefix_len (λ b. not (not (is_name_character b))) (byte ∷ text)))
 
 module _ (text front head : List ℕ) (last : ℕ) (parts : front ≡ head ++ last ∷ [])
-    (so_far : without_blanks_behind front ≡ without_blanks_behind text) where
-  pub front_is_all : is_blank last ≡ false → front ≡ without_blanks_behind text
-  front_is_all e = parts ∙ sym (other_behind head last e) ∙ ap without_blanks_behind (sym parts) ∙ so_far
+    (so_far : without_blanks_after front ≡ without_blanks_after text) where
+  pub front_is_all : is_blank last ≡ false → front ≡ without_blanks_after text
+  front_is_all e = parts ∙ sym (other_after head last e) ∙ ap without_blanks_after (sym parts) ∙ so_far
 
-  pub head_is_enough : is_blank last ≡ true → without_blanks_behind head ≡ without_blanks_behind text
-  head_is_enough e = sym (blank_behind head last e) ∙ ap without_blanks_behind (sym parts) ∙ so_far
+  pub head_is_enough : is_blank last ≡ true → without_blanks_after head ≡ without_blanks_after text
+  head_is_enough e = sym (blank_after head last e) ∙ ap without_blanks_after (sym parts) ∙ so_far
 
--- a carriage return behind a line
+-- a carriage return after a line
 nonempty_push : (xs : List ℕ) (x : ℕ) → is_empty (xs ++ x ∷ []) ≡ false
 nonempty_push [] x = refl
 nonempty_push (y ∷ xs) x = refl
 
-return_behind : (front : List ℕ) (last : ℕ) → (last == 13) ≡ true → without_return (front ++ last ∷ []) ≡ front
-return_behind [] last e = rw e refl
-return_behind (byte ∷ front) last e =
-    rw (nonempty_push front last) (ap (λ (t : List ℕ). byte ∷ t) (return_behind front last e))
+return_after : (front : List ℕ) (last : ℕ) → (last == 13) ≡ true → without_return (front ++ last ∷ []) ≡ front
+return_after [] last e = rw e refl
+return_after (byte ∷ front) last e =
+    rw (nonempty_push front last) (ap (λ (t : List ℕ). byte ∷ t) (return_after front last e))
 
 other_end : (front : List ℕ) (last : ℕ) → (last == 13) ≡ false
     → without_return (front ++ last ∷ []) ≡ front ++ last ∷ []
@@ -169,7 +169,7 @@ take_front (x ∷ front) last = ap (λ (t : List ℕ). x ∷ t) (take_front fron
 
 pub without_last : (line front : List ℕ) (last : ℕ) → line ≡ front ++ last ∷ [] → (last == 13) ≡ true
     → take (length front) line ≡ without_return line
-without_last line front last e r = rw e (take_front front last ∙ sym (return_behind front last r))
+without_last line front last e r = rw e (take_front front last ∙ sym (return_after front last r))
 
 pub with_last : (line front : List ℕ) (last : ℕ) → line ≡ front ++ last ∷ [] → (last == 13) ≡ false
     → take (length line) line ≡ without_return line

@@ -12,7 +12,7 @@ use Rattle.m11_asm.specs.declared.object.LastText.TheVariants as last
 use Rattle.m11_asm.specs.declared.reading.Progress.{Progress}
 use Rattle.m11_asm.specs.declared.run.AsmDone.{AsmDone}
 use Rattle.m11_asm.specs.Lines.{RawLine}
-use Rattle.m11_asm.specs.Placement.{Piece, line_words, words_in, bytes_placed, place_after, pieces_at, pieces_behind, pieces_of, section_size}
+use Rattle.m11_asm.specs.Placement.{Piece, line_words, words_in, bytes_placed, place_after, pieces_at, pieces_after, pieces_of, section_size}
 use Rattle.m11_asm.specs.Object.{Placed, head, texts_of, text_contents, without_last, last_alone, has_none, contents_before_end, contents_at_end, content_block}
 use Rattle.m11_asm.specs.OpenText.{IsLast, last_contents}
 use Rattle.m11_asm.specs.Messages.{count_line}
@@ -43,16 +43,16 @@ pieces_at-append p (x ∷ xs) ys h =
     (pieces_at-append ((p + 2) % 65536) xs ys (below (p + 2))
     ∙ ap (λ q. pieces_at ((p + 2) % 65536) xs ++ pieces_at q ys) (wraps p (length xs)))
 
-place_behind : (before : List RawLine) (line : RawLine)
+place_past : (before : List RawLine) (line : RawLine)
     → place_after (before ++ line ∷ []) ≡ (place_after before + 2 * length (line_words line)) % 65536
-place_behind before line = omega (arith, sum_by-append bytes_placed before (line ∷ []))
+place_past before line = omega (arith, sum_by-append bytes_placed before (line ∷ []))
 
 pieces_of_words : (before lines : List RawLine)
-    → pieces_behind before lines ≡ pieces_at (place_after before) (words_in lines)
+    → pieces_after before lines ≡ pieces_at (place_after before) (words_in lines)
 pieces_of_words before [] = refl
 pieces_of_words before (line ∷ lines) =
     ap (λ (t : List Piece). pieces_at (place_after before) (line_words line) ++ t)
-    (pieces_of_words (before ++ line ∷ []) lines ∙ ap (λ q. pieces_at q (words_in lines)) (place_behind before line))
+    (pieces_of_words (before ++ line ∷ []) lines ∙ ap (λ q. pieces_at q (words_in lines)) (place_past before line))
     ∙ sym (pieces_at-append (place_after before) (line_words line) (words_in lines)
     (below (sum_by bytes_placed before)))
 
@@ -93,7 +93,7 @@ module _ (lines : List RawLine) (held : Held) (is : IsProgram lines held) where
       → flagged_lines progress held.lines ≡ flagged_lines progress (reading.lines_in lines)
   flagged_are progress = ap (flagged_lines progress) is.lines-is
 
--- the same, where the code has told its parts
+-- the same, where the code has reported its parts
 module _ (lines : List RawLine) (held : Held) (is : IsProgram lines held) (a b : Option (List ℕ)) where
   fronts : (size : ℕ) (words : List ℕ) → size ≡ held.size → words ≡ held.words
       → map content_block (head size)

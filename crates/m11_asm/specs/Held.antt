@@ -10,7 +10,7 @@ use Rattle.m11_base.specs.Feed.{Text, HasBytes, BeginsWith, GiveAll, NoneFailed,
 use Rattle.m11_asm.specs.Lines.{RawLine, cleaned, cut, input_of}
 use Rattle.m11_asm.specs.Reading as reading
 use Rattle.m11_asm.specs.Placement.{words_in, section_size}
-use Rattle.m11_asm.specs.Statements.{statement_of, words_of}
+use Rattle.m11_asm.specs.Statement.{statement_of, words_of}
 
 -- what is held: the line so far, the counts of bytes and lines, the words and the size so far
 pub record Held : Type 0 where
@@ -30,7 +30,7 @@ abbrev pub HasNoLineFeed : List ℕ → Type 0
 HasNoLineFeed [] = ⊤
 HasNoLineFeed (byte ∷ bytes) = ((byte == 10) ≡ false) × HasNoLineFeed bytes
 
--- it stands behind these lines and these bytes of one more, and no limit has been passed
+-- it stands after these lines and these bytes of one more, and no limit has been passed
 pub record Holds (before : List RawLine) (unclosed : List ℕ) (held : Held) : Type 0 where
   pub bytes-is : held.bytes ≡ reading.bytes_in before + length unclosed
   pub line-is : held.line ≡ cleaned unclosed
@@ -40,8 +40,8 @@ pub record Holds (before : List RawLine) (unclosed : List ℕ) (held : Held) : T
   pub room_for_line : 0 < length (cleaned unclosed) → held.lines < reading.most_lines
   pub program : IsProgram before held
 
--- the reading of an input behind lines and bytes of one more
-abbrev pub reading_at : List RawLine → List ℕ → List (Option ℕ) → reading.Reading
+-- the reading of an input after lines and bytes of one more
+abbrev pub reading_at : List RawLine → List ℕ → List (Option ℕ) → reading.SourceReading
 reading_at before unclosed input =
     let c = cut (map (λ byte. Some byte) unclosed ++ input) in
     reading.reading_from before c.lines c.unclosed
@@ -52,7 +52,7 @@ Leads before unclosed input before' unclosed' =
     (rest : List (Option ℕ)) → reading_at before unclosed (input ++ rest) ≡ reading_at before' unclosed' rest
 
 -- an input decides the reading, whatever follows it
-abbrev pub Decides : List RawLine → List ℕ → List (Option ℕ) → reading.Reading → Type 0
+abbrev pub Decides : List RawLine → List ℕ → List (Option ℕ) → reading.SourceReading → Type 0
 Decides before unclosed input decided =
     (rest : List (Option ℕ)) → reading_at before unclosed (input ++ rest) ≡ decided
 
@@ -69,15 +69,15 @@ StopsAt before unclosed input TooMuchSource = Decides before unclosed input (rea
 StopsAt before unclosed input NotYet = Decides before unclosed input (reading.Refused NotYet)
 StopsAt before unclosed input _ = ⊥
 
-abbrev pub Takes : Held → Held → List (Option ℕ) → Result Progress AsmFault → Type 0
-Takes old new input result = (before : List RawLine) (unclosed : List ℕ) → Holds before unclosed old
+abbrev pub HeldTakes : Held → Held → List (Option ℕ) → Result Progress AsmFault → Type 0
+HeldTakes old new input result = (before : List RawLine) (unclosed : List ℕ) → Holds before unclosed old
     → MatchResult result (GoesTo before unclosed input new) (StopsAt before unclosed input)
 
 -- all that comes of a source
 abbrev pub symbols : List ℕ → List (Option ℕ)
 symbols source = map (λ byte. Some byte) source ++ None ∷ []
 
--- what the reading of a source came to, of a feed with this text and this count of failures
+-- what the reading of a source yielded, of a feed with this text and this count of failures
 abbrev pub FailsAt : Option Text → ℕ → ℕ → List RawLine → List ℕ → Held → AsmFault → Type 0
 FailsAt text faults faults' before unclosed held Read =
     (beginning : List ℕ) × BeginsWith text beginning × Rises faults faults'
@@ -112,7 +112,7 @@ ReadsSources text faults feeds feeds' old new result =
     × GoesTo before unclosed (input_of sources) new progress)
     (FailAt text faults feeds feeds' before unclosed new)
 
--- what is held behind one more line, the held one, and what the line is
+-- what is held after one more line, the held one, and what the line is
 abbrev pub with_line : Held → Held
 with_line held =
     let words = held.words ++ words_of (statement_of held.line) in

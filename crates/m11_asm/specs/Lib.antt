@@ -1,4 +1,4 @@
-pub mod Faults
+pub mod Fault
 pub mod Held
 pub mod Lines
 pub mod Messages
@@ -11,5 +11,5 @@ pub mod Program
 pub mod ReaderView
 pub mod Reading
 pub mod Run
-pub mod Statements
+pub mod Statement
 pub mod Writes

@@ -3,7 +3,7 @@
 use Rattle.std.specs.Prelude.{ℕ, ◌+◌, Bool, true, false, not, ◌||◌, ◌&&◌, ◌==◌, if◌then◌else◌, List, [], ◌∷◌, ◌++◌, length, map, filter, Option, Some, None}
 use Rattle.std.specs.List.{flat_map}
 
--- what comes of sources, in order: their bytes, and behind each source its end
+-- what comes of sources, in order: their bytes, and after each source its end
 abbrev pub input_of : List (List ℕ) → List (Option ℕ)
 input_of sources = flat_map (λ source. map (λ byte. Some byte) source ++ None ∷ []) sources
 
@@ -12,7 +12,7 @@ pub record RawLine : Type 0 where
   pub bytes : List ℕ
   pub has_line_feed : Bool
 
--- an input cut at its line feeds and at the ends of its sources; what stands behind the last of
+-- an input cut at its line feeds and at the ends of its sources; what stands after the last of
 -- them is not closed
 pub record Cut : Type 0 where
   pub lines : List RawLine

@@ -1,4 +1,4 @@
--- What an assembly tells of flagged lines. (This project's own.)
+-- What an assembly says of flagged lines. (This project's own.)
 use Rattle.std.specs.Prelude.{ℕ, List, [], ◌∷◌, ◌++◌, codes}
 use Rattle.std.specs.Fmt.{decimal}
 use Rattle.m11_base.specs.Blanks.{without_last_blanks}

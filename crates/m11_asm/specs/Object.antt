@@ -30,8 +30,8 @@ blank_name = name_in_words (codes "      ")
 -- octal 104: GBL and OVR, and ABS by its clear bit; octal 40: REL, and LCL and CON by their clear bits
 abbrev pub directory : ℕ → List GsdEntry
 directory size = record { name = main_name; flags = 0; kind = ModuleName; value = 0 }
-    ∷ record { name = absolute_name; flags = 68; kind = ProgramSection; value = 0 }
-    ∷ record { name = blank_name; flags = 32; kind = ProgramSection; value = size }
+    ∷ record { name = absolute_name; flags = 0o104; kind = ProgramSection; value = 0 }
+    ∷ record { name = blank_name; flags = 0o40; kind = ProgramSection; value = size }
     ∷ record { name = absolute_name; flags = 0; kind = TransferAddress; value = 1 } ∷ []
 
 -- at most 15 entries a record
@@ -50,7 +50,7 @@ pub record Placed : Type 0 where
   pub place : ℕ
   pub bytes : List ℕ
 
--- pieces stand from a place on, each directly behind the one before it; place 000000 doesn't follow 177777
+-- pieces stand from a place on, each directly after the one before it; place 000000 doesn't follow 177777
 abbrev pub stand_from : ℕ → List Piece → Bool
 stand_from place [] = true
 stand_from place (piece ∷ pieces) = (piece.place == place) && stand_from (place + 2) pieces
@@ -69,13 +69,13 @@ abbrev pub text_of_front : List Piece → Placed
 text_of_front [] = record { place = 0; bytes = [] }
 text_of_front (first ∷ rest) = record { place = first.place; bytes = bytes_of (first ∷ rest) }
 
--- the longest beginning of the pieces, of at most so many of them, that one text can hold
+-- the longest beginning of the pieces, of at most n of them, that one text can hold
 abbrev pub longest_front : ℕ → List Piece → List Piece
 longest_front zero pieces = []
 longest_front (suc most) pieces =
     if are_one_text (take (suc most) pieces) then take (suc most) pieces else longest_front most pieces
 
--- each text is that of the longest beginning of the pieces that are left; at most so many texts
+-- each text is that of the longest beginning of the pieces that are left; at most n texts
 abbrev pub texts_by : ℕ → List Piece → List Placed
 texts_by zero pieces = []
 texts_by (suc most) [] = []
@@ -104,27 +104,27 @@ text_contents false (text ∷ texts) = text_content text ∷ text_contents false
 
 -- ---- the last text is written when no more pieces can come
 
-abbrev pub without_last_behind : Placed → List Placed → List Placed
-without_last_behind text [] = []
-without_last_behind text (next ∷ texts) = text ∷ without_last_behind next texts
+abbrev pub without_last_after : Placed → List Placed → List Placed
+without_last_after text [] = []
+without_last_after text (next ∷ texts) = text ∷ without_last_after next texts
 
 abbrev pub without_last : List Placed → List Placed
 without_last [] = []
-without_last (text ∷ texts) = without_last_behind text texts
+without_last (text ∷ texts) = without_last_after text texts
 
-abbrev pub last_behind : Placed → List Placed → List Placed
-last_behind text [] = text ∷ []
-last_behind text (next ∷ texts) = last_behind next texts
+abbrev pub last_after : Placed → List Placed → List Placed
+last_after text [] = text ∷ []
+last_after text (next ∷ texts) = last_after next texts
 
 abbrev pub last_alone : List Placed → List Placed
 last_alone [] = []
-last_alone (text ∷ texts) = last_behind text texts
+last_alone (text ∷ texts) = last_after text texts
 
 abbrev pub has_none : List Placed → Bool
 has_none [] = true
 has_none (text ∷ texts) = false
 
--- the contents before the end of the source, and those behind it
+-- the contents before the end of the source, and those after it
 abbrev pub contents_before_end : List RawLine → List Content
 contents_before_end lines =
     head (section_size lines) ++ text_contents true (without_last (texts_of (pieces_of lines)))

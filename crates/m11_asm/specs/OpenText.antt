@@ -23,7 +23,7 @@ abbrev pub takes_in : Placed → Piece → Bool
 takes_in text piece = (piece.place == text.place + length text.bytes)
     && nat_le (length text.bytes + length (word_bytes piece.word)) 32
 
--- the texts of an open one and the pieces behind it; these are the longest ones (proofs/LongestFronts.antt)
+-- the texts of an open one and the pieces after it; these are the longest ones (proofs/LongestFronts.antt)
 abbrev pub texts_from : Placed → List Piece → List Placed
 texts_from text [] = text ∷ []
 texts_from text (piece ∷ pieces) =
@@ -32,7 +32,7 @@ texts_from text (piece ∷ pieces) =
 abbrev pub placed_of : OpenText → Placed
 placed_of t = record { place = t.place; bytes = t.bytes.items }
 
--- a word was added to the open text, or to a new one behind it
+-- a word was added to the open text, or to a new one after it
 abbrev pub AddsWord : Option (List ℕ) → Option (List ℕ) → ℕ → ℕ → Placed → Placed → Bool → Piece → Result Bool AsmFault
     → Type 0
 AddsWord old new faults faults' text text' is_first piece (Ok is_first') = (faults' ≡ faults) × (more : List Placed)

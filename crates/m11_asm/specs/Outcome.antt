@@ -21,7 +21,7 @@ writes_of lines flagged = map to_object (map content_block (contents_before_end 
 abbrev pub missing_end : List RawLine → List ℕ
 missing_end lines = flagged_line (codes "E") (reading.lines_in lines) []
 
-abbrev pub outcome_of_reading : reading.Reading → Outcome
+abbrev pub outcome_of_reading : reading.SourceReading → Outcome
 outcome_of_reading (reading.Refused fault) = Refuses fault
 outcome_of_reading (reading.Ended lines) = Writes (writes_of lines []) 0
 outcome_of_reading (reading.Unended lines) = Writes (writes_of lines (missing_end lines ∷ [])) 1

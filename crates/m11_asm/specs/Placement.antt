@@ -4,7 +4,7 @@
 use Rattle.std.specs.Prelude.{ℕ, ◌+◌, ◌*◌, ◌%◌, max, List, [], ◌∷◌, ◌++◌, length, sum_by}
 use Rattle.std.specs.List.{flat_map}
 use Rattle.m11_asm.specs.Lines.{RawLine, line_text}
-use Rattle.m11_asm.specs.Statements.{statement_of, words_of}
+use Rattle.m11_asm.specs.Statement.{statement_of, words_of}
 
 -- the words of a line, and of lines
 abbrev pub line_words : RawLine → List ℕ
@@ -17,7 +17,7 @@ words_in lines = flat_map line_words lines
 abbrev pub bytes_placed : RawLine → ℕ
 bytes_placed line = 2 * length (line_words line)
 
--- the counter behind lines that begin at 0
+-- the counter after lines that begin at 0
 abbrev pub place_after : List RawLine → ℕ
 place_after lines = sum_by bytes_placed lines % 65536
 
@@ -43,10 +43,10 @@ pieces_at place (word ∷ words) =
     record { place = place; word = word } ∷ pieces_at ((place + 2) % 65536) words
 
 -- the pieces of lines, other lines standing before them
-abbrev pub pieces_behind : List RawLine → List RawLine → List Piece
-pieces_behind before [] = []
-pieces_behind before (line ∷ lines) =
-    pieces_at (place_after before) (line_words line) ++ pieces_behind (before ++ line ∷ []) lines
+abbrev pub pieces_after : List RawLine → List RawLine → List Piece
+pieces_after before [] = []
+pieces_after before (line ∷ lines) =
+    pieces_at (place_after before) (line_words line) ++ pieces_after (before ++ line ∷ []) lines
 
 abbrev pub pieces_of : List RawLine → List Piece
-pieces_of lines = pieces_behind [] lines
+pieces_of lines = pieces_after [] lines

@@ -13,7 +13,7 @@ use Rattle.m11_asm.specs.Held.{Held, IsProgram}
 use Rattle.m11_asm.specs.Outcome.{writes_of}
 use Rattle.m11_asm.specs.Writes as writes
 
--- the messages of the flagged lines of a program of so many lines: that of a missing `.END`
+-- the messages of the flagged lines of a program of n lines: that of a missing `.END`
 abbrev pub flagged_lines : Progress → ℕ → List (List ℕ)
 flagged_lines GoesOn lines = flagged_line (codes "E") lines [] ∷ []
 flagged_lines Ended lines = []

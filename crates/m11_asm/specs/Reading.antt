@@ -1,11 +1,11 @@
--- What the lines of sources come to: a program, or the first refusal in the order of the input.
+-- What the lines of sources yield: a program, or the first refusal in the order of the input.
 -- (The limits, and what is refused because it is not assembled yet, are this project's own; that
 -- `.END` ends a program is the MACRO-11 Language Reference Manual's ".END directive".)
 use Rattle.std.specs.Prelude.{ℕ, ◌+◌, not, ◌&&◌, nat_lt, if◌then◌else◌, List, [], ◌∷◌, ◌++◌, length, sum_by, count_by, Option}
 use Rattle.m11_asm.specs.declared.fault.AsmFault.{AsmFault}
 use Rattle.m11_asm.specs.declared.fault.AsmFault.TheVariants.{TooMuchSource, NotYet}
 use Rattle.m11_asm.specs.Lines.{RawLine, cleaned, is_empty, is_line, line_text, size_of, cut}
-use Rattle.m11_asm.specs.Statements.{Statement, Blank, Words, End, Other, statement_of}
+use Rattle.m11_asm.specs.Statement.{Statement, Blank, Words, End, Other, statement_of}
 
 -- the most bytes of all sources together, the most lines, the most characters of a line
 abbrev pub most_bytes : ℕ
@@ -57,21 +57,21 @@ unclosed_turn before unclosed =
     then Refuses TooMuchSource else GoesOn)
 
 -- what was read: a refusal, or the lines before the `.END` line, or all lines where there was none
-pub data Reading : Type 0 where
-  Refused : AsmFault → Reading
-  Ended : List RawLine → Reading
-  Unended : List RawLine → Reading
+pub data SourceReading : Type 0 where
+  Refused : AsmFault → SourceReading
+  Ended : List RawLine → SourceReading
+  Unended : List RawLine → SourceReading
 
-abbrev pub read_on : Turn → List RawLine → Reading → Reading
+abbrev pub read_on : Turn → List RawLine → SourceReading → SourceReading
 read_on GoesOn before rest = rest
 read_on Ends before rest = Ended before
 read_on (Refuses fault) before rest = Refused fault
 
-abbrev pub reading_from : List RawLine → List RawLine → List ℕ → Reading
+abbrev pub reading_from : List RawLine → List RawLine → List ℕ → SourceReading
 reading_from before [] unclosed = read_on (unclosed_turn before unclosed) before (Unended before)
 reading_from before (line ∷ lines) unclosed =
     read_on (turn_at before line) before (reading_from (before ++ line ∷ []) lines unclosed)
 
 -- the reading of an input, and of whole sources
-abbrev pub reading_of : List (Option ℕ) → Reading
+abbrev pub reading_of : List (Option ℕ) → SourceReading
 reading_of input = reading_from [] (cut input).lines (cut input).unclosed

@@ -31,17 +31,17 @@ FailsReading text faults feeds feeds' = (sources : List (List ℕ)) × (beginnin
     × (reading.reading_of (input_of sources ++ map (λ byte. Some byte) beginning) ≡ reading.Unended lines)
 
 -- the run, by its result: all is written; or a failed reading or a refusal has written nothing; or a
--- write failed in its middle, and nothing was written behind it; or memory was refused between writes
-abbrev pub Runs : {F : Type 0} → (F → Option Text) → (F → ℕ) → List F → List F
+-- write failed in its middle, and nothing was written after it; or memory was refused between writes
+abbrev pub AsmRuns : {F : Type 0} → (F → Option Text) → (F → ℕ) → List F → List F
     → (AsmOutput → Option (List ℕ)) → (AsmOutput → Option (List ℕ)) → Result AsmDone AsmFault → Type 0
-Runs text faults feeds feeds' old new (Ok done) =
+AsmRuns text faults feeds feeds' old new (Ok done) =
     Finishes text faults feeds feeds' (λ all flagged. (done.flagged ≡ flagged) × writes.Gains old new all)
-Runs text faults feeds feeds' old new (Err (Write output)) =
+AsmRuns text faults feeds feeds' old new (Err (Write output)) =
     Finishes text faults feeds feeds' (λ all flagged. writes.StopsIn output old new all)
-Runs text faults feeds feeds' old new (Err Read) = FailsReading text faults feeds feeds' × writes.Gains old new []
-Runs text faults feeds feeds' old new (Err NoMemory) = (NoneFailed faults feeds feeds' × writes.Gains old new [])
+AsmRuns text faults feeds feeds' old new (Err Read) = FailsReading text faults feeds feeds' × writes.Gains old new []
+AsmRuns text faults feeds feeds' old new (Err NoMemory) = (NoneFailed faults feeds feeds' × writes.Gains old new [])
     ⊎ Finishes text faults feeds feeds' (λ all flagged. writes.StopsBetween old new all)
-Runs text faults feeds feeds' old new (Err fault) = Refuses text faults feeds feeds' fault × writes.Gains old new []
+AsmRuns text faults feeds feeds' old new (Err fault) = Refuses text faults feeds feeds' fault × writes.Gains old new []
 
 -- the counts of failures of the object and of the messages: one rises exactly where a write to it failed
 abbrev pub Counted : ℕ → ℕ → ℕ → ℕ → Result AsmDone AsmFault → Type 0

@@ -40,7 +40,7 @@ texts object listing messages Messages = messages
 abbrev pub Gains : (AsmOutput → Option (List ℕ)) → (AsmOutput → Option (List ℕ)) → List Write → Type 0
 Gains old new writes = (output : AsmOutput) → Appends (old output) (new output) (gained output writes)
 
--- all writes before one, and a beginning of that one, which is to this output; nothing behind it
+-- all writes before one, and a beginning of that one, which is to this output; nothing after it
 abbrev pub StopsIn : AsmOutput → (AsmOutput → Option (List ℕ)) → (AsmOutput → Option (List ℕ)) → List Write → Type 0
 StopsIn output old new all = (done : List Write) × (part : List ℕ) × (rest : List ℕ) × (more : List Write)
     × (all ≡ done ++ record { output = output; bytes = part ++ rest } ∷ more)

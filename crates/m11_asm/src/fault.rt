@@ -38,7 +38,7 @@ pub enum AsmFault {
 }
 
 impl AsmOutput {
-    ghost use Rattle.m11_asm.specs.Faults.{output_name};
+    ghost use Rattle.m11_asm.specs.Fault.{output_name};
 
     /// The name that the line of a write fault has for this output.
     pub fn name(self) -> &'static str
@@ -53,7 +53,7 @@ impl AsmOutput {
 }
 
 impl AsmFault {
-    ghost use Rattle.m11_asm.specs.Faults.{name_of, number_of};
+    ghost use Rattle.m11_asm.specs.Fault.{name_of, number_of};
 
     /// The fault's number, which its printed line shows.
     pub fn number(self) -> u8

@@ -1,11 +1,11 @@
-//! The lines that tell of flagged lines.
+//! The lines that report flagged lines.
 
 ghost use Rattle.std.specs.Prelude.{◌≡◌, [], ◌∷◌, codes, IfOk, string_bytes};
 ghost use Rattle.m11_asm.specs.Messages.{flagged_line, count_line};
 
 use std::alloc::{AllocError, Global};
 
-/// The line that tells of a missing `.END`: of an empty line, flagged E, behind the last one.
+/// The line that reports a missing `.END`: of an empty line, flagged E, after the last one.
 pub fn missing_end(alloc: Global, lines: u32) -> Result<String, AllocError>
     ensures { IfOk result (λ s. string_bytes s ≡ flagged_line (codes "E") lines []) }
 {

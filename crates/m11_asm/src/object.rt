@@ -100,7 +100,7 @@ fn blank_name() -> Name
     }
 }
 
-// What the directory says of a module whose blank section has so many bytes.
+// What the directory says of a module whose blank section has n bytes.
 fn directory(size: u16) -> [GsdEntry; 4]
     ensures { result ≡ directory size }
 {
@@ -163,7 +163,7 @@ pub fn put_texts<S: Sink>(
 }
 
 // Adds a word at a place to the open text, or puts that text and opens another one with the word.
-// Answers whether the open text is still the first.
+// Returns whether the open text is still the first.
 fn add_word<S: Sink>(
     alloc: Global,
     object: &mut S,

@@ -2,7 +2,7 @@
 
 ghost use Rattle.std.specs.Prelude.{◌≡◌, ◌∷◌, [], Some, None, ◌<◌, ◌≤◌, vec_len, take};
 ghost use Rattle.m11_asm.specs.Lines.{as_read, without_return};
-ghost use Rattle.m11_asm.specs.Held.{Takes, TakesLine};
+ghost use Rattle.m11_asm.specs.Held.{HeldTakes, TakesLine};
 
 use crate::fault::AsmFault;
 use crate::statement::{Statement, parse};
@@ -78,7 +78,7 @@ impl Reader {
 
     /// Takes one byte of a source.
     pub fn take_byte(&mut self, byte: u8) -> Result<Progress, AsmFault>
-        ensures { Takes (held_of self.old) (held_of self.new) (Some byte ∷ []) result }
+        ensures { HeldTakes (held_of self.old) (held_of self.new) (Some byte ∷ []) result }
     {
         if self.bytes == MOST_BYTES {
             return Err(AsmFault::TooMuchSource);
@@ -101,7 +101,7 @@ impl Reader {
 
     /// Takes the end of a source.
     pub fn take_end(&mut self) -> Result<Progress, AsmFault>
-        ensures { Takes (held_of self.old) (held_of self.new) (None ∷ []) result }
+        ensures { HeldTakes (held_of self.old) (held_of self.new) (None ∷ []) result }
     {
         if self.line.as_slice().is_empty() {
             return Ok(Progress::GoesOn);

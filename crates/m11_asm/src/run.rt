@@ -5,7 +5,7 @@ ghost use Rattle.m11_asm.specs.declared.fault.AsmOutput.TheVariants.{Messages};
 ghost use Rattle.m11_asm.specs.Messages as text;
 ghost use Rattle.m11_asm.specs.Program.{flagged_lines, WritesProgram};
 ghost use Rattle.m11_asm.specs.ReaderView.{held_of};
-ghost use Rattle.m11_asm.specs.Run.{Runs, Counted};
+ghost use Rattle.m11_asm.specs.Run.{AsmRuns, Counted};
 ghost use Rattle.m11_asm.specs.Writes.{Puts, texts, text_of};
 
 use crate::fault::AsmFault;
@@ -17,7 +17,7 @@ use crate::sources::read_sources;
 use m11_base::{Feed, Sink};
 use std::alloc::Global;
 
-/// What an assembly came to.
+/// The outcome of an assembly.
 #[derive(Clone, Copy, Debug, PartialEq, Eq)]
 pub struct AsmDone {
     /// The count of flagged lines.
@@ -26,7 +26,7 @@ pub struct AsmDone {
 
 /// Assembles sources, one after another as one text, into an object module and messages.
 ///
-/// `first` and `second` give the same sources for two readings; today the first is enough, and
+/// `first` and `second` give the same sources for two passes; today the first is enough, and
 /// neither `second` nor the listing is touched. Faults, the first in the order of the input: `Read`,
 /// `TooMuchSource` and `NotYet`, which have written nothing; then `Write`, after which nothing more is
 /// written; `NoMemory` wherever memory is refused.
@@ -38,7 +38,7 @@ pub fn asm_run<F: Feed, S: Sink, T: Sink, U: Sink>(
     listing: &mut Option<T>,
     messages: &mut U,
 ) -> Result<AsmDone, AsmFault>
-    ensures runs { Runs F.text F.faults first.old first.new
+    ensures runs { AsmRuns F.text F.faults first.old first.new
         (texts (S.text object.old) (text_of T.text listing.old) (U.text messages.old))
         (texts (S.text object.new) (text_of T.text listing.new) (U.text messages.new)) result }
     ensures counted { Counted (S.faults object.old) (S.faults object.new)
@@ -74,7 +74,7 @@ fn write_program<S: Sink, U: Sink>(
     Ok(AsmDone { flagged })
 }
 
-// The messages of flagged lines; answers how many there are.
+// The messages of flagged lines; returns how many there are.
 fn put_flagged<U: Sink>(
     alloc: Global,
     messages: &mut U,

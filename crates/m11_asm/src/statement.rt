@@ -4,7 +4,7 @@
 ghost use Rattle.std.specs.Prelude.{◌≡◌, ◌∷◌, ◌==◌, ◌≤◌, IfOk, MatchOption, [], ◌<◌, length, map, not, position, drop};
 ghost use Rattle.std.specs.List.{list_all, position_or_len};
 ghost use Rattle.m11_base.specs.Mnemonics.{folded, is_name_character};
-ghost use Rattle.m11_asm.specs.Statements.{before_comment, elements_of, is_blank, numbers_of, same_bytes, statement_of, statement_in, trimmed, without_blanks_before, without_blanks_behind, words_or_other, directive_of};
+ghost use Rattle.m11_asm.specs.Statement.{before_comment, elements_of, is_blank, numbers_of, same_bytes, statement_of, statement_in, trimmed, without_blanks_before, without_blanks_after, words_or_other, directive_of};
 ghost use Rattle.m11_asm.specs.Parsing.{meaning_of};
 
 use m11_base::read_octal;
@@ -104,8 +104,8 @@ fn skip_blanks(text: &[u8]) -> &[u8]
     rest
 }
 
-fn skip_blanks_behind(text: &[u8]) -> &[u8]
-    ensures { result.now ≡ without_blanks_behind text.now }
+fn skip_blanks_after(text: &[u8]) -> &[u8]
+    ensures { result.now ≡ without_blanks_after text.now }
 {
     let mut front = text;
     'blanks: while let Some((last, head)) = front.split_last() {
@@ -141,7 +141,7 @@ fn comma_place(text: &[u8]) -> Option<usize>
     text.iter().position(|byte| *byte == b',')
 }
 
-// The first element of a list, and what stands behind its comma.
+// The first element of a list, and what stands after its comma.
 fn first_element(text: &[u8]) -> (&[u8], Option<&[u8]>)
     ensures { MatchOption result.1 (elements_of text.now ≡ result.0.now ∷ [])
         (λ next. (elements_of text.now ≡ result.0.now ∷ elements_of next.now) × (length next.now < length text.now)) }
@@ -161,12 +161,12 @@ fn words(alloc: Global, operands: &[u8]) -> Result<Statement, AllocError>
     let mut numbers = Vec::new(alloc);
     let mut rest = operands;
     'elements: loop {
-        let (element, behind) = first_element(rest);
-        match read_octal(skip_blanks_behind(skip_blanks(element))) {
+        let (element, following) = first_element(rest);
+        match read_octal(skip_blanks_after(skip_blanks(element))) {
             Ok(number) => numbers.push(number)?,
             Err(_) => return Ok(Statement::Other),
         }
-        match behind {
+        match following {
             Some(next) => rest = next,
             None => return Ok(Statement::Words(numbers)),
         }

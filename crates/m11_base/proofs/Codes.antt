@@ -34,10 +34,10 @@ use Rattle.m11_base.specs.declared.operand.Mode.TheVariants as mode
 use Rattle.m11_base.specs.declared.operand.Operand.{Operand}
 use Rattle.m11_base.specs.declared.operand.Register.{Register}
 use Rattle.m11_base.specs.declared.operand.Register.TheVariants.{R0, R1, R2, R3, R4, R5, Sp, Pc}
-use Rattle.m11_base.specs.Operands.{modes, mode_code, operand_code, operand_of, register_number, register_of}
+use Rattle.m11_base.specs.Operand.{modes, mode_code, operand_code, operand_of, register_number, register_of}
 use Rattle.m11_base.specs.Instructions.{meaning}
 use Rattle.m11_base.specs.Encoding.{double_value, extended_value, register_value, single_value, number_value, bare_value, condition_value, branch_value, size_value, condition_bits, code_of, has_double, has_single, number_limit, fits, IsHeld}
-use Rattle.m11_base.specs.Dispatch.{operation_by_tables, with_first_digits, with_next_digits, doubles, extended, bare, last, low, high}
+use Rattle.m11_base.specs.OperationTables.{operation_by_tables, with_first_digits, with_next_digits, doubles, extended, bare, last, low, high}
 
 -- ---- operands
 
@@ -102,7 +102,7 @@ operand_again o =
 upper : (n s d : ℕ) → s < 64 → d < 64 → (n * 0o10000 + s * 0o100 + d) / 0o100 % 0o100 ≡ s
 upper n s d h k = omega arith
 
--- a register, behind a multiple of 01000
+-- a register, after a multiple of 01000
 upper_three : (n r d : ℕ) → r < 8 → d < 64 → (n * 0o1000 + r * 0o100 + d) / 0o100 % 0o10 ≡ r
 upper_three n r d h k = omega arith
 

@@ -17,7 +17,7 @@ octal_value-append (digit ∷ front) back =
     rw (length-append front back, pow-add 8 (length front) (length back), octal_value-append front back)
     (regroup (digit - 48) (8 ^ length front) (8 ^ length back) (octal_value front) (octal_value back))
 
--- one more digit behind
+-- one more digit after
 pub octal_value-push : (digits : List ℕ) (i : ℕ) → i < length digits
     → octal_value (take (i + 1) digits) ≡ octal_value (take i digits) * 8 + (get_or digits i 0 - 48)
 octal_value-push digits i lt =

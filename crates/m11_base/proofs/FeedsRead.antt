@@ -34,19 +34,19 @@ set_part [] rest x new = refl
 set_part {F = F} (y ∷ done) rest x new = ap (λ (t : List F). y ∷ t) (set_part done rest x new)
 
 module _ {F : Type 0} (text : F → Option Text) (faults : F → ℕ) where
-  give_behind : (done : List F) (ss : List (List ℕ)) (rest : List F) (os : List (List ℕ)) → GiveAll text done ss
+  give_after : (done : List F) (ss : List (List ℕ)) (rest : List F) (os : List (List ℕ)) → GiveAll text done ss
       → GiveAll text rest os → GiveAll text (done ++ rest) (ss ++ os)
-  give_behind [] [] rest os g h = h
-  give_behind [] (s ∷ ss) rest os g h = absurd g
-  give_behind (x ∷ done) [] rest os g h = absurd g
-  give_behind (x ∷ done) (s ∷ ss) rest os g h = (g.0, give_behind done ss rest os g.1 h)
+  give_after [] [] rest os g h = h
+  give_after [] (s ∷ ss) rest os g h = absurd g
+  give_after (x ∷ done) [] rest os g h = absurd g
+  give_after (x ∷ done) (s ∷ ss) rest os g h = (g.0, give_after done ss rest os g.1 h)
 
-  none_behind : (xs ys us vs : List F) → NoneFailed faults xs ys → NoneFailed faults us vs
+  none_after : (xs ys us vs : List F) → NoneFailed faults xs ys → NoneFailed faults us vs
       → NoneFailed faults (xs ++ us) (ys ++ vs)
-  none_behind [] [] us vs g h = h
-  none_behind [] (y ∷ ys) us vs g h = absurd g
-  none_behind (x ∷ xs) [] us vs g h = absurd g
-  none_behind (x ∷ xs) (y ∷ ys) us vs g h = (g.0, none_behind xs ys us vs g.1 h)
+  none_after [] [] us vs g h = h
+  none_after [] (y ∷ ys) us vs g h = absurd g
+  none_after (x ∷ xs) [] us vs g h = absurd g
+  none_after (x ∷ xs) (y ∷ ys) us vs g h = (g.0, none_after xs ys us vs g.1 h)
 
   none_same : (xs : List F) → NoneFailed faults xs xs
   none_same [] = tt
@@ -112,7 +112,7 @@ module _ {F : Type 0} (text : F → Option Text) (faults : F → ℕ) where
         move_given initial s.done sources initial-is s.given,
       )
 
-  -- one more feed, at the place that the loop has come to
+  -- one more feed, at the place that the loop has reached
   module _ (initial now : List F) (index : ℕ) (sources : List (List ℕ))
       (s : SoFar text faults initial now index sources)
       (inside : index < length now) (d x z : F) (x-is : x ≡ get_or now index d) where
@@ -138,7 +138,7 @@ module _ {F : Type 0} (text : F → Option Text) (faults : F → ℕ) where
     pub none_failed : faults z ≡ faults x → NoneFailed faults initial (set now index z)
     none_failed same =
         move_none initial (s.done ++ x ∷ part.1) (set now index z) (s.done_now ++ z ∷ part.1) initial_here new_here
-        (none_behind s.done s.done_now (x ∷ part.1) (z ∷ part.1) s.unfailed (same, none_same part.1))
+        (none_after s.done s.done_now (x ∷ part.1) (z ∷ part.1) s.unfailed (same, none_same part.1))
 
     -- it failed
     pub failed_here : (beginning : List ℕ) → BeginsWith (text x) beginning → Rises (faults x) (faults z)
@@ -149,13 +149,13 @@ module _ {F : Type 0} (text : F → Option Text) (faults : F → ℕ) where
         (one_failed s.done s.done_now sources x z part.1 beginning s.given s.unfailed begins rises)
 
     module _ (source : List ℕ) (has : HasBytes (text x) source) where
-      -- with what the feeds behind it would give
+      -- with what the feeds after it would give
       pub given_more : (others : List (List ℕ)) × GiveAll text initial (sources ++ source ∷ others)
       given_more =
           let others = any_sources part.1 in (
             others.0,
             move_given initial (s.done ++ x ∷ part.1) (sources ++ source ∷ others.0) initial_here
-                (give_behind s.done sources (x ∷ part.1) (source ∷ others.0) s.given (has, others.1)),
+                (give_after s.done sources (x ∷ part.1) (source ∷ others.0) s.given (has, others.1)),
           )
 
       -- it was read
@@ -169,6 +169,6 @@ module _ {F : Type 0} (text : F → Option Text) (faults : F → ℕ) where
         now-is = new_here ∙ sym (append_assoc s.done_now (z ∷ []) part.1);
         index-is = omega (arith, length-append s.done (x ∷ []), s.index-is);
         index_now = omega (arith, length-append s.done_now (z ∷ []), s.index_now);
-        given = give_behind s.done sources (x ∷ []) (source ∷ []) s.given (has, tt);
-        unfailed = none_behind s.done s.done_now (x ∷ []) (z ∷ []) s.unfailed (same, tt);
+        given = give_after s.done sources (x ∷ []) (source ∷ []) s.given (has, tt);
+        unfailed = none_after s.done s.done_now (x ∷ []) (z ∷ []) s.unfailed (same, tt);
       }

@@ -39,14 +39,14 @@ not_other word row other e apart = by_test (is_of word other) refl
         (false≢true (ap not (sym
         (eq-eqb (bit_and row.value other.mask) (bit_and other.value row.mask) (meet word row other e f))) ∙ apart))
 
-none_behind : (word : ℕ) (row : Row) (others : List Row) → is_of word row ≡ true
+none_after : (word : ℕ) (row : Row) (others : List Row) → is_of word row ≡ true
     → list_all (are_apart row) others ≡ true → count_by (is_of word) others ≡ 0
-none_behind word row [] e all = refl
-none_behind word row (other ∷ others) e all =
+none_after word row [] e all = refl
+none_after word row (other ∷ others) e all =
     let parts = and_parts (are_apart row other) (list_all (are_apart row) others) all in
     sum_by-cons (λ x. cond (is_of word x) 1 0) other others
     ∙ ap (λ (b : Bool). cond b 1 0 + count_by (is_of word) others) (not_other word row other e parts.0)
-    ∙ zero_more _ (none_behind word row others e parts.1)
+    ∙ zero_more _ (none_after word row others e parts.1)
   where
     zero_more : (n : ℕ) → n ≡ 0 → 0 + n ≡ 0
     zero_more n e = omega arith
@@ -62,7 +62,7 @@ one_among word (row ∷ others) all =
     by_test : (b : Bool) → is_of word row ≡ b → list_all (are_apart row) others ≡ true
         → count_by (is_of word) others ≤ 1
         → cond b 1 0 + count_by (is_of word) others ≤ 1
-    by_test true e apart rest = omega (arith, none_behind word row others e apart)
+    by_test true e apart rest = omega (arith, none_after word row others e apart)
     by_test false e apart rest = omega (arith, rest)
 
 pub one_row : (word : ℕ) → count_by (is_of word) rows ≤ 1

@@ -9,7 +9,7 @@ pub front_and_rest : (n : ℕ) (xs rest : List ℕ) → xs ++ rest ≡ take n xs
 front_and_rest n xs rest =
     ap (λ (t : List ℕ). t ++ rest) (sym (take-append-drop n xs)) ∙ append_assoc (take n xs) (drop n xs) rest
 
--- so many of the ready bytes are the first of those that are there
+-- n of the ready bytes are the first of those that are there
 pub record IsFront (most count : ℕ) (ready bytes : List ℕ) : Type 0 where
   pub same : take count ready ≡ take count bytes
   pub there : count ≤ length bytes

@@ -12,7 +12,7 @@ use Rattle.m11_base.specs.declared.instruction_list.Row.{Row}
 use Rattle.m11_base.specs.Instructions.{row_of, operation_in, meaning, with_fields, instruction_of, HasCode}
 use Rattle.m11_base.specs.Encoding.{code_of, fits, IsHeld}
 use Rattle.m11_base.proofs.Codes.{IsSound, again, code_below}
-use Rattle.m11_base.specs.Dispatch.{operation_by_tables}
+use Rattle.m11_base.specs.OperationTables.{operation_by_tables}
 use Rattle.m11_base.proofs.EachWord.{IsChecked, row_checked}
 
 -- the fields of a word are those that types hold

@@ -24,7 +24,7 @@ use Rattle.m11_base.specs.declared.instruction.Insn.TheVariants as insn
 use Rattle.m11_base.specs.declared.operand.Size.{Size}
 use Rattle.m11_base.specs.declared.operand.Size.TheVariants.{Word, Byte}
 use Rattle.m11_base.specs.Instructions.{row_of}
-use Rattle.m11_base.specs.Operands.{operand_code, register_number}
+use Rattle.m11_base.specs.Operand.{operand_code, register_number}
 
 -- ---- the bits of the operations on words
 

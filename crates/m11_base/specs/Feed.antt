@@ -13,7 +13,7 @@ pub record Text : Type 0 where
   pub bytes : List ℕ
   pub ending : Ending
 
--- the text's end may be answered
+-- the text's end may be returned
 abbrev pub MayEnd : Text → Type 0
 MayEnd t = (t.bytes ≡ []) × (t.ending ≢ Fails)
 
@@ -40,19 +40,19 @@ GivesBytes (Some t) new bytes =
 abbrev pub ready_within : ℕ → ℕ → List ℕ → List ℕ
 ready_within most count bytes = if count == last_count then [] else take most bytes
 
--- the end was answered
+-- the end was returned
 abbrev pub GivesEnd : Option Text → Option Text → Type 0
 GivesEnd None new = ⊤
 GivesEnd (Some t) new = MayEnd t × (new ≡ Some t)
 
--- a failure was answered: nothing was given, and either the text may fail here or the count of
+-- a failure was returned: nothing was given, and either the text may fail here or the count of
 -- failures stood at its last value
 abbrev pub GivesFailure : Option Text → Option Text → ℕ → Type 0
 GivesFailure None new count = ⊤
 GivesFailure (Some t) new count =
     (MayFailBefore t.bytes t.ending ⊎ (count ≡ last_count)) × (new ≡ Some t)
 
--- one call of a feed: what its text was, what it is, what was answered
+-- one call of a feed: what its text was, what it is, what was returned
 abbrev pub Gives : {E : Type 0} → Option Text → Option Text → ℕ → Result (Option ℕ) E → Type 0
 Gives old new count answer = MatchResult answer
     (λ byte. MatchOption byte (GivesEnd old new) (GivesByte old new))
@@ -62,7 +62,7 @@ Gives old new count answer = MatchResult answer
 abbrev pub text_of_reader : Option (List ℕ) → Option Text
 text_of_reader known = option_map (λ bytes. record { bytes = bytes; ending = MayFail }) known
 
--- the text that comes through a fuse of so many calls: where it does not blow before the end, it
+-- the text that comes through a fuse of n calls: where it does not blow before the end, it
 -- may do so at the calls that find the end; of a text whose own failures may come anywhere nothing
 -- is said, since each of them takes a call
 abbrev pub bytes_through_fuse : ℕ → List ℕ → Ending → Ending → Text
@@ -103,7 +103,7 @@ NoneFailed faults [] (new ∷ news) = ⊥
 NoneFailed faults (old ∷ olds) [] = ⊥
 NoneFailed faults (old ∷ olds) (new ∷ news) = (faults new ≡ faults old) × NoneFailed faults olds news
 
--- one failed behind a beginning of its text, after the feeds before it had given theirs
+-- one failed after a beginning of its text, after the feeds before it had given theirs
 abbrev pub OneFailed : {F : Type 0} → (F → Option Text) → (F → ℕ) → List F → List F → List (List ℕ) → List ℕ → Type 0
 OneFailed text faults [] news sources beginning = ⊥
 OneFailed text faults (old ∷ olds) [] sources beginning = ⊥

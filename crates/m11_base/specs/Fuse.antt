@@ -9,7 +9,7 @@ pub record FusedFeed (F : Type 0) : Type 0 where
   pub calls : ℕ
   pub faults : ℕ
 
--- what a call of a feed answered, by what its text and its count of failures were and are
+-- what a call of a feed returned, by what its text and its count of failures were and are
 abbrev pub Answers : {E : Type 0} → Option Text → Option Text → ℕ → ℕ → Result (Option ℕ) E → Type 0
 Answers old new old_count new_count answer = Gives old new old_count answer
     × MatchResult answer (λ _. new_count ≡ old_count) (λ _. Rises old_count new_count)

@@ -20,7 +20,7 @@ use Rattle.m11_base.specs.declared.instruction.Op.TheVariants as op
 use Rattle.m11_base.specs.declared.operand.Size.TheVariants.{Word, Byte}
 use Rattle.m11_base.specs.declared.operand.Register.TheVariants.{Pc}
 use Rattle.m11_base.specs.declared.instruction_list.Row.{Row}
-use Rattle.m11_base.specs.Operands.{operand_of, register_of}
+use Rattle.m11_base.specs.Operand.{operand_of, register_of}
 
 abbrev row : List ℕ → ℕ → ℕ → Op → Row
 row name mask value operation = record { name = name; mask = mask; value = value; operation = operation }

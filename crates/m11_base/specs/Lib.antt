@@ -1,12 +1,12 @@
 pub mod Blanks
 pub mod Devices
-pub mod Dispatch
+pub mod OperationTables
 pub mod Encoding
 pub mod Feed
 pub mod Fuse
 pub mod Instructions
 pub mod Mnemonics
 pub mod Octal
-pub mod Operands
+pub mod Operand
 pub mod Rad50
 pub mod Sink

@@ -16,7 +16,7 @@ is_name_character byte = (nat_le 65 byte && nat_le byte 90) || ((nat_le 97 byte 
 abbrev pub folded : ℕ → ℕ
 folded byte = if nat_le 97 byte && nat_le byte 122 then byte - 32 else byte
 
--- a text's character at a place, folded; a blank behind its end
+-- a text's character at a place, folded; a blank after its end
 abbrev pub character_at : List ℕ → ℕ → ℕ
 character_at text place = if nat_lt place (length text) then folded (slice_index text place) else 32
 

@@ -17,7 +17,7 @@ HasOnlyDigits text = IsTrue (list_all is_octal_digit text)
 abbrev pub HasBadDigit : List ℕ → Type 0
 HasBadDigit text = IsTrue (list_any (λ character. not (is_octal_digit character)) text)
 
--- the number that octal digits spell: each digit counts 8 to the number of digits behind it
+-- the number that octal digits spell: each digit counts 8 to the number of digits after it
 abbrev pub octal_value : List ℕ → ℕ
 octal_value [] = 0
 octal_value (digit ∷ digits) = (digit - 48) * 8 ^ length digits + octal_value digits
@@ -41,7 +41,7 @@ octal_digit word place = 48 + word / 8 ^ place % 8
 abbrev pub octal_text : ℕ → List ℕ
 octal_text word = map (octal_digit word) (5 ∷ 4 ∷ 3 ∷ 2 ∷ 1 ∷ 0 ∷ [])
 
--- how a fault is told
+-- how a fault is reported
 abbrev pub fault_number : OctalFault → ℕ
 fault_number Empty = 1
 fault_number BadDigit = 2

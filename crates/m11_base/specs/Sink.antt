@@ -4,7 +4,7 @@ use Rattle.std.specs.Prelude.{◌≡◌, ℕ, zero, suc, List, [], ◌++◌, len
 use Rattle.std.specs.Io.KnownBytes.{Appends}
 use Rattle.m11_base.specs.Devices.{Rises}
 
--- one call of a sink: it added as many bytes, from the front, as it answered, and none at an error
+-- one call of a sink: it added as many bytes, from the front, as it returned, and none at an error
 abbrev pub Takes : {E : Type 0} → Option (List ℕ) → Option (List ℕ) → Result ℕ E → List ℕ → Type 0
 Takes old new answer bytes =
     MatchResult answer (λ n. Appends old new (take n bytes)) (λ _. Appends old new [])

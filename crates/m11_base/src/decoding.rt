@@ -1,7 +1,7 @@
 //! From words to instructions. (PDP-11/40 Processor Handbook, "Instruction set".)
 
 ghost use Rattle.std.specs.Prelude.{◌≡◌, ◌<◌, IsTrue, ◌/◌, ◌%◌, None, is_none, slice_index_or};
-ghost use Rattle.m11_base.specs.Dispatch.{bare, extended, high, low, operation_by_tables, with_next_digits};
+ghost use Rattle.m11_base.specs.OperationTables.{bare, extended, high, low, operation_by_tables, with_next_digits};
 ghost use Rattle.m11_base.specs.declared.instruction.Op.TheVariants as op;
 ghost use Rattle.m11_base.specs.Encoding.{code_of, fits};
 ghost use Rattle.m11_base.specs.Instructions.{HasOneMeaning, condition_codes_of, instruction_of, meaning, number_in, row_of, with_fields};
@@ -52,7 +52,7 @@ fn row(word: u16) -> Option<Row>
 // The instruction by the octal digits of its code. The common ones are matched digit by digit, so that what is done
 // with the instruction can begin where its operation is known, and no table is read; the tables give the others.
 #[inline(always)]
-#[tactic(auto, unfolding(crate::specs::Dispatch::doubles))]
+#[tactic(auto, unfolding(crate::specs::OperationTables::doubles))]
 fn by_digits(word: u16) -> Insn
     ensures { result ≡ meaning (operation_by_tables word) word }
 {
@@ -77,7 +77,7 @@ fn by_digits(word: u16) -> Insn
 
 // The instruction of a word 00xxxx.
 #[inline(always)]
-#[tactic(auto, unfolding(crate::specs::Dispatch::low, crate::specs::Dispatch::last))]
+#[tactic(auto, unfolding(crate::specs::OperationTables::low, crate::specs::OperationTables::last))]
 fn low(word: u16) -> Insn
     requires { word < 0o10000 }
     ensures { result ≡ meaning (with_next_digits (word / 0o100) word) word }
@@ -103,7 +103,7 @@ fn low(word: u16) -> Insn
 
 // The instruction of a word 00xxxx that is neither 0000xx nor 0002xx, by a branch or by the table.
 #[inline(always)]
-#[tactic(auto, unfolding(crate::specs::Dispatch::low))]
+#[tactic(auto, unfolding(crate::specs::OperationTables::low))]
 fn low_branch(word: u16) -> Insn
     requires { word < 0o10000 }
     ensures { result ≡ meaning (slice_index_or low (word / 0o100) None) word }
@@ -143,7 +143,7 @@ fn low_branch(word: u16) -> Insn
 
 // The instruction of a word 07xxxx.
 #[inline(always)]
-#[tactic(auto, unfolding(crate::specs::Dispatch::extended))]
+#[tactic(auto, unfolding(crate::specs::OperationTables::extended))]
 fn extended(word: u16) -> Insn
     ensures { result ≡ meaning (slice_index_or extended (word / 0o1000 % 0o10) None) word }
 {
@@ -155,7 +155,7 @@ fn extended(word: u16) -> Insn
 
 // The instruction of a word 10xxxx.
 #[inline(always)]
-#[tactic(auto, unfolding(crate::specs::Dispatch::high))]
+#[tactic(auto, unfolding(crate::specs::OperationTables::high))]
 fn high(word: u16) -> Insn
     ensures { result ≡ meaning (slice_index_or high (word / 0o100 % 0o100) None) word }
 {
@@ -178,7 +178,7 @@ fn high(word: u16) -> Insn
 
 // The same, by a branch or by the table.
 #[inline(always)]
-#[tactic(auto, unfolding(crate::specs::Dispatch::high))]
+#[tactic(auto, unfolding(crate::specs::OperationTables::high))]
 fn high_branch(word: u16) -> Insn
     ensures { result ≡ meaning (slice_index_or high (word / 0o100 % 0o100) None) word }
 {
@@ -232,7 +232,7 @@ fn by_table(operation: Option<Op>, word: u16) -> Insn
 
 // The operation of a word below 000100, of which the code is all.
 #[inline(always)]
-#[tactic(auto, unfolding(crate::specs::Dispatch::bare))]
+#[tactic(auto, unfolding(crate::specs::OperationTables::bare))]
 fn bare_operation(word: u16) -> Option<Op>
     ensures { result ≡ slice_index_or bare word None }
 {

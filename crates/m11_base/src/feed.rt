@@ -39,7 +39,7 @@ pub trait Feed {
         ensures within { length result.now ≤ left self.now }
         ensures last { faults self.now ≡ last_count → length result.now ≡ 0 };
 
-    /// Goes past so many of the ready bytes, as if `next` had given them. Needs that so many are ready.
+    /// Goes past n of the ready bytes, as if `next` had given them. Needs that n are ready.
     fn pass(&mut self, count: usize)
         requires { count ≤ length (ready_bytes self.old) }
         ensures passes { GivesBytes (text self.old) (text self.new) (take count (ready_bytes self.old)) }

@@ -69,7 +69,7 @@ impl<F: Feed> Feed for FuseFeed<F> {
         ensures spends { self.old.faults ≢ last_count → self.new.calls ≡ self.old.calls - 1 }
         // blown it fails, at the end of the text too
         ensures blows { self.old.calls ≡ 0 → IsErr result }
-        // while calls are left, the answer is the feed's own
+        // while calls are left, the result is the feed's own
         ensures passes { 0 < self.old.calls → self.old.faults ≢ last_count
             → Answers (F.text self.old.feed) (F.text self.new.feed) (F.faults self.old.feed)
             (F.faults self.new.feed) result }
@@ -166,7 +166,7 @@ impl<S: Sink> Sink for FuseSink<S> {
         ensures keeps_limit { self.new.most ≡ self.old.most }
         ensures spends { self.old.faults ≢ last_count → self.new.calls ≡ self.old.calls - 1 }
         ensures blows { self.old.calls ≡ 0 → IsErr result }
-        // while calls are left, the answer is the sink's own to the bytes within the limit
+        // while calls are left, the result is the sink's own to the bytes within the limit
         ensures passes { 0 < self.old.calls → self.old.faults ≢ last_count
             → Counts (S.faults self.old.sink) (S.faults self.new.sink) result
             (take self.old.most bytes.now) }

@@ -160,7 +160,7 @@ impl ConditionCodes {
     };
 }
 
-/// An instruction, without the words behind its code.
+/// An instruction, without the words after its code.
 #[derive(Clone, Copy, Debug, PartialEq, Eq)]
 pub enum Insn {
     /// The source, and the destination.

@@ -13,7 +13,7 @@ use crate::operand::Size;
 /// One row of the list: what the words mean that have the value under the mask.
 #[derive(Clone, Copy, Debug, PartialEq, Eq)]
 pub struct Row {
-    /// The name in a source, with blanks behind it up to six characters, or blanks alone.
+    /// The name in a source, with blanks after it up to six characters, or blanks alone.
     pub name: [u8; 6],
     /// The bits that are the operation's; the other ones are fields.
     pub mask: u16,

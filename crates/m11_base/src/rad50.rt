@@ -130,7 +130,7 @@ impl Name {
         (self.first, self.second)
     }
 
-    /// The name's six characters, with the blanks behind it.
+    /// The name's six characters, with the blanks after it.
     pub fn characters(&self) -> [u8; 6]
         ensures { result ≡ name_text self.now }
     {

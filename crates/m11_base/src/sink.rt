@@ -15,8 +15,8 @@ pub trait Sink {
     // How often a call failed or took none of the bytes that were there, up to `last_count`.
     ghost faults: { Self → ℕ };
 
-    /// Takes bytes from the front of `bytes`, and answers how many. An error takes none. An error,
-    /// and an answer of 0 where `bytes` is not empty, are counted.
+    /// Takes bytes from the front of `bytes`, and returns how many. An error takes none. An error,
+    /// and a result of 0 where `bytes` is not empty, are counted.
     fn put(&mut self, bytes: &[u8]) -> Result<usize, DeviceFault>
         ensures within { IfOk result (λ n. n ≤ length bytes.now) }
         ensures takes { Takes (text self.old) (text self.new) result bytes.now }

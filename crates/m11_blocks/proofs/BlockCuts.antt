@@ -1,4 +1,4 @@
--- The bytes end inside a block exactly where they are a block's beginning behind zeros.
+-- The bytes end inside a block exactly where they are a block's beginning after zeros.
 use Rattle.std.proofs.Common.{◌≡◌, ◌∙◌, ℕ, zero, suc, ◌+◌, ◌*◌, ◌-◌, ◌/◌, ◌%◌, ◌<◌, ◌≤◌, cond, ltb, eqb, List, [], ◌∷◌, ◌++◌, length, take, drop, replicate, Err, refl, sym, ap, subst, append_assoc, arith, inl, inr, ◌⊎◌}
 use Rattle.std.proofs.Math.Seq.{drop-length}
 use Rattle.std.proofs.lemmas.Bool.{le-ltb, lt-ltb, ltb-true, cases_lt}
@@ -8,7 +8,7 @@ use Rattle.m11_blocks.specs.declared.block_fault.BlockFault.TheVariants as fault
 use Rattle.m11_blocks.specs.Frames.{word_bytes, sum_byte, header, block, content_limit}
 use Rattle.m11_blocks.specs.Limited.{Inside, Refused, Read, ◌>>=◌}
 use Rattle.m11_blocks.specs.Blocks.{second, count_of, count, content_of, summed, first_block, IsCut}
-use Rattle.m11_blocks.proofs.BlockParts.{behind_start, behind_second, behind_count, behind_content}
+use Rattle.m11_blocks.proofs.BlockParts.{after_start, after_second, after_count, after_content}
 use Rattle.m11_blocks.proofs.ReadSteps.{Bytes, bind_err, chosen, done}
 use Rattle.m11_blocks.proofs.BlockFrames.{count_again, block_parts, second_takes, count_takes, content_takes, zero_in_front, nothing_read, begun}
 
@@ -35,21 +35,21 @@ three_bytes : (low : ℕ) → first_block (1 ∷ 0 ∷ low ∷ []) ≡ Err Insid
 unfolding first_block
 three_bytes low = refl
 
-none_behind : (xs : List ℕ) (n : ℕ) → length xs ≡ n → drop n xs ≡ []
-none_behind xs n e = rw (← e) (drop-length xs)
+none_after : (xs : List ℕ) (n : ℕ) → length xs ≡ n → drop n xs ≡ []
+none_after xs n e = rw (← e) (drop-length xs)
 
-short_content : (n : ℕ) (tail : List ℕ) → length tail ≤ n → (content_of n tail >>= behind_content) ≡ Err Inside
+short_content : (n : ℕ) (tail : List ℕ) → length tail ≤ n → (content_of n tail >>= after_content) ≡ Err Inside
 short_content n tail le =
     elim (cases_lt (length tail) n) [
       | inl lt ↦ rw (lt-ltb (length tail) n lt) refl
-      | inr ge ↦ rw (le-ltb (length tail) n ge, none_behind tail n (omega arith)) refl
+      | inr ge ↦ rw (le-ltb (length tail) n ge, none_after tail n (omega arith)) refl
     ]
 
 header_and : (content tail : List ℕ) → length content ≤ content_limit → length tail ≤ length content
     → first_block (1 ∷ 0 ∷ low_of content ∷ high_of content ∷ tail) ≡ Err Inside
 unfolding first_block
 header_and content tail fits le =
-    ap (λ (r : Read BlockFault ℕ). r >>= behind_count) (count_again (length content) tail fits)
+    ap (λ (r : Read BlockFault ℕ). r >>= after_count) (count_again (length content) tail fits)
     ∙ short_content (length content) tail le
 
 cut_inside : (content part missing : List ℕ) → length content ≤ content_limit → 0 < length part → 0 < length missing
@@ -174,22 +174,22 @@ cut_content n tail short fits =
     cut_tail n content tail (more ++ last_of content ∷ []) long fits
     (omega (arith, length-append more (last_of content ∷ []))) (append_assoc tail more (last_of content ∷ []))
 
-cut_behind : (bytes : List ℕ) → Bytes bytes → behind_start (tt, bytes) ≡ Err Inside → IsCut (1 ∷ bytes)
-cut_behind bytes small e =
+cut_after : (bytes : List ℕ) → Bytes bytes → after_start (tt, bytes) ≡ Err Inside → IsCut (1 ∷ bytes)
+cut_after bytes small e =
     let P : List ℕ → Type 0 = λ xs. IsCut (1 ∷ xs) in
-    elim (bind_err (second bytes) behind_second Inside e) [
+    elim (bind_err (second bytes) after_second Inside e) [
       | inl early ↦ subst P (sym (second_inside bytes early))
           (cut_by [] (1 ∷ []) (0 ∷ 4 ∷ 0 ∷ 251 ∷ []) (omega arith) (omega arith) (omega arith) refl)
       | inr s ↦
           let second_is : bytes ≡ 0 ∷ s.0.1 = second_takes bytes s.0.1 s.1 in
           let small' : Bytes (0 ∷ s.0.1) = subst Bytes second_is small in
-          subst P (sym second_is) (behind_count_byte s.0.1 small'.1 s.2)
+          subst P (sym second_is) (after_count_byte s.0.1 small'.1 s.2)
     ]
   where
-    behind_header : (n : ℕ) (tail : List ℕ) → n ≤ content_limit → behind_count (n, tail) ≡ Err Inside
+    after_header : (n : ℕ) (tail : List ℕ) → n ≤ content_limit → after_count (n, tail) ≡ Err Inside
         → IsCut (1 ∷ 0 ∷ (word_bytes (n + 4) ++ tail))
-    behind_header n tail fits h =
-        elim (bind_err (content_of n tail) behind_content Inside h) [
+    after_header n tail fits h =
+        elim (bind_err (content_of n tail) after_content Inside h) [
           | inl early ↦ cut_content n tail (content_inside n tail early) fits
           | inr xs ↦
               let t = content_takes n tail xs.0.0 xs.0.1 xs.1 in
@@ -199,10 +199,10 @@ cut_behind bytes small e =
               (ap (λ (ys : List ℕ). ys ++ last_of xs.0.0 ∷ []) (sym whole))
         ]
 
-    behind_count_byte : (rest : List ℕ) → Bytes rest → behind_second (tt, rest) ≡ Err Inside → IsCut (1 ∷ 0 ∷ rest)
-    behind_count_byte rest small h =
+    after_count_byte : (rest : List ℕ) → Bytes rest → after_second (tt, rest) ≡ Err Inside → IsCut (1 ∷ 0 ∷ rest)
+    after_count_byte rest small h =
         let Q : List ℕ → Type 0 = λ xs. IsCut (1 ∷ 0 ∷ xs) in
-        elim (bind_err (count rest) behind_count Inside h) [
+        elim (bind_err (count rest) after_count Inside h) [
           | inl early ↦ elim (count_inside rest early) [
             | inl none ↦ subst Q (sym none)
                 (cut_by [] (1 ∷ 0 ∷ []) (4 ∷ 0 ∷ 251 ∷ []) (omega arith) (omega arith) (omega arith) refl)
@@ -212,7 +212,7 @@ cut_behind bytes small e =
           ]
           | inr n ↦
               let t = count_takes n.0.0 rest n.0.1 small n.1 in
-              subst Q (sym t.1) (behind_header n.0.0 n.0.1 t.0 n.2)
+              subst Q (sym t.1) (after_header n.0.0 n.0.1 t.0 n.2)
         ]
 
 one_more_zero : (bytes : List ℕ) → IsCut bytes → IsCut (0 ∷ bytes)
@@ -238,7 +238,7 @@ read_cut (byte ∷ bytes) small e =
       | inr other ↦ elim other [
         | inl one_is ↦
             let P : ℕ → Type 0 = λ first. IsCut (first ∷ bytes) in
-            subst P (sym one_is.0) (cut_behind bytes small.1 (sym one_is.1 ∙ e))
+            subst P (sym one_is.0) (cut_after bytes small.1 (sym one_is.1 ∙ e))
         | inr refused ↦ absurd (let bad = sym refused ∙ e in cc)
       ]
     ]

@@ -9,8 +9,8 @@ use Rattle.m11_blocks.specs.declared.block_fault.BlockFault.TheVariants as fault
 use Rattle.m11_blocks.specs.Frames.{word_bytes, sum_byte, header, block, content_limit, AreBlocks, Nothing, Zero, Block}
 use Rattle.m11_blocks.specs.Limited.{Between, Inside, Refused, Read, ◌>>=◌}
 use Rattle.m11_blocks.specs.Blocks.{second, count_of, count, content_of, summed, first_block, AreRead}
-use Rattle.m11_blocks.proofs.ReadSteps.{Bytes, bytes_behind, same_eqb, bind_ok, bind_err, chosen, done, rest_is, value_is}
-use Rattle.m11_blocks.proofs.BlockParts.{behind_start, behind_second, behind_count, behind_content}
+use Rattle.m11_blocks.proofs.ReadSteps.{Bytes, bytes_after, same_eqb, bind_ok, bind_err, chosen, done, rest_is, value_is}
+use Rattle.m11_blocks.proofs.BlockParts.{after_start, after_second, after_count, after_content}
 
 -- ---- a block is read
 
@@ -41,9 +41,9 @@ parts_again : (xs rest : List ℕ) → length xs ≤ content_limit
     ≡ Ok (xs, rest)
 unfolding first_block
 parts_again xs rest fits =
-    let behind : List ℕ = xs ++ sum_byte (header (length xs) ++ xs) ∷ rest in
-    ap (λ (r : Read BlockFault ℕ). r >>= behind_count) (count_again (length xs) behind fits)
-    ∙ ap (λ (r : Read BlockFault (List ℕ)). r >>= behind_content)
+    let following : List ℕ = xs ++ sum_byte (header (length xs) ++ xs) ∷ rest in
+    ap (λ (r : Read BlockFault ℕ). r >>= after_count) (count_again (length xs) following fits)
+    ∙ ap (λ (r : Read BlockFault (List ℕ)). r >>= after_content)
     (content_again xs (sum_byte (header (length xs) ++ xs) ∷ rest))
     ∙ summed_again xs rest
 
@@ -120,13 +120,13 @@ summed_takes xs ys (byte ∷ bytes) rest e =
       | inr miss ↦ absurd (let bad = miss.1 in cc)
     ]
 
--- behind the 001 of a block
-block_behind : (bytes content rest : List ℕ) → Bytes bytes → behind_start (tt, bytes) ≡ Ok (content, rest)
+-- after the 001 of a block
+block_after : (bytes content rest : List ℕ) → Bytes bytes → after_start (tt, bytes) ≡ Ok (content, rest)
     → (length content ≤ content_limit) × (1 ∷ bytes ≡ block content ++ rest)
-block_behind bytes content rest small e =
-    let s = bind_ok (second bytes) behind_second (content, rest) e in
-    let n = bind_ok (count s.0.1) behind_count (content, rest) s.2 in
-    let xs = bind_ok (content_of n.0.0 n.0.1) behind_content (content, rest) n.2 in
+block_after bytes content rest small e =
+    let s = bind_ok (second bytes) after_second (content, rest) e in
+    let n = bind_ok (count s.0.1) after_count (content, rest) s.2 in
+    let xs = bind_ok (content_of n.0.0 n.0.1) after_content (content, rest) n.2 in
     let second_is : bytes ≡ 0 ∷ s.0.1 = second_takes bytes s.0.1 s.1 in
     let small' : Bytes (0 ∷ s.0.1) = subst Bytes second_is small in
     let count_is = count_takes n.0.0 s.0.1 n.0.1 small'.1 n.1 in
@@ -163,7 +163,7 @@ blocks_read _ _ (Block {contents = contents} {bytes = bytes} content fits h) =
 
 -- how the first byte is taken
 pub begun : (byte : ℕ) (bytes : List ℕ) → ((byte ≡ 0) × (first_block (byte ∷ bytes) ≡ first_block bytes))
-    ⊎ (((byte ≡ 1) × (first_block (byte ∷ bytes) ≡ behind_start (tt, bytes)))
+    ⊎ (((byte ≡ 1) × (first_block (byte ∷ bytes) ≡ after_start (tt, bytes)))
     ⊎ (first_block (byte ∷ bytes) ≡ Err (Refused fault.BadStart bytes)))
 unfolding first_block
 begun byte bytes =
@@ -175,7 +175,7 @@ begun byte bytes =
       ]
     ]
 
--- what is read of a beginning is a block behind zeros
+-- what is read of a beginning is a block after zeros
 framed : (bytes content rest : List ℕ) → Bytes bytes → first_block bytes ≡ Ok (content, rest)
     → Bytes rest × ((contents : List (List ℕ)) → AreBlocks contents rest → AreBlocks (content ∷ contents) bytes)
 framed [] content rest small e = absurd (let bad = sym nothing_read ∙ e in cc)
@@ -189,9 +189,9 @@ framed (byte ∷ bytes) content rest small e =
           )
       | inr other ↦ elim other [
         | inl one_is ↦
-            let found = block_behind bytes content rest small.1 (sym one_is.1 ∙ e) in
+            let found = block_after bytes content rest small.1 (sym one_is.1 ∙ e) in
             let is : byte ∷ bytes ≡ block content ++ rest = ap (λ (first : ℕ). first ∷ bytes) one_is.0 ∙ found.1 in (
-              bytes_behind (block content) rest (subst Bytes is small),
+              bytes_after (block content) rest (subst Bytes is small),
               λ contents h. let P : List ℕ → Type 0 = λ xs. AreBlocks (content ∷ contents) xs in
                   subst P (sym is) (Block content found.0 h),
             )
@@ -199,7 +199,7 @@ framed (byte ∷ bytes) content rest small e =
       ]
     ]
 
--- ---- the end behind a block's first byte is inside it
+-- ---- the end after a block's first byte is inside it
 
 second_within : (bytes : List ℕ) → second bytes ≡ Err Between → ⊥
 second_within [] e = cc
@@ -242,13 +242,13 @@ summed_within xs (byte ∷ bytes) e =
       | inr miss ↦ (let bad = miss.1 in cc)
     ]
 
-start_within : (bytes : List ℕ) → behind_start (tt, bytes) ≡ Err Between → ⊥
+start_within : (bytes : List ℕ) → after_start (tt, bytes) ≡ Err Between → ⊥
 start_within bytes e =
-    elim (bind_err (second bytes) behind_second Between e) [
+    elim (bind_err (second bytes) after_second Between e) [
       | inl early ↦ second_within bytes early
-      | inr s ↦ elim (bind_err (count s.0.1) behind_count Between s.2) [
+      | inr s ↦ elim (bind_err (count s.0.1) after_count Between s.2) [
         | inl early ↦ count_within s.0.1 early
-        | inr n ↦ elim (bind_err (content_of n.0.0 n.0.1) behind_content Between n.2) [
+        | inr n ↦ elim (bind_err (content_of n.0.0 n.0.1) after_content Between n.2) [
           | inl early ↦ content_within n.0.0 n.0.1 early
           | inr xs ↦ summed_within xs.0.0 xs.0.1 xs.2
         ]

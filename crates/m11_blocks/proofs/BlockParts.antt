@@ -7,7 +7,7 @@ use Rattle.m11_blocks.specs.declared.block_fault.BlockFault.{BlockFault}
 use Rattle.m11_blocks.specs.declared.block_fault.BlockFault.TheVariants as fault
 use Rattle.m11_blocks.specs.Limited.{Place, Took, TookInto, Lacks, TookThenLacks, Inside, Refused, Read, ◌>>=◌, Why, EndsBetween, Reads, Stops}
 use Rattle.m11_blocks.specs.Blocks.{start, second, count, content_of, summed, first_block, missing, why_of}
-use Rattle.m11_blocks.proofs.Limits.{took_nothing, took_then, reads_behind, stops_behind, first_stops, then_reads, then_stops}
+use Rattle.m11_blocks.proofs.Limits.{took_nothing, took_then, reads_after, stops_after, first_stops, then_reads, then_stops}
 
 -- a byte is missing inside a block
 pub missing_stops : {A : Type 0} (read : List ℕ → Read BlockFault A) (a b : Place) (given : List ℕ) (why : Lack)
@@ -60,73 +60,73 @@ module _ (a b c : Place) (zeros : List ℕ) (took : Took a b zeros)
 
   pub start_read : (byte : ℕ) → byte ≡ 1 → Took b c (byte ∷ []) → Reads start a c tt
   start_read byte e next =
-      reads_behind start start a b c zeros took leads tt
+      reads_after start start a b c zeros took leads tt
       (record { given = byte ∷ []; took = next; is = λ rest. one_front byte rest e })
 
   pub start_refused : (byte : ℕ) → byte ≢ 0 → byte ≢ 1 → Took b c (byte ∷ []) → Stops start a c (why_of fault.BadStart)
   start_refused byte not_zero not_one next =
-      stops_behind start start a b c zeros took leads (why_of fault.BadStart)
+      stops_after start start a b c zeros took leads (why_of fault.BadStart)
       (byte ∷ [], next, λ rest. other_front byte rest not_zero not_one)
 
   pub start_ends : Lacks b c lack.End → Stops start a c EndsBetween
-  start_ends lacks = stops_behind start start a b c zeros took leads EndsBetween ([], (b, took_nothing b, lacks), refl)
+  start_ends lacks = stops_after start start a b c zeros took leads EndsBetween ([], (b, took_nothing b, lacks), refl)
 
   pub start_fails : Lacks b c lack.Device → Stops start a c (why_of fault.Device)
   start_fails lacks =
-      stops_behind start start a b c zeros took leads (why_of fault.Device) ([], (b, took_nothing b, lacks), tt)
+      stops_after start start a b c zeros took leads (why_of fault.Device) ([], (b, took_nothing b, lacks), tt)
 
   pub start_passes : Lacks b c lack.TooMuch → Stops start a c (why_of fault.TooMuch)
   start_passes lacks =
-      stops_behind start start a b c zeros took leads (why_of fault.TooMuch) ([], (b, took_nothing b, lacks), tt)
+      stops_after start start a b c zeros took leads (why_of fault.TooMuch) ([], (b, took_nothing b, lacks), tt)
 
 -- ---- the parts of a block
 
-abbrev pub behind_content : List ℕ × List ℕ → Read BlockFault (List ℕ)
-behind_content content = summed content.0 content.1
+abbrev pub after_content : List ℕ × List ℕ → Read BlockFault (List ℕ)
+after_content content = summed content.0 content.1
 
-abbrev pub behind_count : ℕ × List ℕ → Read BlockFault (List ℕ)
-behind_count count = content_of count.0 count.1 >>= behind_content
+abbrev pub after_count : ℕ × List ℕ → Read BlockFault (List ℕ)
+after_count count = content_of count.0 count.1 >>= after_content
 
-abbrev pub behind_second : Unit {0} × List ℕ → Read BlockFault (List ℕ)
-behind_second second = count second.1 >>= behind_count
+abbrev pub after_second : Unit {0} × List ℕ → Read BlockFault (List ℕ)
+after_second second = count second.1 >>= after_count
 
-abbrev pub behind_start : Unit {0} × List ℕ → Read BlockFault (List ℕ)
-behind_start start = second start.1 >>= behind_second
+abbrev pub after_start : Unit {0} × List ℕ → Read BlockFault (List ℕ)
+after_start start = second start.1 >>= after_second
 
 module _ (a b : Place) where
   pub start_stops : (why : Why BlockFault) → Stops start a b why → Stops first_block a b why
   unfolding first_block
-  start_stops why s = first_stops start behind_start a b why s
+  start_stops why s = first_stops start after_start a b why s
 
   module _ (started : Reads start a b tt) (c : Place) where
     pub second_stops : (why : Why BlockFault) → Stops second b c why → Stops first_block a c why
     unfolding first_block
-    second_stops why s = then_stops start behind_start a b c tt started why (first_stops second behind_second b c why s)
+    second_stops why s = then_stops start after_start a b c tt started why (first_stops second after_second b c why s)
 
     module _ (begun : Reads second b c tt) (d : Place) where
       pub count_stops : (why : Why BlockFault) → Stops count c d why → Stops first_block a d why
       unfolding first_block
-      count_stops why s = then_stops start behind_start a b d tt started why
-          (then_stops second behind_second b c d tt begun why (first_stops count behind_count c d why s))
+      count_stops why s = then_stops start after_start a b d tt started why
+          (then_stops second after_second b c d tt begun why (first_stops count after_count c d why s))
 
       module _ (n : ℕ) (counted : Reads count c d n) (e : Place) where
         pub content_stops : (why : Why BlockFault) → Stops (content_of n) d e why → Stops first_block a e why
         unfolding first_block
-        content_stops why s = then_stops start behind_start a b e tt started why
-            (then_stops second behind_second b c e tt begun why
-            (then_stops count behind_count c d e n counted why (first_stops (content_of n) behind_content d e why s)))
+        content_stops why s = then_stops start after_start a b e tt started why
+            (then_stops second after_second b c e tt begun why
+            (then_stops count after_count c d e n counted why (first_stops (content_of n) after_content d e why s)))
 
         module _ (xs : List ℕ) (held : Reads (content_of n) d e xs) (f : Place) where
           pub sum_stops : (why : Why BlockFault) → Stops (summed xs) e f why → Stops first_block a f why
           unfolding first_block
-          sum_stops why s = then_stops start behind_start a b f tt started why
-              (then_stops second behind_second b c f tt begun why
-              (then_stops count behind_count c d f n counted why
-              (then_stops (content_of n) behind_content d e f xs held why s)))
+          sum_stops why s = then_stops start after_start a b f tt started why
+              (then_stops second after_second b c f tt begun why
+              (then_stops count after_count c d f n counted why
+              (then_stops (content_of n) after_content d e f xs held why s)))
 
           pub block_read : Reads (summed xs) e f xs → Reads first_block a f xs
           unfolding first_block
-          block_read r = then_reads start behind_start a b f tt started xs
-              (then_reads second behind_second b c f tt begun xs
-              (then_reads count behind_count c d f n counted xs
-              (then_reads (content_of n) behind_content d e f xs held xs r)))
+          block_read r = then_reads start after_start a b f tt started xs
+              (then_reads second after_second b c f tt begun xs
+              (then_reads count after_count c d f n counted xs
+              (then_reads (content_of n) after_content d e f xs held xs r)))

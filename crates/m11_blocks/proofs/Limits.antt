@@ -33,33 +33,33 @@ pub lacks_then : (a b c : Place) (xs ys : List ℕ) (lack : Lack) → Took a b x
     → TookThenLacks a c (xs ++ ys) lack
 lacks_then a b c xs ys lack first second = (second.0, took_then a b second.0 xs ys first second.1, second.2)
 
--- ---- reading goes on behind what was given
+-- ---- reading goes on after what was given
 
 module _ {Fault A : Type 0} (read read' : List ℕ → Read Fault A) (a b c : Place) (front : List ℕ)
     (took : Took a b front) (leads : (rest : List ℕ) → read (front ++ rest) ≡ read' rest) where
-  pub reads_behind : (x : A) → Reads read' b c x → Reads read a c x
-  reads_behind x r = record {
+  pub reads_after : (x : A) → Reads read' b c x → Reads read a c x
+  reads_after x r = record {
     given = front ++ r.given;
     took = took_then a b c front r.given took r.took;
     is = λ rest. ap read (append_assoc front r.given rest) ∙ leads (r.given ++ rest) ∙ r.is rest;
   }
 
-  short_behind : (given : List ℕ) → IsShort (read' given) → IsShort (read (front ++ given))
-  short_behind given short =
+  short_after : (given : List ℕ) → IsShort (read' given) → IsShort (read (front ++ given))
+  short_after given short =
       let P : Read Fault A → Type 0 = λ r. IsShort r in
       subst P (sym (leads given)) short
 
-  pub stops_behind : (why : Why Fault) → Stops read' b c why → Stops read a c why
-  stops_behind Fails s = (front ++ s.0, lacks_then a b c front s.0 lack.Device took s.1, short_behind s.0 s.2)
-  stops_behind EndsBetween s = (front ++ s.0, lacks_then a b c front s.0 lack.End took s.1, leads s.0 ∙ s.2)
-  stops_behind EndsInside s = (front ++ s.0, lacks_then a b c front s.0 lack.End took s.1, leads s.0 ∙ s.2)
-  stops_behind Passes s = (front ++ s.0, lacks_then a b c front s.0 lack.TooMuch took s.1, short_behind s.0 s.2)
-  stops_behind (Refuses fault) s = (
+  pub stops_after : (why : Why Fault) → Stops read' b c why → Stops read a c why
+  stops_after Fails s = (front ++ s.0, lacks_then a b c front s.0 lack.Device took s.1, short_after s.0 s.2)
+  stops_after EndsBetween s = (front ++ s.0, lacks_then a b c front s.0 lack.End took s.1, leads s.0 ∙ s.2)
+  stops_after EndsInside s = (front ++ s.0, lacks_then a b c front s.0 lack.End took s.1, leads s.0 ∙ s.2)
+  stops_after Passes s = (front ++ s.0, lacks_then a b c front s.0 lack.TooMuch took s.1, short_after s.0 s.2)
+  stops_after (Refuses fault) s = (
     front ++ s.0,
     took_then a b c front s.0 took s.1,
     λ rest. ap read (append_assoc front s.0 rest) ∙ leads (s.0 ++ rest) ∙ s.2 rest,
   )
-  stops_behind Never s = s
+  stops_after Never s = s
 
 -- ---- one part after another
 
@@ -90,7 +90,7 @@ module _ {Fault A B : Type 0} (first : List ℕ → Read Fault A) (then : A × L
     leads_on rest = ap (λ (r : Read Fault A). r >>= then) (part.is rest)
 
     pub then_reads : (y : B) → Reads (λ rest. then (x, rest)) b c y → Reads both a c y
-    then_reads y r = reads_behind both (λ rest. then (x, rest)) a b c part.given part.took leads_on y r
+    then_reads y r = reads_after both (λ rest. then (x, rest)) a b c part.given part.took leads_on y r
 
     pub then_stops : (why : Why Fault) → Stops (λ rest. then (x, rest)) b c why → Stops both a c why
-    then_stops why s = stops_behind both (λ rest. then (x, rest)) a b c part.given part.took leads_on why s
+    then_stops why s = stops_after both (λ rest. then (x, rest)) a b c part.given part.took leads_on why s

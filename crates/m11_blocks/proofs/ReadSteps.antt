@@ -11,9 +11,9 @@ pub bytes_then : (xs ys : List ℕ) → Bytes xs → Bytes ys → Bytes (xs ++ y
 bytes_then [] ys g h = h
 bytes_then (x ∷ xs) ys g h = (g.0, bytes_then xs ys g.1 h)
 
-pub bytes_behind : (xs ys : List ℕ) → Bytes (xs ++ ys) → Bytes ys
-bytes_behind [] ys small = small
-bytes_behind (x ∷ xs) ys small = bytes_behind xs ys small.1
+pub bytes_after : (xs ys : List ℕ) → Bytes (xs ++ ys) → Bytes ys
+bytes_after [] ys small = small
+bytes_after (x ∷ xs) ys small = bytes_after xs ys small.1
 
 pub same_eqb : (x : ℕ) → eqb x x ≡ true
 same_eqb x = elim (eqb_tells x x) [ inl hit ↦ hit.0 | inr miss ↦ absurd (miss.1 refl) ]

@@ -12,8 +12,8 @@ use Rattle.m11_blocks.specs.declared.tape_part.TapeStage.TheVariants.{InBlock}
 use Rattle.m11_blocks.specs.Frames.{word_bytes, sum_byte, with_sum}
 use Rattle.m11_blocks.specs.Limited.{Refused, Read, ◌>>=◌}
 use Rattle.m11_blocks.specs.Tapes.{tape_header, tape_block, data_limit, IsTape, Transfer, Skipped, Block, start, second, word, count, summed, total_of, transfer, part_of, first_part, next_part, AreRead, IsReadAgain, opened, stage_within}
-use Rattle.m11_blocks.proofs.ReadSteps.{Bytes, bytes_behind, bind_ok, chosen, done, rest_is, value_is}
-use Rattle.m11_blocks.proofs.TapeParts.{behind_start, behind_second, behind_count, behind_address, behind_sum}
+use Rattle.m11_blocks.proofs.ReadSteps.{Bytes, bytes_after, bind_ok, chosen, done, rest_is, value_is}
+use Rattle.m11_blocks.proofs.TapeParts.{after_start, after_second, after_count, after_address, after_sum}
 
 -- ---- a tape is read
 
@@ -54,8 +54,8 @@ header_again : (address n : ℕ) (rest : List ℕ) → address < 65536 → n ≤
     → first_part (1 ∷ 0 ∷ (word_bytes (n + 6) ++ (word_bytes address ++ rest))) ≡ part_of n address rest
 unfolding first_part
 header_again address n rest lt fits =
-    ap (λ (r : Read TapeFault ℕ). r >>= behind_count) (count_again n (word_bytes address ++ rest) fits)
-    ∙ ap (λ (r : Read TapeFault ℕ). r >>= behind_address n) (word_again address rest lt)
+    ap (λ (r : Read TapeFault ℕ). r >>= after_count) (count_again n (word_bytes address ++ rest) fits)
+    ∙ ap (λ (r : Read TapeFault ℕ). r >>= after_address n) (word_again address rest lt)
 
 some_again : (n address : ℕ) (rest : List ℕ) → 0 < n → part_of n address rest ≡ Ok (Data address n, rest)
 some_again n address rest some = rw (ne_eqb n 0 (λ e. absurd (omega arith))) refl
@@ -83,13 +83,13 @@ transfer_again address rest lt =
     ∙ ap (λ (r : Read TapeFault (Unit {0})). r >>= λ last. Ok (Start address, last.1))
     (summed_again (tape_header address 0 ++ []) rest)
 
--- behind the data of a block the next part is read
-pub behind_again : (address : ℕ) (content rest : List ℕ)
+-- after the data of a block the next part is read
+pub after_again : (address : ℕ) (content rest : List ℕ)
     → next_part (total_of address content) (sum_byte (tape_header address (length content) ++ content) ∷ rest)
     ≡ first_part rest
 unfolding next_part
-behind_again address content rest =
-    ap (λ (r : Read TapeFault (Unit {0})). r >>= behind_sum)
+after_again address content rest =
+    ap (λ (r : Read TapeFault (Unit {0})). r >>= after_sum)
     (summed_again (tape_header address (length content) ++ content) rest)
 
 read_again : (address : ℕ) (content rest : List ℕ) → address < 65536 → 0 < length content → length content ≤ data_limit
@@ -97,7 +97,7 @@ read_again : (address : ℕ) (content rest : List ℕ) → address < 65536 → 0
 read_again address content rest lt some fits = (
   sum_byte (tape_header address (length content) ++ content) ∷ rest,
   block_again address content rest lt some fits,
-  behind_again address content rest,
+  after_again address content rest,
 )
 
 pub written_again : (address : ℕ) (content : List ℕ) → address < 65536 → 0 < length content
@@ -111,7 +111,7 @@ other_skipped : (byte : ℕ) (bytes : List ℕ) → byte ≢ 1 → first_part (b
 unfolding first_part
 other_skipped byte bytes other = rw (ne_eqb byte 1 other) refl
 
--- the same is read by two readers that answer the same
+-- the same is read by two readers that return the same
 read_alike : (read read' : List ℕ → Read TapeFault TapePart) (blocks : List (ℕ × List ℕ)) (address : ℕ)
     (bytes bytes' : List ℕ)
     → read' bytes' ≡ read bytes → AreRead read blocks address bytes → AreRead read' blocks address bytes'
@@ -130,7 +130,7 @@ tape_read _ start _ (Block {blocks = blocks} {bytes = bytes} address content lt 
       last ∷ bytes,
       block_again address content bytes lt some fits,
       read_alike first_part (next_part (total_of address content)) blocks start bytes (last ∷ bytes)
-          (behind_again address content bytes) (tape_read blocks start bytes h),
+          (after_again address content bytes) (tape_read blocks start bytes h),
     )
 
 -- ---- what is read is a tape
@@ -195,24 +195,24 @@ next_takes : (address : ℕ) (content bytes : List ℕ) (x : TapePart × List �
     × (first_part rest ≡ Ok x)
 unfolding next_part
 next_takes address content bytes x small e =
-    let last = bind_ok (summed (total_of address content) bytes) behind_sum x e in
+    let last = bind_ok (summed (total_of address content) bytes) after_sum x e in
     let t = summed_takes (tape_header address (length content) ++ content) bytes last.0.1 small last.1 in
     (last.0.1, t.0, t.1, last.2)
 
--- the rest of a tape behind the data of a block
-behind_takes : (address : ℕ) (content : List ℕ) (blocks : List (ℕ × List ℕ)) (start : ℕ) (bytes : List ℕ) → Bytes bytes
+-- the rest of a tape after the data of a block
+after_takes : (address : ℕ) (content : List ℕ) (blocks : List (ℕ × List ℕ)) (start : ℕ) (bytes : List ℕ) → Bytes bytes
     → AreRead (next_part (total_of address content)) blocks start bytes
     → (rest : List ℕ) × (bytes ≡ sum_byte (tape_header address (length content) ++ content) ∷ rest) × Bytes rest
     × AreRead first_part blocks start rest
-behind_takes address content [] start bytes small h =
+after_takes address content [] start bytes small h =
     let t = next_takes address content bytes (Start start, h.0) small h.1 in
     (t.0, t.1, t.2, (h.0, t.3))
-behind_takes address content (block ∷ blocks) start bytes small h =
+after_takes address content (block ∷ blocks) start bytes small h =
     let t = next_takes address content bytes (Data block.0 (length block.1), block.1 ++ h.0) small h.1 in
     (t.0, t.1, t.2, (h.0, t.3, h.2))
 
 -- how the first byte is taken
-begun : (byte : ℕ) (bytes : List ℕ) → ((byte ≡ 1) × (first_part (byte ∷ bytes) ≡ behind_start (tt, bytes)))
+begun : (byte : ℕ) (bytes : List ℕ) → ((byte ≡ 1) × (first_part (byte ∷ bytes) ≡ after_start (tt, bytes)))
     ⊎ ((byte ≢ 1) × (first_part (byte ∷ bytes) ≡ first_part bytes))
 unfolding first_part
 begun byte bytes =
@@ -221,23 +221,23 @@ begun byte bytes =
       | inr other ↦ inr (other.1, rw other.0 refl)
     ]
 
--- the header behind the 001 of a block
+-- the header after the 001 of a block
 pub record Heads (bytes : List ℕ) (part : TapePart) (rest : List ℕ) : Type 0 where
   pub address : ℕ
   pub count : ℕ
-  pub behind : List ℕ
+  pub following : List ℕ
   pub in_range : address < 65536
   pub fits : count ≤ data_limit
-  pub is : 1 ∷ bytes ≡ 1 ∷ 0 ∷ (word_bytes (count + 6) ++ (word_bytes address ++ behind))
-  pub small : Bytes behind
-  pub part_is : part_of count address behind ≡ Ok (part, rest)
+  pub is : 1 ∷ bytes ≡ 1 ∷ 0 ∷ (word_bytes (count + 6) ++ (word_bytes address ++ following))
+  pub small : Bytes following
+  pub part_is : part_of count address following ≡ Ok (part, rest)
 
-heads : (bytes : List ℕ) (part : TapePart) (rest : List ℕ) → Bytes bytes → behind_start (tt, bytes) ≡ Ok (part, rest)
+heads : (bytes : List ℕ) (part : TapePart) (rest : List ℕ) → Bytes bytes → after_start (tt, bytes) ≡ Ok (part, rest)
     → Heads bytes part rest
 heads bytes part rest small e =
-    let s = bind_ok (second bytes) behind_second (part, rest) e in
-    let n = bind_ok (count s.0.1) behind_count (part, rest) s.2 in
-    let a = bind_ok (word n.0.1) (behind_address n.0.0) (part, rest) n.2 in
+    let s = bind_ok (second bytes) after_second (part, rest) e in
+    let n = bind_ok (count s.0.1) after_count (part, rest) s.2 in
+    let a = bind_ok (word n.0.1) (after_address n.0.0) (part, rest) n.2 in
     let second_is : bytes ≡ 0 ∷ s.0.1 = second_takes bytes s.0.1 s.1 in
     let small' : Bytes (0 ∷ s.0.1) = subst Bytes second_is small in
     let count_is = count_takes n.0.0 s.0.1 n.0.1 small'.1 n.1 in
@@ -245,7 +245,7 @@ heads bytes part rest small e =
     record {
       address = a.0.0;
       count = n.0.0;
-      behind = a.0.1;
+      following = a.0.1;
       in_range = address_is.0;
       fits = count_is.0;
       is = ap (λ (xs : List ℕ). 1 ∷ xs) second_is
@@ -283,39 +283,39 @@ data_count : (x y m n : ℕ) → Data x m ≡ Data y n → m ≡ n
 data_count x y m n e = cc
 
 -- a header of no data is that of the transfer block
-transfer_behind : (bytes : List ℕ) (address : ℕ) (rest : List ℕ) → Heads bytes (Start address) rest
+transfer_after : (bytes : List ℕ) (address : ℕ) (rest : List ℕ) → Heads bytes (Start address) rest
     → IsTape [] address (1 ∷ bytes)
-transfer_behind bytes address rest h =
-    elim (chosen (eqb h.count 0) (transfer h.address h.behind) (done (Data h.address h.count) h.behind)
+transfer_after bytes address rest h =
+    elim (chosen (eqb h.count 0) (transfer h.address h.following) (done (Data h.address h.count) h.following)
     (Ok (Start address, rest)) h.part_is) [
       | inl none ↦
-          let t = transfer_takes h.address (Start address) h.behind rest h.small none.1 in
+          let t = transfer_takes h.address (Start address) h.following rest h.small none.1 in
           let here : h.address ≡ address = sym (start_address address h.address t.1) in
           let zero : h.count ≡ 0 = eqb-true h.count 0 none.0 in
           let bytes_is : 1 ∷ bytes ≡ tape_block address [] ++ rest =
-          h.is ∙ ap (λ (n : ℕ). 1 ∷ 0 ∷ (word_bytes (n + 6) ++ (word_bytes h.address ++ h.behind))) zero
+          h.is ∙ ap (λ (n : ℕ). 1 ∷ 0 ∷ (word_bytes (n + 6) ++ (word_bytes h.address ++ h.following))) zero
           ∙ ap (λ (xs : List ℕ). 1 ∷ 0 ∷ (word_bytes (0 + 6) ++ (word_bytes h.address ++ xs))) t.0
           ∙ sym (block_parts h.address [] rest) ∙ ap (λ (a : ℕ). tape_block a [] ++ rest) here in
           let P : List ℕ → Type 0 = λ xs. IsTape [] address xs in
           subst P (sym bytes_is) (Transfer address rest (omega (arith, h.in_range, here)))
-      | inr some ↦ absurd (let bad = value_is (Data h.address h.count) (Start address) h.behind rest some.1 in cc)
+      | inr some ↦ absurd (let bad = value_is (Data h.address h.count) (Start address) h.following rest some.1 in cc)
     ]
 
 -- a header of some data is that of a block
-data_behind : (bytes : List ℕ) (address n : ℕ) (behind : List ℕ) → Heads bytes (Data address n) behind
-    → Bytes behind × ((blocks : List (ℕ × List ℕ)) (start : ℕ) (content rest : List ℕ) → length content ≡ n
-    → behind ≡ content ++ sum_byte (tape_header address (length content) ++ content) ∷ rest
+data_after : (bytes : List ℕ) (address n : ℕ) (following : List ℕ) → Heads bytes (Data address n) following
+    → Bytes following × ((blocks : List (ℕ × List ℕ)) (start : ℕ) (content rest : List ℕ) → length content ≡ n
+    → following ≡ content ++ sum_byte (tape_header address (length content) ++ content) ∷ rest
     → IsTape blocks start rest → IsTape ((address, content) ∷ blocks) start (1 ∷ bytes))
-data_behind bytes address n behind h =
-    elim (chosen (eqb h.count 0) (transfer h.address h.behind) (done (Data h.address h.count) h.behind)
-    (Ok (Data address n, behind)) h.part_is) [
+data_after bytes address n following h =
+    elim (chosen (eqb h.count 0) (transfer h.address h.following) (done (Data h.address h.count) h.following)
+    (Ok (Data address n, following)) h.part_is) [
       | inl none ↦
-          let t = transfer_takes h.address (Data address n) h.behind behind h.small none.1 in
+          let t = transfer_takes h.address (Data address n) h.following following h.small none.1 in
           absurd (let bad = t.1 in cc)
       | inr some ↦
           let part_is : Data h.address h.count ≡ Data address n =
-          value_is (Data h.address h.count) (Data address n) h.behind behind some.1 in
-          let same : h.behind ≡ behind = rest_is (Data h.address h.count) (Data address n) h.behind behind some.1 in
+          value_is (Data h.address h.count) (Data address n) h.following following some.1 in
+          let same : h.following ≡ following = rest_is (Data h.address h.count) (Data address n) h.following following some.1 in
           let here : h.address ≡ address = data_address h.address address h.count n part_is in
           let count_is : h.count ≡ n = data_count h.address address h.count n part_is in (
             subst Bytes same h.small,
@@ -323,8 +323,8 @@ data_behind bytes address n behind h =
                 let count_long : h.count ≡ length content = count_is ∙ sym long in
                 let above : 0 < h.count = not_zero h.count some.0 in
                 let bytes_is : 1 ∷ bytes ≡ tape_block address content ++ rest =
-                h.is ∙ ap (λ (m : ℕ). 1 ∷ 0 ∷ (word_bytes (m + 6) ++ (word_bytes h.address ++ h.behind))) count_long
-                ∙ ap (λ (a : ℕ). 1 ∷ 0 ∷ (word_bytes (length content + 6) ++ (word_bytes a ++ h.behind))) here
+                h.is ∙ ap (λ (m : ℕ). 1 ∷ 0 ∷ (word_bytes (m + 6) ++ (word_bytes h.address ++ h.following))) count_long
+                ∙ ap (λ (a : ℕ). 1 ∷ 0 ∷ (word_bytes (length content + 6) ++ (word_bytes a ++ h.following))) here
                 ∙ ap (λ (xs : List ℕ). 1 ∷ 0 ∷ (word_bytes (length content + 6) ++ (word_bytes address ++ xs)))
                 (same ∙ split)
                 ∙ sym (block_parts address content rest) in
@@ -341,36 +341,36 @@ data_behind bytes address n behind h =
         above : (m : ℕ) → m ≢ 0 → 0 < m
         above m h = omega (arith, h)
 
--- the same behind other bytes
+-- the same after other bytes
 transfer_framed : (bytes : List ℕ) (address : ℕ) (rest : List ℕ) → Bytes bytes
     → first_part bytes ≡ Ok (Start address, rest) → IsTape [] address bytes
 transfer_framed [] address rest small e = absurd (nothing_read (Start address) rest e)
 transfer_framed (byte ∷ bytes) address rest small e =
     elim (begun byte bytes) [
       | inl one_is ↦
-          let tape = transfer_behind bytes address rest (heads bytes (Start address) rest small.1 (sym one_is.1 ∙ e)) in
+          let tape = transfer_after bytes address rest (heads bytes (Start address) rest small.1 (sym one_is.1 ∙ e)) in
           let P : ℕ → Type 0 = λ first. IsTape [] address (first ∷ bytes) in subst P (sym one_is.0) tape
       | inr other ↦ Skipped byte other.0 (transfer_framed bytes address rest small.1 (sym other.1 ∙ e))
     ]
 
-data_framed : (bytes : List ℕ) (address n : ℕ) (behind : List ℕ) → Bytes bytes
-    → first_part bytes ≡ Ok (Data address n, behind)
-    → Bytes behind × ((blocks : List (ℕ × List ℕ)) (start : ℕ) (content rest : List ℕ) → length content ≡ n
-    → behind ≡ content ++ sum_byte (tape_header address (length content) ++ content) ∷ rest
+data_framed : (bytes : List ℕ) (address n : ℕ) (following : List ℕ) → Bytes bytes
+    → first_part bytes ≡ Ok (Data address n, following)
+    → Bytes following × ((blocks : List (ℕ × List ℕ)) (start : ℕ) (content rest : List ℕ) → length content ≡ n
+    → following ≡ content ++ sum_byte (tape_header address (length content) ++ content) ∷ rest
     → IsTape blocks start rest → IsTape ((address, content) ∷ blocks) start bytes)
-data_framed [] address n behind small e = absurd (nothing_read (Data address n) behind e)
-data_framed (byte ∷ bytes) address n behind small e =
+data_framed [] address n following small e = absurd (nothing_read (Data address n) following e)
+data_framed (byte ∷ bytes) address n following small e =
     elim (begun byte bytes) [
       | inl one_is ↦
           let found =
-          data_behind bytes address n behind (heads bytes (Data address n) behind small.1 (sym one_is.1 ∙ e)) in (
+          data_after bytes address n following (heads bytes (Data address n) following small.1 (sym one_is.1 ∙ e)) in (
             found.0,
             λ blocks start content rest long split tape.
                 let P : ℕ → Type 0 = λ first. IsTape ((address, content) ∷ blocks) start (first ∷ bytes) in
                 subst P (sym one_is.0) (found.1 blocks start content rest long split tape),
           )
       | inr other ↦
-          let found = data_framed bytes address n behind small.1 (sym other.1 ∙ e) in (
+          let found = data_framed bytes address n following small.1 (sym other.1 ∙ e) in (
             found.0,
             λ blocks start content rest long split tape. Skipped byte other.0
                 (found.1 blocks start content rest long split tape),
@@ -383,7 +383,7 @@ pub tape_framed : (blocks : List (ℕ × List ℕ)) (address : ℕ) (bytes : Lis
 tape_framed [] address bytes small h = transfer_framed bytes address h.0 small h.1
 tape_framed (block ∷ blocks) address bytes small h =
     let found = data_framed bytes block.0 (length block.1) (block.1 ++ h.0) small h.1 in
-    let t = behind_takes block.0 block.1 blocks address h.0 (bytes_behind block.1 h.0 found.0) h.2 in
+    let t = after_takes block.0 block.1 blocks address h.0 (bytes_after block.1 h.0 found.0) h.2 in
     found.1 blocks address block.1 t.0 refl (ap (λ (xs : List ℕ). block.1 ++ xs) t.1)
     (tape_framed blocks address t.0 t.2 t.3)
 

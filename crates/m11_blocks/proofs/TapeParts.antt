@@ -9,7 +9,7 @@ use Rattle.m11_blocks.specs.declared.tape_part.TapePart.{TapePart}
 use Rattle.m11_blocks.specs.declared.tape_part.TapePart.TheVariants.{Data, Start}
 use Rattle.m11_blocks.specs.Limited.{Place, Took, Lacks, TookThenLacks, Inside, Read, ◌>>=◌, Why, Reads, Stops}
 use Rattle.m11_blocks.specs.Tapes.{start, second, word, count, summed, total_of, transfer, part_of, first_part, next_part, missing, why_of, ReadsPart}
-use Rattle.m11_blocks.proofs.Limits.{took_nothing, took_then, reads_behind, stops_behind, first_stops, then_reads, then_stops}
+use Rattle.m11_blocks.proofs.Limits.{took_nothing, took_then, reads_after, stops_after, first_stops, then_reads, then_stops}
 
 -- a byte is missing inside a block
 pub missing_stops : {A : Type 0} (read : List ℕ → Read TapeFault A) (a b : Place) (given : List ℕ) (why : Lack)
@@ -43,109 +43,109 @@ module _ (a b c : Place) (others : List ℕ) (took : Took a b others)
 
   pub start_read : (byte : ℕ) → byte ≡ 1 → Took b c (byte ∷ []) → Reads start a c tt
   start_read byte e next =
-      reads_behind start start a b c others took leads tt
+      reads_after start start a b c others took leads tt
       (record { given = byte ∷ []; took = next; is = λ rest. one_front byte rest e })
 
   pub start_ends : Lacks b c lack.End → Stops start a c (why_of fault.NoTransfer)
   start_ends lacks =
-      stops_behind start start a b c others took leads (why_of fault.NoTransfer) ([], (b, took_nothing b, lacks), refl)
+      stops_after start start a b c others took leads (why_of fault.NoTransfer) ([], (b, took_nothing b, lacks), refl)
 
   pub start_fails : Lacks b c lack.Device → Stops start a c (why_of fault.Device)
   start_fails lacks =
-      stops_behind start start a b c others took leads (why_of fault.Device) ([], (b, took_nothing b, lacks), tt)
+      stops_after start start a b c others took leads (why_of fault.Device) ([], (b, took_nothing b, lacks), tt)
 
   pub start_passes : Lacks b c lack.TooMuch → Stops start a c (why_of fault.TooMuch)
   start_passes lacks =
-      stops_behind start start a b c others took leads (why_of fault.TooMuch) ([], (b, took_nothing b, lacks), tt)
+      stops_after start start a b c others took leads (why_of fault.TooMuch) ([], (b, took_nothing b, lacks), tt)
 
 -- ---- the parts of a transfer block
 
-abbrev behind_last : ℕ → Unit {0} × List ℕ → Read TapeFault TapePart
-behind_last address last = Ok (Start address, last.1)
+abbrev after_last : ℕ → Unit {0} × List ℕ → Read TapeFault TapePart
+after_last address last = Ok (Start address, last.1)
 
 pub transfer_stops : (address : ℕ) (a b : Place) (why : Why TapeFault) → Stops (summed (total_of address [])) a b why
     → Stops (transfer address) a b why
 unfolding transfer
-transfer_stops address a b why s = first_stops (summed (total_of address [])) (behind_last address) a b why s
+transfer_stops address a b why s = first_stops (summed (total_of address [])) (after_last address) a b why s
 
 pub transfer_read : (address : ℕ) (a b : Place) → Reads (summed (total_of address [])) a b tt
     → Reads (transfer address) a b (Start address)
 unfolding transfer
 transfer_read address a b r =
-    then_reads (summed (total_of address [])) (behind_last address) a b b tt r (Start address)
+    then_reads (summed (total_of address [])) (after_last address) a b b tt r (Start address)
     (record { given = []; took = took_nothing b; is = λ rest. refl })
 
 -- ---- the parts of a block
 
-abbrev pub behind_address : ℕ → ℕ × List ℕ → Read TapeFault TapePart
-behind_address count address = part_of count address.0 address.1
+abbrev pub after_address : ℕ → ℕ × List ℕ → Read TapeFault TapePart
+after_address count address = part_of count address.0 address.1
 
-abbrev pub behind_count : ℕ × List ℕ → Read TapeFault TapePart
-behind_count count = word count.1 >>= behind_address count.0
+abbrev pub after_count : ℕ × List ℕ → Read TapeFault TapePart
+after_count count = word count.1 >>= after_address count.0
 
-abbrev pub behind_second : Unit {0} × List ℕ → Read TapeFault TapePart
-behind_second second = count second.1 >>= behind_count
+abbrev pub after_second : Unit {0} × List ℕ → Read TapeFault TapePart
+after_second second = count second.1 >>= after_count
 
-abbrev pub behind_start : Unit {0} × List ℕ → Read TapeFault TapePart
-behind_start start = second start.1 >>= behind_second
+abbrev pub after_start : Unit {0} × List ℕ → Read TapeFault TapePart
+after_start start = second start.1 >>= after_second
 
 module _ (a b : Place) where
   pub part_start_stops : (why : Why TapeFault) → Stops start a b why → Stops first_part a b why
   unfolding first_part
-  part_start_stops why s = first_stops start behind_start a b why s
+  part_start_stops why s = first_stops start after_start a b why s
 
   module _ (started : Reads start a b tt) (c : Place) where
     pub part_second_stops : (why : Why TapeFault) → Stops second b c why → Stops first_part a c why
     unfolding first_part
     part_second_stops why s =
-        then_stops start behind_start a b c tt started why (first_stops second behind_second b c why s)
+        then_stops start after_start a b c tt started why (first_stops second after_second b c why s)
 
     module _ (begun : Reads second b c tt) (d : Place) where
       pub part_count_stops : (why : Why TapeFault) → Stops count c d why → Stops first_part a d why
       unfolding first_part
-      part_count_stops why s = then_stops start behind_start a b d tt started why
-          (then_stops second behind_second b c d tt begun why (first_stops count behind_count c d why s))
+      part_count_stops why s = then_stops start after_start a b d tt started why
+          (then_stops second after_second b c d tt begun why (first_stops count after_count c d why s))
 
       module _ (n : ℕ) (counted : Reads count c d n) (e : Place) where
         pub part_address_stops : (why : Why TapeFault) → Stops word d e why → Stops first_part a e why
         unfolding first_part
-        part_address_stops why s = then_stops start behind_start a b e tt started why
-            (then_stops second behind_second b c e tt begun why
-            (then_stops count behind_count c d e n counted why (first_stops word (behind_address n) d e why s)))
+        part_address_stops why s = then_stops start after_start a b e tt started why
+            (then_stops second after_second b c e tt begun why
+            (then_stops count after_count c d e n counted why (first_stops word (after_address n) d e why s)))
 
         module _ (address : ℕ) (placed : Reads word d e address) (f : Place) where
-          part_behind : (answer : Result TapePart TapeFault) → ReadsPart (λ part. part) (part_of n address) e f answer
+          part_after : (answer : Result TapePart TapeFault) → ReadsPart (λ part. part) (part_of n address) e f answer
               → ReadsPart (λ part. part) first_part a f answer
           unfolding first_part
-          part_behind (Ok part) r = then_reads start behind_start a b f tt started part
-              (then_reads second behind_second b c f tt begun part
-              (then_reads count behind_count c d f n counted part
-              (then_reads word (behind_address n) d e f address placed part r)))
-          part_behind (Err fault) s = then_stops start behind_start a b f tt started (why_of fault)
-              (then_stops second behind_second b c f tt begun (why_of fault)
-              (then_stops count behind_count c d f n counted (why_of fault)
-              (then_stops word (behind_address n) d e f address placed (why_of fault) s)))
+          part_after (Ok part) r = then_reads start after_start a b f tt started part
+              (then_reads second after_second b c f tt begun part
+              (then_reads count after_count c d f n counted part
+              (then_reads word (after_address n) d e f address placed part r)))
+          part_after (Err fault) s = then_stops start after_start a b f tt started (why_of fault)
+              (then_stops second after_second b c f tt begun (why_of fault)
+              (then_stops count after_count c d f n counted (why_of fault)
+              (then_stops word (after_address n) d e f address placed (why_of fault) s)))
 
           pub part_transfer : n ≡ 0 → (answer : Result TapePart TapeFault)
               → ReadsPart (λ part. part) (transfer address) e f answer → ReadsPart (λ part. part) first_part a f answer
-          part_transfer none answer r = part_behind answer (rw none r)
+          part_transfer none answer r = part_after answer (rw none r)
 
         pub part_data : n ≢ 0 → (address : ℕ) → Reads word d e address → Reads first_part a e (Data address n)
-        part_data some address placed = part_behind address placed e (Ok (Data address n))
+        part_data some address placed = part_after address placed e (Ok (Data address n))
             (record { given = []; took = took_nothing e; is = λ rest. rw (ne_eqb n 0 some) refl })
 
--- ---- the part behind a block's data
+-- ---- the part after a block's data
 
-abbrev pub behind_sum : Unit {0} × List ℕ → Read TapeFault TapePart
-behind_sum last = first_part last.1
+abbrev pub after_sum : Unit {0} × List ℕ → Read TapeFault TapePart
+after_sum last = first_part last.1
 
 module _ (total : ℕ) (a b : Place) where
   pub next_sum_stops : (why : Why TapeFault) → Stops (summed total) a b why → Stops (next_part total) a b why
   unfolding next_part
-  next_sum_stops why s = first_stops (summed total) behind_sum a b why s
+  next_sum_stops why s = first_stops (summed total) after_sum a b why s
 
   pub next_read : Reads (summed total) a b tt → (c : Place) (answer : Result TapePart TapeFault)
       → ReadsPart (λ part. part) first_part b c answer → ReadsPart (λ part. part) (next_part total) a c answer
   unfolding next_part
-  next_read summed_up c (Ok part) r = then_reads (summed total) behind_sum a b c tt summed_up part r
-  next_read summed_up c (Err fault) s = then_stops (summed total) behind_sum a b c tt summed_up (why_of fault) s
+  next_read summed_up c (Ok part) r = then_reads (summed total) after_sum a b c tt summed_up part r
+  next_read summed_up c (Err fault) s = then_stops (summed total) after_sum a b c tt summed_up (why_of fault) s

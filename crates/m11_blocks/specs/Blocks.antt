@@ -9,13 +9,13 @@ use Rattle.m11_blocks.specs.declared.limited.Lack.TheVariants as lack
 use Rattle.m11_blocks.specs.Frames.{sum_byte, header, block, content_limit}
 use Rattle.m11_blocks.specs.Limited.{Place, Between, Inside, Refused, Read, ◌>>=◌, Why, Fails, EndsBetween, EndsInside, Passes, Refuses, Never, Reads, Stops}
 
--- the 001 that begins a block, behind zeros
+-- the 001 that begins a block, after zeros
 abbrev pub start : List ℕ → Read BlockFault (Unit {0})
 start [] = Err Between
 start (byte ∷ rest) =
     if byte == 0 then start rest else if byte == 1 then Ok (tt, rest) else Err (Refused fault.BadStart rest)
 
--- the 000 behind it
+-- the 000 after it
 abbrev pub second : List ℕ → Read BlockFault (Unit {0})
 second [] = Err Inside
 second (byte ∷ rest) = if byte == 0 then Ok (tt, rest) else Err (Refused fault.BadStart rest)
@@ -32,7 +32,7 @@ count [] = Err Inside
 count (low ∷ []) = Err Inside
 count (low ∷ high ∷ rest) = count_of (low + 256 * high) rest
 
--- so many bytes
+-- n bytes
 abbrev pub content_of : ℕ → List ℕ → Read BlockFault (List ℕ)
 content_of count bytes = if nat_lt (length bytes) count then Err Inside else Ok (take count bytes, drop count bytes)
 
@@ -52,7 +52,7 @@ first_block bytes = do
   content ← content_of count.0 count.1
   summed content.0 content.1
 
--- blocks of these contents are read one after another, and behind the last there is none
+-- blocks of these contents are read one after another, and after the last there is none
 abbrev pub AreRead : List (List ℕ) → List ℕ → Type 0
 AreRead [] bytes = first_block bytes ≡ Err Between
 AreRead (content ∷ contents) bytes =
@@ -116,7 +116,7 @@ pub record BlockReading : Type 0 where
   pub room : ℕ
   pub has_failed : Bool
 
--- how a fault is told
+-- how a fault is reported
 abbrev pub block_fault_number : BlockFault → ℕ
 block_fault_number fault.Device = 1
 block_fault_number fault.Truncated = 2

@@ -29,7 +29,7 @@ pub record Took (old new : Place) (given : List ℕ) : Type 0 where
   pub room : old.room ≡ length given + new.room
   pub bytes : AllByRecursion (λ byte. byte < 256) given
 
--- so many bytes were given, and put to the end of a content
+-- n bytes were given, and put to the end of a content
 pub record TookInto (old new : Place) (before after : List ℕ) (count : ℕ) : Type 0 where
   pub given : List ℕ
   pub took : Took old new given
@@ -51,13 +51,13 @@ TookThenLacks old new given why = (middle : Place) × Took old middle given × L
 -- ---- what a function on lists says of it
 
 -- why bytes have no value in front: they end before it begins or inside it, or they are refused, with
--- the bytes behind the one that shows the fault
+-- the bytes after the one that shows the fault
 pub data Stop (Fault : Type 0) : Type 0 where
   Between : Stop Fault
   Inside : Stop Fault
   Refused : Fault → List ℕ → Stop Fault
 
--- the value in front and the bytes behind it
+-- the value in front and the bytes after it
 abbrev pub Read : Type 0 → Type 0 → Type 0
 Read Fault A = Result (A × List ℕ) (Stop Fault)
 
@@ -66,7 +66,7 @@ abbrev pub ◌>>=◌ : {A B E : Type 0} → Result A E → (A → Result B E) �
 (Ok x) >>= f = f x
 (Err e) >>= f = Err e
 
--- the bytes are too few to tell
+-- the bytes are too few to decide
 abbrev pub IsShort : {Fault A : Type 0} → Read Fault A → Type 0
 IsShort (Ok x) = ⊥
 IsShort (Err Between) = ⊤
@@ -88,7 +88,7 @@ pub record Reads {Fault A : Type 0} (read : List ℕ → Read Fault A) (old new 
   pub took : Took old new given
   pub is : (rest : List ℕ) → read (given ++ rest) ≡ Ok (value, rest)
 
--- a call gives no value: the feed failed, ended or passed the limit behind bytes that are too few, or
+-- a call gives no value: the feed failed, ended or passed the limit after bytes that are too few, or
 -- it gave bytes that are refused, whatever follows them
 abbrev pub Stops : {Fault A : Type 0} → (List ℕ → Read Fault A) → Place → Place → Why Fault → Type 0
 Stops read old new Fails = (given : List ℕ) × TookThenLacks old new given lack.Device × IsShort (read given)

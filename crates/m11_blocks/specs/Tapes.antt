@@ -28,8 +28,8 @@ tape_block address content = with_sum (tape_header address (length content) ++ c
 abbrev pub data_limit : ℕ
 data_limit = 65529
 
--- bytes that hold blocks of data, in order, each with its address, and behind them the transfer block,
--- which has no data. Before each block any bytes but 001 may stand, and behind the last all bytes
+-- bytes that hold blocks of data, in order, each with its address, and after them the transfer block,
+-- which has no data. Before each block any bytes but 001 may stand, and after the last all bytes
 pub data IsTape : List (ℕ × List ℕ) → ℕ → List ℕ → Type 0 where
   Transfer : (address : ℕ) (rest : List ℕ) → address < 65536 → IsTape [] address (tape_block address [] ++ rest)
   Skipped : {blocks : List (ℕ × List ℕ)} {address : ℕ} {bytes : List ℕ} (byte : ℕ) → byte ≢ 1
@@ -40,12 +40,12 @@ pub data IsTape : List (ℕ × List ℕ) → ℕ → List ℕ → Type 0 where
 
 -- ---- what one call reads
 
--- the 001 that begins a block, behind any other bytes
+-- the 001 that begins a block, after any other bytes
 abbrev pub start : List ℕ → Read TapeFault (Unit {0})
 start [] = Err Between
 start (byte ∷ rest) = if byte == 1 then Ok (tt, rest) else start rest
 
--- the 000 behind it
+-- the 000 after it
 abbrev pub second : List ℕ → Read TapeFault (Unit {0})
 second [] = Err Inside
 second (byte ∷ rest) = if byte == 0 then Ok (tt, rest) else Err (Refused fault.BadStart rest)
@@ -61,7 +61,7 @@ count bytes = do
   length ← word bytes
   if nat_lt length.0 6 then Err (Refused fault.TooShort length.1) else Ok (length.0 - 6, length.1)
 
--- the sum byte behind bytes of this sum
+-- the sum byte after bytes of this sum
 abbrev pub summed : ℕ → List ℕ → Read TapeFault (Unit {0})
 summed total [] = Err Inside
 summed total (byte ∷ rest) = if (total + byte) % 256 == 0 then Ok (tt, rest) else Err (Refused fault.BadSum rest)
@@ -76,7 +76,7 @@ transfer address bytes = do
   last ← summed (total_of address []) bytes
   Ok (Start address, last.1)
 
--- the part that a header tells of
+-- the part that a header describes
 abbrev pub part_of : ℕ → ℕ → List ℕ → Read TapeFault TapePart
 part_of count address bytes = if count == 0 then transfer address bytes else Ok (Data address count, bytes)
 
@@ -89,7 +89,7 @@ first_part bytes = do
   address ← word count.1
   part_of count.0 address.0 address.1
 
--- the part behind the data of a block
+-- the part after the data of a block
 unfoldable pub next_part : ℕ → List ℕ → Read TapeFault TapePart
 next_part total bytes = do
   last ← summed total bytes
@@ -105,7 +105,7 @@ abbrev pub PartFits : TapePart → Type 0
 PartFits (Data address count) = (0 < count) × (count ≤ data_limit)
 PartFits (Start address) = ⊤
 
--- the parts and bytes of a tape come one after another: the header of each block, its bytes, and behind
+-- the parts and bytes of a tape come one after another: the header of each block, its bytes, and after
 -- them the next part; at last the transfer block
 abbrev pub AreRead : (List ℕ → Read TapeFault TapePart) → List (ℕ × List ℕ) → ℕ → List ℕ → Type 0
 AreRead read [] address bytes = (rest : List ℕ) × (read bytes ≡ Ok (Start address, rest))
@@ -113,12 +113,12 @@ AreRead read (block ∷ blocks) address bytes =
     (rest : List ℕ) × (read bytes ≡ Ok (Data block.0 (length block.1), block.1 ++ rest))
     × AreRead (next_part (total_of block.0 block.1)) blocks address rest
 
--- a block of data in front of some bytes is read again: its header, its bytes, and behind them the part
+-- a block of data in front of some bytes is read again: its header, its bytes, and after them the part
 -- that is read of those bytes alone
 abbrev pub IsReadAgain : ℕ → List ℕ → List ℕ → List ℕ → Type 0
-IsReadAgain address content block rest = (behind : List ℕ)
-    × (first_part (block ++ rest) ≡ Ok (Data address (length content), content ++ behind))
-    × (next_part (total_of address content) behind ≡ first_part rest)
+IsReadAgain address content block rest = (following : List ℕ)
+    × (first_part (block ++ rest) ≡ Ok (Data address (length content), content ++ following))
+    × (next_part (total_of address content) following ≡ first_part rest)
 
 -- ---- where a reader stands
 
@@ -131,7 +131,7 @@ pub record TapeReading : Type 0 where
 abbrev pub opened : ℕ → ℕ → List ℕ → TapeStage
 opened address count taken = InBlock (count - length taken) (sum (tape_header address count ++ taken) % 256)
 
--- behind a part, and behind a byte of the open block
+-- after a part, and after a byte of the open block
 abbrev pub stage_after : Result TapePart TapeFault → TapeStage
 stage_after (Ok (Data address count)) = InBlock count (sum (tape_header address count) % 256)
 stage_after (Ok (Start address)) = AtEnd address
@@ -198,7 +198,7 @@ ReadsByte (InBlock left total) old new after answer =
 ReadsByte (AtEnd address) old new after answer = ⊤
 ReadsByte AfterFault old new after answer = answer ≡ Err fault.Failed
 
--- ---- how a fault is told
+-- ---- how a fault is reported
 
 abbrev pub tape_fault_number : TapeFault → ℕ
 tape_fault_number fault.Device = 1

@@ -18,16 +18,16 @@ pub enum BlockFault {
     /// 3: the bytes of a block do not add up to 0 modulo 256.
     #[error("bad sum")]
     BadSum,
-    /// 4: a length that tells of more than 512 bytes of content.
+    /// 4: a length that reports more than 512 bytes of content.
     #[error("block too long")]
     TooLong,
-    /// 5: another byte than 000 or 001 before a block, or than 000 behind its 001.
+    /// 5: another byte than 000 or 001 before a block, or than 000 after its 001.
     #[error("bad start of a block")]
     BadStart,
     /// 6: a length under 4.
     #[error("block too short")]
     TooShort,
-    /// 7: the reader answered a fault before.
+    /// 7: the reader returned a fault before.
     #[error("the reader failed before")]
     Failed,
     /// 8: a byte came past 4,194,304.

@@ -14,7 +14,7 @@ use crate::limited::{Lack, MOST_BYTES, next_byte, next_word, take_ready};
 use m11_base::Feed;
 use std::marker::Model;
 
-// Goes behind zeros and the 001 that begins a block. It answers whether there is one.
+// Goes after zeros and the 001 that begins a block. It returns whether there is one.
 fn read_start<F: Feed>(feed: &mut F, room: &mut u32) -> Result<bool, BlockFault>
     ensures { ReadsStart (place (F.text feed.old) (F.faults feed.old) room.old)
         (place (F.text feed.new) (F.faults feed.new) room.new) result }
@@ -58,7 +58,7 @@ fn read_count<F: Feed>(feed: &mut F, room: &mut u32) -> Result<u16, BlockFault>
     Ok(length - 4)
 }
 
-// So many bytes, in place of what stood in the content.
+// N bytes, in place of what stood in the content.
 fn read_content<F: Feed>(
     feed: &mut F,
     room: &mut u32,
@@ -82,7 +82,7 @@ fn read_content<F: Feed>(
     Ok(())
 }
 
-// Goes behind the sum byte of a content.
+// Goes after the sum byte of a content.
 fn read_sum<F: Feed>(feed: &mut F, room: &mut u32, content: &Block) -> Result<(), BlockFault>
     ensures { ReadsPart (λ _. content.now.items) (summed content.now.items)
         (place (F.text feed.old) (F.faults feed.old) room.old)
@@ -95,7 +95,7 @@ fn read_sum<F: Feed>(feed: &mut F, room: &mut u32, content: &Block) -> Result<()
     Ok(())
 }
 
-// The content of a block, in place of what stood there. It answers whether there is a block.
+// The content of a block, in place of what stood there. It returns whether there is a block.
 fn read_block<F: Feed>(
     feed: &mut F,
     room: &mut u32,
@@ -156,8 +156,8 @@ impl BlockReader {
     }
 
     /// The content of the next block, or `None` where the bytes end before one. Zeros before a block
-    /// are skipped. Behind the end the feed is asked again at the next call. A fault is the first one
-    /// in the order of the bytes; after it each call answers `Failed` and reads nothing.
+    /// are skipped. After the end the feed is asked again at the next call. A fault is the first one
+    /// in the order of the bytes; after it each call returns `Failed` and reads nothing.
     pub fn next<F: Feed>(&mut self, feed: &mut F) -> Result<Option<Block>, BlockFault>
         ensures reads { OnFalse self.old.has_failed (ReadsBlock (λ b. b.items)
             (place (F.text feed.old) (F.faults feed.old) self.old.room)
@@ -174,7 +174,7 @@ impl BlockReader {
         }
     }
 
-    /// Reads the next block as `next` does, its content into `block`, and answers whether there is one. Where
+    /// Reads the next block as `next` does, its content into `block`, and returns whether there is one. Where
     /// there is none, or at a fault, `block` may hold anything.
     pub fn next_into<F: Feed>(
         &mut self,

@@ -11,7 +11,7 @@ use std::alloc::{AllocError, Global};
 /// The content of a block: at most 512 bytes.
 pub type Block = ArrayVec<u8, 512>;
 
-// The four bytes before a content of so many bytes.
+// The four bytes before a content of n bytes.
 fn header(content_length: u16) -> [u8; 4]
     requires { content_length ≤ content_limit }
     ensures { result ≡ header content_length }

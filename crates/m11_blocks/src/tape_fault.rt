@@ -19,13 +19,13 @@ pub enum TapeFault {
     /// 3: the bytes of a block do not add up to 0 modulo 256.
     #[error("bad sum")]
     BadSum,
-    /// 5: another byte than 000 behind the 001 of a block.
+    /// 5: another byte than 000 after the 001 of a block.
     #[error("bad start of a block")]
     BadStart,
     /// 6: a count under 6.
     #[error("block too short")]
     TooShort,
-    /// 7: the reader answered a fault before.
+    /// 7: the reader returned a fault before.
     #[error("the reader failed before")]
     Failed,
     /// 8: the bytes end before the transfer block.

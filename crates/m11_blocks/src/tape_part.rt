@@ -1,10 +1,10 @@
-//! What a reader of tapes answers, and where it stands between two calls.
+//! What a reader of tapes returns, and where it stands between two calls.
 
 /// A part of a tape.
 #[derive(Clone, Copy, Debug, PartialEq, Eq)]
 pub enum TapePart {
     /// The header of a block: `count` bytes, 1 to 65,529, which follow one a call, belong at
-    /// `address` and the places behind it.
+    /// `address` and the places after it.
     Data { address: u16, count: u16 },
     /// The transfer block: an even address is where the program starts, an odd one starts nothing.
     Start(u16),
@@ -20,6 +20,6 @@ pub enum TapeStage {
     InBlock { left: u16, total: u8 },
     /// The transfer block of this address was read.
     AtEnd(u16),
-    /// A fault was answered.
+    /// A fault was returned.
     AfterFault,
 }

@@ -28,7 +28,7 @@ fn header(address: u16, count: u16) -> [u8; 6]
     [1, 0, length[0], length[1], place[0], place[1]]
 }
 
-/// The block of a tape that puts bytes, 1 to 65,529, at an address and the places behind it.
+/// The block of a tape that puts bytes, 1 to 65,529, at an address and the places after it.
 #[tactic(auto, unfolding(crate::specs::Tapes::tape_block))]
 pub fn tape_block(alloc: Global, address: u16, bytes: &[u8]) -> Result<Vec<u8>, AllocError>
     requires some { 0 < length bytes.now }
@@ -47,14 +47,14 @@ pub fn tape_block(alloc: Global, address: u16, bytes: &[u8]) -> Result<Vec<u8>, 
 pub fn tape_transfer(alloc: Global, address: u16) -> Result<Vec<u8>, AllocError>
     ensures bytes { IfOk result (λ v. v.items ≡ tape_block address []) }
     ensures sum { IfOk result (λ v. sum v.items % 256 ≡ 0) }
-    // whatever follows it, a reader reads this start again, and nothing behind it
+    // whatever follows it, a reader reads this start again, and nothing after it
     ensures again { IfOk result (λ v.
         (rest : List ℕ) → first_part (v.items ++ rest) ≡ Ok (Start address, rest)) }
 {
     summed_bytes(alloc, &header(address, 0), &[])
 }
 
-// Goes behind the 001 that begins a block. Any other byte is skipped.
+// Goes after the 001 that begins a block. Any other byte is skipped.
 fn read_start<F: Feed>(feed: &mut F, room: &mut u32) -> Result<(), TapeFault>
     ensures { ReadsPart (λ _. tt) start (place (F.text feed.old) (F.faults feed.old) room.old)
         (place (F.text feed.new) (F.faults feed.new) room.new) result }
@@ -102,7 +102,7 @@ fn read_count<F: Feed>(feed: &mut F, room: &mut u32) -> Result<u16, TapeFault>
     Ok(length - 6)
 }
 
-// Goes behind the sum byte of bytes that have this sum.
+// Goes after the sum byte of bytes that have this sum.
 fn read_sum<F: Feed>(feed: &mut F, room: &mut u32, total: u8) -> Result<(), TapeFault>
     ensures { ReadsPart (λ _. tt) (summed total)
         (place (F.text feed.old) (F.faults feed.old) room.old)
@@ -150,7 +150,7 @@ fn read_part<F: Feed>(feed: &mut F, room: &mut u32) -> Result<TapePart, TapeFaul
     Ok(TapePart::Data { address, count })
 }
 
-// The part behind the data of a block whose bytes have this sum.
+// The part after the data of a block whose bytes have this sum.
 fn read_next<F: Feed>(feed: &mut F, room: &mut u32, total: u8) -> Result<TapePart, TapeFault>
     ensures part { ReadsPart (λ part. part) (next_part total)
         (place (F.text feed.old) (F.faults feed.old) room.old)
@@ -170,7 +170,7 @@ fn read_byte<F: Feed>(feed: &mut F, room: &mut u32) -> Result<u8, TapeFault>
     Ok(next_byte(feed, room)?)
 }
 
-// Where a reader stands behind a byte, before which so many were left.
+// Where a reader stands after a byte, before which n were left.
 fn stage_within(left: u16, total: u8, answer: &Result<u8, TapeFault>) -> TapeStage
     requires { 0 < left }
     ensures { result ≡ stage_within left total answer.now }
@@ -184,7 +184,7 @@ fn stage_within(left: u16, total: u8, answer: &Result<u8, TapeFault>) -> TapeSta
     }
 }
 
-// Where a reader stands behind an answer.
+// Where a reader stands after a result.
 fn stage_after(answer: &Result<TapePart, TapeFault>) -> TapeStage
     requires { IfOk answer.now PartFits }
     ensures { result ≡ stage_after answer.now }
@@ -208,7 +208,7 @@ pub fn tapes_are_read()
     ensures framed { (blocks : List (ℕ × List ℕ)) (address : ℕ) (bytes : List ℕ)
         → AllByRecursion (λ byte. byte < 256) bytes
         → AreRead first_part blocks address bytes → IsTape blocks address bytes }
-    // the stage of an open block behind one byte more, and behind all its bytes
+    // the stage of an open block after one byte more, and after all its bytes
     ensures more { (address count byte : ℕ) (taken : List ℕ)
         → stage_within (count - length taken) (sum (tape_header address count ++ taken) % 256) (Ok byte)
         ≡ opened address count (taken ++ byte ∷ []) }
@@ -244,8 +244,8 @@ impl TapeReader {
 
     /// The next part: the header of a block of data, or the transfer block. It first checks the sum of
     /// the block before, of which no byte may be left. Other bytes than 001 before a block are skipped.
-    /// Behind the sum byte of the transfer block nothing is read: each call answers `Start` again. A
-    /// fault is the first one in the order of the bytes; after it each call answers `Failed` and reads
+    /// After the sum byte of the transfer block nothing is read: each call returns `Start` again. A
+    /// fault is the first one in the order of the bytes; after it each call returns `Failed` and reads
     /// nothing.
     pub fn next<F: Feed>(&mut self, feed: &mut F) -> Result<TapePart, TapeFault>
         requires { left_of self.old.stage ≡ 0 }
@@ -267,7 +267,7 @@ impl TapeReader {
         answer
     }
 
-    /// The next byte of the open block, of which one must be left. After a fault each call answers
+    /// The next byte of the open block, of which one must be left. After a fault each call returns
     /// `Failed` and reads nothing.
     pub fn byte<F: Feed>(&mut self, feed: &mut F) -> Result<u8, TapeFault>
         requires { left_of self.old.stage ≡ 0 → self.old.stage ≡ AfterFault }

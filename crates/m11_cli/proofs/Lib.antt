@@ -1,4 +1,4 @@
 pub mod Decimals
 pub mod Linked
 pub mod Sources
-pub mod Telling
+pub mod Reporting

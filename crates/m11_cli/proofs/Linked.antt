@@ -4,14 +4,14 @@ use Rattle.std.specs.Borrow.{Bor}
 use Rattle.m11_base.specs.Feed.{NoneFailed, Text}
 use Rattle.m11_base.specs.declared.sink.Sink.{Ghosts}
 use Rattle.m11_cpu.specs.Dialogue.{Output, output_of}
-use Rattle.m11_files.specs.Files.{Files, IsEmptiedSome, keeping_some}
-use Rattle.m11_layout.specs.Planning.{Planned}
+use Rattle.m11_files.specs.Opens.{Files, IsEmptiedSome, keeping_some}
+use Rattle.m11_layout.specs.Plan.{Planned}
 use Rattle.m11_layout.specs.declared.fault.LinkFault.{LinkFault}
 use Rattle.m11_layout.specs.declared.fault.LinkFault.TheVariants as fault
-use Rattle.m11_link.specs.FirstReading.{ReadsFirst}
-use Rattle.m11_link.specs.Objects.{Item, GiveItems, FailBehind}
-use Rattle.m11_link.specs.SecondReading.{ReadsSecond, Runs}
-use Rattle.m11_link.specs.Writes.{Outputs, optional_output}
+use Rattle.m11_link.specs.FirstPass.{ReadsFirst}
+use Rattle.m11_link.specs.Objects.{Item, GiveItems, FailAfter}
+use Rattle.m11_link.specs.SecondPass.{ReadsSecond, LinkRuns}
+use Rattle.m11_link.specs.Outputs.{Outputs, optional_output}
 use Rattle.m11_link.specs.declared.emit.LinkDone.{LinkDone}
 use Rattle.m11_cli.specs.Driver.{known}
 use Rattle.m11_cli.proofs.Sources.{give, none, one, seen}
@@ -51,8 +51,8 @@ module _ {F : Type 0} (text : F → Option Text) (faults : F → ℕ) where
   given feeds items h =
       record { sources = h.sources; given = give text faults feeds h.sources h.given; are = h.are }
 
-  failed : (olds news : List F) (items : List Item) → FailBehind text faults olds news items
-      → FailBehind (λ s. s.text) (λ s. s.faults) (seen text faults olds) (seen text faults news) items
+  failed : (olds news : List F) (items : List Item) → FailAfter text faults olds news items
+      → FailAfter (λ s. s.text) (λ s. s.faults) (seen text faults olds) (seen text faults news) items
   failed olds news items h = record {
     sources = h.sources;
     beginning = h.beginning;
@@ -127,8 +127,8 @@ module _ {F : Type 0} (text : F → Option Text) (faults : F → ℕ) where
       (none text faults olds news h.0, h.1, given olds h.1 h.2, h.3, h.4)
 
   pub link_runs : (olds news again later : List F) (bottom : ℕ) (old new : Outputs) (answer : Result LinkDone LinkFault)
-      → Runs text faults olds news again later bottom old new answer
-      → Runs (λ s. s.text) (λ s. s.faults) (seen text faults olds) (seen text faults news) (seen text faults again)
+      → LinkRuns text faults olds news again later bottom old new answer
+      → LinkRuns (λ s. s.text) (λ s. s.faults) (seen text faults olds) (seen text faults news) (seen text faults again)
       (seen text faults later) bottom old new answer
   link_runs olds news again later bottom old new (Ok done) h =
       (h.0, first olds news bottom (Ok h.0) h.1, second again later h.0 old new (Ok done) h.2)

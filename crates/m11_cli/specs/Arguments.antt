@@ -2,7 +2,7 @@
 use Rattle.std.specs.Prelude.{◌≡◌, ◌++◌, ◌⊎◌, List, [], ◌∷◌, ℕ, codes}
 use Rattle.std.specs.Fmt.{decimal}
 use Rattle.m11_cpu.specs.Dialogue.{Output}
-use Rattle.m11_cli.specs.Driver.{Tells}
+use Rattle.m11_cli.specs.Driver.{Reports}
 use Rattle.m11_cli.specs.FaultLines.{line_of}
 use Rattle.m11_cli.specs.declared.outcome.Outcome.TheVariants.{Usage}
 use Rattle.m11_tasks.specs.declared.usage.UsageFault.TheVariants as usage
@@ -18,6 +18,6 @@ unfoldable pub refusal_line : ℕ → List ℕ
 refusal_line number = codes "error: word " ++ decimal number ++ codes " is not valid UTF-8\n"
 
 -- that line, or nothing where memory is refused for it; or the line for want of memory
-abbrev pub TellsOfWords : WordsFault → Output → Output → Type 0
-TellsOfWords NoMemory old new = Tells (line_of (Usage usage.NoMemory)) old new
-TellsOfWords (NotText number) old new = Tells (refusal_line number) old new ⊎ (new ≡ old)
+abbrev pub ReportsOfWords : WordsFault → Output → Output → Type 0
+ReportsOfWords NoMemory old new = Reports (line_of (Usage usage.NoMemory)) old new
+ReportsOfWords (NotText number) old new = Reports (refusal_line number) old new ⊎ (new ≡ old)

@@ -6,7 +6,7 @@ use Rattle.m11_base.specs.Devices.{Rises}
 use Rattle.m11_base.specs.Feed as feed
 use Rattle.m11_base.specs.Sink.{AppendsBeginning}
 use Rattle.m11_base.specs.declared.sink.Sink.{Ghosts}
-use Rattle.m11_asm.specs.Run.{Counted, Runs}
+use Rattle.m11_asm.specs.Run.{Counted, AsmRuns}
 use Rattle.m11_asm.specs.Writes.{texts}
 use Rattle.m11_asm.specs.declared.fault.AsmFault.{AsmFault}
 use Rattle.m11_asm.specs.declared.fault.AsmFault.TheVariants as asm-fault
@@ -18,11 +18,11 @@ use Rattle.m11_cpu.specs.declared.fault.SimFault.TheVariants as sim-fault
 use Rattle.m11_cpu.specs.declared.stop.SimDone.{SimDone}
 use Rattle.m11_layout.specs.declared.fault.LinkFault.{LinkFault}
 use Rattle.m11_layout.specs.declared.fault.LinkFault.TheVariants as link-fault
-use Rattle.m11_link.specs.SecondReading as linking
-use Rattle.m11_link.specs.Writes.{Outputs, outputs_of}
+use Rattle.m11_link.specs.SecondPass as linking
+use Rattle.m11_link.specs.Outputs.{Outputs, outputs_of}
 use Rattle.m11_link.specs.declared.emit.LinkDone.{LinkDone}
 use Rattle.m11_cli.specs.FaultLines.{line_of, open_line}
-use Rattle.m11_files.specs.Files.{Files, AreFiles, Holds, IsEmptied, IsEmptiedSome, creating, keeping, keeping_some}
+use Rattle.m11_files.specs.Opens.{Files, AreFiles, Holds, IsEmptied, IsEmptiedSome, creating, keeping, keeping_some}
 use Rattle.m11_tasks.specs.Opened.{CreatesSome, StopsAt, asm_inputs, asm_outputs, link_inputs, link_outputs, sim_inputs}
 use Rattle.m11_tasks.specs.Tasks.{Plans}
 use Rattle.m11_cli.specs.declared.outcome.Outcome.{Outcome}
@@ -37,17 +37,17 @@ use Rattle.m11_tasks.specs.declared.usage.UsageFault.TheVariants.{Help, Words}
 
 -- ---- what a process has
 
--- what it reads, what it prints, and what it tells of itself
+-- what it reads, what it prints, and what it says of itself
 pub record Streams : Type 0 where
   pub input : Input
   pub printed : Output
-  pub told : Output
+  pub reported : Output
 
 abbrev pub streams : Option feed.Text → ℕ → Option (List ℕ) → ℕ → Option (List ℕ) → ℕ → Streams
-streams input input_faults printed printed_faults told told_faults = record {
+streams input input_faults printed printed_faults reported reported_faults = record {
   input = input_of input input_faults;
   printed = output_of printed printed_faults;
-  told = output_of told told_faults;
+  reported = output_of reported reported_faults;
 }
 
 -- its files, where they are known, and how often one was refused
@@ -58,40 +58,40 @@ pub record Store : Type 0 where
 abbrev pub store : Option Files → ℕ → Store
 store files refusals = record { files = files; refusals = refusals }
 
--- ---- what is told
+-- ---- what is reported
 
--- a text was told whole; or the device failed, after a beginning of it
-abbrev pub Tells : List ℕ → Output → Output → Type 0
-Tells text old new = (Appends old.text new.text text × (new.faults ≡ old.faults))
+-- a text was reported whole; or the device failed, after a beginning of it
+abbrev pub Reports : List ℕ → Output → Output → Type 0
+Reports text old new = (Appends old.text new.text text × (new.faults ≡ old.faults))
     ⊎ (AppendsBeginning old.text new.text text × Rises old.faults new.faults)
 
--- a text in words of the parser's own was told: none, where memory was refused for it
-abbrev pub TellsSome : Output → Output → Type 0
-TellsSome old new = (text : List ℕ) × Tells text old new
+-- a text in words of the parser's own was reported: none, where memory was refused for it
+abbrev pub ReportsSome : Output → Output → Type 0
+ReportsSome old new = (text : List ℕ) × Reports text old new
 
--- what the parser has to say is printed, where it is help, or told, where it is a refusal
+-- what the parser has to say is printed, where it is help, or reported, where it is a refusal
 abbrev pub Explains : UsageFault → Output → Output → Output → Output → Type 0
-Explains (Help error) printed printed' told told' = TellsSome printed printed' × (told' ≡ told)
-Explains (Words error) printed printed' told told' = (printed' ≡ printed) × TellsSome told told'
-Explains fault printed printed' told told' = (printed' ≡ printed) × (told' ≡ told)
+Explains (Help error) printed printed' reported reported' = ReportsSome printed printed' × (reported' ≡ reported)
+Explains (Words error) printed printed' reported reported' = (printed' ≡ printed) × ReportsSome reported reported'
+Explains fault printed printed' reported reported' = (printed' ≡ printed) × (reported' ≡ reported)
 
 -- ---- files that are not all open
 
--- memory was refused while the files were opened: nothing is told
+-- memory was refused while the files were opened: nothing is reported
 abbrev pub RunsOutOpening : List (List ℕ) → List (List ℕ) → Store → Store → Output → Output → Type 0
-RunsOutOpening inputs outputs old new told told' = (told' ≡ told) × (new.refusals ≡ old.refusals)
+RunsOutOpening inputs outputs old new reported reported' = (reported' ≡ reported) × (new.refusals ≡ old.refusals)
     × ((new.files ≡ old.files) ⊎ CreatesSome old.files new.files inputs outputs)
 
--- a file was refused, the first of them, and its path is told
+-- a file was refused, the first of them, and its path is reported
 abbrev pub RefusesFile : List (List ℕ) → List (List ℕ) → Store → Store → Output → Output → Type 0
-RefusesFile inputs outputs old new told told' = Rises old.refusals new.refusals
-    × (path : List ℕ) × StopsAt old.files new.files inputs outputs path × Tells (open_line path) told told'
+RefusesFile inputs outputs old new reported reported' = Rises old.refusals new.refusals
+    × (path : List ℕ) × StopsAt old.files new.files inputs outputs path × Reports (open_line path) reported reported'
 
 -- ---- an assembly
 
--- the sources are the files of their paths. By their texts the object, which is empty at first, and what is told
+-- the sources are the files of their paths. By their texts the object, which is empty at first, and what is reported
 -- become what an assembly makes of them; the object is created, and kept under its path
-pub record Assembles (asm : AsmTask) (old new : Store) (told told' : Output) (answer : Result AsmDone AsmFault)
+pub record Assembles (asm : AsmTask) (old new : Store) (reported reported' : Output) (answer : Result AsmDone AsmFault)
     : Type 0 where
   pub sources : List Input
   pub sources' : List Input
@@ -99,15 +99,15 @@ pub record Assembles (asm : AsmTask) (old new : Store) (told told' : Output) (an
   pub object' : Output
   pub read : AreFiles (λ s. s.text) old.files (asm_inputs asm) sources
   pub emptied : IsEmptied old.files object.text
-  pub runs : Runs (λ s. s.text) (λ s. s.faults) sources sources'
-      (texts object.text None told.text) (texts object'.text None told'.text) answer
-  pub failures : Counted object.faults object'.faults told.faults told'.faults answer
+  pub runs : AsmRuns (λ s. s.text) (λ s. s.faults) sources sources'
+      (texts object.text None reported.text) (texts object'.text None reported'.text) answer
+  pub failures : Counted object.faults object'.faults reported.faults reported'.faults answer
   pub kept : new.files ≡ keeping asm.object.now object'.text (creating (asm_outputs asm) old.files)
   pub opened : new.refusals ≡ old.refusals
 
 abbrev pub MayAssemble : AsmTask → Store → Store → Output → Output → Result AsmDone AsmFault → Type 0
-MayAssemble asm old new told told' answer = Assembles asm old new told told' answer
-    ⊎ ((answer ≡ Err asm-fault.NoMemory) × RunsOutOpening (asm_inputs asm) (asm_outputs asm) old new told told')
+MayAssemble asm old new reported reported' answer = Assembles asm old new reported reported' answer
+    ⊎ ((answer ≡ Err asm-fault.NoMemory) × RunsOutOpening (asm_inputs asm) (asm_outputs asm) old new reported reported')
 
 -- ---- a link
 
@@ -117,12 +117,12 @@ known = record { text = λ output. output.text; faults = λ output. output.fault
 
 -- the tape, the map if there is one, and the messages of a link
 abbrev pub outputs : Output → Option Output → Output → Outputs
-outputs tape map told = outputs_of known known known tape map told
+outputs tape map reported = outputs_of known known known tape map reported
 
 -- the objects are the files of their paths, in both passes. By their texts the tape and the map, which are empty at
--- first, and what is told become what a link from this bottom on makes of them; tape and map are created in this
+-- first, and what is reported become what a link from this bottom on makes of them; tape and map are created in this
 -- order, and kept under their paths
-pub record Links (task : LinkTask) (old new : Store) (told told' : Output) (answer : Result LinkDone LinkFault)
+pub record Links (task : LinkTask) (old new : Store) (reported reported' : Output) (answer : Result LinkDone LinkFault)
     : Type 0 where
   pub first : List Input
   pub first' : List Input
@@ -136,15 +136,15 @@ pub record Links (task : LinkTask) (old new : Store) (told told' : Output) (answ
   pub read-again : AreFiles (λ s. s.text) old.files (link_inputs task) second
   pub emptied : IsEmptied old.files tape.text
   pub emptied-map : IsEmptiedSome (λ m. m.text) old.files task.map map
-  pub runs : linking.Runs (λ s. s.text) (λ s. s.faults) first first' second second' task.bottom
-      (outputs tape map told) (outputs tape' map' told') answer
+  pub runs : linking.LinkRuns (λ s. s.text) (λ s. s.faults) first first' second second' task.bottom
+      (outputs tape map reported) (outputs tape' map' reported') answer
   pub kept : new.files ≡ keeping_some (λ m. m.text) task.map map'
       (keeping task.tape.now tape'.text (creating (link_outputs task) old.files))
   pub opened : new.refusals ≡ old.refusals
 
 abbrev pub MayLink : LinkTask → Store → Store → Output → Output → Result LinkDone LinkFault → Type 0
-MayLink task old new told told' answer = Links task old new told told' answer
-    ⊎ ((answer ≡ Err link-fault.NoMemory) × RunsOutOpening (link_inputs task) (link_outputs task) old new told told')
+MayLink task old new reported reported' answer = Links task old new reported reported' answer
+    ⊎ ((answer ≡ Err link-fault.NoMemory) × RunsOutOpening (link_inputs task) (link_outputs task) old new reported reported')
 
 -- ---- a run
 
@@ -156,7 +156,7 @@ pub record RunsTape (sim : SimTask) (old new : Store) (before after : Streams) (
   pub read : Holds old.files sim.tape.now tape.text
   pub runs : Simulates sim.start sim.words sim.limit tape tape'
       (both before.input.text before.input.faults before.printed.text before.printed.faults)
-      (both after.input.text after.input.faults after.printed.text after.printed.faults) before.told after.told answer
+      (both after.input.text after.input.faults after.printed.text after.printed.faults) before.reported after.reported answer
   pub kept : new ≡ old
 
 abbrev pub MayRun : SimTask → Store → Store → Streams → Streams → Result SimDone SimFault → Type 0
@@ -176,15 +176,15 @@ outputs_of_task (task.Asm asm) = asm_outputs asm
 outputs_of_task (task.Link link) = link_outputs link
 outputs_of_task (task.Sim sim) = []
 
--- what becomes of a task: one of its files does not open, and is told; or it is an assembly of its sources, or a link
+-- what becomes of a task: one of its files does not open, and is reported; or it is an assembly of its sources, or a link
 -- of its objects; or it is a run of its tape, which has the console
 abbrev pub Carries : Task → Outcome → Store → Store → Streams → Streams → Type 0
 Carries task NotOpened old new before after = (after.input ≡ before.input) × (after.printed ≡ before.printed)
-    × RefusesFile (inputs_of task) (outputs_of_task task) old new before.told after.told
+    × RefusesFile (inputs_of task) (outputs_of_task task) old new before.reported after.reported
 Carries (task.Asm asm) (Asm answer) old new before after = (after.input ≡ before.input)
-    × (after.printed ≡ before.printed) × MayAssemble asm old new before.told after.told answer
+    × (after.printed ≡ before.printed) × MayAssemble asm old new before.reported after.reported answer
 Carries (task.Link link) (Link answer) old new before after = (after.input ≡ before.input)
-    × (after.printed ≡ before.printed) × MayLink link old new before.told after.told answer
+    × (after.printed ≡ before.printed) × MayLink link old new before.reported after.reported answer
 Carries (task.Sim sim) (Sim answer) old new before after = MayRun sim old new before after answer
 Carries task outcome old new before after = ⊥
 
@@ -192,12 +192,12 @@ Carries task outcome old new before after = ⊥
 -- carried out
 abbrev pub ComesTo : List Text → Outcome → Store → Store → Streams → Streams → Type 0
 ComesTo words (Usage fault) old new before after = Plans words (Err fault) × (new ≡ old)
-    × (after.input ≡ before.input) × Explains fault before.printed after.printed before.told after.told
+    × (after.input ≡ before.input) × Explains fault before.printed after.printed before.reported after.reported
 ComesTo words outcome old new before after =
     (task : Task) × Plans words (Ok task) × Carries task outcome old new before after
 
--- a command line comes to its outcome, and after that the line of the outcome's fault is told
+-- a command line yields its outcome, and after that the line of the outcome's fault is reported
 abbrev pub Obeys : List Text → Outcome → Store → Store → Streams → Streams → Type 0
 Obeys words outcome old new before after =
-    (told : Output) × ComesTo words outcome old new before (record after { told = told })
-    × Tells (line_of outcome) told after.told
+    (reported : Output) × ComesTo words outcome old new before (record after { reported = reported })
+    × Reports (line_of outcome) reported after.reported

@@ -4,13 +4,13 @@
 use Rattle.std.specs.Prelude.{List, [], ◌∷◌, ◌++◌, ℕ, Ok, Err, codes}
 use Rattle.std.specs.List.{join_with_byte}
 use Rattle.std.specs.Fmt.{decimal}
-use Rattle.m11_asm.specs.Faults.{name_of, number_of, output_name}
+use Rattle.m11_asm.specs.Fault.{name_of, number_of, output_name}
 use Rattle.m11_asm.specs.declared.fault.AsmFault.{AsmFault}
 use Rattle.m11_asm.specs.declared.fault.AsmFault.TheVariants as asm
-use Rattle.m11_cpu.specs.Faults.{sim_fault_name, sim_fault_number}
+use Rattle.m11_cpu.specs.Fault.{sim_fault_name, sim_fault_number}
 use Rattle.m11_cpu.specs.declared.fault.SimFault.{SimFault}
 use Rattle.m11_cpu.specs.declared.fault.SimFault.TheVariants as sim
-use Rattle.m11_layout.specs.Faults.{link_fault_name, link_fault_number}
+use Rattle.m11_layout.specs.Fault.{link_fault_name, link_fault_number}
 use Rattle.m11_layout.specs.declared.fault.LinkFault.{LinkFault}
 use Rattle.m11_layout.specs.declared.fault.LinkFault.TheVariants as link
 use Rattle.m11_layout.specs.declared.fault.LinkOutput.{LinkOutput}
@@ -91,8 +91,8 @@ usage_line (Help error) = []
 usage_line (Words error) = []
 usage_line fault = line_for (codes "USAGE") (usage_number fault) (usage_name fault) []
 
--- the line of what a command came to; none where there is no fault, and none where the words or the
--- paths have been answered with a text of their own
+-- the line of what a command yielded; none where there is no fault, and none where the words or the
+-- paths have been returned with a text of their own
 abbrev pub line_of : Outcome → List ℕ
 line_of (Usage fault) = usage_line fault
 line_of (Asm (Ok done)) = []

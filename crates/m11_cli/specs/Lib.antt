@@ -1,4 +1,4 @@
 pub mod Arguments
 pub mod Driver
 pub mod FaultLines
-pub mod Outcomes
+pub mod Outcome

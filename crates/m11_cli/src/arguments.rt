@@ -39,7 +39,7 @@ pub fn words<R: Env + AllocGlobal>(rt: &R) -> Result<Vec<String>, WordsFault> {
     Ok(words)
 }
 
-// The word of a number, if there are so many.
+// The word of a number, if there are n.
 fn word<R: Env + AllocGlobal>(rt: &R, number: usize) -> Result<Option<String>, WordsFault> {
     let mut size = SHORT;
     for _ in 0..usize::BITS {
@@ -65,7 +65,7 @@ fn word<R: Env + AllocGlobal>(rt: &R, number: usize) -> Result<Option<String>, W
 // Most words are no longer than this.
 const SHORT: usize = 256;
 
-/// The line that tells of a word that is not UTF-8.
+/// The line that reports a word that is not UTF-8.
 #[tactic(auto, unfolding(crate::specs::Arguments::refusal_line))]
 pub(crate) fn refusal_line(alloc: Global, number: usize) -> Result<String, AllocError>
     ensures { IfOk result (λ s. string_bytes s ≡ refusal_line number) }

@@ -3,13 +3,13 @@
 ghost use Rattle.std.specs.Prelude.{◌≡◌, map};
 ghost use Rattle.m11_cpu.specs.Dialogue.{Input, Output, both, input_of, output_of};
 ghost use Rattle.m11_cpu.specs.Simulation.{Simulates};
-ghost use Rattle.m11_cli.specs.Driver.{Assembles, Carries, ComesTo, Explains, Links, Obeys, Store, Tells, TellsSome, store, streams};
+ghost use Rattle.m11_cli.specs.Driver.{Assembles, Carries, ComesTo, Explains, Links, Obeys, Store, Reports, ReportsSome, store, streams};
 ghost use Rattle.m11_cli.specs.FaultLines.{line_of, open_line};
-ghost use Rattle.m11_files.specs.Files.{AreFiles, IsEmptied, IsEmptiedSome, creating, keeping_some};
+ghost use Rattle.m11_files.specs.Opens.{AreFiles, IsEmptied, IsEmptiedSome, creating, keeping_some};
 ghost use Rattle.m11_tasks.specs.Opened.{asm_inputs, asm_outputs, link_inputs, link_outputs};
-ghost use Rattle.m11_cli.specs.Outcomes.{LeavesConsole, status_of};
+ghost use Rattle.m11_cli.specs.Outcome.{LeavesConsole, status_of};
 ghost use Rattle.m11_tasks.specs.Tasks.{IsDoable};
-ghost use Rattle.m11_cli.specs.Arguments.{TellsOfWords, words_status};
+ghost use Rattle.m11_cli.specs.Arguments.{ReportsOfWords, words_status};
 ghost use Rattle.m11_cli.specs.declared.outcome.Outcome.{Outcome};
 ghost use Rattle.m11_cli.specs.declared.outcome.Outcome.TheVariants.{NotOpened};
 ghost use Rattle.m11_tasks.specs.declared.tasks.Task.TheVariants.{Asm, Link, Sim};
@@ -64,12 +64,12 @@ where
     finish(&outcome, err)
 }
 
-/// Stands for `command` where the system did not give the words: tells on `err` why, and returns
+/// Stands for `command` where the system did not give the words: reports on `err` why, and returns
 /// the status, that of want of memory or that of refused words.
-#[tactic(auto, using(crate::proofs::Telling::tells))]
+#[tactic(auto, using(crate::proofs::Reporting::reports))]
 pub fn command_without_words<E: Sink>(alloc: Global, fault: WordsFault, err: &mut E) -> u8
     ensures status { result ≡ words_status fault }
-    ensures told { TellsOfWords fault
+    ensures reported { ReportsOfWords fault
         (output_of (E.text err.old) (E.faults err.old)) (output_of (E.text err.new) (E.faults err.new)) }
 {
     match fault {
@@ -83,20 +83,20 @@ pub fn command_without_words<E: Sink>(alloc: Global, fault: WordsFault, err: &mu
     }
 }
 
-// Tells the line of the outcome's fault, and gives the status. Where the line cannot be told,
-// the status still tells of the fault.
-#[tactic(auto, using(crate::proofs::Telling::tells))]
+// Reports the line of the outcome's fault, and gives the status. Where the line cannot be reported,
+// the status still reports the fault.
+#[tactic(auto, using(crate::proofs::Reporting::reports))]
 fn finish<E: Sink>(outcome: &Outcome, err: &mut E) -> u8
     ensures status { result ≡ status_of outcome.now }
-    ensures line { Tells (line_of outcome.now)
+    ensures line { Reports (line_of outcome.now)
         (output_of (E.text err.old) (E.faults err.old)) (output_of (E.text err.new) (E.faults err.new)) }
 {
     let _ = fault_line(outcome, err);
     status(outcome)
 }
 
-// What the words come to. A refusal is told where it is found.
-#[tactic(auto, using(crate::proofs::Telling::carried))]
+// What the words yield. A refusal is reported where it is found.
+#[tactic(auto, using(crate::proofs::Reporting::carried))]
 fn outcome_of<'a, F, I, O, E, S>(
     alloc: Global,
     files: &mut F,
@@ -137,8 +137,8 @@ fn explain<O: Sink, E: Sink>(alloc: Global, fault: &UsageFault, out: &mut O, err
         (output_of (E.text err.old) (E.faults err.old)) (output_of (E.text err.new) (E.faults err.new)) }
 {
     match fault {
-        UsageFault::Help(error) => tell(alloc, error, out),
-        UsageFault::Words(error) => tell(alloc, error, err),
+        UsageFault::Help(error) => report(alloc, error, out),
+        UsageFault::Words(error) => report(alloc, error, err),
         UsageFault::BadOctal
         | UsageFault::OddAddress
         | UsageFault::BadAddress
@@ -147,9 +147,9 @@ fn explain<O: Sink, E: Sink>(alloc: Global, fault: &UsageFault, out: &mut O, err
 }
 
 // The text of an error, put at once. Where memory is refused for it, nothing is.
-#[tactic(auto, using(crate::proofs::Telling::tells_some, crate::proofs::Telling::tells_none))]
-fn tell<S: Sink>(alloc: Global, error: &clap::Error, sink: &mut S)
-    ensures { TellsSome (output_of (S.text sink.old) (S.faults sink.old))
+#[tactic(auto, using(crate::proofs::Reporting::reports_some, crate::proofs::Reporting::reports_none))]
+fn report<S: Sink>(alloc: Global, error: &clap::Error, sink: &mut S)
+    ensures { ReportsSome (output_of (S.text sink.old) (S.faults sink.old))
         (output_of (S.text sink.new) (S.faults sink.new)) }
 {
     if let Ok(text) = error.to_string(alloc) {
@@ -157,11 +157,11 @@ fn tell<S: Sink>(alloc: Global, error: &clap::Error, sink: &mut S)
     }
 }
 
-// Tells that the file of a path does not open.
-#[tactic(auto, using(crate::proofs::Telling::tells))]
+// Reports that the file of a path does not open.
+#[tactic(auto, using(crate::proofs::Reporting::reports))]
 fn not_opened<E: Sink>(err: &mut E, path: &str) -> Outcome
     ensures outcome { result ≡ NotOpened }
-    ensures line { Tells (open_line path.now)
+    ensures line { Reports (open_line path.now)
         (output_of (E.text err.old) (E.faults err.old)) (output_of (E.text err.new) (E.faults err.new)) }
 {
     let _ = not_opened_line(path, err);
@@ -177,8 +177,8 @@ fn assemble<F: Opens, E: Sink>(
 ) -> Outcome
     ensures { (input : Input) → (printed : Output) → Carries (Asm task.now) result
         (store (F.files files.old) (F.refusals files.old)) (store (F.files files.new) (F.refusals files.new))
-        (record { input = input; printed = printed; told = output_of (E.text err.old) (E.faults err.old) })
-        (record { input = input; printed = printed; told = output_of (E.text err.new) (E.faults err.new) }) }
+        (record { input = input; printed = printed; reported = output_of (E.text err.old) (E.faults err.old) })
+        (record { input = input; printed = printed; reported = output_of (E.text err.new) (E.faults err.new) }) }
 {
     match open_asm_files(alloc, files, task) {
         Ok(opened) => Outcome::Asm(run_asm(alloc, files, opened, err, task)),
@@ -227,8 +227,8 @@ fn link<F: Opens, E: Sink>(
 ) -> Outcome
     ensures { (input : Input) → (printed : Output) → Carries (Link task.now) result
         (store (F.files files.old) (F.refusals files.old)) (store (F.files files.new) (F.refusals files.new))
-        (record { input = input; printed = printed; told = output_of (E.text err.old) (E.faults err.old) })
-        (record { input = input; printed = printed; told = output_of (E.text err.new) (E.faults err.new) }) }
+        (record { input = input; printed = printed; reported = output_of (E.text err.old) (E.faults err.old) })
+        (record { input = input; printed = printed; reported = output_of (E.text err.new) (E.faults err.new) }) }
 {
     match open_link_files(alloc, files, task) {
         Ok(opened) => Outcome::Link(run_link(alloc, files, opened, err, task)),

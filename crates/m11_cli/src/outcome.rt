@@ -1,7 +1,7 @@
-//! What a command came to, and the status that it leaves.
+//! The outcome of a command, and the status that it leaves.
 
 ghost use Rattle.std.specs.Prelude.{◌≡◌};
-ghost use Rattle.m11_cli.specs.Outcomes.{link_status, sim_status, status_of, stop_status};
+ghost use Rattle.m11_cli.specs.Outcome.{link_status, sim_status, status_of, stop_status};
 
 use m11_asm::{AsmDone, AsmFault};
 use m11_cpu::{LoadFault, SimDone, SimFault, Stop};
@@ -9,7 +9,7 @@ use m11_link::{LinkDone, LinkFault};
 use m11_obj::TapeFault;
 use m11_tasks::UsageFault;
 
-/// What a command came to.
+/// The outcome of a command.
 #[derive(Debug, Drop)]
 pub enum Outcome {
     /// The words gave no task.

@@ -1,4 +1,4 @@
--- Acts that come to their value with no exchange.
+-- Acts that yield their value with no exchange.
 use Rattle.std.proofs.Common.{◌≡◌, Bool, false, cond, Result, Ok, ap}
 use Rattle.m11_cpu.specs.Acts.{Act, unless_aborted, ◌>>=◌}
 use Rattle.m11_cpu.specs.Dialogue.{after, Comes, Dialogue}

@@ -10,7 +10,7 @@ use Rattle.m11_blocks.specs.Limited.{Place, Took, Read, Reads}
 use Rattle.m11_blocks.specs.Tapes.{IsTape, AreRead, total_of, first_part, next_part, data_byte, stage_after, ReadsPart, ReadsNext}
 use Rattle.m11_blocks.proofs.ReadSteps.{bytes_then, rest_is, value_is}
 use Rattle.m11_blocks.proofs.TapeFrames.{tape_framed}
-use Rattle.m11_cpu.specs.Loading.{part_behind, Hold}
+use Rattle.m11_cpu.specs.Loading.{part_after, Hold}
 
 abbrev Reader : Type 0
 Reader = List ℕ → Read TapeFault TapePart
@@ -30,15 +30,15 @@ byte_took old new byte r = subst (λ (given : List ℕ). Took old new given) (by
 
 -- ---- one block more
 
-pub behind_more : (read : Reader) (blocks : List (ℕ × List ℕ)) (address : ℕ) (content : List ℕ)
-    → part_behind read (blocks ++ (address, content) ∷ []) ≡ next_part (total_of address content)
-behind_more read [] address content = refl
-behind_more read (block ∷ blocks) address content =
-    behind_more (next_part (total_of block.0 block.1)) blocks address content
+pub after_more : (read : Reader) (blocks : List (ℕ × List ℕ)) (address : ℕ) (content : List ℕ)
+    → part_after read (blocks ++ (address, content) ∷ []) ≡ next_part (total_of address content)
+after_more read [] address content = refl
+after_more read (block ∷ blocks) address content =
+    after_more (next_part (total_of block.0 block.1)) blocks address content
 
 pub hold_more : (read : Reader) (blocks : List (ℕ × List ℕ)) (address : ℕ) (given header content : List ℕ)
     → Hold read blocks given
-    → ((rest : List ℕ) → part_behind read blocks (header ++ rest) ≡ Ok (Data address (length content), rest))
+    → ((rest : List ℕ) → part_after read blocks (header ++ rest) ≡ Ok (Data address (length content), rest))
     → Hold read (blocks ++ (address, content) ∷ []) (given ++ (header ++ content))
 hold_more read [] address given header content none is = (
   header,
@@ -60,22 +60,22 @@ hold_more read (block ∷ blocks) address given header content held is =
 -- ---- the whole tape
 
 are_read : (read : Reader) (blocks : List (ℕ × List ℕ)) (start : ℕ) (given last : List ℕ)
-    → Hold read blocks given → ((rest : List ℕ) → part_behind read blocks (last ++ rest) ≡ Ok (Start start, rest))
+    → Hold read blocks given → ((rest : List ℕ) → part_after read blocks (last ++ rest) ≡ Ok (Start start, rest))
     → AreRead read blocks start (given ++ last)
 are_read read [] start given last none is =
     ([], ap read (ap (λ (l : List ℕ). l ++ last) none ∙ sym (append-nil last)) ∙ is [])
 are_read read (block ∷ blocks) start given last held is =
-    let behind : List ℕ = held.1 ++ last in (
-      behind,
+    let following : List ℕ = held.1 ++ last in (
+      following,
       ap read (ap (λ (l : List ℕ). l ++ last) held.2 ∙ append_assoc held.0 (block.1 ++ held.1) last
           ∙ ap (λ (l : List ℕ). held.0 ++ l) (append_assoc block.1 held.1 last))
-          ∙ held.3 (block.1 ++ behind),
+          ∙ held.3 (block.1 ++ following),
       are_read (next_part (total_of block.0 block.1)) blocks start held.1 last held.4 is,
     )
 
 pub is_tape : (blocks : List (ℕ × List ℕ)) (start : ℕ) (a b c : Place) (given : List ℕ) → Took a b given
     → Hold first_part blocks given
-    → (last : Reads (part_behind first_part blocks) b c (Start start)) → IsTape blocks start (given ++ last.given)
+    → (last : Reads (part_after first_part blocks) b c (Start start)) → IsTape blocks start (given ++ last.given)
 is_tape blocks start a b c given took held last =
     tape_framed blocks start (given ++ last.given) (bytes_then given last.given took.bytes last.took.bytes)
     (are_read first_part blocks start given last.given held last.is)

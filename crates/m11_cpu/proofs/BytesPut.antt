@@ -42,7 +42,7 @@ one_inside size address byte bytes inside last index lt =
     let long = length-append bytes (byte ∷ []) in
     elim (cases_lt index (length bytes)) [
       | inl before ↦ inside index before
-      | inr behind ↦ omega arith
+      | inr following ↦ omega arith
     ]
 
 -- one block more

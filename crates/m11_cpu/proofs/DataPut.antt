@@ -13,7 +13,7 @@ use Rattle.m11_cpu.specs.Loading.{with_bytes, AreInside, PutSome, GivesOutside}
 use Rattle.m11_cpu.proofs.BytesPut.{none_put, one_put, none_inside, one_inside}
 use Rattle.m11_cpu.proofs.BlocksRead.{byte_took}
 
--- so many bytes of the open block were given and put
+-- n bytes of the open block were given and put
 pub record Taking (old here : Place) (before now : List ℕ) (address count index : ℕ) (stage : TapeStage)
     (taken : List ℕ) : Type 0 where
   pub long : length taken ≡ index

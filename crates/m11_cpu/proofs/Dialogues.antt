@@ -8,13 +8,13 @@ use Rattle.m11_cpu.specs.declared.abort.Abort.{Abort}
 use Rattle.m11_cpu.specs.declared.machine.Machine.{Machine}
 use Rattle.m11_arithmetic.specs.declared.results.Computed.{Computed}
 use Rattle.m11_base.specs.declared.operand.Size.{Size}
-use Rattle.m11_cpu.specs.declared.operands.Place.{Place}
-use Rattle.m11_cpu.specs.declared.operands.Place.TheVariants.{InMemory}
+use Rattle.m11_cpu.specs.declared.addressing.OperandLocation.{OperandLocation}
+use Rattle.m11_cpu.specs.declared.addressing.OperandLocation.TheVariants.{InMemory}
 use Rattle.m11_cpu.specs.DoubleOperands.{change_exclusive}
 use Rattle.m11_cpu.specs.Jumps.{push}
-use Rattle.m11_cpu.specs.Places.{in_memory, put_result}
+use Rattle.m11_cpu.specs.Addressing.{in_memory, put_result}
 use Rattle.m11_cpu.specs.Acts.{Act, value, ◌>>=◌}
-use Rattle.m11_cpu.specs.Dialogue.{Reply, Dialogue, Comes, Asks, Sends, after, Exchange, Asked, Sent, Leads, Devices, Happened, Does, Replies, Takes, Input, Output}
+use Rattle.m11_cpu.specs.Dialogue.{Reply, Dialogue, Comes, Asks, Sends, after, Exchange, Asked, Sent, Leads, Devices, Happened, Does, Replies, DialogueTakes, Input, Output}
 
 pub leads_after : {A B : Type 0} (d : Dialogue A) (es fs : List Exchange) (x : A) (next : A → Dialogue B) (y : B)
     → Leads d es x → Leads (next x) fs y → Leads (after d next) (es ++ fs) y
@@ -64,7 +64,7 @@ pub if_not : {A : Type 0} (test : Bool) (a b : Dialogue A) (old new : Devices) (
     → Does (cond test a b) old new y
 if_not test a b old new y e h = let P : Bool → Type 0 = λ t. Does (cond t a b) old new y in subst P (sym e) h
 
--- the same, where a call has answered the test
+-- the same, where a call has returned the test
 pub if_so_by : {A : Type 0} (answer test : Bool) (a b : Dialogue A) (old new : Devices) (y : A) → answer ≡ test
     → answer ≡ true → Does a old new y → Does (cond test a b) old new y
 if_so_by answer test a b old new y f e h = if_so test a b old new y (sym f ∙ e) h
@@ -85,7 +85,7 @@ asks by i i' new y reply r k = record {
 }
 
 pub sends : {A : Type 0} (byte : ℕ) (by : Bool → Dialogue A) (o o' : Output) (new : Devices) (y : A) (taken : Bool)
-    → Takes o o' byte taken → Does (by taken) (record { input = None; output = Some o' }) new y
+    → DialogueTakes o o' byte taken → Does (by taken) (record { input = None; output = Some o' }) new y
     → Does (Sends byte by) (record { input = None; output = Some o }) new y
 unfolding Leads Happened
 sends byte by o o' new y taken t k = record {
@@ -94,16 +94,16 @@ sends byte by o o' new y taken t k = record {
   happened = (record { input = None; output = Some o' }, (t, refl), k.happened);
 }
 
--- a byte that is sent, where a call has answered whether it was taken
+-- a byte that is sent, where a call has returned whether it was taken
 pub sends_at_once : {A : Type 0} (byte : ℕ) (by : Bool → Dialogue A) (o o' : Output) (y : A) (taken : Bool)
-    → Takes o o' byte taken
+    → DialogueTakes o o' byte taken
     → Does (by taken) (record { input = None; output = Some o' }) (record { input = None; output = Some o' }) y
     → Does (Sends byte by) (record { input = None; output = Some o }) (record { input = None; output = Some o' }) y
 sends_at_once byte by o o' y taken t k = sends byte by o o' _ y taken t k
 
 -- a put of one byte takes it, or nothing
 pub takes_by_count : (o o' : Output) (byte count : ℕ) → count ≤ 1 → Appends o.text o'.text (take count (byte ∷ []))
-    → CountsAt o.faults o'.faults count 1 → Takes o o' byte (not (count == 0))
+    → CountsAt o.faults o'.faults count 1 → DialogueTakes o o' byte (not (count == 0))
 takes_by_count o o' byte zero le a c = (a, c)
 takes_by_count o o' byte (suc zero) le a c = (a, c)
 takes_by_count o o' byte (suc (suc n)) le a c = absurd (omega arith)
@@ -236,9 +236,9 @@ at_pair act to came old new y e h = let P : ℕ × Machine → Type 0 = λ x. Do
 pub stepped_comes : (d : Devices) (to came : ℕ × Machine) → came ≡ to
     → Does (in_memory to to.1) d d (Ok (InMemory came.0), came.1)
 stepped_comes d to came e =
-    let into : ℕ × Machine → Result Place Abort × Machine = λ x. (Ok (InMemory x.0), x.1) in comes d _ _ (ap into e)
+    let into : ℕ × Machine → Result OperandLocation Abort × Machine = λ x. (Ok (InMemory x.0), x.1) in comes d _ _ (ap into e)
 
-pub put_result_at : (place : Place) (size : Size) (computed computed' : Computed) (m : Machine) (old new : Devices)
+pub put_result_at : (place : OperandLocation) (size : Size) (computed computed' : Computed) (m : Machine) (old new : Devices)
     (y : Result (Unit {0}) Abort × Machine) → computed' ≡ computed → Does (put_result place size computed' m) old new y
     → Does (put_result place size computed m) old new y
 put_result_at place size computed computed' m old new y e h =
@@ -248,7 +248,7 @@ pub push_at : (word word' : ℕ) (m : Machine) (old new : Devices) (y : Result (
     → word' ≡ word → Does (push word' m) old new y → Does (push word m) old new y
 push_at word word' m old new y e h = let P : ℕ → Type 0 = λ x. Does (push x m) old new y in subst P e h
 
-pub change_exclusive_at : (source source' : ℕ) (place : Place) (m : Machine) (old new : Devices)
+pub change_exclusive_at : (source source' : ℕ) (place : OperandLocation) (m : Machine) (old new : Devices)
     (y : Result (Unit {0}) Abort × Machine) → source' ≡ source → Does (change_exclusive source' place m) old new y
     → Does (change_exclusive source place m) old new y
 change_exclusive_at source source' place m old new y e h =

@@ -5,9 +5,9 @@ use Rattle.std.proofs.lemmas.List.{set-get_or, set-set}
 use Rattle.std.specs.Prelude.{nat_lt, slice_set, Result, Ok}
 use Rattle.m11_arithmetic.specs.declared.results.Computed.{Computed}
 use Rattle.m11_base.proofs.Words.{tables_meaning}
-use Rattle.m11_base.specs.Dispatch.{operation_by_tables}
+use Rattle.m11_base.specs.OperationTables.{operation_by_tables}
 use Rattle.m11_base.specs.Instructions.{instruction_of, meaning}
-use Rattle.m11_base.specs.Operands.{mode_of, register_number}
+use Rattle.m11_base.specs.Operand.{mode_of, register_number}
 use Rattle.m11_base.specs.declared.instruction.ConditionCodes.{ConditionCodes}
 use Rattle.m11_base.specs.declared.instruction.DoubleOp.{DoubleOp}
 use Rattle.m11_base.specs.declared.instruction.Insn.{Insn}
@@ -27,9 +27,9 @@ use Rattle.m11_cpu.specs.DoubleOperands.{change_double, compare, double_at, doub
 use Rattle.m11_cpu.specs.Execution.{execute}
 use Rattle.m11_cpu.specs.Machine.{advanced, finished, is_status, register_of, with_condition_codes, with_register}
 use Rattle.m11_cpu.specs.Memory.{byte_at, with_byte, with_word, word_at}
-use Rattle.m11_cpu.specs.Near.{Keeps, is_plain, plain_at}
-use Rattle.m11_cpu.specs.Places.{deferred, fetch, fetch_operand, indexed, next_word, place_by, place_of, put_result, stepped_back, step_of, store}
-use Rattle.m11_cpu.specs.Quick.{Runs, StepsAtOnce}
+use Rattle.m11_cpu.specs.Near.{NearKeeps, is_plain, plain_at}
+use Rattle.m11_cpu.specs.Addressing.{deferred, fetch, fetch_operand, indexed, next_word, place_by, place_of, put_result, stepped_back, step_of, store}
+use Rattle.m11_cpu.specs.Quick.{QuickRuns, StepsAtOnce}
 use Rattle.m11_cpu.specs.SingleOperands.{change_single, single, single_by, test_operand, write}
 use Rattle.m11_cpu.specs.Steps.{instruction, step, step_unless, turned}
 use Rattle.m11_cpu.specs.declared.abort.Abort.{Abort}
@@ -38,8 +38,8 @@ use Rattle.m11_cpu.specs.declared.destination_use.DestinationUse.TheVariants.{Wr
 use Rattle.m11_cpu.specs.declared.execution.Ending.{Ending}
 use Rattle.m11_cpu.specs.declared.execution.Ending.TheVariants as ending
 use Rattle.m11_cpu.specs.declared.machine.Machine.{Machine}
-use Rattle.m11_cpu.specs.declared.operands.Place.{Place}
-use Rattle.m11_cpu.specs.declared.operands.Place.TheVariants.{InRegister, InMemory}
+use Rattle.m11_cpu.specs.declared.addressing.OperandLocation.{OperandLocation}
+use Rattle.m11_cpu.specs.declared.addressing.OperandLocation.TheVariants.{InRegister, InMemory}
 use Rattle.m11_cpu.specs.declared.stop.LastingStop.{LastingStop}
 use Rattle.m11_cpu.specs.declared.stop.Turn.TheVariants.{Next}
 use Rattle.m11_cpu.proofs.AtOnce.{bind_at, turned_next}
@@ -198,7 +198,7 @@ restored m n k e f =
 
 -- ---- operands
 
-pub place_fetched : (operand : Operand) (size : Size) (place : Place) (v : ℕ) (m n : Machine)
+pub place_fetched : (operand : Operand) (size : Size) (place : OperandLocation) (v : ℕ) (m n : Machine)
     → place_of operand size m ≡ Comes (Ok place, n) → fetch place size n ≡ Comes (Ok v, n)
     → fetch_operand operand size m ≡ Comes (Ok v, n)
 unfolding fetch_operand
@@ -220,7 +220,7 @@ bind_comes act next m n k x y e f = bind_at act next m n x e ∙ f
 
 -- ---- results
 
-pub put_result_comes : (place : Place) (size : Size) (computed computed' : Computed) (m n : Machine)
+pub put_result_comes : (place : OperandLocation) (size : Size) (computed computed' : Computed) (m n : Machine)
     → computed' ≡ computed → put_result place size computed' m ≡ Comes (Ok tt, n)
     → put_result place size computed m ≡ Comes (Ok tt, n)
 put_result_comes place size computed computed' m n e f =
@@ -230,13 +230,13 @@ kept : {A : Type 0} (of : Machine → A) (test : Bool) (a b : Machine) → of a 
 kept of true a b e = e
 kept of false a b e = refl
 
-pub finished_stopped : (place : Place) (codes : ConditionCodes) (m n : Machine) → n ≡ finished place codes m
+pub finished_stopped : (place : OperandLocation) (codes : ConditionCodes) (m n : Machine) → n ≡ finished place codes m
     → n.stopped ≡ m.stopped
 finished_stopped place codes m n e =
     ap (λ (x : Machine). x.stopped) e
     ∙ kept (λ (x : Machine). x.stopped) (is_status place) m (with_condition_codes codes m) refl
 
-pub finished_trace : (place : Place) (codes : ConditionCodes) (m n : Machine) → n ≡ finished place codes m
+pub finished_trace : (place : OperandLocation) (codes : ConditionCodes) (m n : Machine) → n ≡ finished place codes m
     → n.status.trace ≡ m.status.trace
 finished_trace place codes m n e =
     ap (λ (x : Machine). x.status.trace) e
@@ -244,21 +244,21 @@ finished_trace place codes m n e =
 
 -- ---- operations, by what they do with their destination
 
-pub double_writes : (operation : DoubleOp) (size : Size) (source : ℕ) (place : Place) (m n : Machine)
+pub double_writes : (operation : DoubleOp) (size : Size) (source : ℕ) (place : OperandLocation) (m n : Machine)
     → use_by_double operation ≡ Writes → move_to place size source m ≡ Comes (Ok tt, n)
     → double_at operation size source place m ≡ Comes (Ok tt, n)
 unfolding double_at
 double_writes operation size source place m n e f =
     ap (λ (u : DestinationUse). double_by u operation size source place m) e ∙ f
 
-pub double_reads : (operation : DoubleOp) (size : Size) (source : ℕ) (place : Place) (m n : Machine)
+pub double_reads : (operation : DoubleOp) (size : Size) (source : ℕ) (place : OperandLocation) (m n : Machine)
     → use_by_double operation ≡ Reads → compare operation place size source m ≡ Comes (Ok tt, n)
     → double_at operation size source place m ≡ Comes (Ok tt, n)
 unfolding double_at
 double_reads operation size source place m n e f =
     ap (λ (u : DestinationUse). double_by u operation size source place m) e ∙ f
 
-pub double_changes : (operation : DoubleOp) (size : Size) (source : ℕ) (place : Place) (m n : Machine)
+pub double_changes : (operation : DoubleOp) (size : Size) (source : ℕ) (place : OperandLocation) (m n : Machine)
     → use_by_double operation ≡ Changes → change_double operation place size source m ≡ Comes (Ok tt, n)
     → double_at operation size source place m ≡ Comes (Ok tt, n)
 unfolding double_at
@@ -288,10 +288,10 @@ single_changes operation size operand m n e f =
 
 -- ---- steps
 
-pub step_made : (m k n : Machine) (counter word : ℕ) → word < 65536 → Runs m → counter ≡ register_of Pc m
+pub step_made : (m k n : Machine) (counter word : ℕ) → word < 65536 → QuickRuns m → counter ≡ register_of Pc m
     → is_plain Word counter m.memory ≡ true → word ≡ plain_at Word counter m.memory
     → k ≡ with_register Pc ((counter + 2) % 0o200000) m
-    → execute (meaning (operation_by_tables word) word) k ≡ Comes (Ok ending.Next, n) → Keeps k n
+    → execute (meaning (operation_by_tables word) word) k ≡ Comes (Ok ending.Next, n) → NearKeeps k n
     → step m ≡ Comes (Next, n)
 unfolding step instruction
 step_made m k n counter word h r e p w f x t =

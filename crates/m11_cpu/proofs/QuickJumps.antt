@@ -10,10 +10,10 @@ use Rattle.m11_cpu.specs.Jumps.{pop, push, return_by}
 use Rattle.m11_cpu.specs.Machine.{advanced, register_of, with_register}
 use Rattle.m11_cpu.specs.Memory.{word_at}
 use Rattle.m11_cpu.specs.Near.{is_plain, plain_at}
-use Rattle.m11_cpu.specs.Places.{back, store}
+use Rattle.m11_cpu.specs.Addressing.{back, store}
 use Rattle.m11_cpu.specs.declared.abort.Abort.{Abort}
 use Rattle.m11_cpu.specs.declared.machine.Machine.{Machine}
-use Rattle.m11_cpu.specs.declared.operands.Place.TheVariants.{InMemory}
+use Rattle.m11_cpu.specs.declared.addressing.OperandLocation.TheVariants.{InMemory}
 use Rattle.m11_cpu.proofs.AtOnce.{bind_at}
 use Rattle.m11_cpu.proofs.QuickDone.{put_back, word_loads}
 

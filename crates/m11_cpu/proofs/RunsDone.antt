@@ -15,7 +15,7 @@ use Rattle.m11_cpu.proofs.Dialogues.{comes, then_does}
 abbrev pub ran : Stop → ℕ → Ran
 ran stop steps = record { stop = stop; steps = steps }
 
--- what is left of a run leads to its whole: so many steps were made
+-- what is left of a run leads to its whole: n steps were made
 abbrev pub GoesOn : ℕ → ℕ → Machine → Machine → Devices → Devices → Type 0
 GoesOn limit done m m' old middle = (stop : Stop) (steps : ℕ) (new : Devices) (n : Machine)
     → Does (run_counted (limit - done) m') middle new (ran stop steps, n)
@@ -104,7 +104,7 @@ ends limit done m m' old new e i =
     let f : done + 0 ≡ limit = omega arith in
     subst Q f (i Limit 0 new m' (subst P (sym z) (run_ends m' new)))
 
-pub run_told : (limit : ℕ) (m m' : Machine) (old new : Devices) (r : Ran) → Does (run_counted limit m) old new (r, m')
+pub run_reported : (limit : ℕ) (m m' : Machine) (old new : Devices) (r : Ran) → Does (run_counted limit m) old new (r, m')
     → Does (run limit m) old new (r.stop, m')
 unfolding run
-run_told limit m m' old new r h = then_does (run_counted limit m) _ old new new (r, m') _ h (comes new _ _ refl)
+run_reported limit m m' old new r h = then_does (run_counted limit m) _ old new new (r, m') _ h (comes new _ _ refl)

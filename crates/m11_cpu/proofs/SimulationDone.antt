@@ -12,11 +12,11 @@ use Rattle.m11_cpu.specs.Machine.{new_machine, psw_in}
 use Rattle.m11_cpu.specs.Messages.{PutsMessages, messages_of}
 use Rattle.m11_cpu.specs.Simulation.{HasRun, Simulates, started}
 
-pub not_loaded : (start : Option ℕ) (words limit : ℕ) (tape tape' : Input) (console : Devices) (told : Output)
+pub not_loaded : (start : Option ℕ) (words limit : ℕ) (tape tape' : Input) (console : Devices) (reported : Output)
     (machine m : Machine) (fault : LoadFault) → machine ≡ new_machine words
     → LoadsInto tape.text tape'.text tape.faults tape'.faults machine m (Err fault)
-    → Simulates start words limit tape tape' console console told told (Err (Load fault))
-not_loaded start words limit tape tape' console told machine m fault e h =
+    → Simulates start words limit tape tape' console console reported reported (Err (Load fault))
+not_loaded start words limit tape tape' console reported machine m fault e h =
     let P : Machine → Type 0 = λ n. LoadsInto tape.text tape'.text tape.faults tape'.faults n m (Err fault) in
     (m, subst P e h, refl, refl)
 
@@ -30,17 +30,17 @@ has_run start words limit tape tape' console console' ran machine loaded m trans
     let Q : ℕ → Type 0 = λ n. Does (started n limit loaded) console console' (ran, m) in
     record { transfer = transfer; loaded = loaded; loads = subst P e h; runs = subst Q f k }
 
-pub not_told : (start : Option ℕ) (words limit : ℕ) (tape tape' : Input) (console console' : Devices)
-    (told told' : Output) (ran : Ran) (m : Machine) (psw : ℕ) (fault : SimFault)
+pub not_reported : (start : Option ℕ) (words limit : ℕ) (tape tape' : Input) (console console' : Devices)
+    (reported reported' : Output) (ran : Ran) (m : Machine) (psw : ℕ) (fault : SimFault)
     → HasRun start words limit tape tape' console console' ran m → psw ≡ psw_in m
-    → PutsMessages {A = Unit {0}} told.text told'.text told.faults told'.faults
+    → PutsMessages {A = Unit {0}} reported.text reported'.text reported.faults reported'.faults
     (messages_of ran.stop ran.steps m.registers psw) (Err fault)
-    → Simulates start words limit tape tape' console console' told told' (Err fault)
-not_told start words limit tape tape' console console' told told' ran m psw Write run e h =
-    let P : ℕ → Type 0 = λ n. PutsMessages {A = Unit {0}} told.text told'.text told.faults told'.faults
+    → Simulates start words limit tape tape' console console' reported reported' (Err fault)
+not_reported start words limit tape tape' console console' reported reported' ran m psw Write run e h =
+    let P : ℕ → Type 0 = λ n. PutsMessages {A = Unit {0}} reported.text reported'.text reported.faults reported'.faults
     (messages_of ran.stop ran.steps m.registers n) (Err Write) in
     (ran, m, run, (subst P e h).0, (subst P e h).1)
-not_told start words limit tape tape' console console' told told' ran m psw NoMemory run e h =
+not_reported start words limit tape tape' console console' reported reported' ran m psw NoMemory run e h =
     let to : Option (List ℕ) → ℕ → Output = λ t f. record { text = t; faults = f } in
     (ap₂ to h.0 h.1, inr (ran, m, run))
-not_told start words limit tape tape' console console' told told' ran m psw (Load fault) run e h = absurd h
+not_reported start words limit tape tape' console console' reported reported' ran m psw (Load fault) run e h = absurd h

@@ -1,4 +1,4 @@
--- What traps and steps come to, exit by exit.
+-- What traps and steps yield, exit by exit.
 use Rattle.std.proofs.Common.{◌≡◌, Option, Some, None, Result, Ok, Err, sym, subst, ap, ◌∙◌}
 use Rattle.m11_base.specs.declared.instruction.Insn.{Insn}
 use Rattle.m11_cpu.specs.declared.abort.Abort.{Abort}
@@ -6,7 +6,7 @@ use Rattle.m11_cpu.specs.declared.abort.Abort.TheVariants.{Traps, Stops}
 use Rattle.m11_cpu.specs.declared.abort.Vector.{Vector}
 use Rattle.m11_cpu.specs.declared.execution.Ending.{Ending}
 use Rattle.m11_cpu.specs.declared.machine.Machine.{Machine}
-use Rattle.m11_cpu.specs.Stops.{stop_of}
+use Rattle.m11_cpu.specs.Stop.{stop_of}
 use Rattle.m11_cpu.specs.declared.stop.LastingStop.{LastingStop}
 use Rattle.m11_cpu.specs.declared.stop.LastingStop.TheVariants.{StackFault}
 use Rattle.m11_cpu.specs.declared.stop.Stop.{Stop}
@@ -44,11 +44,11 @@ pub execute_at : (code code' : Insn) (m : Machine) (old new : Devices) (y : Resu
     → code' ≡ code → Does (execute code' m) old new y → Does (execute code m) old new y
 execute_at code code' m old new y e h = let P : Insn → Type 0 = λ x. Does (execute x m) old new y in subst P e h
 
-pub step_stopped : (m : Machine) (stop : LastingStop) (told : Stop) (d : Devices) → m.stopped ≡ Some stop
-    → told ≡ stop_of stop → Does (step m) d d (Stopped told, m)
+pub step_stopped : (m : Machine) (stop : LastingStop) (reported : Stop) (d : Devices) → m.stopped ≡ Some stop
+    → reported ≡ stop_of stop → Does (step m) d d (Stopped reported, m)
 unfolding step
-step_stopped m stop told d e f =
-    let P : Option LastingStop → Type 0 = λ x. Does (step_unless x m) d d (Stopped told, m) in
+step_stopped m stop reported d e f =
+    let P : Option LastingStop → Type 0 = λ x. Does (step_unless x m) d d (Stopped reported, m) in
     let to : Stop → Turn × Machine = λ x. (Stopped x, m) in
     subst P (sym e) (comes d _ _ (ap to f))
 

@@ -12,15 +12,15 @@ use Rattle.m11_base.specs.Feed.{Text}
 use Rattle.m11_blocks.proofs.Limits.{took_nothing, took_then}
 use Rattle.m11_cpu.specs.declared.fault.LoadFault.{LoadFault}
 use Rattle.m11_cpu.specs.declared.fault.LoadFault.TheVariants.{Tape, OutsideMemory}
-use Rattle.m11_cpu.specs.Loading.{with_bytes, AreInside, part_behind, PutBlocks, PutSome, LoadsTape, InsideData, Loads, LoadsFrom, PutsData, CountsFailure}
+use Rattle.m11_cpu.specs.Loading.{with_bytes, AreInside, part_after, PutBlocks, PutSome, LoadsTape, InsideData, Loads, LoadsFrom, PutsData, CountsFailure}
 use Rattle.m11_cpu.proofs.BytesPut.{block_put, block_inside}
-use Rattle.m11_cpu.proofs.BlocksRead.{behind_more, hold_more, is_tape, StandsBefore, next_is}
+use Rattle.m11_cpu.proofs.BlocksRead.{after_more, hold_more, is_tape, StandsBefore, next_is}
 
--- these blocks were given and put, and the reader stands before the part behind them
+-- these blocks were given and put, and the reader stands before the part after them
 pub record Loading (old here : Place) (before now : List ℕ) (stage : TapeStage) (blocks : List (ℕ × List ℕ)) : Type
     0 where
   pub put : PutBlocks old here before now blocks
-  pub stands : StandsBefore stage (part_behind first_part blocks)
+  pub stands : StandsBefore stage (part_after first_part blocks)
   pub size : length now ≡ length before
 
 pub none_loaded : (old : Place) (before : List ℕ) → Loading old old before before BeforeBlock []
@@ -30,7 +30,7 @@ none_loaded old before = record {
   size = refl;
 }
 
-none_left : (stage : TapeStage) (blocks : List (ℕ × List ℕ)) → StandsBefore stage (part_behind first_part blocks)
+none_left : (stage : TapeStage) (blocks : List (ℕ × List ℕ)) → StandsBefore stage (part_after first_part blocks)
     → left_of stage ≡ 0
 none_left BeforeBlock blocks stands = refl
 none_left (InBlock left total) blocks stands = stands.0
@@ -44,34 +44,34 @@ module _ (old here : Place) (before now : List ℕ) (stage : TapeStage) (blocks 
 
   module _ (new : Place) (after : TapeStage) (answer : Result TapePart TapeFault)
       (r : ReadsNext stage here new after answer) where
-    part_read : ReadsPart (λ part. part) (part_behind first_part blocks) here new answer × (after ≡ stage_after answer)
-    part_read = next_is stage (part_behind first_part blocks) here new after answer l.stands r
+    part_read : ReadsPart (λ part. part) (part_after first_part blocks) here new answer × (after ≡ stage_after answer)
+    part_read = next_is stage (part_after first_part blocks) here new after answer l.stands r
 
     pub stage_is : after ≡ stage_after answer
     stage_is = part_read.1
 
     part_as : (same : Result TapePart TapeFault) → answer ≡ same
-        → ReadsPart (λ part. part) (part_behind first_part blocks) here new same
+        → ReadsPart (λ part. part) (part_after first_part blocks) here new same
     part_as same is = subst
-        (λ (a : Result TapePart TapeFault). ReadsPart (λ part. part) (part_behind first_part blocks) here new a) is
+        (λ (a : Result TapePart TapeFault). ReadsPart (λ part. part) (part_after first_part blocks) here new a) is
         part_read.0
 
     pub part_stops : (fault : TapeFault) → answer ≡ Err fault → Loads old new before now (Err (Tape fault))
-    part_stops fault is = inl (record { blocks = blocks; behind = here; put = l.put; stops = part_as (Err fault) is })
+    part_stops fault is = inl (record { blocks = blocks; following = here; put = l.put; stops = part_as (Err fault) is })
 
     pub tape_ends : (start : ℕ) → answer ≡ Ok (Start start) → LoadsTape old new before now start
     tape_ends start is =
-        let last : Reads (part_behind first_part blocks) here new (Start start) = part_as (Ok (Start start)) is in
+        let last : Reads (part_after first_part blocks) here new (Start start) = part_as (Ok (Start start)) is in
         record {
           blocks = blocks;
-          behind = here;
+          following = here;
           put = l.put;
           last = last;
           tape = is_tape blocks start old here new l.put.given l.put.took l.put.hold last;
         }
 
     module _ (address count : ℕ) (is : answer ≡ Ok (Data address count)) where
-      header : Reads (part_behind first_part blocks) here new (Data address count)
+      header : Reads (part_after first_part blocks) here new (Data address count)
       header = part_as (Ok (Data address count)) is
 
       module _ (end : Place) (memory content : List ℕ) where
@@ -85,7 +85,7 @@ module _ (old here : Place) (before now : List ℕ) (stage : TapeStage) (blocks 
         block_loaded stage' long took inside memory_is stage_is size =
             let given : List ℕ = header.given in
             let header_is : (rest : List ℕ)
-            → part_behind first_part blocks (given ++ rest) ≡ Ok (Data address (length content), rest)
+            → part_after first_part blocks (given ++ rest) ≡ Ok (Data address (length content), rest)
             = λ rest. header.is rest ∙ ap (λ (n : ℕ). Ok (Data address n, rest)) (sym long) in
             record {
               put = record {
@@ -97,7 +97,7 @@ module _ (old here : Place) (before now : List ℕ) (stage : TapeStage) (blocks 
                 memory = memory_is ∙ ap (λ (m : List ℕ). with_bytes address content m) l.put.memory
                     ∙ sym (block_put blocks address content before);
               };
-              stands = rw stage_is (refl, behind_more first_part blocks address content);
+              stands = rw stage_is (refl, after_more first_part blocks address content);
               size = size ∙ l.size;
             }
 
@@ -106,7 +106,7 @@ module _ (old here : Place) (before now : List ℕ) (stage : TapeStage) (blocks 
         inside_block middle part =
             record {
               blocks = blocks;
-              behind = here;
+              following = here;
               held = now;
               put = l.put;
               count = count;
@@ -136,20 +136,20 @@ stop_counts read a b fault.Failed s = absurd s
 stop_counts read a b fault.NoTransfer s = s.1.2.1 ∙ s.1.1.faults
 stop_counts read a b fault.TooMuch s = s.1.2.2 ∙ s.1.1.faults
 
-counts_behind : (first here : ℕ) (new : ℕ) (answer : Result ℕ LoadFault) → here ≡ first → CountsFailure here new answer
+counts_after : (first here : ℕ) (new : ℕ) (answer : Result ℕ LoadFault) → here ≡ first → CountsFailure here new answer
     → CountsFailure first new answer
-counts_behind first here new answer same counts =
+counts_after first here new answer same counts =
     subst (λ (n : ℕ). CountsFailure n new answer) same counts
 
 load_counts : (old new : Place) (before after : List ℕ) (answer : Result ℕ LoadFault)
     → Loads old new before after answer → CountsFailure old.faults new.faults answer
 load_counts old new before after (Ok start) l = l.last.took.faults ∙ l.put.took.faults
 load_counts old new before after (Err (Tape fault)) (inl s) =
-    counts_behind old.faults s.behind.faults new.faults (Err (Tape fault)) s.put.took.faults
-    (stop_counts (part_behind first_part s.blocks) s.behind new fault s.stops)
+    counts_after old.faults s.following.faults new.faults (Err (Tape fault)) s.put.took.faults
+    (stop_counts (part_after first_part s.blocks) s.following new fault s.stops)
 load_counts old new before after (Err (Tape fault)) (inr s) =
     let part = s.3 in
-    counts_behind old.faults s.2.faults new.faults (Err (Tape fault))
+    counts_after old.faults s.2.faults new.faults (Err (Tape fault))
     (part.part.took.faults ∙ part.header.took.faults ∙ part.put.took.faults)
     (stop_counts data_byte s.2 new fault s.4)
 load_counts old new before after (Err OutsideMemory) s =

@@ -1,6 +1,6 @@
 -- What is read and written at an address: the memory, the console's four registers, and the processor status word.
 -- (PDP-11/40 Processor Handbook, "Addressing", "Processor traps"; SIMH PDP-11 manual, console terminal. That the data
--- register of the transmitter reads 0, and that no other address past the memory answers, is this project's own.)
+-- register of the transmitter reads 0, and that there is no other address past the memory, is this project's own.)
 use Rattle.std.specs.Prelude.{ℕ, ◌-◌, ◌/◌, ◌%◌, ◌==◌, Bool, true, false, nat_lt, if◌then◌else◌, length, Option, Some, None, Result, Ok, Err}
 use Rattle.m11_cpu.specs.declared.abort.Abort.{Abort}
 use Rattle.m11_cpu.specs.declared.abort.Abort.TheVariants.{Traps, Stops}
@@ -40,7 +40,7 @@ receiver_status m =
 abbrev pub take_character : Machine → ℕ × Machine
 take_character m = (m.receiver.byte, record m { receiver = record m.receiver { is_done = false } })
 
--- what a register answers
+-- what a register returns
 abbrev pub load_register : Option DeviceRegister → Act ℕ
 load_register (Some ReceiverStatus) m = receiver_status m
 load_register (Some ReceiverBuffer) m = Comes (Ok (take_character m).0, (take_character m).1)

@@ -1,4 +1,4 @@
--- What an instruction does, part by part: each part comes to a value or aborts the instruction, and leaves a machine.
+-- What an instruction does, part by part: each part yields a value or aborts the instruction, and leaves a machine.
 -- (This project's own words.)
 use Rattle.std.specs.Prelude.{Result, Ok, Err}
 use Rattle.m11_cpu.specs.declared.abort.Abort.{Abort}

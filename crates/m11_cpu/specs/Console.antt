@@ -7,7 +7,7 @@ use Rattle.m11_cpu.specs.declared.console.Receiver.{Receiver}
 use Rattle.m11_cpu.specs.declared.console.Transmitter.{Transmitter}
 use Rattle.m11_cpu.specs.Status.{bit}
 
--- the addresses at which registers answer, past the memory
+-- the addresses that registers have, past the memory
 abbrev pub device_at : ℕ → Option DeviceRegister
 device_at address =
     if address == 0o177560 then Some ReceiverStatus

@@ -5,13 +5,13 @@ use Rattle.std.specs.Io.KnownBytes.{Appends}
 use Rattle.m11_base.specs.Devices.{Rises}
 use Rattle.m11_base.specs.Feed.{Text, GivesByte, GivesEnd, GivesFailure}
 
--- what the input answers where it is asked
+-- what the input returns where it is asked
 pub data Reply : Type 0 where
   Gives : ℕ → Reply
   Ends : Reply
   Fails : Reply
 
--- what is done goes by the replies: at once it comes to a value; or it asks, and goes on by the reply; or it
+-- what is done goes by the replies: at once it yields a value; or it asks, and goes on by the reply; or it
 -- sends a byte, and goes on by whether it was taken
 pub data Dialogue (A : Type 0) : Type 0 where
   Comes : A → Dialogue A
@@ -30,7 +30,7 @@ pub data Exchange : Type 0 where
   Asked : Reply → Exchange
   Sent : ℕ → Bool → Exchange
 
--- a dialogue comes to a value by these exchanges
+-- a dialogue yields a value by these exchanges
 unfoldable pub Leads : {A : Type 0} → Dialogue A → List Exchange → A → Type 0
 Leads (Comes x) [] y = y ≡ x
 Leads (Comes x) (e ∷ es) y = ⊥
@@ -82,9 +82,9 @@ Replies old new Ends = GivesEnd old.text new.text × (new.faults ≡ old.faults)
 Replies old new Fails = GivesFailure old.text new.text old.faults × Rises old.faults new.faults
 
 -- the output took the byte, or failed and took nothing
-abbrev pub Takes : Output → Output → ℕ → Bool → Type 0
-Takes old new byte true = Appends old.text new.text (byte ∷ []) × (new.faults ≡ old.faults)
-Takes old new byte false = Appends old.text new.text [] × Rises old.faults new.faults
+abbrev pub DialogueTakes : Output → Output → ℕ → Bool → Type 0
+DialogueTakes old new byte true = Appends old.text new.text (byte ∷ []) × (new.faults ≡ old.faults)
+DialogueTakes old new byte false = Appends old.text new.text [] × Rises old.faults new.faults
 
 -- a device that is there did so
 abbrev pub Did : {D : Type 0} → (D → D → Type 0) → Option D → Option D → Type 0
@@ -94,13 +94,13 @@ Did did (Some old) (Some new) = did old new
 
 abbrev pub Happens : Devices → Devices → Exchange → Type 0
 Happens old new (Asked reply) = Did (λ i i'. Replies i i' reply) old.input new.input × (new.output ≡ old.output)
-Happens old new (Sent byte taken) = Did (λ o o'. Takes o o' byte taken) old.output new.output × (new.input ≡ old.input)
+Happens old new (Sent byte taken) = Did (λ o o'. DialogueTakes o o' byte taken) old.output new.output × (new.input ≡ old.input)
 
 unfoldable pub Happened : Devices → Devices → List Exchange → Type 0
 Happened old new [] = new ≡ old
 Happened old new (e ∷ es) = (middle : Devices) × Happens old middle e × Happened middle new es
 
--- a dialogue with the devices came to this value
+-- a dialogue with the devices yielded this value
 pub record Does {A : Type 0} (dialogue : Dialogue A) (old new : Devices) (value : A) : Type 0 where
   pub exchanges : List Exchange
   pub leads : Leads dialogue exchanges value

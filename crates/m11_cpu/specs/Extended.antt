@@ -14,7 +14,7 @@ use Rattle.m11_base.specs.declared.operand.Size.TheVariants.{Word}
 use Rattle.m11_cpu.specs.Acts.{Act, ◌>>=◌}
 use Rattle.m11_cpu.specs.Dialogue.{Comes}
 use Rattle.m11_cpu.specs.Machine.{register_of, with_condition_codes, with_register}
-use Rattle.m11_cpu.specs.Places.{fetch_operand}
+use Rattle.m11_cpu.specs.Addressing.{fetch_operand}
 use Rattle.m11_cpu.specs.declared.machine.Machine.{Machine}
 
 -- the register of the low word: the next one of an even register, and an odd one itself

@@ -13,14 +13,14 @@ use Rattle.m11_cpu.specs.Access.{load_word, store_word}
 use Rattle.m11_cpu.specs.Acts.{Act, ◌>>=◌}
 use Rattle.m11_cpu.specs.Dialogue.{Comes}
 use Rattle.m11_cpu.specs.Machine.{register_of, with_register}
-use Rattle.m11_cpu.specs.Places.{back, forward, place_of}
+use Rattle.m11_cpu.specs.Addressing.{back, forward, place_of}
 use Rattle.m11_cpu.specs.declared.abort.Abort.TheVariants.{Traps}
 use Rattle.m11_cpu.specs.declared.abort.Vector.TheVariants.{Reserved}
 use Rattle.m11_cpu.specs.declared.machine.Machine.{Machine}
-use Rattle.m11_cpu.specs.declared.operands.Place.{Place}
-use Rattle.m11_cpu.specs.declared.operands.Place.TheVariants.{InRegister, InMemory}
+use Rattle.m11_cpu.specs.declared.addressing.OperandLocation.{OperandLocation}
+use Rattle.m11_cpu.specs.declared.addressing.OperandLocation.TheVariants.{InRegister, InMemory}
 
--- the address so many words from another one
+-- the address n words from another one
 abbrev pub words_on : ℕ → ℤ → ℕ
 words_on address words = modulo 0o200000 (pos address +ℤ (words +ℤ words))
 
@@ -45,7 +45,7 @@ pop m = load_word (forward Sp 2 m).0 (forward Sp 2 m).1
 -- ---- jumps
 
 -- a register is no address: that is a reserved instruction
-abbrev pub address_of : Place → Act ℕ
+abbrev pub address_of : OperandLocation → Act ℕ
 address_of (InRegister register) m = Comes (Err (Traps Reserved), m)
 address_of (InMemory address) m = Comes (Ok address, m)
 
@@ -55,7 +55,7 @@ target operand = place_of operand Word >>= address_of
 unfoldable pub jump : Operand → Act (Unit {0})
 jump operand = target operand >>= λ address m. Comes (Ok tt, with_register Pc address m)
 
--- JSR: the register is pushed as it was before the push, and has the address behind the call
+-- JSR: the register is pushed as it was before the push, and has the address after the call
 unfoldable pub enter : Register → ℕ → Act (Unit {0})
 enter register address m = (push (register_of register m) >>= λ _ n.
     Comes (Ok tt, with_register Pc address (with_register register (register_of Pc n) n))) m

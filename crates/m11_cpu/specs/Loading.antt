@@ -17,11 +17,11 @@ use Rattle.m11_cpu.specs.declared.fault.LoadFault.TheVariants.{Tape, OutsideMemo
 
 -- ---- what is put into memory
 
--- the memory after bytes were put at an address and the places behind it
+-- the memory after bytes were put at an address and the places after it
 abbrev pub with_bytes : ℕ → List ℕ → List ℕ → List ℕ
 with_bytes address bytes memory = take address memory ++ (bytes ++ drop (address + length bytes) memory)
 
--- each byte has its place in a memory of this size. The places do not begin again behind 177777
+-- each byte has its place in a memory of this size. The places do not begin again after 177777
 abbrev pub AreInside : ℕ → ℕ → List ℕ → Type 0
 AreInside size address bytes = (index : ℕ) → index < length bytes → address + index < size
 
@@ -32,17 +32,17 @@ stored (block ∷ blocks) memory = stored blocks (with_bytes block.0 block.1 mem
 
 -- ---- what the feed gives
 
--- what reads the part behind blocks: behind the data of one it begins with the sum byte of that block
-abbrev pub part_behind : (List ℕ → Read TapeFault TapePart) → List (ℕ × List ℕ) → List ℕ → Read TapeFault TapePart
-part_behind read [] = read
-part_behind read (block ∷ blocks) = part_behind (next_part (total_of block.0 block.1)) blocks
+-- what reads the part after blocks: after the data of one it begins with the sum byte of that block
+abbrev pub part_after : (List ℕ → Read TapeFault TapePart) → List (ℕ × List ℕ) → List ℕ → Read TapeFault TapePart
+part_after read [] = read
+part_after read (block ∷ blocks) = part_after (next_part (total_of block.0 block.1)) blocks
 
 -- bytes that hold blocks: for each those that are read as its header, and its data
 abbrev pub Hold : (List ℕ → Read TapeFault TapePart) → List (ℕ × List ℕ) → List ℕ → Type 0
 Hold read [] bytes = bytes ≡ []
-Hold read (block ∷ blocks) bytes = (header : List ℕ) × (behind : List ℕ) × (bytes ≡ header ++ (block.1 ++ behind))
+Hold read (block ∷ blocks) bytes = (header : List ℕ) × (following : List ℕ) × (bytes ≡ header ++ (block.1 ++ following))
     × ((rest : List ℕ) → read (header ++ rest) ≡ Ok (Data block.0 (length block.1), rest))
-    × Hold (next_part (total_of block.0 block.1)) blocks behind
+    × Hold (next_part (total_of block.0 block.1)) blocks following
 
 -- ---- a load
 
@@ -54,44 +54,44 @@ pub record PutBlocks (old new : Place) (before after : List ℕ) (blocks : List 
   pub inside : AllByRecursion (λ block. AreInside (length before) block.0 block.1) blocks
   pub memory : after ≡ stored blocks before
 
--- some of so many bytes that belong at an address were given, and put into memory, inside it
+-- some of n bytes that belong at an address were given, and put into memory, inside it
 pub record PutSome (old new : Place) (before after : List ℕ) (address count : ℕ) (taken : List ℕ) : Type 0 where
   pub took : Took old new taken
   pub some : length taken < count
   pub inside : AreInside (length before) address taken
   pub memory : after ≡ with_bytes address taken before
 
--- a byte was given whose place is behind the memory
+-- a byte was given whose place is past the memory
 abbrev pub GivesOutside : Place → Place → ℕ → ℕ → Type 0
 GivesOutside old new size place = (byte : ℕ) × Took old new (byte ∷ []) × (size ≤ place)
 
--- a whole tape: its blocks, and then its transfer block, behind which no byte was given
+-- a whole tape: its blocks, and then its transfer block, after which no byte was given
 pub record LoadsTape (old new : Place) (before after : List ℕ) (start : ℕ) : Type 0 where
   pub blocks : List (ℕ × List ℕ)
-  pub behind : Place
-  pub put : PutBlocks old behind before after blocks
-  pub last : Reads (part_behind first_part blocks) behind new (Start start)
+  pub following : Place
+  pub put : PutBlocks old following before after blocks
+  pub last : Reads (part_after first_part blocks) following new (Start start)
   pub tape : IsTape blocks start (put.given ++ last.given)
 
--- some blocks of a tape, behind which no part can be read
+-- some blocks of a tape, after which no part can be read
 pub record StopsAtPart (old new : Place) (before after : List ℕ) (fault : TapeFault) : Type 0 where
   pub blocks : List (ℕ × List ℕ)
-  pub behind : Place
-  pub put : PutBlocks old behind before after blocks
-  pub stops : Stops (part_behind first_part blocks) behind new (why_of fault)
+  pub following : Place
+  pub put : PutBlocks old following before after blocks
+  pub stops : Stops (part_after first_part blocks) following new (why_of fault)
 
 -- some blocks of a tape, and of one more its header and a beginning of its data
 pub record InsideData (old new : Place) (before after : List ℕ) (address : ℕ) (taken : List ℕ) : Type 0 where
   pub blocks : List (ℕ × List ℕ)
-  pub behind : Place
+  pub following : Place
   pub held : List ℕ
-  pub put : PutBlocks old behind before held blocks
+  pub put : PutBlocks old following before held blocks
   pub count : ℕ
   pub opened : Place
-  pub header : Reads (part_behind first_part blocks) behind opened (Data address count)
+  pub header : Reads (part_after first_part blocks) following opened (Data address count)
   pub part : PutSome opened new held after address count taken
 
--- what a load comes to. After a fault the memory holds what was given before it
+-- what a load yields. After a fault the memory holds what was given before it
 abbrev pub Loads : Place → Place → List ℕ → List ℕ → Result ℕ LoadFault → Type 0
 Loads old new before after (Ok start) = LoadsTape old new before after start
 Loads old new before after (Err (Tape fault)) =
@@ -102,12 +102,12 @@ Loads old new before after (Err OutsideMemory) =
     (address : ℕ) × (taken : List ℕ) × (here : Place) × InsideData old here before after address taken
     × GivesOutside here new (length before) (address + length taken)
 
--- the same of a feed, of which at most so many bytes as a tape may have are read
+-- the same of a feed, of which at most n bytes as a tape may have are read
 abbrev pub LoadsFrom : Option Text → Option Text → ℕ → ℕ → List ℕ → List ℕ → Result ℕ LoadFault → Type 0
 LoadsFrom text text' faults faults' before after answer =
     (room : ℕ) × Loads (place text faults most_bytes) (place text' faults' room) before after answer
 
--- the feed's count of failures tells of one where the load does, and stays where it does not
+-- the feed's count of failures reports one where the load does, and stays where it does not
 abbrev pub CountsFailure : ℕ → ℕ → Result ℕ LoadFault → Type 0
 CountsFailure faults faults' (Err (Tape fault.Device)) = Rises faults faults'
 CountsFailure faults faults' _ = faults' ≡ faults
@@ -120,7 +120,7 @@ LoadsInto text text' faults faults' before after answer =
 
 -- ---- one block
 
--- what the putting of a block's data comes to, the header of which was given
+-- what the putting of a block's data yields, the header of which was given
 abbrev pub PutsData : {A : Type 0} → Place → Place → List ℕ → List ℕ → ℕ → ℕ → List ℕ → Result A LoadFault → Type 0
 PutsData old new before after address count content (Ok done) =
     (length content ≡ count) × Took old new content × AreInside (length before) address content

@@ -2,15 +2,15 @@
 -- that stands. (PDP-11/40 Processor Handbook, "Central processor"; for the console SIMH PDP-11 manual.)
 use Rattle.std.specs.Prelude.{ℕ, ◌+◌, ◌*◌, ◌%◌, ◌==◌, Bool, false, if◌then◌else◌, None, length, replicate, slice_index, slice_set}
 use Rattle.m11_base.specs.declared.instruction.ConditionCodes.{ConditionCodes}
-use Rattle.m11_base.specs.Operands.{register_number}
+use Rattle.m11_base.specs.Operand.{register_number}
 use Rattle.m11_base.specs.declared.operand.Register.{Register}
 use Rattle.m11_cpu.specs.Memory.{byte_at}
 use Rattle.m11_cpu.specs.Status.{psw_of, status_of}
 use Rattle.m11_cpu.specs.declared.machine.Machine.{Machine}
-use Rattle.m11_cpu.specs.declared.operands.Place.{Place}
-use Rattle.m11_cpu.specs.declared.operands.Place.TheVariants.{InRegister, InMemory}
+use Rattle.m11_cpu.specs.declared.addressing.OperandLocation.{OperandLocation}
+use Rattle.m11_cpu.specs.declared.addressing.OperandLocation.TheVariants.{InRegister, InMemory}
 
--- the machine before anything was loaded: it has so many words of memory, and all is 0
+-- the machine before anything was loaded: it has n words of memory, and all is 0
 unfoldable pub new_machine : ℕ → Machine
 new_machine words = record {
   memory = replicate (2 * words) 0;
@@ -44,11 +44,11 @@ abbrev pub with_condition_codes : ConditionCodes → Machine → Machine
 with_condition_codes codes m = record m { status = record m.status { codes = codes } }
 
 -- the place is the processor status word
-abbrev pub is_status : Place → Bool
+abbrev pub is_status : OperandLocation → Bool
 is_status (InRegister register) = false
 is_status (InMemory address) = address == 0o177776
 
 -- the condition codes of an instruction that has stored its result: where that went into the processor status, it
 -- stays as it was written
-abbrev pub finished : Place → ConditionCodes → Machine → Machine
+abbrev pub finished : OperandLocation → ConditionCodes → Machine → Machine
 finished place codes m = if is_status place then m else with_condition_codes codes m

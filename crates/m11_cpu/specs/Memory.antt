@@ -1,5 +1,5 @@
 -- Memory: bytes, each at its address from 0 on. A word has its low byte at an even address and its high byte
--- behind it. (PDP-11/40 Processor Handbook, "Memory organization".)
+-- after it. (PDP-11/40 Processor Handbook, "Memory organization".)
 use Rattle.std.specs.Prelude.{ℕ, ◌+◌, ◌*◌, ◌/◌, ◌%◌, List, [], ◌∷◌, slice_index_or, slice_set}
 
 -- the least words that a machine may have here
@@ -25,7 +25,7 @@ with_byte address value memory = slice_set memory address value
 abbrev pub with_word : ℕ → ℕ → List ℕ → List ℕ
 with_word address value memory = with_byte (address + 1) (value / 256) (with_byte address (value % 256) memory)
 
--- the bytes of words that stand one behind another from address 0 on
+-- the bytes of words that stand one after another from address 0 on
 abbrev pub bytes_of : List ℕ → List ℕ
 bytes_of [] = []
 bytes_of (word ∷ words) = word % 256 ∷ word / 256 ∷ bytes_of words

@@ -1,4 +1,4 @@
--- What a run tells at its stop: one line with the stop's name and the number of steps, and one with the
+-- What a run reports at its stop: one line with the stop's name and the number of steps, and one with the
 -- registers and the PSW, each as six octal digits. (This project's own. The registers and their names:
 -- PDP-11/40 Processor Handbook, "General registers".)
 use Rattle.std.specs.Prelude.{◌≡◌, ℕ, List, ◌++◌, slice_index_or, codes, Option, Result, Ok, Err}
@@ -7,7 +7,7 @@ use Rattle.std.specs.Io.KnownBytes.{Appends}
 use Rattle.m11_base.specs.Devices.{Rises}
 use Rattle.m11_base.specs.Octal.{octal_text}
 use Rattle.m11_base.specs.Sink.{AppendsBeginning}
-use Rattle.m11_cpu.specs.Stops.{stop_name}
+use Rattle.m11_cpu.specs.Stop.{stop_name}
 use Rattle.m11_cpu.specs.declared.stop.Stop.{Stop}
 use Rattle.m11_cpu.specs.declared.fault.SimFault.{SimFault}
 use Rattle.m11_cpu.specs.declared.fault.SimFault.TheVariants.{Load, Write, NoMemory}

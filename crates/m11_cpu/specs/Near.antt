@@ -7,8 +7,8 @@ use Rattle.m11_cpu.specs.Acts.{Act}
 use Rattle.m11_cpu.specs.Dialogue.{Comes}
 use Rattle.m11_cpu.specs.Memory.{byte_at, word_at}
 use Rattle.m11_cpu.specs.declared.machine.Machine.{Machine}
-use Rattle.m11_cpu.specs.declared.operands.Place.{Place}
-use Rattle.m11_cpu.specs.declared.operands.Place.TheVariants.{InRegister, InMemory}
+use Rattle.m11_cpu.specs.declared.addressing.OperandLocation.{OperandLocation}
+use Rattle.m11_cpu.specs.declared.addressing.OperandLocation.TheVariants.{InRegister, InMemory}
 
 -- a word or byte lies in memory, and which
 abbrev pub is_plain : Size → ℕ → List ℕ → Bool
@@ -20,20 +20,20 @@ plain_at Word address memory = word_at memory address
 plain_at Byte address memory = byte_at memory address
 
 -- a place is a register, or lies in memory
-abbrev pub is_near : Size → Place → Machine → Bool
+abbrev pub is_near : Size → OperandLocation → Machine → Bool
 is_near size (InRegister register) m = true
 is_near size (InMemory address) m = is_plain size address m.memory
 
--- an act comes to a value at once
+-- an act yields a value at once
 abbrev pub ComesTo : {A : Type 0} → Act A → Machine → A → Machine → Type 0
 ComesTo act m x n = act m ≡ Comes (Ok x, n)
 
-abbrev pub Ends : Act (Unit {0}) → Machine → Machine → Type 0
-Ends act m n = act m ≡ Comes (Ok tt, n)
+abbrev pub NearEnds : Act (Unit {0}) → Machine → Machine → Type 0
+NearEnds act m n = act m ≡ Comes (Ok tt, n)
 
 -- these are as they were
-abbrev pub Keeps : Machine → Machine → Type 0
-Keeps m n = (n.stopped ≡ m.stopped) × (n.status.trace ≡ m.status.trace)
+abbrev pub NearKeeps : Machine → Machine → Type 0
+NearKeeps m n = (n.stopped ≡ m.stopped) × (n.status.trace ≡ m.status.trace)
 
 abbrev pub ChangesRegisters : Machine → Machine → Type 0
 ChangesRegisters m n = n ≡ record m { registers = n.registers }

@@ -12,14 +12,14 @@ use Rattle.m11_cpu.specs.declared.machine.Machine.{Machine}
 use Rattle.m11_cpu.specs.declared.stop.Turn.TheVariants.{Next}
 
 -- steps are made, and T is clear
-abbrev pub Runs : Machine → Type 0
-Runs m = (m.stopped ≡ None) × (m.status.trace ≡ false)
+abbrev pub QuickRuns : Machine → Type 0
+QuickRuns m = (m.stopped ≡ None) × (m.status.trace ≡ false)
 
 -- an instruction was executed at once, and the program counter is here
 abbrev pub Executed : Insn → ℕ → Machine → Machine → Type 0
 Executed code counter m n = ComesTo (execute code) m ending.Next n × (counter ≡ register_of Pc n)
 
--- so many steps lead from one machine to the other
+-- n steps lead from one machine to the other
 unfoldable pub StepsAtOnce : ℕ → Machine → Machine → Type 0
 StepsAtOnce zero m n = n ≡ m
 StepsAtOnce (suc steps) m n = (middle : Machine) × StepsAtOnce steps m middle × (step middle ≡ Comes (Next, n))

@@ -13,15 +13,15 @@ use Rattle.m11_cpu.specs.declared.stop.Turn.TheVariants.{Next, Stopped}
 abbrev pub one_more : Ran → Ran
 one_more ran = record { stop = ran.stop; steps = ran.steps + 1 }
 
--- behind a step: it stops, or more are made
-abbrev pub behind : (Machine → Dialogue (Ran × Machine)) → Turn → Machine → Dialogue (Ran × Machine)
-behind more Next m = after (more m) (λ ran. Comes (one_more ran.0, ran.1))
-behind more (Stopped stop) m = Comes (record { stop = stop; steps = 1 }, m)
+-- after a step: it stops, or more are made
+abbrev pub following : (Machine → Dialogue (Ran × Machine)) → Turn → Machine → Dialogue (Ran × Machine)
+following more Next m = after (more m) (λ ran. Comes (one_more ran.0, ran.1))
+following more (Stopped stop) m = Comes (record { stop = stop; steps = 1 }, m)
 
 -- as many steps as the limit allows, or up to the one that stops, which counts too
 unfoldable pub run_counted : ℕ → Machine → Dialogue (Ran × Machine)
 run_counted zero m = Comes (record { stop = Limit; steps = 0 }, m)
-run_counted (suc left) m = after (step m) (λ came. behind (run_counted left) came.0 came.1)
+run_counted (suc left) m = after (step m) (λ came. following (run_counted left) came.0 came.1)
 
 unfoldable pub run : ℕ → Machine → Dialogue (Stop × Machine)
 run limit m = after (run_counted limit m) (λ ran. Comes (ran.0.stop, ran.1))

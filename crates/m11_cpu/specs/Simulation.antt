@@ -1,4 +1,4 @@
--- A whole run: a tape is loaded into a new machine and started, and its stop is told. (This project's own.)
+-- A whole run: a tape is loaded into a new machine and started, and its stop is reported. (This project's own.)
 use Rattle.std.specs.Prelude.{◌≡◌, ℕ, ◌%◌, ◌==◌, if◌then◌else◌, List, Option, unwrap_or, Result, Ok, Err, ◌⊎◌}
 use Rattle.std.specs.Io.KnownBytes.{Appends}
 use Rattle.m11_base.specs.Devices.{Rises}
@@ -38,18 +38,18 @@ pub record HasRun (start : Option ℕ) (words limit : ℕ) (tape tape' : Input) 
 abbrev pub text_at_stop : Ran → Machine → List ℕ
 text_at_stop ran m = messages_of ran.stop ran.steps m.registers (psw_in m)
 
--- what a whole run comes to: its stop, which the messages tell; or the tape was not loaded, and nothing was run or
--- told; or the messages were told in part; or memory was refused, at first or when the program had stopped
+-- what a whole run yields: its stop, which the messages report; or the tape was not loaded, and nothing was run or
+-- reported; or the messages were reported in part; or memory was refused, at first or when the program had stopped
 abbrev pub Simulates : Option ℕ → ℕ → ℕ → Input → Input → Devices → Devices → Output → Output → Result SimDone SimFault
     → Type 0
-Simulates start words limit tape tape' console console' told told' (Ok done) =
+Simulates start words limit tape tape' console console' reported reported' (Ok done) =
     (ran : Ran) × (m : Machine) × HasRun start words limit tape tape' console console' ran m × (done.stop ≡ ran.stop)
-    × Appends told.text told'.text (text_at_stop ran m) × (told'.faults ≡ told.faults)
-Simulates start words limit tape tape' console console' told told' (Err (Load fault)) =
-    (m : Machine) × Loaded words tape tape' m (Err fault) × (console' ≡ console) × (told' ≡ told)
-Simulates start words limit tape tape' console console' told told' (Err Write) =
+    × Appends reported.text reported'.text (text_at_stop ran m) × (reported'.faults ≡ reported.faults)
+Simulates start words limit tape tape' console console' reported reported' (Err (Load fault)) =
+    (m : Machine) × Loaded words tape tape' m (Err fault) × (console' ≡ console) × (reported' ≡ reported)
+Simulates start words limit tape tape' console console' reported reported' (Err Write) =
     (ran : Ran) × (m : Machine) × HasRun start words limit tape tape' console console' ran m
-    × AppendsBeginning told.text told'.text (text_at_stop ran m) × Rises told.faults told'.faults
-Simulates start words limit tape tape' console console' told told' (Err NoMemory) =
-    (told' ≡ told) × (((tape' ≡ tape) × (console' ≡ console))
+    × AppendsBeginning reported.text reported'.text (text_at_stop ran m) × Rises reported.faults reported'.faults
+Simulates start words limit tape tape' console console' reported reported' (Err NoMemory) =
+    (reported' ≡ reported) × (((tape' ≡ tape) × (console' ≡ console))
     ⊎ ((ran : Ran) × (m : Machine) × HasRun start words limit tape tape' console console' ran m))

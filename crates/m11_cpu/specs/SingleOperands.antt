@@ -9,11 +9,11 @@ use Rattle.m11_cpu.specs.Acts.{Act, ◌>>=◌}
 use Rattle.m11_cpu.specs.DestinationUse.{use_by_single}
 use Rattle.m11_cpu.specs.declared.destination_use.DestinationUse.{DestinationUse}
 use Rattle.m11_cpu.specs.declared.destination_use.DestinationUse.TheVariants.{Writes, Reads, Changes}
-use Rattle.m11_cpu.specs.declared.operands.Place.{Place}
+use Rattle.m11_cpu.specs.declared.addressing.OperandLocation.{OperandLocation}
 use Rattle.m11_cpu.specs.Dialogue.{Comes}
 use Rattle.m11_cpu.specs.Jumps.{jump}
 use Rattle.m11_cpu.specs.Machine.{with_condition_codes}
-use Rattle.m11_cpu.specs.Places.{fetch, fetch_operand, place_of, put_result}
+use Rattle.m11_cpu.specs.Addressing.{fetch, fetch_operand, place_of, put_result}
 
 unfoldable pub write : SingleOp → Size → Operand → Act (Unit {0})
 write operation size operand = place_of operand size >>= λ place m.
@@ -23,7 +23,7 @@ unfoldable pub test_operand : SingleOp → Size → Operand → Act (Unit {0})
 test_operand operation size operand = fetch_operand operand size >>= λ value m.
     Comes (Ok tt, with_condition_codes (single_result operation size value m.status.codes).codes m)
 
-unfoldable pub change_at : SingleOp → Size → Place → Act (Unit {0})
+unfoldable pub change_at : SingleOp → Size → OperandLocation → Act (Unit {0})
 change_at operation size place = fetch place size >>= λ value m.
     put_result place size (single_result operation size value m.status.codes) m
 

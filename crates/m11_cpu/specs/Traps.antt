@@ -13,7 +13,7 @@ use Rattle.m11_cpu.specs.declared.abort.Abort.TheVariants.{Traps, Stops}
 use Rattle.m11_cpu.specs.declared.abort.Vector.{Vector}
 use Rattle.m11_cpu.specs.declared.abort.Vector.TheVariants.{BusError, Reserved, Breakpoint, InputOutput, Emulator, Trap}
 use Rattle.m11_cpu.specs.declared.machine.Machine.{Machine}
-use Rattle.m11_cpu.specs.Stops.{stop_of}
+use Rattle.m11_cpu.specs.Stop.{stop_of}
 use Rattle.m11_cpu.specs.declared.stop.LastingStop.{LastingStop}
 use Rattle.m11_cpu.specs.declared.stop.LastingStop.TheVariants.{StackFault}
 use Rattle.m11_cpu.specs.declared.stop.Turn.{Turn}

@@ -1,8 +1,8 @@
-//! Why an instruction does not come to its end.
+//! Why an instruction does not end.
 
 use crate::stop::LastingStop;
 
-/// Where a trap finds its program counter; the word behind it is its processor status.
+/// Where a trap finds its program counter; the word after it is its processor status.
 #[derive(Clone, Copy)]
 pub enum Vector {
     /// An address outside the memory, or an odd one of a word.
@@ -19,7 +19,7 @@ pub enum Vector {
     Trap = 0o34,
 }
 
-/// Why an instruction does not come to its end.
+/// Why an instruction does not end.
 #[derive(Clone, Copy)]
 pub enum Abort {
     /// It traps.

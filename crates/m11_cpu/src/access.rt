@@ -1,7 +1,7 @@
 //! Reading and writing by addresses: memory, the console's registers, the processor status word.
 
 ghost use Rattle.std.specs.Prelude.{◌≡◌, ◌<◌, ◌%◌, IfOk};
-ghost use Rattle.m11_cpu.specs.Dialogue.{Does, Takes, input_alone, output_alone, output_of};
+ghost use Rattle.m11_cpu.specs.Dialogue.{Does, DialogueTakes, input_alone, output_alone, output_of};
 ghost use Rattle.m11_cpu.specs.Access.{load_word, load_byte, load_device, load_odd, receive, receiver_status, take_character, store_word, store_byte, store_device, store_odd, send};
 
 use crate::abort::{Abort, Vector};
@@ -45,7 +45,7 @@ impl Machine {
     }
 
     // The word at an even address past the memory. It is inlined and what it calls is not, so that a load from memory
-    // clears no room for the answer of a device.
+    // clears no room for the result of a device.
     #[tactic(auto, using(crate::proofs::Dialogues::dialogues), unfolding(crate::specs::Access::load_device))]
     #[inline(always)]
     fn load_device<F: Feed>(&mut self, address: u16, feed: &mut F) -> Result<u16, Abort>
@@ -215,7 +215,7 @@ impl Machine {
 // Puts one byte. False where the output fails or takes nothing.
 #[tactic(auto, using(crate::proofs::Dialogues::takes_by_count))]
 fn put_byte<S: Sink>(sink: &mut S, byte: u8) -> bool
-    ensures { Takes (output_of (S.text sink.old) (S.faults sink.old)) (output_of (S.text sink.new) (S.faults sink.new))
+    ensures { DialogueTakes (output_of (S.text sink.old) (S.faults sink.old)) (output_of (S.text sink.new) (S.faults sink.new))
         byte result }
 {
     match sink.put(&[byte]) {

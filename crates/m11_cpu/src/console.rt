@@ -23,7 +23,7 @@ pub(crate) struct Transmitter {
     pub(crate) is_enabled: bool,
 }
 
-/// A register of the console, or the processor status word, which answers at an address too.
+/// A register of the console, or the processor status word, which has an address too.
 #[derive(Clone, Copy)]
 pub enum DeviceRegister {
     ReceiverStatus,

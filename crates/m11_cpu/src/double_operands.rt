@@ -7,9 +7,9 @@ ghost use Rattle.m11_cpu.specs.Dialogue.{Does, both, input_alone, output_alone};
 ghost use Rattle.m11_cpu.specs.DoubleOperands.{change_double, change_exclusive, compare, double, double_at, exclusive_or, move_to, sign_extended, store_moved};
 
 use crate::abort::Abort;
+use crate::addressing::OperandLocation;
 use crate::destination_use::{DestinationUse, use_by_double};
 use crate::machine::Machine;
-use crate::operands::Place;
 use m11_base::{DoubleOp, Feed, Operand, Register, Sink, Size};
 
 impl Machine {
@@ -38,7 +38,7 @@ impl Machine {
         operation: DoubleOp,
         size: Size,
         source: u16,
-        place: Place,
+        place: OperandLocation,
         feed: &mut F,
         sink: &mut S,
     ) -> Result<(), Abort>
@@ -59,7 +59,7 @@ impl Machine {
     #[inline(always)]
     fn move_to<S: Sink>(
         &mut self,
-        place: Place,
+        place: OperandLocation,
         size: Size,
         source: u16,
         sink: &mut S,
@@ -79,7 +79,7 @@ impl Machine {
     #[inline(always)]
     fn store_moved<S: Sink>(
         &mut self,
-        place: Place,
+        place: OperandLocation,
         size: Size,
         value: u16,
         sink: &mut S,
@@ -88,7 +88,7 @@ impl Machine {
             (output_alone (S.text sink.new) (S.faults sink.new)) (result, self.new) }
     {
         match (place, size) {
-            (Place::InRegister(register), Size::Byte) => {
+            (OperandLocation::InRegister(register), Size::Byte) => {
                 self.set_register(register, sign_extended(value));
                 Ok(())
             }
@@ -100,7 +100,7 @@ impl Machine {
     fn compare<F: Feed>(
         &mut self,
         operation: DoubleOp,
-        place: Place,
+        place: OperandLocation,
         size: Size,
         source: u16,
         feed: &mut F,
@@ -125,7 +125,7 @@ impl Machine {
     fn change_double<F: Feed, S: Sink>(
         &mut self,
         operation: DoubleOp,
-        place: Place,
+        place: OperandLocation,
         size: Size,
         source: u16,
         feed: &mut F,
@@ -166,7 +166,7 @@ impl Machine {
     fn change_exclusive<F: Feed, S: Sink>(
         &mut self,
         source: u16,
-        place: Place,
+        place: OperandLocation,
         feed: &mut F,
         sink: &mut S,
     ) -> Result<(), Abort>

@@ -11,7 +11,7 @@ use m11_base::{
     BareOp, ConditionCodes, ConditionOp, Feed, Insn, NumberOp, Operand, Register, RegisterOp, Sink,
 };
 
-/// How an instruction comes to its end.
+/// How an instruction ends.
 #[derive(Clone, Copy)]
 pub enum Ending {
     /// The next one follows; a trace trap where T is set.

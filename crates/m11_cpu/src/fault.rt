@@ -34,7 +34,7 @@ pub enum SimFault {
 }
 
 impl LoadFault {
-    ghost use Rattle.m11_cpu.specs.Faults.{load_fault_name, load_fault_number};
+    ghost use Rattle.m11_cpu.specs.Fault.{load_fault_name, load_fault_number};
 
     /// The fault's number, which its printed line shows.
     pub fn number(self) -> u8
@@ -58,7 +58,7 @@ impl LoadFault {
 }
 
 impl SimFault {
-    ghost use Rattle.m11_cpu.specs.Faults.{sim_fault_name, sim_fault_number};
+    ghost use Rattle.m11_cpu.specs.Fault.{sim_fault_name, sim_fault_number};
 
     /// The fault's number, which its printed line shows.
     pub fn number(self) -> u8

@@ -5,8 +5,8 @@ ghost use Rattle.m11_cpu.specs.Dialogue.{Does, both, input_alone, output_alone};
 ghost use Rattle.m11_cpu.specs.Jumps.{branched, call, counted_down, enter, jump, mark, pop, push, return_by, target, words_on};
 
 use crate::abort::{Abort, Vector};
+use crate::addressing::OperandLocation;
 use crate::machine::Machine;
-use crate::operands::Place;
 use m11_arithmetic::is_taken;
 use m11_base::{BranchOp, Feed, Operand, Register, Sink, Size};
 
@@ -49,8 +49,8 @@ impl Machine {
             (input_alone (F.text feed.new) (F.faults feed.new)) (result, self.new) }
     {
         match self.place_of(operand, Size::Word, feed)? {
-            Place::InRegister(_) => Err(Abort::Traps(Vector::Reserved)),
-            Place::InMemory(address) => Ok(address),
+            OperandLocation::InRegister(_) => Err(Abort::Traps(Vector::Reserved)),
+            OperandLocation::InMemory(address) => Ok(address),
         }
     }
 
@@ -69,7 +69,7 @@ impl Machine {
         self.enter(register, target, sink)
     }
 
-    // Pushes the register, as it was before the push; the register has the address behind the call then, and the program
+    // Pushes the register, as it was before the push; the register has the address after the call then, and the program
     // counter the target.
     fn enter<S: Sink>(&mut self, register: Register, target: u16, sink: &mut S) -> Result<(), Abort>
         ensures { Does (enter register target self.old) (output_alone (S.text sink.old) (S.faults sink.old))
@@ -96,7 +96,7 @@ impl Machine {
         Ok(())
     }
 
-    /// MARK: the stack is cut behind this many words of parameters, and register 5 is the link.
+    /// MARK: the stack is cut after this many words of parameters, and register 5 is the link.
     pub(crate) fn mark<F: Feed>(&mut self, words: u8, feed: &mut F) -> Result<(), Abort>
         ensures { Does (mark words self.old) (input_alone (F.text feed.old) (F.faults feed.old))
             (input_alone (F.text feed.new) (F.faults feed.new)) (result, self.new) }
@@ -132,7 +132,7 @@ impl Machine {
     }
 }
 
-// The address so many words from another one, modulo 200000.
+// The address n words from another one, modulo 200000.
 #[inline(always)]
 pub(crate) fn words_on(address: u16, words: i8) -> u16
     ensures { result ≡ words_on address words }

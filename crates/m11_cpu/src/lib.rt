@@ -4,6 +4,7 @@
 
 mod abort;
 mod access;
+mod addressing;
 mod console;
 mod destination_use;
 mod double_operands;
@@ -16,7 +17,6 @@ mod machine;
 mod memory;
 mod messages;
 mod near;
-mod operands;
 mod quick;
 mod quick_jumps;
 mod quick_rest;

@@ -29,7 +29,7 @@ fn load_block<F: Feed>(
 {
     'bytes: for index in 0..count {
         let byte = reader.byte(feed)?;
-        match memory.place_behind(address, index) {
+        match memory.place_past(address, index) {
             Some(place) => memory.set_byte(place, byte),
             None => return Err(LoadFault::OutsideMemory),
         }
@@ -37,10 +37,10 @@ fn load_block<F: Feed>(
     Ok(())
 }
 
-/// Puts the data of one tape into memory, a later byte over an earlier one, and answers the transfer
-/// address, even or odd. Behind the transfer block nothing is read. It takes no memory.
+/// Puts the data of one tape into memory, a later byte over an earlier one, and returns the transfer
+/// address, even or odd. After the transfer block nothing is read. It takes no memory.
 ///
-/// OutsideMemory: a byte came that belongs behind the memory. Any other fault is that of the tape, the
+/// OutsideMemory: a byte came that belongs past the memory. Any other fault is that of the tape, the
 /// first in the order of the bytes. The memory then holds what came before.
 pub(crate) fn load_tape<F: Feed>(memory: &mut Memory, feed: &mut F) -> Result<u16, LoadFault>
     ensures loads { LoadsFrom (F.text feed.old) (F.text feed.new) (F.faults feed.old) (F.faults feed.new)

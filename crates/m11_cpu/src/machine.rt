@@ -6,11 +6,11 @@ ghost use Rattle.m11_cpu.specs.Loading.{LoadsInto};
 ghost use Rattle.m11_cpu.specs.Memory.{least_words, most_words};
 ghost use Rattle.m11_cpu.specs.Machine.{advanced, byte_in, finished, memory_size, new_machine, psw_in, register_of, with_condition_codes, with_register};
 
+use crate::addressing::OperandLocation;
 use crate::console::{Receiver, Transmitter};
 use crate::fault::LoadFault;
 use crate::loading::load_tape;
 use crate::memory::Memory;
-use crate::operands::Place;
 use crate::status::ProcessorStatus;
 use crate::stop::LastingStop;
 use m11_base::{ConditionCodes, Feed, Register};
@@ -53,10 +53,10 @@ impl Machine {
         })
     }
 
-    /// Puts the data of one tape into memory, a later byte over an earlier one, and answers the transfer address: where
-    /// it is even the program starts there, and an odd one starts nothing. Behind the transfer block nothing is read.
+    /// Puts the data of one tape into memory, a later byte over an earlier one, and returns the transfer address: where
+    /// it is even the program starts there, and an odd one starts nothing. After the transfer block nothing is read.
     ///
-    /// `OutsideMemory`: a byte came that belongs behind the memory. Any other fault is that of the tape, the first in
+    /// `OutsideMemory`: a byte came that belongs past the memory. Any other fault is that of the tape, the first in
     /// the order of the bytes. The memory then holds what came before. It takes no memory.
     pub fn load<F: Feed>(&mut self, tape: &mut F) -> Result<u16, LoadFault>
         ensures { LoadsInto (F.text tape.old) (F.text tape.new) (F.faults tape.old) (F.faults tape.new)
@@ -146,10 +146,10 @@ impl Machine {
     /// Puts the condition codes of an instruction that has stored its result. A write of the processor status stays as
     /// it was written.
     #[inline(always)]
-    pub(crate) fn finish(&mut self, place: Place, codes: ConditionCodes)
+    pub(crate) fn finish(&mut self, place: OperandLocation, codes: ConditionCodes)
         ensures { self.new ≡ finished place codes self.old }
     {
-        if place != Place::InMemory(0o177776) {
+        if place != OperandLocation::InMemory(0o177776) {
             self.set_codes(codes);
         }
     }

@@ -7,7 +7,7 @@ use std::alloc::{AllocError, Global};
 use std::marker::Model;
 
 /// The memory of a machine, from address 0 on: each word has its low byte at an even address and its
-/// high byte behind it. The number of words never changes.
+/// high byte after it. The number of words never changes.
 #[derive(Drop)]
 pub(crate) struct Memory {
     words: Vec<u16>,
@@ -46,9 +46,9 @@ impl Memory {
         usize::from(address / 2) < self.words.len()
     }
 
-    /// The address so far behind another one, where the memory has a byte there.
+    /// The address so far after another one, where the memory has a byte there.
     #[tactic(auto, using(crate::proofs::WordsAsBytes::length_of_bytes))]
-    pub(crate) fn place_behind(&self, address: u16, distance: u16) -> Option<u16>
+    pub(crate) fn place_past(&self, address: u16, distance: u16) -> Option<u16>
         ensures some { IfSome result (λ place. (place ≡ address + distance) × (place < length self.now)) }
         ensures none { result ≡ None → length self.now ≤ address + distance }
     {

@@ -1,4 +1,4 @@
-//! What a run tells at its stop.
+//! What a run reports at its stop.
 
 ghost use Rattle.std.specs.Prelude.{◌≡◌, IfOk, string_bytes};
 ghost use Rattle.m11_cpu.specs.Messages.{stop_line, register_line, messages_of, PutsMessages};
@@ -25,8 +25,8 @@ fn register_line(alloc: Global, registers: &[u16; 8], psw: u16) -> Result<String
     )
 }
 
-/// Puts the two lines of a stop, after so many steps, with the registers from R0 to PC and the PSW. Write:
-/// the sink failed behind a beginning of them. NoMemory: nothing was put.
+/// Puts the two lines of a stop, after n steps, with the registers from R0 to PC and the PSW. Write:
+/// the sink failed after a beginning of them. NoMemory: nothing was put.
 pub(crate) fn put_messages<M: Sink>(
     alloc: Global,
     messages: &mut M,

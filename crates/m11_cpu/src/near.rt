@@ -4,12 +4,12 @@
 ghost use Rattle.std.specs.Prelude.{◌≡◌, ◌<◌, IfSome, None, true};
 ghost use Rattle.m11_arithmetic.specs.Sizes.{size_limit};
 ghost use Rattle.m11_base.specs.declared.operand.Mode.TheVariants as mode;
-ghost use Rattle.m11_cpu.specs.declared.operands.Place.TheVariants.{InMemory, InRegister};
-ghost use Rattle.m11_cpu.specs.Near.{ChangesRegisters, ComesTo, Ends, Keeps, is_near, is_plain, plain_at};
-ghost use Rattle.m11_cpu.specs.Places.{fetch, fetch_operand, indexed, place_of, store};
+ghost use Rattle.m11_cpu.specs.declared.addressing.OperandLocation.TheVariants.{InMemory, InRegister};
+ghost use Rattle.m11_cpu.specs.Near.{ChangesRegisters, ComesTo, NearEnds, NearKeeps, is_near, is_plain, plain_at};
+ghost use Rattle.m11_cpu.specs.Addressing.{fetch, fetch_operand, indexed, place_of, store};
 
+use crate::addressing::{OperandLocation, step_of, without_low_byte};
 use crate::machine::Machine;
-use crate::operands::{Place, step_of, without_low_byte};
 use m11_base::{Mode, Operand, Register, Size};
 
 impl Machine {
@@ -42,8 +42,8 @@ impl Machine {
     #[inline(always)]
     pub(crate) fn set_plain(&mut self, size: Size, address: u16, value: u16)
         requires plain { is_plain size address self.old.memory ≡ true }
-        ensures stored { Ends (store (InMemory address) size value) self.old self.new }
-        ensures keeps { Keeps self.old self.new }
+        ensures stored { NearEnds (store (InMemory address) size value) self.old self.new }
+        ensures keeps { NearKeeps self.old self.new }
     {
         match size {
             Size::Word => self.memory.set_word(address, value),
@@ -111,7 +111,7 @@ impl Machine {
         Some(address)
     }
 
-    // The same by the word behind the code, in mode 6.
+    // The same by the word after the code, in mode 6.
     #[tactic(auto, using(crate::proofs::QuickDone::index_at, crate::proofs::QuickDone::counter_back))]
     #[inline(never)]
     fn plain_index(&mut self, operand: Operand, size: Size) -> Option<u16>
@@ -135,35 +135,37 @@ impl Machine {
     }
 
     // The word or byte in a place.
-    #[tactic(auto, using(crate::proofs::QuickDone::plain_fetched), unfolding(crate::specs::Places::fetch))]
+    #[tactic(auto, using(crate::proofs::QuickDone::plain_fetched), unfolding(crate::specs::Addressing::fetch))]
     #[inline(always)]
-    pub(crate) fn near_value(&self, place: Place, size: Size) -> u16
+    pub(crate) fn near_value(&self, place: OperandLocation, size: Size) -> u16
         requires { is_near size place self.now ≡ true }
         ensures fetched { ComesTo (fetch place size) self.now result self.now }
         ensures fits { result < size_limit size }
     {
         match (place, size) {
-            (Place::InRegister(register), Size::Word) => self.register(register),
-            (Place::InRegister(register), Size::Byte) => self.register(register) % 256,
-            (Place::InMemory(address), _) => self.plain(size, address),
+            (OperandLocation::InRegister(register), Size::Word) => self.register(register),
+            (OperandLocation::InRegister(register), Size::Byte) => self.register(register) % 256,
+            (OperandLocation::InMemory(address), _) => self.plain(size, address),
         }
     }
 
     // Puts a word or byte into a place.
-    #[tactic(auto, unfolding(crate::specs::Places::store))]
+    #[tactic(auto, unfolding(crate::specs::Addressing::store))]
     #[inline(always)]
-    pub(crate) fn put_near(&mut self, place: Place, size: Size, value: u16)
+    pub(crate) fn put_near(&mut self, place: OperandLocation, size: Size, value: u16)
         requires { is_near size place self.old ≡ true }
-        ensures stored { Ends (store place size value) self.old self.new }
-        ensures keeps { Keeps self.old self.new }
+        ensures stored { NearEnds (store place size value) self.old self.new }
+        ensures keeps { NearKeeps self.old self.new }
     {
         match (place, size) {
-            (Place::InRegister(register), Size::Word) => self.set_register(register, value),
-            (Place::InRegister(register), Size::Byte) => {
+            (OperandLocation::InRegister(register), Size::Word) => self.set_register(
+                register, value,
+            ),
+            (OperandLocation::InRegister(register), Size::Byte) => {
                 let high = without_low_byte(self.register(register));
                 self.set_register(register, high + value % 256);
             }
-            (Place::InMemory(address), _) => self.set_plain(size, address, value),
+            (OperandLocation::InMemory(address), _) => self.set_plain(size, address, value),
         }
     }
 
@@ -177,7 +179,10 @@ impl Machine {
         ensures none { result ≡ None → self.new ≡ self.old }
     {
         match operand.mode {
-            Mode::Register => Some(self.near_value(Place::InRegister(operand.register), size)),
+            Mode::Register => Some(self.near_value(
+                OperandLocation::InRegister(operand.register),
+                size,
+            )),
             _ => {
                 let address = self.plain_place(operand, size)?;
                 Some(self.plain(size, address))
@@ -188,17 +193,17 @@ impl Machine {
     // The place of an operand.
     #[tactic(auto, using(crate::proofs::QuickDone::in_register))]
     #[inline(always)]
-    pub(crate) fn near_place(&mut self, operand: Operand, size: Size) -> Option<Place>
+    pub(crate) fn near_place(&mut self, operand: Operand, size: Size) -> Option<OperandLocation>
         ensures some { IfSome result (λ place. ComesTo (place_of operand size) self.old place self.new) }
         ensures near { IfSome result (λ place. is_near size place self.new ≡ true) }
         ensures registers { ChangesRegisters self.old self.new }
         ensures none { result ≡ None → self.new ≡ self.old }
     {
         match operand.mode {
-            Mode::Register => Some(Place::InRegister(operand.register)),
+            Mode::Register => Some(OperandLocation::InRegister(operand.register)),
             _ => {
                 let address = self.plain_place(operand, size)?;
-                Some(Place::InMemory(address))
+                Some(OperandLocation::InMemory(address))
             }
         }
     }

@@ -4,9 +4,9 @@
 
 ghost use Rattle.std.specs.Prelude.{◌≡◌, ◌<◌, ◌≤◌, ◌/◌, ◌%◌, IfSome, Some, None, true, false, slice_index_or};
 ghost use Rattle.m11_arithmetic.specs.Sizes.{size_limit};
-ghost use Rattle.m11_base.specs.Dispatch.{extended, high, operation_by_tables, with_next_digits};
+ghost use Rattle.m11_base.specs.OperationTables.{extended, high, operation_by_tables, with_next_digits};
 ghost use Rattle.m11_base.specs.Instructions.{meaning, with_fields};
-ghost use Rattle.m11_base.specs.Operands.{mode_of};
+ghost use Rattle.m11_base.specs.Operand.{mode_of};
 ghost use Rattle.m11_base.specs.declared.instruction.DoubleOp.TheVariants.{Mov};
 ghost use Rattle.m11_base.specs.declared.instruction.Op.TheVariants as op;
 ghost use Rattle.m11_base.specs.declared.operand.Mode.TheVariants as mode;
@@ -16,28 +16,28 @@ ghost use Rattle.m11_cpu.specs.Dialogue.{Comes};
 ghost use Rattle.m11_cpu.specs.DoubleOperands.{change_double, compare, double, move_to, store_moved};
 ghost use Rattle.m11_cpu.specs.Jumps.{branched, counted_down};
 ghost use Rattle.m11_cpu.specs.Machine.{register_of};
-ghost use Rattle.m11_cpu.specs.Near.{Ends, Keeps, is_near};
-ghost use Rattle.m11_cpu.specs.Places.{put_result};
-ghost use Rattle.m11_cpu.specs.Quick.{Executed, Runs, StepsAtOnce};
+ghost use Rattle.m11_cpu.specs.Near.{NearEnds, NearKeeps, is_near};
+ghost use Rattle.m11_cpu.specs.Addressing.{put_result};
+ghost use Rattle.m11_cpu.specs.Quick.{Executed, QuickRuns, StepsAtOnce};
 ghost use Rattle.m11_cpu.specs.Steps.{step};
 ghost use Rattle.m11_cpu.specs.declared.destination_use.DestinationUse.TheVariants.{Reads, Changes};
 ghost use Rattle.m11_cpu.specs.declared.stop.Turn.TheVariants.{Next};
 
+use crate::addressing::OperandLocation;
 use crate::double_operands::sign_extended;
 use crate::jumps::words_on;
 use crate::machine::Machine;
-use crate::operands::Place;
 use m11_arithmetic::{Computed, is_taken};
 use m11_base::{BranchOp, DoubleOp, Operand, Register, SingleOp, Size};
 
 impl Machine {
     // Puts a result into a place, and then its condition codes.
-    #[tactic(auto, using(crate::proofs::QuickDone::bind_comes, crate::proofs::QuickDone::comes_at, crate::proofs::QuickDone::finished_stopped, crate::proofs::QuickDone::finished_trace), unfolding(crate::specs::Places::put_result))]
+    #[tactic(auto, using(crate::proofs::QuickDone::bind_comes, crate::proofs::QuickDone::comes_at, crate::proofs::QuickDone::finished_stopped, crate::proofs::QuickDone::finished_trace), unfolding(crate::specs::Addressing::put_result))]
     #[inline(always)]
-    pub(crate) fn put_computed(&mut self, place: Place, size: Size, computed: Computed)
+    pub(crate) fn put_computed(&mut self, place: OperandLocation, size: Size, computed: Computed)
         requires { is_near size place self.old ≡ true }
-        ensures done { Ends (put_result place size computed) self.old self.new }
-        ensures keeps { Keeps self.old self.new }
+        ensures done { NearEnds (put_result place size computed) self.old self.new }
+        ensures keeps { NearKeeps self.old self.new }
     {
         self.put_near(place, size, computed.value);
         self.finish(place, computed.codes);
@@ -46,11 +46,11 @@ impl Machine {
     // MOV and MOVB.
     #[tactic(auto, using(crate::proofs::QuickDone::bind_comes, crate::proofs::QuickDone::comes_at, crate::proofs::QuickDone::finished_stopped, crate::proofs::QuickDone::finished_trace), unfolding(crate::specs::DoubleOperands::move_to))]
     #[inline(always)]
-    pub(crate) fn move_near(&mut self, place: Place, size: Size, source: u16)
+    pub(crate) fn move_near(&mut self, place: OperandLocation, size: Size, source: u16)
         requires near { is_near size place self.old ≡ true }
         requires fits { source < size_limit size }
-        ensures done { Ends (move_to place size source) self.old self.new }
-        ensures keeps { Keeps self.old self.new }
+        ensures done { NearEnds (move_to place size source) self.old self.new }
+        ensures keeps { NearKeeps self.old self.new }
     {
         let computed = m11_arithmetic::double(DoubleOp::Mov, size, source, 0, self.codes());
         self.put_moved(place, size, source);
@@ -58,19 +58,21 @@ impl Machine {
     }
 
     // Puts a word or byte into a place. MOVB extends the sign of a byte in a register.
-    #[tactic(auto, unfolding(crate::specs::DoubleOperands::store_moved, crate::specs::Places::store))]
+    #[tactic(auto, unfolding(crate::specs::DoubleOperands::store_moved, crate::specs::Addressing::store))]
     #[inline(always)]
-    fn put_moved(&mut self, place: Place, size: Size, value: u16)
+    fn put_moved(&mut self, place: OperandLocation, size: Size, value: u16)
         requires { is_near size place self.old ≡ true }
-        ensures stored { Ends (store_moved place size value) self.old self.new }
-        ensures keeps { Keeps self.old self.new }
+        ensures stored { NearEnds (store_moved place size value) self.old self.new }
+        ensures keeps { NearKeeps self.old self.new }
     {
         match (place, size) {
-            (Place::InRegister(register), Size::Word) => self.set_register(register, value),
-            (Place::InRegister(register), Size::Byte) => {
+            (OperandLocation::InRegister(register), Size::Word) => self.set_register(
+                register, value,
+            ),
+            (OperandLocation::InRegister(register), Size::Byte) => {
                 self.set_register(register, sign_extended(value));
             }
-            (Place::InMemory(address), _) => self.set_plain(size, address, value),
+            (OperandLocation::InMemory(address), _) => self.set_plain(size, address, value),
         }
     }
 
@@ -80,14 +82,14 @@ impl Machine {
     pub(crate) fn compare_near(
         &mut self,
         operation: DoubleOp,
-        place: Place,
+        place: OperandLocation,
         size: Size,
         source: u16,
     )
         requires near { is_near size place self.old ≡ true }
         requires fits { source < size_limit size }
-        ensures done { Ends (compare operation place size source) self.old self.new }
-        ensures keeps { Keeps self.old self.new }
+        ensures done { NearEnds (compare operation place size source) self.old self.new }
+        ensures keeps { NearKeeps self.old self.new }
     {
         let destination = self.near_value(place, size);
         let computed = m11_arithmetic::double(operation, size, source, destination, self.codes());
@@ -97,28 +99,38 @@ impl Machine {
     // The destination is read, and the result put in its place.
     #[tactic(auto, using(crate::proofs::QuickDone::bind_comes, crate::proofs::QuickDone::put_result_comes), unfolding(crate::specs::DoubleOperands::change_double))]
     #[inline(always)]
-    pub(crate) fn change_near(&mut self, operation: DoubleOp, place: Place, size: Size, source: u16)
+    pub(crate) fn change_near(
+        &mut self,
+        operation: DoubleOp,
+        place: OperandLocation,
+        size: Size,
+        source: u16,
+    )
         requires near { is_near size place self.old ≡ true }
         requires fits { source < size_limit size }
-        ensures done { Ends (change_double operation place size source) self.old self.new }
-        ensures keeps { Keeps self.old self.new }
+        ensures done { NearEnds (change_double operation place size source) self.old self.new }
+        ensures keeps { NearKeeps self.old self.new }
     {
         let destination = self.near_value(place, size);
         let computed = m11_arithmetic::double(operation, size, source, destination, self.codes());
         self.put_computed(place, size, computed);
     }
 
-    // MOV, to a register: the program counter behind it.
+    // MOV, to a register: the program counter after it.
     #[inline(always)]
     fn move_to_register(&mut self, size: Size, source: Operand, destination: Operand) -> Option<u16>
         requires mode { destination.mode ≡ mode.Register }
-        ensures some { IfSome result (λ _. Ends (double Mov size source destination) self.old self.new) }
+        ensures some { IfSome result (λ _. NearEnds (double Mov size source destination) self.old self.new) }
         ensures counter { IfSome result (λ counter. counter ≡ register_of Pc self.new) }
-        ensures keeps { Keeps self.old self.new }
+        ensures keeps { NearKeeps self.old self.new }
         ensures none { result ≡ None → self.new ≡ self.old }
     {
         let value = self.near_operand(source, size)?;
-        self.move_near(Place::InRegister(destination.register), size, value);
+        self.move_near(
+            OperandLocation::InRegister(destination.register),
+            size,
+            value,
+        );
         Some(self.register(Register::Pc))
     }
 
@@ -131,14 +143,14 @@ impl Machine {
         destination: Operand,
     ) -> Option<u16>
         requires mode { source.mode ≡ mode.Register }
-        ensures some { IfSome result (λ _. Ends (double Mov size source destination) self.old self.new) }
+        ensures some { IfSome result (λ _. NearEnds (double Mov size source destination) self.old self.new) }
         ensures counter { IfSome result (λ counter. counter ≡ register_of Pc self.new) }
-        ensures keeps { Keeps self.old self.new }
+        ensures keeps { NearKeeps self.old self.new }
         ensures none { result ≡ None → self.new ≡ self.old }
     {
-        let value = self.near_value(Place::InRegister(source.register), size);
+        let value = self.near_value(OperandLocation::InRegister(source.register), size);
         let address = self.plain_place(destination, size)?;
-        self.move_near(Place::InMemory(address), size, value);
+        self.move_near(OperandLocation::InMemory(address), size, value);
         Some(self.register(Register::Pc))
     }
 
@@ -147,7 +159,7 @@ impl Machine {
     #[inline(always)]
     fn move_word(&mut self, size: Size, word: u16) -> Option<u16>
         ensures some { IfSome result (λ next. Executed (with_fields (op.Double Mov size) word) next self.old self.new) }
-        ensures keeps { Keeps self.old self.new }
+        ensures keeps { NearKeeps self.old self.new }
         ensures none { result ≡ None → self.new ≡ self.old }
     {
         let source = Operand::of_bits(word / 0o100);
@@ -161,7 +173,7 @@ impl Machine {
         }
     }
 
-    // CMP and BIT, to a register: the program counter behind it.
+    // CMP and BIT, to a register: the program counter after it.
     #[inline(always)]
     fn compare_to_register(
         &mut self,
@@ -172,15 +184,15 @@ impl Machine {
     ) -> Option<u16>
         requires mode { destination.mode ≡ mode.Register }
         requires uses { use_by_double operation ≡ Reads }
-        ensures some { IfSome result (λ _. Ends (double operation size source destination) self.old self.new) }
+        ensures some { IfSome result (λ _. NearEnds (double operation size source destination) self.old self.new) }
         ensures counter { IfSome result (λ counter. counter ≡ register_of Pc self.new) }
-        ensures keeps { Keeps self.old self.new }
+        ensures keeps { NearKeeps self.old self.new }
         ensures none { result ≡ None → self.new ≡ self.old }
     {
         let value = self.near_operand(source, size)?;
         self.compare_near(
             operation,
-            Place::InRegister(destination.register),
+            OperandLocation::InRegister(destination.register),
             size,
             value,
         );
@@ -198,14 +210,14 @@ impl Machine {
     ) -> Option<u16>
         requires mode { source.mode ≡ mode.Register }
         requires uses { use_by_double operation ≡ Reads }
-        ensures some { IfSome result (λ _. Ends (double operation size source destination) self.old self.new) }
+        ensures some { IfSome result (λ _. NearEnds (double operation size source destination) self.old self.new) }
         ensures counter { IfSome result (λ counter. counter ≡ register_of Pc self.new) }
-        ensures keeps { Keeps self.old self.new }
+        ensures keeps { NearKeeps self.old self.new }
         ensures none { result ≡ None → self.new ≡ self.old }
     {
-        let value = self.near_value(Place::InRegister(source.register), size);
+        let value = self.near_value(OperandLocation::InRegister(source.register), size);
         let address = self.plain_place(destination, size)?;
-        self.compare_near(operation, Place::InMemory(address), size, value);
+        self.compare_near(operation, OperandLocation::InMemory(address), size, value);
         Some(self.register(Register::Pc))
     }
 
@@ -216,7 +228,7 @@ impl Machine {
         requires { use_by_double operation ≡ Reads }
         ensures some { IfSome result (λ next. Executed (with_fields (op.Double operation size) word)
             next self.old self.new) }
-        ensures keeps { Keeps self.old self.new }
+        ensures keeps { NearKeeps self.old self.new }
         ensures none { result ≡ None → self.new ≡ self.old }
     {
         let source = Operand::of_bits(word / 0o100);
@@ -230,7 +242,7 @@ impl Machine {
         }
     }
 
-    // Operations that change their destination, to a register: the program counter behind it.
+    // Operations that change their destination, to a register: the program counter after it.
     #[inline(always)]
     fn change_to_register(
         &mut self,
@@ -241,15 +253,15 @@ impl Machine {
     ) -> Option<u16>
         requires mode { destination.mode ≡ mode.Register }
         requires uses { use_by_double operation ≡ Changes }
-        ensures some { IfSome result (λ _. Ends (double operation size source destination) self.old self.new) }
+        ensures some { IfSome result (λ _. NearEnds (double operation size source destination) self.old self.new) }
         ensures counter { IfSome result (λ counter. counter ≡ register_of Pc self.new) }
-        ensures keeps { Keeps self.old self.new }
+        ensures keeps { NearKeeps self.old self.new }
         ensures none { result ≡ None → self.new ≡ self.old }
     {
         let value = self.near_operand(source, size)?;
         self.change_near(
             operation,
-            Place::InRegister(destination.register),
+            OperandLocation::InRegister(destination.register),
             size,
             value,
         );
@@ -267,14 +279,14 @@ impl Machine {
     ) -> Option<u16>
         requires mode { source.mode ≡ mode.Register }
         requires uses { use_by_double operation ≡ Changes }
-        ensures some { IfSome result (λ _. Ends (double operation size source destination) self.old self.new) }
+        ensures some { IfSome result (λ _. NearEnds (double operation size source destination) self.old self.new) }
         ensures counter { IfSome result (λ counter. counter ≡ register_of Pc self.new) }
-        ensures keeps { Keeps self.old self.new }
+        ensures keeps { NearKeeps self.old self.new }
         ensures none { result ≡ None → self.new ≡ self.old }
     {
-        let value = self.near_value(Place::InRegister(source.register), size);
+        let value = self.near_value(OperandLocation::InRegister(source.register), size);
         let address = self.plain_place(destination, size)?;
-        self.change_near(operation, Place::InMemory(address), size, value);
+        self.change_near(operation, OperandLocation::InMemory(address), size, value);
         Some(self.register(Register::Pc))
     }
 
@@ -285,7 +297,7 @@ impl Machine {
         requires { use_by_double operation ≡ Changes }
         ensures some { IfSome result (λ next. Executed (with_fields (op.Double operation size) word)
             next self.old self.new) }
-        ensures keeps { Keeps self.old self.new }
+        ensures keeps { NearKeeps self.old self.new }
         ensures none { result ≡ None → self.new ≡ self.old }
     {
         let source = Operand::of_bits(word / 0o100);
@@ -299,14 +311,14 @@ impl Machine {
         }
     }
 
-    // A branch: the program counter behind it.
+    // A branch: the program counter after it.
     #[tactic(auto, using(crate::proofs::RegistersPut::put_same))]
     #[inline(always)]
     fn quick_branch(&mut self, operation: BranchOp, words: i8, counter: u16) -> u16
         requires { counter ≡ register_of Pc self.old }
         ensures branched { self.new ≡ branched operation words self.old }
         ensures counter { result ≡ register_of Pc self.new }
-        ensures keeps { Keeps self.old self.new }
+        ensures keeps { NearKeeps self.old self.new }
     {
         if is_taken(operation, self.codes()) {
             let target = words_on(counter, words);
@@ -317,13 +329,13 @@ impl Machine {
         }
     }
 
-    // SOB: the program counter behind it.
+    // SOB: the program counter after it.
     #[tactic(auto, using(crate::proofs::RegistersPut::put_same))]
     #[inline(always)]
     fn quick_count(&mut self, register: Register, words: u8) -> u16
         ensures counted { self.new ≡ counted_down register words self.old }
         ensures counter { result ≡ register_of Pc self.new }
-        ensures keeps { Keeps self.old self.new }
+        ensures keeps { NearKeeps self.old self.new }
     {
         let count = self.back(register, 1);
         if count == 0 {
@@ -340,7 +352,7 @@ impl Machine {
         requires { counter ≡ register_of Pc self.old }
         ensures some { IfSome result (λ next. Executed (with_fields (op.Branch operation) word)
             next self.old self.new) }
-        ensures keeps { Keeps self.old self.new }
+        ensures keeps { NearKeeps self.old self.new }
         ensures none { result ≡ None → self.new ≡ self.old }
     {
         let words = ((word % 0o400) as u8).cast_signed();
@@ -352,20 +364,20 @@ impl Machine {
     #[inline(always)]
     fn count_word(&mut self, word: u16) -> Option<u16>
         ensures some { IfSome result (λ next. Executed (with_fields op.Sob word) next self.old self.new) }
-        ensures keeps { Keeps self.old self.new }
+        ensures keeps { NearKeeps self.old self.new }
         ensures none { result ≡ None → self.new ≡ self.old }
     {
         Some(self.quick_count(Register::of_bits(word / 0o100), (word % 0o100) as u8))
     }
 
-    // A word by its octal digits: the program counter behind it. What is called is tried last, so that behind what is
-    // inlined nothing looks at whether it came to something.
+    // A word by its octal digits: the program counter after it. What is called is tried last, so that after what is
+    // inlined nothing looks at whether it did something.
     #[inline(always)]
     fn quick_word(&mut self, word: u16, counter: u16) -> Option<u16>
         requires { counter ≡ register_of Pc self.old }
         ensures some { IfSome result (λ next. Executed (meaning (operation_by_tables word) word)
             next self.old self.new) }
-        ensures keeps { Keeps self.old self.new }
+        ensures keeps { NearKeeps self.old self.new }
         ensures none { result ≡ None → self.new ≡ self.old }
     {
         match self.frequent_word(word, counter) {
@@ -375,13 +387,13 @@ impl Machine {
     }
 
     // A word of a form that is inlined.
-    #[tactic(auto, unfolding(m11_base::specs::Dispatch::doubles, m11_base::specs::Dispatch::extended))]
+    #[tactic(auto, unfolding(m11_base::specs::OperationTables::doubles, m11_base::specs::OperationTables::extended))]
     #[inline(always)]
     fn frequent_word(&mut self, word: u16, counter: u16) -> Option<u16>
         requires { counter ≡ register_of Pc self.old }
         ensures some { IfSome result (λ next. Executed (meaning (operation_by_tables word) word)
             next self.old self.new) }
-        ensures keeps { Keeps self.old self.new }
+        ensures keeps { NearKeeps self.old self.new }
         ensures none { result ≡ None → self.new ≡ self.old }
     {
         match word / 0o10000 {
@@ -399,12 +411,12 @@ impl Machine {
     }
 
     // A word 07xxxx: SOB.
-    #[tactic(auto, unfolding(m11_base::specs::Dispatch::extended))]
+    #[tactic(auto, unfolding(m11_base::specs::OperationTables::extended))]
     #[inline(always)]
     fn extended_word(&mut self, word: u16) -> Option<u16>
         ensures some { IfSome result (λ next.
             Executed (meaning (slice_index_or extended (word / 0o1000 % 0o10) None) word) next self.old self.new) }
-        ensures keeps { Keeps self.old self.new }
+        ensures keeps { NearKeeps self.old self.new }
         ensures none { result ≡ None → self.new ≡ self.old }
     {
         match word / 0o1000 % 0o10 {
@@ -414,13 +426,13 @@ impl Machine {
     }
 
     // A word 00xxxx: a branch, or an operation on one register.
-    #[tactic(auto, unfolding(m11_base::specs::Dispatch::low))]
+    #[tactic(auto, unfolding(m11_base::specs::OperationTables::low))]
     #[inline(always)]
     fn low_word(&mut self, word: u16, counter: u16) -> Option<u16>
         requires counter { counter ≡ register_of Pc self.old }
         ensures some { IfSome result (λ next. Executed (meaning (with_next_digits (word / 0o100) word) word)
             next self.old self.new) }
-        ensures keeps { Keeps self.old self.new }
+        ensures keeps { NearKeeps self.old self.new }
         ensures none { result ≡ None → self.new ≡ self.old }
     {
         match word / 0o100 {
@@ -461,13 +473,13 @@ impl Machine {
     }
 
     // A word 10xxxx: a branch.
-    #[tactic(auto, unfolding(m11_base::specs::Dispatch::high))]
+    #[tactic(auto, unfolding(m11_base::specs::OperationTables::high))]
     #[inline(always)]
     fn high_word(&mut self, word: u16, counter: u16) -> Option<u16>
         requires { counter ≡ register_of Pc self.old }
         ensures some { IfSome result (λ next. Executed (meaning (slice_index_or high (word / 0o100 % 0o100) None) word)
             next self.old self.new) }
-        ensures keeps { Keeps self.old self.new }
+        ensures keeps { NearKeeps self.old self.new }
         ensures none { result ≡ None → self.new ≡ self.old }
     {
         match word / 0o100 % 0o100 {
@@ -507,24 +519,24 @@ impl Machine {
         }
     }
 
-    // One step, by the program counter: the program counter behind it.
+    // One step, by the program counter: the program counter after it.
     #[tactic(auto, using(crate::proofs::QuickDone::step_made, crate::proofs::QuickDone::step_left, crate::proofs::RegistersPut::put_same))]
     #[inline(always)]
     fn quick_step(&mut self, counter: u16) -> Option<u16>
         requires counter { counter ≡ register_of Pc self.old }
-        requires runs { Runs self.old }
+        requires runs { QuickRuns self.old }
         ensures some { IfSome result (λ _. step self.old ≡ Comes (Next, self.new)) }
         ensures counter { IfSome result (λ next. next ≡ register_of Pc self.new) }
-        ensures runs { Runs self.new }
+        ensures runs { QuickRuns self.new }
         ensures none { result ≡ None → self.new ≡ self.old }
     {
         if !self.is_plain(Size::Word, counter) {
             return None;
         }
         let word = self.plain(Size::Word, counter);
-        let behind = counter.wrapping_add(2);
-        self.set_register(Register::Pc, behind);
-        match self.quick_word(word, behind) {
+        let following = counter.wrapping_add(2);
+        self.set_register(Register::Pc, following);
+        match self.quick_word(word, following) {
             Some(next) => Some(next),
             None => {
                 self.set_register(Register::Pc, counter);
@@ -533,7 +545,7 @@ impl Machine {
         }
     }
 
-    /// Makes such steps while they come, `limit` at most, and answers how many it made. It makes none where the machine
+    /// Makes such steps while they come, `limit` at most, and returns how many it made. It makes none where the machine
     /// has stopped, or T is set.
     #[tactic(auto, using(crate::proofs::QuickDone::no_steps, crate::proofs::QuickDone::one_more_step))]
     #[inline(never)]
@@ -559,7 +571,7 @@ impl Machine {
 }
 
 // Whether the six bits of an operand mean the register itself. They are looked at, and not the mode that they give, so
-// that a mode is told apart once.
+// that a mode is distinguished once.
 #[tactic(auto, using(crate::proofs::QuickDone::register_mode))]
 #[inline(always)]
 pub(crate) fn is_register(bits: u16) -> bool

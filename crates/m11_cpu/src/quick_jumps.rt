@@ -3,7 +3,7 @@
 //! control.)
 
 ghost use Rattle.std.specs.Prelude.{◌≡◌, ◌/◌, ◌%◌, IfSome, None, true, slice_index_or};
-ghost use Rattle.m11_base.specs.Dispatch.{last};
+ghost use Rattle.m11_base.specs.OperationTables.{last};
 ghost use Rattle.m11_base.specs.Instructions.{meaning, with_fields};
 ghost use Rattle.m11_base.specs.declared.instruction.Op.TheVariants as op;
 ghost use Rattle.m11_base.specs.declared.instruction.RegisterOp.TheVariants.{Jsr};
@@ -12,8 +12,8 @@ ghost use Rattle.m11_base.specs.declared.operand.Register.TheVariants.{Pc, Sp};
 ghost use Rattle.m11_base.specs.declared.operand.Size.TheVariants.{Word};
 ghost use Rattle.m11_cpu.specs.Jumps.{call, enter, jump, push, return_by, target};
 ghost use Rattle.m11_cpu.specs.Machine.{register_of};
-ghost use Rattle.m11_cpu.specs.Near.{ChangesRegisters, ComesTo, Ends, Keeps, is_plain};
-ghost use Rattle.m11_cpu.specs.Places.{stepped_back};
+ghost use Rattle.m11_cpu.specs.Near.{ChangesRegisters, ComesTo, NearEnds, NearKeeps, is_plain};
+ghost use Rattle.m11_cpu.specs.Addressing.{stepped_back};
 ghost use Rattle.m11_cpu.specs.Quick.{Executed};
 
 use crate::machine::Machine;
@@ -32,37 +32,37 @@ impl Machine {
     }
 
     // Pushes a word.
-    #[tactic(auto, using(crate::proofs::QuickJumps::pushed), unfolding(crate::specs::Jumps::push, crate::specs::Places::store))]
+    #[tactic(auto, using(crate::proofs::QuickJumps::pushed), unfolding(crate::specs::Jumps::push, crate::specs::Addressing::store))]
     #[inline(always)]
     fn push_near(&mut self, value: u16)
         requires { is_plain Word (stepped_back Sp 2 self.old) self.old.memory ≡ true }
-        ensures pushed { Ends (push value) self.old self.new }
-        ensures keeps { Keeps self.old self.new }
+        ensures pushed { NearEnds (push value) self.old self.new }
+        ensures keeps { NearKeeps self.old self.new }
     {
         let address = self.back(Register::Sp, 2);
         self.set_plain(Size::Word, address, value);
     }
 
-    // Pushes the register; then it has the address behind the call, and the program counter the target.
+    // Pushes the register; then it has the address after the call, and the program counter the target.
     #[tactic(auto, using(crate::proofs::QuickDone::bind_comes), unfolding(crate::specs::Jumps::enter))]
     #[inline(always)]
     fn enter_near(&mut self, register: Register, address: u16)
         requires { is_plain Word (stepped_back Sp 2 self.old) self.old.memory ≡ true }
-        ensures entered { Ends (enter register address) self.old self.new }
-        ensures keeps { Keeps self.old self.new }
+        ensures entered { NearEnds (enter register address) self.old self.new }
+        ensures keeps { NearKeeps self.old self.new }
     {
         self.push_near(self.register(register));
         self.set_register(register, self.register(Register::Pc));
         self.set_register(Register::Pc, address);
     }
 
-    // JMP: the program counter behind it.
+    // JMP: the program counter after it.
     #[tactic(auto, using(crate::proofs::QuickDone::bind_comes), unfolding(crate::specs::Jumps::jump))]
     #[inline(always)]
     fn quick_jump(&mut self, operand: Operand) -> Option<u16>
-        ensures some { IfSome result (λ _. Ends (jump operand) self.old self.new) }
+        ensures some { IfSome result (λ _. NearEnds (jump operand) self.old self.new) }
         ensures counter { IfSome result (λ counter. counter ≡ register_of Pc self.new) }
-        ensures keeps { Keeps self.old self.new }
+        ensures keeps { NearKeeps self.old self.new }
         ensures none { result ≡ None → self.new ≡ self.old }
     {
         let address = self.near_target(operand)?;
@@ -70,13 +70,13 @@ impl Machine {
         Some(self.register(Register::Pc))
     }
 
-    // JSR: the program counter behind it.
+    // JSR: the program counter after it.
     #[tactic(auto, using(crate::proofs::QuickDone::bind_comes, crate::proofs::QuickDone::restored), unfolding(crate::specs::Jumps::call))]
     #[inline(always)]
     fn quick_call(&mut self, register: Register, operand: Operand) -> Option<u16>
-        ensures some { IfSome result (λ _. Ends (call register operand) self.old self.new) }
+        ensures some { IfSome result (λ _. NearEnds (call register operand) self.old self.new) }
         ensures counter { IfSome result (λ counter. counter ≡ register_of Pc self.new) }
-        ensures keeps { Keeps self.old self.new }
+        ensures keeps { NearKeeps self.old self.new }
         ensures none { result ≡ None → self.new ≡ self.old }
     {
         let before = self.registers;
@@ -90,13 +90,13 @@ impl Machine {
         Some(self.register(Register::Pc))
     }
 
-    // RTS: the program counter behind it.
+    // RTS: the program counter after it.
     #[tactic(auto, using(crate::proofs::QuickJumps::returned, crate::proofs::QuickJumps::not_returned), unfolding(crate::specs::Jumps::return_by))]
     #[inline(always)]
     fn quick_return(&mut self, register: Register) -> Option<u16>
-        ensures some { IfSome result (λ _. Ends (return_by register) self.old self.new) }
+        ensures some { IfSome result (λ _. NearEnds (return_by register) self.old self.new) }
         ensures counter { IfSome result (λ counter. counter ≡ register_of Pc self.new) }
-        ensures keeps { Keeps self.old self.new }
+        ensures keeps { NearKeeps self.old self.new }
         ensures none { result ≡ None → self.new ≡ self.old }
     {
         let counter = self.register(Register::Pc);
@@ -117,7 +117,7 @@ impl Machine {
     #[inline(never)]
     pub(crate) fn jump_word(&mut self, word: u16) -> Option<u16>
         ensures some { IfSome result (λ next. Executed (with_fields (op.Single Jmp Word) word) next self.old self.new) }
-        ensures keeps { Keeps self.old self.new }
+        ensures keeps { NearKeeps self.old self.new }
         ensures none { result ≡ None → self.new ≡ self.old }
     {
         self.quick_jump(Operand::of_bits(word))
@@ -128,19 +128,19 @@ impl Machine {
     #[inline(never)]
     pub(crate) fn call_word(&mut self, word: u16) -> Option<u16>
         ensures some { IfSome result (λ next. Executed (with_fields (op.Register Jsr) word) next self.old self.new) }
-        ensures keeps { Keeps self.old self.new }
+        ensures keeps { NearKeeps self.old self.new }
         ensures none { result ≡ None → self.new ≡ self.old }
     {
         self.quick_call(Register::of_bits(word / 0o100), Operand::of_bits(word))
     }
 
     // A word 0002xx: RTS.
-    #[tactic(auto, using(crate::proofs::QuickDone::bind_comes), unfolding(crate::specs::Execution::execute, m11_base::specs::Dispatch::last))]
+    #[tactic(auto, using(crate::proofs::QuickDone::bind_comes), unfolding(crate::specs::Execution::execute, m11_base::specs::OperationTables::last))]
     #[inline(never)]
     pub(crate) fn return_word(&mut self, word: u16) -> Option<u16>
         ensures some { IfSome result (λ next. Executed (meaning (slice_index_or last (word / 0o10 % 0o10) None) word)
             next self.old self.new) }
-        ensures keeps { Keeps self.old self.new }
+        ensures keeps { NearKeeps self.old self.new }
         ensures none { result ≡ None → self.new ≡ self.old }
     {
         match word / 0o10 % 0o10 {

@@ -3,29 +3,29 @@
 
 ghost use Rattle.std.specs.Prelude.{◌≡◌, ◌<◌, ◌/◌, IfSome, None, true};
 ghost use Rattle.m11_arithmetic.specs.Sizes.{size_limit};
-ghost use Rattle.m11_base.specs.Dispatch.{operation_by_tables, with_next_digits};
+ghost use Rattle.m11_base.specs.OperationTables.{operation_by_tables, with_next_digits};
 ghost use Rattle.m11_base.specs.Instructions.{meaning, with_fields};
 ghost use Rattle.m11_base.specs.declared.instruction.Op.TheVariants as op;
 ghost use Rattle.m11_base.specs.declared.operand.Register.TheVariants.{Pc};
 ghost use Rattle.m11_cpu.specs.DoubleOperands.{double, double_at};
 ghost use Rattle.m11_cpu.specs.Machine.{register_of};
-ghost use Rattle.m11_cpu.specs.Near.{Ends, Keeps, is_near};
+ghost use Rattle.m11_cpu.specs.Near.{NearEnds, NearKeeps, is_near};
 ghost use Rattle.m11_cpu.specs.Quick.{Executed};
 
+use crate::addressing::OperandLocation;
 use crate::destination_use::{DestinationUse, use_by_double};
 use crate::machine::Machine;
-use crate::operands::Place;
 use m11_base::{DoubleOp, Operand, Register, Size};
 
 impl Machine {
     // An operation on a source that was fetched, and a place.
     #[tactic(auto, unfolding(crate::specs::DoubleOperands::double_at))]
     #[inline(always)]
-    fn double_near(&mut self, operation: DoubleOp, size: Size, source: u16, place: Place)
+    fn double_near(&mut self, operation: DoubleOp, size: Size, source: u16, place: OperandLocation)
         requires near { is_near size place self.old ≡ true }
         requires fits { source < size_limit size }
-        ensures done { Ends (double_at operation size source place) self.old self.new }
-        ensures keeps { Keeps self.old self.new }
+        ensures done { NearEnds (double_at operation size source place) self.old self.new }
+        ensures keeps { NearKeeps self.old self.new }
     {
         match use_by_double(operation) {
             DestinationUse::Writes => self.move_near(place, size, source),
@@ -34,7 +34,7 @@ impl Machine {
         }
     }
 
-    // An operation on operands of any modes: the program counter behind it.
+    // An operation on operands of any modes: the program counter after it.
     #[tactic(auto, using(crate::proofs::QuickDone::bind_comes, crate::proofs::QuickDone::restored), unfolding(crate::specs::DoubleOperands::double))]
     #[inline(always)]
     fn double_anywhere(
@@ -44,9 +44,9 @@ impl Machine {
         source: Operand,
         destination: Operand,
     ) -> Option<u16>
-        ensures some { IfSome result (λ _. Ends (double operation size source destination) self.old self.new) }
+        ensures some { IfSome result (λ _. NearEnds (double operation size source destination) self.old self.new) }
         ensures counter { IfSome result (λ counter. counter ≡ register_of Pc self.new) }
-        ensures keeps { Keeps self.old self.new }
+        ensures keeps { NearKeeps self.old self.new }
         ensures none { result ≡ None → self.new ≡ self.old }
     {
         let before = self.registers;
@@ -69,7 +69,7 @@ impl Machine {
     fn double_word(&mut self, operation: DoubleOp, size: Size, word: u16) -> Option<u16>
         ensures some { IfSome result (λ next. Executed (with_fields (op.Double operation size) word)
             next self.old self.new) }
-        ensures keeps { Keeps self.old self.new }
+        ensures keeps { NearKeeps self.old self.new }
         ensures none { result ≡ None → self.new ≡ self.old }
     {
         self.double_anywhere(
@@ -81,12 +81,12 @@ impl Machine {
     }
 
     // A word 00xxxx of a jump, or of an operation on one word.
-    #[tactic(auto, unfolding(m11_base::specs::Dispatch::low))]
+    #[tactic(auto, unfolding(m11_base::specs::OperationTables::low))]
     #[inline(always)]
     fn low_rarer(&mut self, word: u16) -> Option<u16>
         ensures some { IfSome result (λ next. Executed (meaning (with_next_digits (word / 0o100) word) word)
             next self.old self.new) }
-        ensures keeps { Keeps self.old self.new }
+        ensures keeps { NearKeeps self.old self.new }
         ensures none { result ≡ None → self.new ≡ self.old }
     {
         match word / 0o100 {
@@ -104,14 +104,14 @@ impl Machine {
         }
     }
 
-    /// A word of such a form: the program counter behind it. What tells the forms apart is inlined, since the loop has
+    /// A word of such a form: the program counter after it. What distinguishes the forms is inlined, since the loop has
     /// looked at these digits before.
-    #[tactic(auto, unfolding(m11_base::specs::Dispatch::doubles))]
+    #[tactic(auto, unfolding(m11_base::specs::OperationTables::doubles))]
     #[inline(always)]
     pub(crate) fn rarer_word(&mut self, word: u16) -> Option<u16>
         ensures some { IfSome result (λ next. Executed (meaning (operation_by_tables word) word)
             next self.old self.new) }
-        ensures keeps { Keeps self.old self.new }
+        ensures keeps { NearKeeps self.old self.new }
         ensures none { result ≡ None → self.new ≡ self.old }
     {
         match word / 0o10000 {

@@ -2,33 +2,33 @@
 //! instructions.)
 
 ghost use Rattle.std.specs.Prelude.{◌≡◌, ◌/◌, ◌%◌, IfSome, Some, None, true, slice_index_or};
-ghost use Rattle.m11_base.specs.Dispatch.{high, with_next_digits};
+ghost use Rattle.m11_base.specs.OperationTables.{high, with_next_digits};
 ghost use Rattle.m11_base.specs.Instructions.{meaning, with_fields};
-ghost use Rattle.m11_base.specs.Operands.{mode_of, operand_of};
+ghost use Rattle.m11_base.specs.Operand.{mode_of, operand_of};
 ghost use Rattle.m11_base.specs.declared.instruction.Op.TheVariants as op;
 ghost use Rattle.m11_base.specs.declared.operand.Mode.TheVariants as mode;
 ghost use Rattle.m11_base.specs.declared.operand.Register.TheVariants.{Pc};
 ghost use Rattle.m11_base.specs.declared.operand.Size.TheVariants.{Word};
 ghost use Rattle.m11_cpu.specs.DestinationUse.{use_by_single};
 ghost use Rattle.m11_cpu.specs.Machine.{register_of};
-ghost use Rattle.m11_cpu.specs.Near.{Ends, Keeps, is_near};
+ghost use Rattle.m11_cpu.specs.Near.{NearEnds, NearKeeps, is_near};
 ghost use Rattle.m11_cpu.specs.Quick.{Executed};
 ghost use Rattle.m11_cpu.specs.SingleOperands.{change_at, change_single, test_operand, write};
 ghost use Rattle.m11_cpu.specs.declared.destination_use.DestinationUse.TheVariants.{Writes, Reads, Changes};
 
+use crate::addressing::OperandLocation;
 use crate::machine::Machine;
-use crate::operands::Place;
 use crate::quick::is_register;
 use m11_base::{Mode, Operand, Register, SingleOp, Size};
 
 impl Machine {
-    // CLR, CLRB and SXT: the program counter behind it.
+    // CLR, CLRB and SXT: the program counter after it.
     #[tactic(auto, using(crate::proofs::QuickDone::bind_comes, crate::proofs::QuickDone::put_result_comes), unfolding(crate::specs::SingleOperands::write))]
     #[inline(always)]
     fn quick_write(&mut self, operation: SingleOp, size: Size, operand: Operand) -> Option<u16>
-        ensures some { IfSome result (λ _. Ends (write operation size operand) self.old self.new) }
+        ensures some { IfSome result (λ _. NearEnds (write operation size operand) self.old self.new) }
         ensures counter { IfSome result (λ counter. counter ≡ register_of Pc self.new) }
-        ensures keeps { Keeps self.old self.new }
+        ensures keeps { NearKeeps self.old self.new }
         ensures none { result ≡ None → self.new ≡ self.old }
     {
         let place = self.near_place(operand, size)?;
@@ -37,13 +37,13 @@ impl Machine {
         Some(self.register(Register::Pc))
     }
 
-    // TST and TSTB: the program counter behind it.
+    // TST and TSTB: the program counter after it.
     #[tactic(auto, using(crate::proofs::QuickDone::bind_comes, crate::proofs::QuickDone::comes_at), unfolding(crate::specs::SingleOperands::test_operand))]
     #[inline(always)]
     fn quick_test(&mut self, operation: SingleOp, size: Size, operand: Operand) -> Option<u16>
-        ensures some { IfSome result (λ _. Ends (test_operand operation size operand) self.old self.new) }
+        ensures some { IfSome result (λ _. NearEnds (test_operand operation size operand) self.old self.new) }
         ensures counter { IfSome result (λ counter. counter ≡ register_of Pc self.new) }
-        ensures keeps { Keeps self.old self.new }
+        ensures keeps { NearKeeps self.old self.new }
         ensures none { result ≡ None → self.new ≡ self.old }
     {
         let value = self.near_operand(operand, size)?;
@@ -55,23 +55,23 @@ impl Machine {
     // What is in a place is read, and the result put there.
     #[tactic(auto, using(crate::proofs::QuickDone::bind_comes, crate::proofs::QuickDone::put_result_comes), unfolding(crate::specs::SingleOperands::change_at))]
     #[inline(always)]
-    fn change_single_near(&mut self, operation: SingleOp, size: Size, place: Place)
+    fn change_single_near(&mut self, operation: SingleOp, size: Size, place: OperandLocation)
         requires near { is_near size place self.old ≡ true }
-        ensures done { Ends (change_at operation size place) self.old self.new }
-        ensures keeps { Keeps self.old self.new }
+        ensures done { NearEnds (change_at operation size place) self.old self.new }
+        ensures keeps { NearKeeps self.old self.new }
     {
         let value = self.near_value(place, size);
         let computed = m11_arithmetic::single(operation, size, value, self.codes());
         self.put_computed(place, size, computed);
     }
 
-    // An operation that changes its operand: the program counter behind it.
+    // An operation that changes its operand: the program counter after it.
     #[tactic(auto, using(crate::proofs::QuickDone::bind_comes), unfolding(crate::specs::SingleOperands::change_single))]
     #[inline(always)]
     fn quick_change(&mut self, operation: SingleOp, size: Size, operand: Operand) -> Option<u16>
-        ensures some { IfSome result (λ _. Ends (change_single operation size operand) self.old self.new) }
+        ensures some { IfSome result (λ _. NearEnds (change_single operation size operand) self.old self.new) }
         ensures counter { IfSome result (λ counter. counter ≡ register_of Pc self.new) }
-        ensures keeps { Keeps self.old self.new }
+        ensures keeps { NearKeeps self.old self.new }
         ensures none { result ≡ None → self.new ≡ self.old }
     {
         let place = self.near_place(operand, size)?;
@@ -93,7 +93,7 @@ impl Machine {
         requires operand { operand ≡ operand_of (word % 0o100) }
         ensures some { IfSome result (λ next. Executed (with_fields (op.Single operation size) word)
             next self.old self.new) }
-        ensures keeps { Keeps self.old self.new }
+        ensures keeps { NearKeeps self.old self.new }
         ensures none { result ≡ None → self.new ≡ self.old }
     {
         self.quick_write(operation, size, operand)
@@ -113,7 +113,7 @@ impl Machine {
         requires operand { operand ≡ operand_of (word % 0o100) }
         ensures some { IfSome result (λ next. Executed (with_fields (op.Single operation size) word)
             next self.old self.new) }
-        ensures keeps { Keeps self.old self.new }
+        ensures keeps { NearKeeps self.old self.new }
         ensures none { result ≡ None → self.new ≡ self.old }
     {
         self.quick_test(operation, size, operand)
@@ -133,7 +133,7 @@ impl Machine {
         requires operand { operand ≡ operand_of (word % 0o100) }
         ensures some { IfSome result (λ next. Executed (with_fields (op.Single operation size) word)
             next self.old self.new) }
-        ensures keeps { Keeps self.old self.new }
+        ensures keeps { NearKeeps self.old self.new }
         ensures none { result ≡ None → self.new ≡ self.old }
     {
         self.quick_change(operation, size, operand)
@@ -145,7 +145,7 @@ impl Machine {
         requires { use_by_single operation ≡ Some Writes }
         ensures some { IfSome result (λ next. Executed (with_fields (op.Single operation Word) word)
             next self.old self.new) }
-        ensures keeps { Keeps self.old self.new }
+        ensures keeps { NearKeeps self.old self.new }
         ensures none { result ≡ None → self.new ≡ self.old }
     {
         if is_register(word) {
@@ -161,7 +161,7 @@ impl Machine {
         requires { use_by_single operation ≡ Some Reads }
         ensures some { IfSome result (λ next. Executed (with_fields (op.Single operation Word) word)
             next self.old self.new) }
-        ensures keeps { Keeps self.old self.new }
+        ensures keeps { NearKeeps self.old self.new }
         ensures none { result ≡ None → self.new ≡ self.old }
     {
         if is_register(word) {
@@ -177,7 +177,7 @@ impl Machine {
         requires { use_by_single operation ≡ Some Changes }
         ensures some { IfSome result (λ next. Executed (with_fields (op.Single operation Word) word)
             next self.old self.new) }
-        ensures keeps { Keeps self.old self.new }
+        ensures keeps { NearKeeps self.old self.new }
         ensures none { result ≡ None → self.new ≡ self.old }
     {
         if is_register(word) {
@@ -188,12 +188,12 @@ impl Machine {
     }
 
     // A word 00xxxx of an operation on one word.
-    #[tactic(auto, unfolding(m11_base::specs::Dispatch::low))]
+    #[tactic(auto, unfolding(m11_base::specs::OperationTables::low))]
     #[inline(never)]
     pub(crate) fn low_single(&mut self, word: u16) -> Option<u16>
         ensures some { IfSome result (λ next. Executed (meaning (with_next_digits (word / 0o100) word) word)
             next self.old self.new) }
-        ensures keeps { Keeps self.old self.new }
+        ensures keeps { NearKeeps self.old self.new }
         ensures none { result ≡ None → self.new ≡ self.old }
     {
         let operand = Operand::of_bits(word);
@@ -215,12 +215,12 @@ impl Machine {
     }
 
     // A word 10xxxx of an operation on one byte.
-    #[tactic(auto, unfolding(m11_base::specs::Dispatch::high))]
+    #[tactic(auto, unfolding(m11_base::specs::OperationTables::high))]
     #[inline(never)]
     pub(crate) fn high_single(&mut self, word: u16) -> Option<u16>
         ensures some { IfSome result (λ next. Executed (meaning (slice_index_or high (word / 0o100 % 0o100) None) word)
             next self.old self.new) }
-        ensures keeps { Keeps self.old self.new }
+        ensures keeps { NearKeeps self.old self.new }
         ensures none { result ≡ None → self.new ≡ self.old }
     {
         let operand = Operand::of_bits(word);

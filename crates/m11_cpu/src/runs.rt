@@ -8,7 +8,7 @@ use crate::machine::Machine;
 use crate::stop::{Stop, Turn};
 use m11_base::{Feed, Sink};
 
-/// What a run came to.
+/// The outcome of a run.
 #[derive(Clone, Copy)]
 pub struct Ran {
     pub(crate) stop: Stop,

@@ -1,4 +1,4 @@
-//! A whole run: a tape is loaded and started, and its stop is told.
+//! A whole run: a tape is loaded and started, and its stop is reported.
 
 ghost use Rattle.std.specs.Prelude.{◌≡◌, ◌≤◌};
 ghost use Rattle.m11_cpu.specs.Dialogue.{Does, both, input_of, output_of};

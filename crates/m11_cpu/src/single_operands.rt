@@ -4,9 +4,9 @@ ghost use Rattle.m11_cpu.specs.Dialogue.{Does, both, input_alone, output_alone};
 ghost use Rattle.m11_cpu.specs.SingleOperands.{change_at, change_single, single, test_operand, write};
 
 use crate::abort::Abort;
+use crate::addressing::OperandLocation;
 use crate::destination_use::{DestinationUse, use_by_single};
 use crate::machine::Machine;
-use crate::operands::Place;
 use m11_base::{Feed, Operand, SingleOp, Sink, Size};
 
 impl Machine {
@@ -93,7 +93,7 @@ impl Machine {
         &mut self,
         operation: SingleOp,
         size: Size,
-        place: Place,
+        place: OperandLocation,
         feed: &mut F,
         sink: &mut S,
     ) -> Result<(), Abort>

@@ -32,7 +32,7 @@ impl ProcessorStatus {
         }
     }
 
-    /// The status behind a write of a word at its address, which leaves T as it was.
+    /// The status after a write of a word at its address, which leaves T as it was.
     pub(crate) fn written(self, bits: u16) -> ProcessorStatus
         ensures { result ≡ status_written bits self }
     {

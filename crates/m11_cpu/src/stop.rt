@@ -1,4 +1,4 @@
-//! Why a run ends, and what a step comes to.
+//! Why a run ends, and what a step yields.
 
 ghost use Rattle.std.specs.Prelude.{◌≡◌};
 
@@ -21,7 +21,7 @@ pub enum Stop {
     OutputFault,
 }
 
-/// A stop that stands: each further step answers it, and changes nothing.
+/// A stop that stands: each further step returns it, and changes nothing.
 #[derive(Clone, Copy, Debug, PartialEq, Eq)]
 pub enum LastingStop {
     /// A trap could not push onto the stack.
@@ -32,7 +32,7 @@ pub enum LastingStop {
     OutputFault,
 }
 
-/// What a step comes to.
+/// The outcome of a step.
 #[derive(Clone, Copy, Debug, PartialEq, Eq)]
 pub enum Turn {
     /// The next instruction can be begun.
@@ -42,7 +42,7 @@ pub enum Turn {
 }
 
 impl LastingStop {
-    ghost use Rattle.m11_cpu.specs.Stops.{stop_of};
+    ghost use Rattle.m11_cpu.specs.Stop.{stop_of};
 
     /// The stop that it is.
     pub fn stop(self) -> Stop
@@ -56,14 +56,14 @@ impl LastingStop {
     }
 }
 
-/// What a run of a program came to.
+/// The outcome of a run of a program.
 #[derive(Clone, Copy, Debug, PartialEq, Eq)]
 pub struct SimDone {
     pub stop: Stop,
 }
 
 impl Stop {
-    ghost use Rattle.m11_cpu.specs.Stops.{stop_name, stop_number};
+    ghost use Rattle.m11_cpu.specs.Stop.{stop_name, stop_number};
 
     /// The stop's number, from 1 to 7.
     pub fn number(self) -> u8

@@ -27,7 +27,7 @@ use Rattle.m11_cpu.specs.Execution.{execute, numbered, on_register, then_next, b
 use Rattle.m11_cpu.specs.Extended.{extended}
 use Rattle.m11_cpu.specs.Jumps.{call, enter, push, return_by, target, jump, mark, pop}
 use Rattle.m11_cpu.specs.Machine.{register_of, with_register}
-use Rattle.m11_cpu.specs.Places.{fetch, fetch_operand, next_word, place_of, put_result, store, back}
+use Rattle.m11_cpu.specs.Addressing.{fetch, fetch_operand, next_word, place_of, put_result, store, back}
 use Rattle.m11_cpu.specs.SingleOperands.{single_by, change_at, change_single, single, write, test_operand}
 use Rattle.m11_cpu.specs.Steps.{instruction}
 use Rattle.m11_cpu_laws.specs.Writes.{AbortLeaves, IsElseAsBefore}
@@ -38,8 +38,8 @@ use Rattle.m11_cpu.specs.declared.console.Receiver.{Receiver}
 use Rattle.m11_cpu.specs.declared.destination_use.DestinationUse.{DestinationUse}
 use Rattle.m11_cpu.specs.declared.destination_use.DestinationUse.TheVariants as use_of
 use Rattle.m11_cpu.specs.declared.machine.Machine.{Machine}
-use Rattle.m11_cpu.specs.declared.operands.Place.{Place}
-use Rattle.m11_cpu.specs.declared.operands.Place.TheVariants.{InRegister, InMemory}
+use Rattle.m11_cpu.specs.declared.addressing.OperandLocation.{OperandLocation}
+use Rattle.m11_cpu.specs.declared.addressing.OperandLocation.TheVariants.{InRegister, InMemory}
 use Rattle.m11_cpu_laws.proofs.Loads.{code_keeps, fetch_keeps, jump_target_keeps, operand_keeps, pop_keeps, source_keeps}
 use Rattle.m11_cpu_laws.proofs.Parts.{Always, at_bind, at_comes, at_cond, at_map, at_sends, Keeps}
 
@@ -47,7 +47,7 @@ abbrev LeftBy : {A : Type 0} → (Machine → Type 0) → Result A Abort → Mac
 LeftBy I (Ok done) n = ⊤
 LeftBy I (Err abort) n = I n
 
--- it holds behind an abort
+-- it holds after an abort
 abbrev Leaves : {A : Type 0} → (Machine → Type 0) → Result A Abort × Machine → Type 0
 Leaves I y = LeftBy I y.0 y.1
 
@@ -61,7 +61,7 @@ kept_first : {A B : Type 0} (I : Machine → Type 0) (act : Act A) (next : A →
     → Always ((act >>= next) m) (λ y. Leaves I y)
 kept_first I act next m k ok = at_bind act next m (λ y. I y.1) (λ y. Leaves I y) k (λ e n i. i) ok
 
--- and one behind which nothing aborts
+-- and one after which nothing aborts
 left_last : {A B : Type 0} (I : Machine → Type 0) (act : Act A) (next : A → Act B) (m : Machine)
     → Always (act m) (λ y. Leaves I y) → ((x : A) (n : Machine) → Always (next x n) (λ y. Leaves I y))
     → Always ((act >>= next) m) (λ y. Leaves I y)
@@ -97,7 +97,7 @@ module _ (I : Machine → Type 0) where
       (at_cond (is_odd address) (at_comes (left_by I (store_odd address) m i))
       (device_leaves (device_at address) v m i))
 
-  place_leaves : (place : Place) (size : Size) (v : ℕ) (m : Machine) → I m
+  place_leaves : (place : OperandLocation) (size : Size) (v : ℕ) (m : Machine) → I m
       → Always (store place size v m) (λ y. Leaves I y)
   unfolding store
   place_leaves (InRegister register) Word v m i = at_comes tt
@@ -105,20 +105,20 @@ module _ (I : Machine → Type 0) where
   place_leaves (InMemory address) Word v m i = word_leaves address v m i
   place_leaves (InMemory address) Byte v m i = byte_leaves address (v % 256) m i
 
-  moved_leaves : (place : Place) (size : Size) (v : ℕ) (m : Machine) → I m
+  moved_leaves : (place : OperandLocation) (size : Size) (v : ℕ) (m : Machine) → I m
       → Always (store_moved place size v m) (λ y. Leaves I y)
   unfolding store_moved
   moved_leaves (InRegister register) Word v m i = place_leaves (InRegister register) Word v m i
   moved_leaves (InRegister register) Byte v m i = at_comes tt
   moved_leaves (InMemory address) size v m i = place_leaves (InMemory address) size v m i
 
-  move_leaves : (place : Place) (size : Size) (source : ℕ) (m : Machine) → I m
+  move_leaves : (place : OperandLocation) (size : Size) (source : ℕ) (m : Machine) → I m
       → Always (move_to place size source m) (λ y. Leaves I y)
   unfolding move_to
   move_leaves place size source m i =
       left_last I (store_moved place size source) _ m (moved_leaves place size source m i) (λ u n. at_comes tt)
 
-  result_leaves : (place : Place) (size : Size) (computed : Computed) (m : Machine) → I m
+  result_leaves : (place : OperandLocation) (size : Size) (computed : Computed) (m : Machine) → I m
       → Always (put_result place size computed m) (λ y. Leaves I y)
   unfolding put_result
   result_leaves place size computed m i =
@@ -129,20 +129,20 @@ module _ (I : Machine → Type 0) where
 
 module _ (I : Machine → Type 0) (receives : (n : Machine) (r : Receiver) → I n → I (record n { receiver = r }))
     (puts : (register : Register) (n : Machine) (v : ℕ) → I n → I (with_register register v n)) where
-  compare_leaves : (operation : DoubleOp) (place : Place) (size : Size) (source : ℕ) (m : Machine) → I m
+  compare_leaves : (operation : DoubleOp) (place : OperandLocation) (size : Size) (source : ℕ) (m : Machine) → I m
       → Always (compare operation place size source m) (λ y. Leaves I y)
   unfolding compare
   compare_leaves operation place size source m i =
       kept_first I (fetch place size) _ m (fetch_keeps I receives puts place size m i) (λ value n j. at_comes tt)
 
-  double_leaves : (operation : DoubleOp) (place : Place) (size : Size) (source : ℕ) (m : Machine) → I m
+  double_leaves : (operation : DoubleOp) (place : OperandLocation) (size : Size) (source : ℕ) (m : Machine) → I m
       → Always (change_double operation place size source m) (λ y. Leaves I y)
   unfolding change_double
   double_leaves operation place size source m i =
       kept_first I (fetch place size) _ m (fetch_keeps I receives puts place size m i)
       (λ value n j. result_leaves I place size _ n j)
 
-  use_leaves : (how : DestinationUse) (operation : DoubleOp) (size : Size) (source : ℕ) (place : Place)
+  use_leaves : (how : DestinationUse) (operation : DoubleOp) (size : Size) (source : ℕ) (place : OperandLocation)
       (m : Machine) → I m
       → Always (double_by how operation size source place m) (λ y. Leaves I y)
   use_leaves use_of.Writes operation size source place m i = move_leaves I place size source m i

@@ -18,7 +18,7 @@ use Rattle.m11_cpu.specs.Dialogue.{Comes, Dialogue, Reply, Gives, Ends, Fails}
 use Rattle.m11_cpu.specs.Execution.{execute, on_register, then_next}
 use Rattle.m11_cpu.specs.Jumps.{address_of, call, enter, jump, push, target}
 use Rattle.m11_cpu.specs.Machine.{register_of, with_register}
-use Rattle.m11_cpu.specs.Places.{place_by, place_of}
+use Rattle.m11_cpu.specs.Addressing.{place_by, place_of}
 use Rattle.m11_cpu.specs.SingleOperands.{single}
 use Rattle.m11_cpu.specs.Status.{psw_of}
 use Rattle.m11_cpu.specs.Traps.{push_state, trap, trap_pushed}
@@ -38,7 +38,7 @@ use Rattle.m11_cpu_laws.specs.Writes.{push_address, stack_deepened}
 use Rattle.m11_cpu_laws.proofs.Parts.{Always, at_after, at_asks, at_bind, at_comes, at_cond, at_map, at_sends}
 use Rattle.m11_cpu_laws.proofs.StepsWrite.{push_pushes}
 
--- ---- what a part comes to, where nothing is found or something is
+-- ---- what a part yields, where nothing is found or something is
 
 abbrev IsDevice : LastingStop → Type 0
 IsDevice StackFault = ⊥
@@ -56,17 +56,17 @@ TrapsIf bad (Err abort) = AbortIf bad abort
 abbrev Finds : {A : Type 0} → Bool → Dialogue (Result A Abort × Machine) → Type 0
 Finds {A = A} bad d = Always {A = Result A Abort × Machine} d (λ y. TrapsIf bad y.0)
 
-abort_tells : (bad : Bool) (abort : Abort) → AbortIf bad abort → is_through_4 abort ≡ bad
-abort_tells bad (Traps vector) h =
+abort_reports : (bad : Bool) (abort : Abort) → AbortIf bad abort → is_through_4 abort ≡ bad
+abort_reports bad (Traps vector) h =
     let P : Vector → Type 0 = λ v. is_through_4 (Traps v) ≡ bad in subst P (sym h.0) (sym h.1)
-abort_tells bad (Stops stop) h = sym h.0
+abort_reports bad (Stops stop) h = sym h.0
 
-result_tells : {A : Type 0} (bad : Bool) (x : Result A Abort) → TrapsIf bad x → traps_through_4 x ≡ bad
-result_tells bad (Ok x) h = sym h
-result_tells bad (Err abort) h = abort_tells bad abort h
+result_reports : {A : Type 0} (bad : Bool) (x : Result A Abort) → TrapsIf bad x → traps_through_4 x ≡ bad
+result_reports bad (Ok x) h = sym h
+result_reports bad (Err abort) h = abort_reports bad abort h
 
 traps_where : {A : Type 0} (bad : Bool) (d : Dialogue (Result A Abort × Machine)) → Finds bad d → TrapsWhere bad d
-traps_where bad d a es came m' h = result_tells bad came (a.each es (came, m') h)
+traps_where bad d a es came m' h = result_reports bad came (a.each es (came, m') h)
 
 -- ---- registers
 

@@ -7,7 +7,7 @@ use Rattle.m11_base.specs.declared.operand.Register.TheVariants.{R0, R1, R2, R3,
 use Rattle.m11_cpu.specs.Acts.{◌>>=◌}
 use Rattle.m11_cpu.specs.Jumps.{target}
 use Rattle.m11_cpu.specs.Machine.{advanced, register_of}
-use Rattle.m11_cpu.specs.Places.{place_of}
+use Rattle.m11_cpu.specs.Addressing.{place_of}
 use Rattle.m11_cpu.specs.Status.{status_of}
 use Rattle.m11_cpu.specs.declared.machine.Machine.{Machine}
 use Rattle.m11_cpu_laws.specs.Returns.{CallIsMade}

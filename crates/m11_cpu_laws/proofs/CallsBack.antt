@@ -1,6 +1,6 @@
--- A call comes back behind itself.
+-- A call comes back after itself.
 use Rattle.std.proofs.Common.{◌≡◌, ◌≢◌, ℕ, ◌+◌, ◌%◌, ◌<◌, false, List, length, None, Ok, refl, sym, ◌∙◌, ap, subst, arith}
-use Rattle.m11_base.specs.Operands.{register_number}
+use Rattle.m11_base.specs.Operand.{register_number}
 use Rattle.m11_base.specs.declared.instruction.Insn.TheVariants as insn
 use Rattle.m11_base.specs.declared.instruction.RegisterOp.TheVariants.{Jsr}
 use Rattle.m11_base.specs.declared.operand.Operand.{Operand}
@@ -95,7 +95,7 @@ call_leads register operand m formed called es address runs is_at h e untraced =
     (bind_leads (target operand) (enter register) (advanced Pc 2 m) formed es address (Ok tt, called) h e) refl)
     (turned_next called untraced))
 
--- what is behind the push
+-- what is after the push
 called_back : (register : Register) (operand : Operand) (m formed : Machine) (es : List Exchange) (address : ℕ)
     → IsCall register operand m → Formed register m formed
     → CounterAt ((register_of Pc m + call_length operand) % 0o200000) formed

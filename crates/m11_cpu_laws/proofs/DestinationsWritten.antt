@@ -21,14 +21,14 @@ use Rattle.m11_cpu.specs.Execution.{execute, numbered, on_register, then_next}
 use Rattle.m11_cpu.specs.Extended.{extended}
 use Rattle.m11_cpu.specs.Jumps.{call, enter, push, return_by, target}
 use Rattle.m11_cpu.specs.Machine.{register_of}
-use Rattle.m11_cpu.specs.Places.{fetch_operand, next_word, place_of}
+use Rattle.m11_cpu.specs.Addressing.{fetch_operand, next_word, place_of}
 use Rattle.m11_cpu.specs.SingleOperands.{change_at, change_single, single, write}
 use Rattle.m11_cpu.specs.Steps.{instruction}
 use Rattle.m11_cpu_laws.specs.Writes.{destination_bytes, one_pushed, operand_bytes, place_bytes, push_address, stack_deepened, written_by, written_bytes}
 use Rattle.m11_cpu.specs.declared.abort.Abort.{Abort}
 use Rattle.m11_cpu.specs.declared.execution.Ending.TheVariants as ending
 use Rattle.m11_cpu.specs.declared.machine.Machine.{Machine}
-use Rattle.m11_cpu.specs.declared.operands.Place.{Place}
+use Rattle.m11_cpu.specs.declared.addressing.OperandLocation.{OperandLocation}
 use Rattle.m11_cpu_laws.proofs.Following.{Follows, follows_bind, follows_now, follows_then}
 use Rattle.m11_cpu_laws.proofs.MemoryKept.{bare_quiet, branched_same, compare_quiet, counted_same, extended_quiet, jump_quiet, Kept, kept_same, mark_quiet, place_quiet, return_quiet, Same, source_quiet, target_quiet, test_quiet, code_quiet}
 use Rattle.m11_cpu_laws.proofs.Parts.{Always, at_bind, at_comes, at_map, Keeps, keeps_bind}
@@ -41,20 +41,20 @@ quiet_follows : {A : Type 0} {d : Dialogue (Result A Abort × Machine)} (memory 
     → Follows d (Comes (Ok [], m)) (Writes memory)
 quiet_follows memory m k = follows_now (at_map k (λ y e. kept_same _ memory y.1.memory e))
 
--- behind the forming of an address
-operand_follows : (operand : Operand) (size : Size) (next : Place → Act (Unit {0})) (memory : List ℕ) (m : Machine)
+-- after the forming of an address
+operand_follows : (operand : Operand) (size : Size) (next : OperandLocation → Act (Unit {0})) (memory : List ℕ) (m : Machine)
     → Same memory m
-    → ((place : Place) (n : Machine) → Same memory n → Always (next place n)
+    → ((place : OperandLocation) (n : Machine) → Same memory n → Always (next place n)
     (λ y. Stores (place_bytes place size) memory y))
     → Follows ((place_of operand size >>= next) m) (operand_bytes operand size m) (Writes memory)
 operand_follows operand size next memory m e k =
     follows_bind (place_of operand size) next _ m (Same memory) (Writes memory) (place_quiet memory operand size m e)
     (λ abort n f. kept_same _ memory n.memory f) (λ place n f. follows_now (k place n f))
 
--- behind a source too
+-- after a source too
 double_follows_at : (operation : DoubleOp) (size : Size) (source destination : Operand) (memory : List ℕ) (m : Machine)
     → Same memory m
-    → ((value : ℕ) (place : Place) (n : Machine) → Same memory n
+    → ((value : ℕ) (place : OperandLocation) (n : Machine) → Same memory n
     → Always (double_at operation size value place n) (λ y. Stores (place_bytes place size) memory y))
     → Follows (double operation size source destination m)
     ((fetch_operand source size >>= λ value. operand_bytes destination size) m) (Writes memory)
@@ -66,7 +66,7 @@ double_follows_at operation size source destination memory m e k =
 
 double_quiet : (operation : DoubleOp) (size : Size) (source destination : Operand) (memory : List ℕ) (m : Machine)
     → Same memory m
-    → ((value : ℕ) (place : Place) (n : Machine) → Same memory n → Keeps (Same memory)
+    → ((value : ℕ) (place : OperandLocation) (n : Machine) → Same memory n → Keeps (Same memory)
     (double_at operation size value place n))
     → Follows (double operation size source destination m) (Comes (Ok [], m)) (Writes memory)
 unfolding double

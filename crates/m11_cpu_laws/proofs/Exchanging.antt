@@ -2,7 +2,7 @@
 use Rattle.std.proofs.Common.{◌≡◌, Bool, true, false, cond, List, [], ◌∷◌, ◌++◌, append-nil, refl, sym, subst, Option, Some, None, Result, Ok, Err, ℕ}
 use Rattle.m11_cpu.specs.Acts.{Act, unless_aborted, ◌>>=◌}
 use Rattle.m11_cpu.specs.Dialogue.{after, Asked, Comes, Dialogue, Ends, Exchange, Fails, Gives, Leads, Sent}
-use Rattle.m11_cpu.specs.Stops.{stop_of}
+use Rattle.m11_cpu.specs.Stop.{stop_of}
 use Rattle.m11_cpu.specs.declared.abort.Abort.{Abort}
 use Rattle.m11_cpu.specs.declared.abort.Abort.TheVariants.{Traps, Stops}
 use Rattle.m11_cpu.specs.declared.console.Receiver.{Receiver}
@@ -60,8 +60,8 @@ pub record Talked (r : Receiver) (stands : Option LastingStop) (es : List Exchan
   pub heard : Hears r es n.receiver
   pub kept : n.stopped ≡ stands
 
-abbrev pub Tells : {A : Type 0} → Receiver → Option LastingStop → Dialogue (Result A Abort × Machine) → Type 0
-Tells {A = A} r stands d =
+abbrev pub Reports : {A : Type 0} → Receiver → Option LastingStop → Dialogue (Result A Abort × Machine) → Type 0
+Reports {A = A} r stands d =
     Every {A = Result A Abort × Machine} d (λ es y. Talked r stands es (abort_stop y.0) y.1)
 
 -- ---- nothing, one exchange, and one list of them after the other
@@ -70,7 +70,7 @@ pub hears_nothing : (r : Receiver) → Hears r [] r
 hears_nothing r = record { asked = refl; byte = refl; done = λ e d. d }
 
 pub quiet : {A : Type 0} {x : Result A Abort} {n : Machine} {r : Receiver} {stands : Option LastingStop}
-    → abort_stop x ≡ None → n.receiver ≡ r → n.stopped ≡ stands → Tells r stands (Comes (x, n))
+    → abort_stop x ≡ None → n.receiver ≡ r → n.stopped ≡ stands → Reports r stands (Comes (x, n))
 quiet {A = A} {x = x} {n = n} {r = r} {stands = stands} fine same kept =
     let P : Receiver → Type 0 = λ s. Hears s [] n.receiver in
     every_comes (x, n) _ (record { failed = fine; heard = subst P same (hears_nothing n.receiver); kept = kept })
@@ -123,7 +123,7 @@ talked_joined r stands es fs failure m n h k = record {
 }
 
 bound : {A B : Type 0} (next : A → Act B) (r : Receiver) (stands : Option LastingStop)
-    → ((x : A) (n : Machine) → Tells n.receiver n.stopped (next x n))
+    → ((x : A) (n : Machine) → Reports n.receiver n.stopped (next x n))
     → (fs : List Exchange) (x : Result A Abort) (n : Machine) → Talked r stands fs (abort_stop x) n
     → Every (unless_aborted next x n) (λ es y. Talked r stands (fs ++ es) (abort_stop y.0) y.1)
 bound next r stands ok fs (Ok x) n t =
@@ -132,15 +132,15 @@ bound next r stands ok fs (Err abort) n t =
     let P : List Exchange → Type 0 = λ xs. Talked r stands xs (stop_by abort) n in
     every_comes (Err abort, n) _ (subst P (sym (append-nil fs)) t)
 
-pub tells_bind : {A B : Type 0} (act : Act A) (next : A → Act B) (m : Machine)
-    → Tells m.receiver m.stopped (act m) → ((x : A) (n : Machine) → Tells n.receiver n.stopped (next x n))
-    → Tells m.receiver m.stopped ((act >>= next) m)
+pub reports_bind : {A B : Type 0} (act : Act A) (next : A → Act B) (m : Machine)
+    → Reports m.receiver m.stopped (act m) → ((x : A) (n : Machine) → Reports n.receiver n.stopped (next x n))
+    → Reports m.receiver m.stopped ((act >>= next) m)
 unfolding ◌>>=◌
-tells_bind act next m a ok =
+reports_bind act next m a ok =
     every_after (act m) (λ came. unless_aborted next came.0 came.1) _ _ a
     (λ fs came t. bound next m.receiver m.stopped ok fs came.0 came.1 t)
 
-pub tells_cond : {A : Type 0} (test : Bool) {a b : Dialogue (Result A Abort × Machine)} {r : Receiver}
-    {stands : Option LastingStop} → Tells r stands a → Tells r stands b → Tells r stands (cond test a b)
-tells_cond true p q = p
-tells_cond false p q = q
+pub reports_cond : {A : Type 0} (test : Bool) {a b : Dialogue (Result A Abort × Machine)} {r : Receiver}
+    {stands : Option LastingStop} → Reports r stands a → Reports r stands b → Reports r stands (cond test a b)
+reports_cond true p q = p
+reports_cond false p q = q

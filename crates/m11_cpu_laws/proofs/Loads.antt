@@ -14,14 +14,14 @@ use Rattle.m11_cpu.specs.Console.{device_at, is_waiting}
 use Rattle.m11_cpu.specs.Dialogue.{Reply, Gives, Ends, Fails}
 use Rattle.m11_cpu.specs.Jumps.{address_of, pop, target}
 use Rattle.m11_cpu.specs.Machine.{register_of, with_register}
-use Rattle.m11_cpu.specs.Places.{deferred, fetch, fetch_operand, forward, indexed, next_word, place_by, place_of}
+use Rattle.m11_cpu.specs.Addressing.{deferred, fetch, fetch_operand, forward, indexed, next_word, place_by, place_of}
 use Rattle.m11_cpu_laws.specs.Returns.{is_stepping}
 use Rattle.m11_cpu.specs.declared.console.DeviceRegister.{DeviceRegister}
 use Rattle.m11_cpu.specs.declared.console.DeviceRegister.TheVariants.{ReceiverStatus, ReceiverBuffer, TransmitterStatus, TransmitterBuffer, ProcessorStatus}
 use Rattle.m11_cpu.specs.declared.console.Receiver.{Receiver}
 use Rattle.m11_cpu.specs.declared.machine.Machine.{Machine}
-use Rattle.m11_cpu.specs.declared.operands.Place.{Place}
-use Rattle.m11_cpu.specs.declared.operands.Place.TheVariants.{InRegister, InMemory}
+use Rattle.m11_cpu.specs.declared.addressing.OperandLocation.{OperandLocation}
+use Rattle.m11_cpu.specs.declared.addressing.OperandLocation.TheVariants.{InRegister, InMemory}
 use Rattle.m11_cpu_laws.proofs.Parts.{at_asks, at_comes, at_cond, Keeps, keeps_bind}
 
 -- what the receiver may change without
@@ -101,7 +101,7 @@ module _ (I : Machine → Type 0) (receives : (n : Machine) (r : Receiver) → I
   unfolding place_of
   place_keeps operand size m steps i = place_by_keeps operand.mode operand.register size m steps i
 
-address_keeps : (I : Machine → Type 0) (place : Place) (m : Machine) → I m → Keeps I (address_of place m)
+address_keeps : (I : Machine → Type 0) (place : OperandLocation) (m : Machine) → I m → Keeps I (address_of place m)
 address_keeps I (InRegister register) m i = at_comes i
 address_keeps I (InMemory address) m i = at_comes i
 
@@ -124,7 +124,7 @@ module _ (I : Machine → Type 0) (receives : (n : Machine) (r : Receiver) → I
   unfolding target
   jump_target_keeps operand m i = target_keeps I operand Word m (operand_keeps operand Word m i)
 
-  pub fetch_keeps : (place : Place) (size : Size) (m : Machine) → I m → Keeps I (fetch place size m)
+  pub fetch_keeps : (place : OperandLocation) (size : Size) (m : Machine) → I m → Keeps I (fetch place size m)
   unfolding fetch
   fetch_keeps (InRegister register) Word m i = at_comes i
   fetch_keeps (InRegister register) Byte m i = at_comes i

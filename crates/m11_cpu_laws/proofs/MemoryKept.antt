@@ -24,11 +24,11 @@ use Rattle.m11_cpu.specs.Extended.{after_division, extended, extended_by, low_wo
 use Rattle.m11_cpu.specs.Jumps.{branched, counted_down, jump, mark, pop, return_by, target, words_on}
 use Rattle.m11_cpu.specs.Machine.{register_of, with_register}
 use Rattle.m11_cpu.specs.Memory.{byte_at, with_byte, with_word}
-use Rattle.m11_cpu.specs.Places.{back, fetch, fetch_operand, next_word, place_of}
+use Rattle.m11_cpu.specs.Addressing.{back, fetch, fetch_operand, next_word, place_of}
 use Rattle.m11_cpu.specs.SingleOperands.{test_operand}
 use Rattle.m11_cpu_laws.specs.Writes.{IsNoneOf, word_bytes}
 use Rattle.m11_cpu.specs.declared.machine.Machine.{Machine}
-use Rattle.m11_cpu.specs.declared.operands.Place.{Place}
+use Rattle.m11_cpu.specs.declared.addressing.OperandLocation.{OperandLocation}
 use Rattle.m11_cpu_laws.proofs.Loads.{code_keeps, fetch_keeps, jump_target_keeps, operand_keeps, pop_keeps, source_keeps}
 use Rattle.m11_cpu_laws.proofs.Parts.{at_comes, Keeps, keeps_bind}
 
@@ -96,7 +96,7 @@ module _ (memory : List ℕ) where
   pub target_quiet : (operand : Operand) (m : Machine) → Same memory m → Keeps (Same memory) (target operand m)
   target_quiet operand m e = jump_target_keeps (Same memory) (λ n r i. i) (λ r n v i. i) operand m e
 
-  pub fetch_quiet : (place : Place) (size : Size) (m : Machine) → Same memory m
+  pub fetch_quiet : (place : OperandLocation) (size : Size) (m : Machine) → Same memory m
       → Keeps (Same memory) (fetch place size m)
   fetch_quiet place size m e = fetch_keeps (Same memory) (λ n r i. i) (λ r n v i. i) place size m e
 
@@ -107,7 +107,7 @@ module _ (memory : List ℕ) where
   pop_quiet : (m : Machine) → Same memory m → Keeps (Same memory) (pop m)
   pop_quiet m e = pop_keeps (Same memory) (λ n r i. i) (λ r n v i. i) m e
 
-  pub compare_quiet : (operation : DoubleOp) (place : Place) (size : Size) (source : ℕ) (m : Machine) → Same memory m
+  pub compare_quiet : (operation : DoubleOp) (place : OperandLocation) (size : Size) (source : ℕ) (m : Machine) → Same memory m
       → Keeps (Same memory) (compare operation place size source m)
   unfolding compare
   compare_quiet operation place size source m e =

@@ -7,7 +7,7 @@ use Rattle.m11_cpu.specs.declared.abort.Abort.{Abort}
 use Rattle.m11_cpu.specs.declared.machine.Machine.{Machine}
 use Rattle.m11_cpu_laws.proofs.StopsStand.{at_once}
 
--- ---- a dialogue and the one behind it
+-- ---- a dialogue and the one after it
 
 pub record Parts {A B : Type 0} (d : Dialogue A) (next : A → Dialogue B) (es : List Exchange) (y : B) : Type 0 where
   pub value : A
@@ -43,7 +43,7 @@ parts (Sends byte by) next (Sent sent was_taken ∷ es) y h =
     with_first (Sends byte by) (by was_taken) next (Sent sent was_taken) es y (λ xs x l. (h.0, l))
     (parts (by was_taken) next es y h.1)
 
--- ---- what holds of each value that a dialogue comes to
+-- ---- what holds of each value that a dialogue yields
 
 pub record Always {A : Type 0} (d : Dialogue A) (P : A → Type 0) : Type 0 where
   pub each : (es : List Exchange) (y : A) → Leads d es y → P y

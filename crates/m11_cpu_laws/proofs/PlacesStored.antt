@@ -14,19 +14,19 @@ use Rattle.m11_cpu.specs.Console.{device_at}
 use Rattle.m11_cpu.specs.Dialogue.{Comes}
 use Rattle.m11_cpu.specs.DoubleOperands.{change_double, change_exclusive, move_to, store_moved}
 use Rattle.m11_cpu.specs.Machine.{finished, is_status, with_condition_codes}
-use Rattle.m11_cpu.specs.Places.{fetch, put_result, store}
+use Rattle.m11_cpu.specs.Addressing.{fetch, put_result, store}
 use Rattle.m11_cpu.specs.SingleOperands.{change_at}
 use Rattle.m11_cpu_laws.specs.Writes.{place_bytes, word_bytes, written_by}
 use Rattle.m11_cpu.specs.declared.abort.Abort.{Abort}
 use Rattle.m11_cpu.specs.declared.console.DeviceRegister.{DeviceRegister}
 use Rattle.m11_cpu.specs.declared.console.DeviceRegister.TheVariants.{ReceiverStatus, ReceiverBuffer, TransmitterStatus, TransmitterBuffer, ProcessorStatus}
 use Rattle.m11_cpu.specs.declared.machine.Machine.{Machine}
-use Rattle.m11_cpu.specs.declared.operands.Place.{Place}
-use Rattle.m11_cpu.specs.declared.operands.Place.TheVariants.{InRegister, InMemory}
+use Rattle.m11_cpu.specs.declared.addressing.OperandLocation.{OperandLocation}
+use Rattle.m11_cpu.specs.declared.addressing.OperandLocation.TheVariants.{InRegister, InMemory}
 use Rattle.m11_cpu_laws.proofs.MemoryKept.{fetch_quiet, Kept, kept_byte, kept_same, kept_word, Same}
 use Rattle.m11_cpu_laws.proofs.Parts.{Always, at_bind, at_comes, at_cond, at_sends}
 
--- ---- what is written behind a known destination
+-- ---- what is written after a known destination
 
 -- these bytes at most, and none where the act is aborted
 abbrev pub Stores : {A : Type 0} → List ℕ → List ℕ → Result A Abort × Machine → Type 0
@@ -72,7 +72,7 @@ byte_stores address v memory m e =
     (at_cond (is_odd address) (at_comes (stores_none (address ∷ []) memory (store_odd address, m) e))
     (device_stores (address ∷ []) memory (device_at address) v m e))
 
-place_stores : (place : Place) (size : Size) (v : ℕ) (memory : List ℕ) (m : Machine) → Same memory m
+place_stores : (place : OperandLocation) (size : Size) (v : ℕ) (memory : List ℕ) (m : Machine) → Same memory m
     → Always (store place size v m) (λ y. Stores (place_bytes place size) memory y)
 unfolding store
 place_stores (InRegister register) Word v memory m e = at_comes (kept_same _ memory m.memory e)
@@ -80,23 +80,23 @@ place_stores (InRegister register) Byte v memory m e = at_comes (kept_same _ mem
 place_stores (InMemory address) Word v memory m e = word_stores address v memory m e
 place_stores (InMemory address) Byte v memory m e = byte_stores address (v % 256) memory m e
 
-moved_stores : (place : Place) (size : Size) (v : ℕ) (memory : List ℕ) (m : Machine) → Same memory m
+moved_stores : (place : OperandLocation) (size : Size) (v : ℕ) (memory : List ℕ) (m : Machine) → Same memory m
     → Always (store_moved place size v m) (λ y. Stores (place_bytes place size) memory y)
 unfolding store_moved
 moved_stores (InRegister register) Word v memory m e = place_stores (InRegister register) Word v memory m e
 moved_stores (InRegister register) Byte v memory m e = at_comes (kept_same _ memory m.memory e)
 moved_stores (InMemory address) size v memory m e = place_stores (InMemory address) size v memory m e
 
--- condition codes behind it
+-- condition codes after it
 finished_memory : (test : Bool) (codes : ConditionCodes) (m : Machine)
     → (cond test m (with_condition_codes codes m)).memory ≡ m.memory
 finished_memory true codes m = refl
 finished_memory false codes m = refl
 
-abbrev closing : Place → ConditionCodes → Unit {0} → Act (Unit {0})
+abbrev closing : OperandLocation → ConditionCodes → Unit {0} → Act (Unit {0})
 closing place codes done n = Comes (Ok tt, finished place codes n)
 
-finishes : (act : Act (Unit {0})) (place : Place) (codes : ConditionCodes) (m : Machine) (bytes memory : List ℕ)
+finishes : (act : Act (Unit {0})) (place : OperandLocation) (codes : ConditionCodes) (m : Machine) (bytes memory : List ℕ)
     → Always (act m) (λ y. Stores bytes memory y)
     → Always ((act >>= closing place codes) m) (λ y. Stores bytes memory y)
 finishes act place codes m bytes memory a =
@@ -105,7 +105,7 @@ finishes act place codes m bytes memory a =
     let P : List ℕ → Type 0 = λ content. Kept bytes memory content in
     at_comes (subst P (sym (finished_memory (is_status place) codes n)) k))
 
-pub result_stores : (place : Place) (size : Size) (computed : Computed) (memory : List ℕ) (m : Machine)
+pub result_stores : (place : OperandLocation) (size : Size) (computed : Computed) (memory : List ℕ) (m : Machine)
     → Same memory m
     → Always (put_result place size computed m) (λ y. Stores (place_bytes place size) memory y)
 unfolding put_result
@@ -113,7 +113,7 @@ result_stores place size computed memory m e =
     finishes (store place size computed.value) place computed.codes m (place_bytes place size) memory
     (place_stores place size computed.value memory m e)
 
-pub move_stores : (place : Place) (size : Size) (source : ℕ) (memory : List ℕ) (m : Machine) → Same memory m
+pub move_stores : (place : OperandLocation) (size : Size) (source : ℕ) (memory : List ℕ) (m : Machine) → Same memory m
     → Always (move_to place size source m) (λ y. Stores (place_bytes place size) memory y)
 unfolding move_to
 move_stores place size source memory m e =
@@ -121,7 +121,7 @@ move_stores place size source memory m e =
     (place_bytes place size) memory (moved_stores place size source memory m e)
 
 -- an operation that reads its destination first
-changes : (place : Place) (size : Size) (next : ℕ → Act (Unit {0})) (memory : List ℕ) (m : Machine) → Same memory m
+changes : (place : OperandLocation) (size : Size) (next : ℕ → Act (Unit {0})) (memory : List ℕ) (m : Machine) → Same memory m
     → ((value : ℕ) (n : Machine) → Same memory n → Always (next value n)
     (λ y. Stores (place_bytes place size) memory y))
     → Always ((fetch place size >>= next) m) (λ y. Stores (place_bytes place size) memory y)
@@ -129,20 +129,20 @@ changes place size next memory m e k =
     at_bind (fetch place size) next m (λ y. Same memory y.1) (λ y. Stores (place_bytes place size) memory y)
     (fetch_quiet memory place size m e) (λ abort n f. kept_same _ memory n.memory f) k
 
-pub double_stores : (operation : DoubleOp) (place : Place) (size : Size) (source : ℕ) (memory : List ℕ)
+pub double_stores : (operation : DoubleOp) (place : OperandLocation) (size : Size) (source : ℕ) (memory : List ℕ)
     (m : Machine) → Same memory m
     → Always (change_double operation place size source m) (λ y. Stores (place_bytes place size) memory y)
 unfolding change_double
 double_stores operation place size source memory m e =
     changes place size _ memory m e (λ value n f. result_stores place size _ memory n f)
 
-pub exclusive_stores : (source : ℕ) (place : Place) (memory : List ℕ) (m : Machine) → Same memory m
+pub exclusive_stores : (source : ℕ) (place : OperandLocation) (memory : List ℕ) (m : Machine) → Same memory m
     → Always (change_exclusive source place m) (λ y. Stores (place_bytes place Word) memory y)
 unfolding change_exclusive
 exclusive_stores source place memory m e =
     changes place Word _ memory m e (λ value n f. result_stores place Word _ memory n f)
 
-pub single_stores : (operation : SingleOp) (size : Size) (place : Place) (memory : List ℕ) (m : Machine)
+pub single_stores : (operation : SingleOp) (size : Size) (place : OperandLocation) (memory : List ℕ) (m : Machine)
     → Same memory m
     → Always (change_at operation size place m) (λ y. Stores (place_bytes place size) memory y)
 unfolding change_at

@@ -1,7 +1,7 @@
 -- Which registers an instruction leaves.
 use Rattle.std.proofs.Common.{◌≡◌, ◌≢◌, ℕ, ◌+◌, ◌*◌, ◌%◌, ◌==◌, Bool, true, false, cond, List, [], ◌∷◌, ◌++◌, Result, Ok, Err, refl, ◌∙◌, ap}
 use Rattle.std.specs.Prelude.{ℤ, ◌||◌, slice_index, ⊤}
-use Rattle.m11_base.specs.Operands.{register_number}
+use Rattle.m11_base.specs.Operand.{register_number}
 use Rattle.m11_base.specs.declared.instruction.BareOp.{BareOp}
 use Rattle.m11_base.specs.declared.instruction.BareOp.TheVariants.{Halt, Wait, Rti, Bpt, Iot, Reset, Rtt}
 use Rattle.m11_base.specs.declared.instruction.BranchOp.{BranchOp}
@@ -36,12 +36,12 @@ use Rattle.m11_cpu.specs.Execution.{bare, execute, numbered, on_register, return
 use Rattle.m11_cpu.specs.Extended.{after_division, extended, extended_by, low_word_of}
 use Rattle.m11_cpu.specs.Jumps.{branched, call, counted_down, enter, jump, mark, pop, push, return_by, target, words_on}
 use Rattle.m11_cpu.specs.Machine.{finished, is_status, register_of, with_condition_codes, with_register}
-use Rattle.m11_cpu.specs.Places.{back, deferred, fetch, fetch_operand, forward, indexed, next_word, place_by, place_of, put_result, store}
+use Rattle.m11_cpu.specs.Addressing.{back, deferred, fetch, fetch_operand, forward, indexed, next_word, place_by, place_of, put_result, store}
 use Rattle.m11_cpu.specs.SingleOperands.{change_at, change_single, single, test_operand, write}
 use Rattle.m11_cpu.specs.declared.abort.Abort.{Abort}
 use Rattle.m11_cpu.specs.declared.machine.Machine.{Machine}
-use Rattle.m11_cpu.specs.declared.operands.Place.{Place}
-use Rattle.m11_cpu.specs.declared.operands.Place.TheVariants.{InRegister, InMemory}
+use Rattle.m11_cpu.specs.declared.addressing.OperandLocation.{OperandLocation}
+use Rattle.m11_cpu.specs.declared.addressing.OperandLocation.TheVariants.{InRegister, InMemory}
 use Rattle.m11_cpu_laws.specs.Registers.{by_destination, changed_by, is_direct, stepped, stepped_or_stored}
 use Rattle.m11_cpu_laws.specs.Returns.{is_stepping}
 use Rattle.m11_cpu_laws.specs.Writes.{IsNoneOf, stores_double, stores_single}
@@ -91,7 +91,7 @@ module _ (r : Register) (held : ℕ) (counts : register_number r ≢ register_nu
   word_held : (address : ℕ) (m : Machine) → Holds m → Keeps Holds (load_word address m)
   word_held address m i = word_keeps Holds (λ n o j. j) address m i
 
-  fetch_held : (place : Place) (size : Size) (m : Machine) → Holds m → Keeps Holds (fetch place size m)
+  fetch_held : (place : OperandLocation) (size : Size) (m : Machine) → Holds m → Keeps Holds (fetch place size m)
   unfolding fetch
   fetch_held (InRegister register) Word m i = at_comes i
   fetch_held (InRegister register) Byte m i = at_comes i
@@ -119,11 +119,11 @@ module _ (r : Register) (held : ℕ) (counts : register_number r ≢ register_nu
 
   -- ---- destinations
 
-  abbrev Apart : Place → Type 0
+  abbrev Apart : OperandLocation → Type 0
   Apart (InRegister q) = register_number r ≢ register_number q
   Apart (InMemory address) = ⊤
 
-  abbrev FormedApart : Result Place Abort → Type 0
+  abbrev FormedApart : Result OperandLocation Abort → Type 0
   FormedApart (Ok place) = Apart place
   FormedApart (Err abort) = ⊤
 
@@ -149,7 +149,7 @@ module _ (r : Register) (held : ℕ) (counts : register_number r ≢ register_nu
       at_bind (indexed q) deferred m (λ y. ⊤) (λ y. FormedApart y.0) (whatever (indexed q m)) (λ e n t. tt)
       (λ x n t. deferred_apart x n)
 
-  abbrev Formed : Result Place Abort × Machine → Type 0
+  abbrev Formed : Result OperandLocation Abort × Machine → Type 0
   Formed y = FormedApart y.0 × Holds y.1
 
   formed : (operand : Operand) (size : Size) (m : Machine)
@@ -169,9 +169,9 @@ module _ (r : Register) (held : ℕ) (counts : register_number r ≢ register_nu
       }
 
   -- after the forming of a destination
-  then_held : (operand : Operand) (size : Size) (next : Place → Act (Unit {0})) (m : Machine)
+  then_held : (operand : Operand) (size : Size) (next : OperandLocation → Act (Unit {0})) (m : Machine)
       → IsNoneOf (register_number r) (stepped_or_stored operand) → Holds m
-      → ((place : Place) (n : Machine) → Apart place → Holds n → Keeps Holds (next place n))
+      → ((place : OperandLocation) (n : Machine) → Apart place → Holds n → Keeps Holds (next place n))
       → Keeps Holds ((place_of operand size >>= next) m)
   then_held operand size next m h i ok =
       at_bind (place_of operand size) next m (λ y. Formed y) (λ y. Holds y.1) (formed operand size m h i)
@@ -186,7 +186,7 @@ module _ (r : Register) (held : ℕ) (counts : register_number r ≢ register_nu
   store_word_held : (address v : ℕ) (m : Machine) → Holds m → Keeps Holds (store_word address v m)
   store_word_held address v m i = at_map (registers_kept address v m) (λ y e. same m y.1 e i)
 
-  store_held : (place : Place) (size : Size) (v : ℕ) (m : Machine) → Apart place → Holds m
+  store_held : (place : OperandLocation) (size : Size) (v : ℕ) (m : Machine) → Apart place → Holds m
       → Keeps Holds (store place size v m)
   unfolding store
   store_held (InRegister q) Word v m apart i = at_comes (put q _ m apart i)
@@ -199,25 +199,25 @@ module _ (r : Register) (held : ℕ) (counts : register_number r ≢ register_nu
   either_held true a b i j = i
   either_held false a b i j = j
 
-  finished_held : (place : Place) (codes : ConditionCodes) (m : Machine) → Holds m
+  finished_held : (place : OperandLocation) (codes : ConditionCodes) (m : Machine) → Holds m
       → Holds (finished place codes m)
   finished_held place codes m i = either_held (is_status place) m (with_condition_codes codes m) i i
 
-  moved_held : (place : Place) (size : Size) (v : ℕ) (m : Machine) → Apart place → Holds m
+  moved_held : (place : OperandLocation) (size : Size) (v : ℕ) (m : Machine) → Apart place → Holds m
       → Keeps Holds (store_moved place size v m)
   unfolding store_moved
   moved_held (InRegister q) Word v m apart i = store_held (InRegister q) Word v m apart i
   moved_held (InRegister q) Byte v m apart i = at_comes (put q _ m apart i)
   moved_held (InMemory address) size v m apart i = store_held (InMemory address) size v m apart i
 
-  move_held : (place : Place) (size : Size) (source : ℕ) (m : Machine) → Apart place → Holds m
+  move_held : (place : OperandLocation) (size : Size) (source : ℕ) (m : Machine) → Apart place → Holds m
       → Keeps Holds (move_to place size source m)
   unfolding move_to
   move_held place size source m apart i =
       keeps_bind Holds (store_moved place size source) _ m (moved_held place size source m apart i)
       (λ u n j. at_comes (finished_held place _ n j))
 
-  result_held : (place : Place) (size : Size) (computed : Computed) (m : Machine) → Apart place → Holds m
+  result_held : (place : OperandLocation) (size : Size) (computed : Computed) (m : Machine) → Apart place → Holds m
       → Keeps Holds (put_result place size computed m)
   unfolding put_result
   result_held place size computed m apart i =
@@ -226,13 +226,13 @@ module _ (r : Register) (held : ℕ) (counts : register_number r ≢ register_nu
 
   -- ---- instructions of two operands
 
-  compare_held : (operation : DoubleOp) (place : Place) (size : Size) (source : ℕ) (m : Machine) → Holds m
+  compare_held : (operation : DoubleOp) (place : OperandLocation) (size : Size) (source : ℕ) (m : Machine) → Holds m
       → Keeps Holds (compare operation place size source m)
   unfolding compare
   compare_held operation place size source m i =
       keeps_bind Holds (fetch place size) _ m (fetch_held place size m i) (λ value n j. at_comes j)
 
-  change_held : (operation : DoubleOp) (place : Place) (size : Size) (source : ℕ) (m : Machine) → Apart place
+  change_held : (operation : DoubleOp) (place : OperandLocation) (size : Size) (source : ℕ) (m : Machine) → Apart place
       → Holds m → Keeps Holds (change_double operation place size source m)
   unfolding change_double
   change_held operation place size source m apart i =

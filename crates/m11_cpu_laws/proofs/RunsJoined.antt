@@ -7,13 +7,13 @@ use Rattle.m11_cpu.specs.declared.stop.Stop.TheVariants.{Limit}
 use Rattle.m11_cpu.specs.declared.stop.Turn.{Turn}
 use Rattle.m11_cpu.specs.declared.stop.Turn.TheVariants.{Next, Stopped}
 use Rattle.m11_cpu.specs.Dialogue.{after, Asked, Asks, Comes, Dialogue, Exchange, Leads, Sends, Sent}
-use Rattle.m11_cpu_laws.specs.Laws.{AreJoined, Stands}
-use Rattle.m11_cpu.specs.Runs.{behind, one_more, run_counted}
+use Rattle.m11_cpu_laws.specs.Laws.{AreJoined, StopStands}
+use Rattle.m11_cpu.specs.Runs.{following, one_more, run_counted}
 use Rattle.m11_cpu.specs.Steps.{step}
 use Rattle.m11_cpu.proofs.Dialogues.{leads_after}
 use Rattle.m11_cpu_laws.proofs.StopsStand.{at_once, step_stands}
 
--- a dialogue and the one behind it, by the exchanges of each
+-- a dialogue and the one after it, by the exchanges of each
 record Parts {A B : Type 0} (d : Dialogue A) (next : A → Dialogue B) (es : List Exchange) (y : B) : Type 0 where
   value : A
   first : List Exchange
@@ -65,21 +65,21 @@ step_first : (left : ℕ) (m m1 m2 : Machine) (es fs : List Exchange) (r : Ran) 
     → Leads (run_counted left m1) fs (r, m2) → Leads (run_counted (suc left) m) (es ++ fs) (one_more r, m2)
 unfolding run_counted
 step_first left m m1 m2 es fs r h k =
-    let told =
+    let reported =
     leads_after (run_counted left m1) fs [] (r, m2) (λ x. Comes (one_more x.0, x.1)) (one_more r, m2) k
     (leads_none _ _ refl) in
     let P : List Exchange → Type 0 =
     λ xs. Leads {A = Ran × Machine} (after (run_counted left m1) (λ x. Comes (one_more x.0, x.1))) xs
     (one_more r, m2) in
-    leads_after (step m) es fs (Next, m1) (λ came. behind (run_counted left) came.0 came.1) (one_more r, m2) h
-    (subst P (append-nil fs) told)
+    leads_after (step m) es fs (Next, m1) (λ came. following (run_counted left) came.0 came.1) (one_more r, m2) h
+    (subst P (append-nil fs) reported)
 
--- what is behind a first step that goes on
+-- what is after a first step that goes on
 joined_next : (left second : ℕ) (m m1 m' m'' : Machine) (es1 es2 fs : List Exchange) (steps : ℕ) (r : Ran)
     → ((es fs : List Exchange) (steps : ℕ) (r : Ran) → Leads (run_counted left m1) es (ran Limit steps, m')
     → Leads (run_counted second m') fs (r, m'')
     → Leads (run_counted (left + second) m1) (es ++ fs) (ran r.stop (left + r.steps), m''))
-    → Leads (step m) es1 (Next, m1) → Leads (behind (run_counted left) Next m1) es2 (ran Limit steps, m')
+    → Leads (step m) es1 (Next, m1) → Leads (following (run_counted left) Next m1) es2 (ran Limit steps, m')
     → Leads (run_counted second m') fs (r, m'')
     → Leads (run_counted (suc (left + second)) m) (es1 ++ (es2 ++ fs)) (ran r.stop (left + r.steps + 1), m'')
 joined_next left second m m1 m' m'' es1 es2 fs steps r rest h k l =
@@ -103,7 +103,7 @@ joined_cases : (left second : ℕ) (turn : Turn) (m m1 m' m'' : Machine) (es1 es
     → ((es fs : List Exchange) (steps : ℕ) (r : Ran) → Leads (run_counted left m1) es (ran Limit steps, m')
     → Leads (run_counted second m') fs (r, m'')
     → Leads (run_counted (left + second) m1) (es ++ fs) (ran r.stop (left + r.steps), m''))
-    → Leads (step m) es1 (turn, m1) → Leads (behind (run_counted left) turn m1) es2 (ran Limit steps, m')
+    → Leads (step m) es1 (turn, m1) → Leads (following (run_counted left) turn m1) es2 (ran Limit steps, m')
     → Leads (run_counted second m') fs (r, m'')
     → Leads (run_counted (suc (left + second)) m) (es1 ++ (es2 ++ fs)) (ran r.stop (left + r.steps + 1), m'')
 joined_cases left second Next m m1 m' m'' es1 es2 fs steps r rest h k l =
@@ -111,7 +111,7 @@ joined_cases left second Next m m1 m' m'' es1 es2 fs steps r rest h k l =
 joined_cases left second (Stopped stop) m m1 m' m'' es1 es2 fs steps r rest h k l =
     let e = at_once _ _ es2 k in
     let limit : stop ≡ Limit = sym (ap (λ (x : Ran × Machine). x.0.stop) e) in
-    let P : Stop → Type 0 = λ s. Stands (Stopped s) m1 in
+    let P : Stop → Type 0 = λ s. StopStands (Stopped s) m1 in
     absurd (subst P limit (step_stands m es1 (Stopped stop, m1) h))
 
 pub runs_joined : (first second : ℕ) (m m' m'' : Machine) → AreJoined first second m m' m''
@@ -127,7 +127,7 @@ runs_joined zero second m m' m'' es fs steps r h k =
     subst P (sym (none_left _ _ es h))
     (subst R e (subst S f (subst Q (ap (λ (x : Ran × Machine). x.1) (at_once _ _ es h)) k)))
 runs_joined (suc left) second m m' m'' es fs steps r h k =
-    let p = parts (step m) (λ came. behind (run_counted left) came.0 came.1) es (ran Limit steps, m') h in
+    let p = parts (step m) (λ came. following (run_counted left) came.0 came.1) es (ran Limit steps, m') h in
     let whole = joined_cases left second p.value.0 m p.value.1 m' m'' p.first p.second fs steps r
     (runs_joined left second p.value.1 m' m'') p.leads p.goes_on k in
     let P : List Exchange → Type 0 =

@@ -1,8 +1,8 @@
--- By which traps a step comes to STACK FAULT.
+-- By which traps a step yields STACK FAULT.
 use Rattle.std.proofs.Common.{◌≡◌, Bool, true, false, cond, List, Option, Some, None, Result, Ok, Err, refl, sym, subst, ap, ◌∙◌}
 use Rattle.m11_cpu.specs.Dialogue.{Comes, Exchange, Leads}
 use Rattle.m11_cpu.specs.Steps.{ended, instruction, step, step_unless, turned}
-use Rattle.m11_cpu.specs.Stops.{stop_of}
+use Rattle.m11_cpu.specs.Stop.{stop_of}
 use Rattle.m11_cpu.specs.Traps.{stopped_by, trap}
 use Rattle.m11_cpu.specs.declared.abort.Abort.{Abort}
 use Rattle.m11_cpu.specs.declared.abort.Abort.TheVariants.{Traps, Stops}
@@ -21,7 +21,7 @@ use Rattle.m11_cpu_laws.specs.Failures.{StopsAtFailure}
 use Rattle.m11_cpu_laws.proofs.AddressesTrap.{trap_faults}
 use Rattle.m11_cpu_laws.proofs.Exchanging.{abort_stop}
 use Rattle.m11_cpu_laws.proofs.Parts.{parts}
-use Rattle.m11_cpu_laws.proofs.PartsTell.{instruction_tells}
+use Rattle.m11_cpu_laws.proofs.PartsTell.{instruction_reports}
 use Rattle.m11_cpu_laws.proofs.StepsTell.{no_stack_fault}
 use Rattle.m11_cpu_laws.proofs.StopsStand.{at_once}
 
@@ -77,7 +77,7 @@ going_faulted m m' es h =
       left = p.value.1;
       executed = p.within;
       by_trap = faulted p.value.0 p.value.1 m' p.within.first p.within.rest
-          ((instruction_tells m).each p.within.first p.value p.within.leads).failed p.goes_on;
+          ((instruction_reports m).each p.within.first p.value p.within.leads).failed p.goes_on;
     }
 
 pub step_faulted : (m m' : Machine) (es : List Exchange) → m.stopped ≡ None

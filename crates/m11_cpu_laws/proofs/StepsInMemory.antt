@@ -1,4 +1,4 @@
--- Acts and steps that come to their value with no exchange, since what they read and write lies in memory.
+-- Acts and steps that yield their value with no exchange, since what they read and write lies in memory.
 use Rattle.std.proofs.Common.{◌≡◌, ℕ, ◌%◌, ◌<◌, ◌==◌, Bool, true, false, cond, List, [], length, Option, None, Result, Ok, refl, sym, ◌∙◌, ap, subst, append-nil, arith, lt-ltb}
 use Rattle.m11_base.specs.Instructions.{instruction_of}
 use Rattle.m11_base.specs.declared.instruction.Insn.{Insn}
@@ -10,7 +10,7 @@ use Rattle.m11_cpu.specs.Execution.{execute}
 use Rattle.m11_cpu.specs.Jumps.{pop, push}
 use Rattle.m11_cpu.specs.Machine.{advanced, register_of}
 use Rattle.m11_cpu.specs.Memory.{with_word, word_at}
-use Rattle.m11_cpu.specs.Places.{next_word}
+use Rattle.m11_cpu.specs.Addressing.{next_word}
 use Rattle.m11_cpu.specs.Steps.{instruction, step, step_unless, turned}
 use Rattle.m11_cpu.specs.declared.abort.Abort.{Abort}
 use Rattle.m11_cpu.specs.declared.execution.Ending.{Ending}
@@ -26,7 +26,7 @@ use Rattle.m11_cpu_laws.specs.Writes.{push_address, stack_deepened}
 cond_so : {A : Type 0} (test : Bool) (a b : A) → test ≡ true → cond test a b ≡ a
 cond_so {A = A} test a b e = ap (λ (t : Bool). cond t a b) e
 
--- one act after the other, behind exchanges
+-- one act after the other, after exchanges
 pub leads_then : {A B : Type 0} (d : Dialogue A) (next : A → Dialogue B) (es : List Exchange) (x : A) (y : B)
     → Leads d es x → next x ≡ Comes y → Leads (after d next) es y
 unfolding Leads

@@ -1,7 +1,7 @@
 -- Which registers a trap and a step leave.
 use Rattle.std.proofs.Common.{◌≡◌, ◌≢◌, ℕ, Bool, true, false, cond, List, [], ◌∷◌, ◌++◌, Option, Some, None, Result, Ok, Err, refl}
 use Rattle.m11_base.specs.Instructions.{instruction_of}
-use Rattle.m11_base.specs.Operands.{register_number}
+use Rattle.m11_base.specs.Operand.{register_number}
 use Rattle.m11_base.specs.declared.instruction.Insn.{Insn}
 use Rattle.m11_base.specs.declared.operand.Register.{Register}
 use Rattle.m11_base.specs.declared.operand.Register.TheVariants.{Pc, Sp}
@@ -10,7 +10,7 @@ use Rattle.m11_cpu.specs.Dialogue.{after, Asked, Asks, Comes, Dialogue, Exchange
 use Rattle.m11_cpu.specs.Execution.{execute}
 use Rattle.m11_cpu.specs.Jumps.{push}
 use Rattle.m11_cpu.specs.Machine.{register_of}
-use Rattle.m11_cpu.specs.Places.{next_word}
+use Rattle.m11_cpu.specs.Addressing.{next_word}
 use Rattle.m11_cpu.specs.Status.{psw_of}
 use Rattle.m11_cpu.specs.Steps.{ended, instruction, step, step_unless, turned}
 use Rattle.m11_cpu.specs.Traps.{push_state, trap, trap_pushed}

@@ -1,4 +1,4 @@
--- What a step asks and sends, and which stop it comes to.
+-- What a step asks and sends, and which stop it yields.
 use Rattle.std.proofs.Common.{◌≡◌, Bool, true, false, cond, List, [], ◌∷◌, ◌++◌, append-nil, Option, Some, None, Result, Ok, Err, refl, sym, ◌∙◌, subst}
 use Rattle.m11_base.specs.declared.operand.Register.TheVariants.{Pc}
 use Rattle.m11_cpu.specs.Dialogue.{Asked, Comes, Ends, Exchange, Fails, Gives, Leads, Sent}
@@ -6,7 +6,7 @@ use Rattle.m11_cpu.specs.Jumps.{push}
 use Rattle.m11_cpu.specs.Machine.{register_of}
 use Rattle.m11_cpu.specs.Status.{psw_of}
 use Rattle.m11_cpu.specs.Steps.{ended, instruction, step, step_unless, turned}
-use Rattle.m11_cpu.specs.Stops.{stop_of}
+use Rattle.m11_cpu.specs.Stop.{stop_of}
 use Rattle.m11_cpu.specs.Traps.{push_state, stopped_by, trap, trap_pushed, vectored}
 use Rattle.m11_cpu.specs.declared.abort.Abort.{Abort}
 use Rattle.m11_cpu.specs.declared.abort.Abort.TheVariants.{Traps, Stops}
@@ -23,16 +23,16 @@ use Rattle.m11_cpu.specs.declared.stop.Turn.{Turn}
 use Rattle.m11_cpu.specs.declared.stop.Turn.TheVariants.{Next, Stopped}
 use Rattle.m11_cpu_laws.specs.Failures.{device_stop, GoesOn, StopsAtFailure}
 use Rattle.m11_cpu_laws.specs.Receiving.{Hears}
-use Rattle.m11_cpu_laws.proofs.Exchanging.{abort_stop, every_after, every_comes, every_map, Every, failures_joined, heard_joined, hears_nothing, once, Talked, Tells, tells_bind}
-use Rattle.m11_cpu_laws.proofs.PartsTell.{instruction_tells, push_tells}
+use Rattle.m11_cpu_laws.proofs.Exchanging.{abort_stop, every_after, every_comes, every_map, Every, failures_joined, heard_joined, hears_nothing, once, Talked, Reports, reports_bind}
+use Rattle.m11_cpu_laws.proofs.PartsTell.{instruction_reports, push_reports}
 
-record TurnTold (r : Receiver) (stands : Option LastingStop) (es : List Exchange) (y : Turn × Machine) : Type 0 where
+record TurnReported (r : Receiver) (stands : Option LastingStop) (es : List Exchange) (y : Turn × Machine) : Type 0 where
   failed : StopsAtFailure es (device_stop y.0)
   heard : Hears r es y.1.receiver
   on : stands ≡ None → GoesOn y.0 y.1
 
 turn_joined : (r : Receiver) (stands : Option LastingStop) (es fs : List Exchange) (m : Machine) (y : Turn × Machine)
-    → Talked r stands es None m → TurnTold m.receiver m.stopped fs y → TurnTold r stands (es ++ fs) y
+    → Talked r stands es None m → TurnReported m.receiver m.stopped fs y → TurnReported r stands (es ++ fs) y
 turn_joined r stands es fs m y h k = record {
   failed = failures_joined es fs (device_stop y.0) h.failed k.failed;
   heard = heard_joined r m.receiver y.1.receiver es fs h.heard k.heard;
@@ -54,89 +54,89 @@ no_stack_fault (Asked Fails ∷ es) h = let e = h.1 in cc
 no_stack_fault (Sent byte true ∷ es) h = no_stack_fault es h
 no_stack_fault (Sent byte false ∷ es) h = let e = h.1 in cc
 
-stopped_told : (lasting : LastingStop) (r : Receiver) (stands : Option LastingStop) (fs : List Exchange) (n : Machine)
-    → Talked r stands fs (Some (stop_of lasting)) n → TurnTold r stands fs (stopped_by lasting n)
-stopped_told StackFault r stands fs n t = absurd (no_stack_fault fs t.failed)
-stopped_told InputFault r stands fs n t = record { failed = t.failed; heard = t.heard; on = λ e. tt }
-stopped_told OutputFault r stands fs n t = record { failed = t.failed; heard = t.heard; on = λ e. tt }
+stopped_reported : (lasting : LastingStop) (r : Receiver) (stands : Option LastingStop) (fs : List Exchange) (n : Machine)
+    → Talked r stands fs (Some (stop_of lasting)) n → TurnReported r stands fs (stopped_by lasting n)
+stopped_reported StackFault r stands fs n t = absurd (no_stack_fault fs t.failed)
+stopped_reported InputFault r stands fs n t = record { failed = t.failed; heard = t.heard; on = λ e. tt }
+stopped_reported OutputFault r stands fs n t = record { failed = t.failed; heard = t.heard; on = λ e. tt }
 
 -- ---- traps
 
-pushed_told : (v : Vector) (r : Receiver) (stands : Option LastingStop) (fs : List Exchange)
+pushed_reported : (v : Vector) (r : Receiver) (stands : Option LastingStop) (fs : List Exchange)
     (x : Result (Unit {0}) Abort) (n : Machine) → Talked r stands fs (abort_stop x) n
-    → Every (trap_pushed v x n) (λ es y. TurnTold r stands (fs ++ es) y)
-pushed_told v r stands fs (Ok done) n t =
-    at_end (λ es y. TurnTold r stands es y) fs (Next, vectored v n)
+    → Every (trap_pushed v x n) (λ es y. TurnReported r stands (fs ++ es) y)
+pushed_reported v r stands fs (Ok done) n t =
+    at_end (λ es y. TurnReported r stands es y) fs (Next, vectored v n)
     (record { failed = t.failed; heard = t.heard; on = λ e. t.kept ∙ e })
-pushed_told v r stands fs (Err (Traps other)) n t =
-    at_end (λ es y. TurnTold r stands es y) fs (stopped_by StackFault n)
+pushed_reported v r stands fs (Err (Traps other)) n t =
+    at_end (λ es y. TurnReported r stands es y) fs (stopped_by StackFault n)
     (record { failed = t.failed; heard = t.heard; on = λ e. tt })
-pushed_told v r stands fs (Err (Stops lasting)) n t =
-    at_end (λ es y. TurnTold r stands es y) fs (stopped_by lasting n) (stopped_told lasting r stands fs n t)
+pushed_reported v r stands fs (Err (Stops lasting)) n t =
+    at_end (λ es y. TurnReported r stands es y) fs (stopped_by lasting n) (stopped_reported lasting r stands fs n t)
 
-state_tells : (m : Machine) → Tells m.receiver m.stopped (push_state m)
+state_reports : (m : Machine) → Reports m.receiver m.stopped (push_state m)
 unfolding push_state
-state_tells m =
-    tells_bind (push (psw_of m.status)) _ m (push_tells (psw_of m.status) m)
-    (λ u n. push_tells (register_of Pc n) n)
+state_reports m =
+    reports_bind (push (psw_of m.status)) _ m (push_reports (psw_of m.status) m)
+    (λ u n. push_reports (register_of Pc n) n)
 
-trap_told : (v : Vector) (m : Machine) → Every (trap v m) (λ es y. TurnTold m.receiver m.stopped es y)
+trap_reported : (v : Vector) (m : Machine) → Every (trap v m) (λ es y. TurnReported m.receiver m.stopped es y)
 unfolding trap
-trap_told v m =
+trap_reported v m =
     every_after (push_state m) (λ pushed. trap_pushed v pushed.0 pushed.1) _
-    (λ es y. TurnTold m.receiver m.stopped es y) (state_tells m)
-    (λ fs pushed t. pushed_told v m.receiver m.stopped fs pushed.0 pushed.1 t)
+    (λ es y. TurnReported m.receiver m.stopped es y) (state_reports m)
+    (λ fs pushed t. pushed_reported v m.receiver m.stopped fs pushed.0 pushed.1 t)
 
 -- ---- steps
 
-next_told : (r : Receiver) (stands : Option LastingStop) (fs : List Exchange) (n : Machine)
-    → Talked r stands fs None n → TurnTold r stands fs (Next, n)
-next_told r stands fs n t = record { failed = t.failed; heard = t.heard; on = λ e. t.kept ∙ e }
+next_reported : (r : Receiver) (stands : Option LastingStop) (fs : List Exchange) (n : Machine)
+    → Talked r stands fs None n → TurnReported r stands fs (Next, n)
+next_reported r stands fs n t = record { failed = t.failed; heard = t.heard; on = λ e. t.kept ∙ e }
 
-trapped_told : (v : Vector) (r : Receiver) (stands : Option LastingStop) (fs : List Exchange) (n : Machine)
-    → Talked r stands fs None n → Every (trap v n) (λ es y. TurnTold r stands (fs ++ es) y)
-trapped_told v r stands fs n t = every_map (trap_told v n) (λ es y k. turn_joined r stands fs es n y t k)
+trapped_reported : (v : Vector) (r : Receiver) (stands : Option LastingStop) (fs : List Exchange) (n : Machine)
+    → Talked r stands fs None n → Every (trap v n) (λ es y. TurnReported r stands (fs ++ es) y)
+trapped_reported v r stands fs n t = every_map (trap_reported v n) (λ es y k. turn_joined r stands fs es n y t k)
 
-traced_told : (trace : Bool) (r : Receiver) (stands : Option LastingStop) (fs : List Exchange) (n : Machine)
+traced_reported : (trace : Bool) (r : Receiver) (stands : Option LastingStop) (fs : List Exchange) (n : Machine)
     → Talked r stands fs None n
-    → Every (cond trace (trap Breakpoint n) (Comes (Next, n))) (λ es y. TurnTold r stands (fs ++ es) y)
-traced_told true r stands fs n t = trapped_told Breakpoint r stands fs n t
-traced_told false r stands fs n t =
-    at_end (λ es y. TurnTold r stands es y) fs (Next, n) (next_told r stands fs n t)
+    → Every (cond trace (trap Breakpoint n) (Comes (Next, n))) (λ es y. TurnReported r stands (fs ++ es) y)
+traced_reported true r stands fs n t = trapped_reported Breakpoint r stands fs n t
+traced_reported false r stands fs n t =
+    at_end (λ es y. TurnReported r stands es y) fs (Next, n) (next_reported r stands fs n t)
 
-turned_told : (x : Result Ending Abort) (r : Receiver) (stands : Option LastingStop) (fs : List Exchange) (n : Machine)
-    → Talked r stands fs (abort_stop x) n → Every (turned x n) (λ es y. TurnTold r stands (fs ++ es) y)
+turned_reported : (x : Result Ending Abort) (r : Receiver) (stands : Option LastingStop) (fs : List Exchange) (n : Machine)
+    → Talked r stands fs (abort_stop x) n → Every (turned x n) (λ es y. TurnReported r stands (fs ++ es) y)
 unfolding turned ended
-turned_told (Ok ending.Next) r stands fs n t = traced_told n.status.trace r stands fs n t
-turned_told (Ok ending.Untraced) r stands fs n t =
-    at_end (λ es y. TurnTold r stands es y) fs (Next, n) (next_told r stands fs n t)
-turned_told (Ok ending.Halts) r stands fs n t =
-    at_end (λ es y. TurnTold r stands es y) fs (Stopped stop.Halt, n)
+turned_reported (Ok ending.Next) r stands fs n t = traced_reported n.status.trace r stands fs n t
+turned_reported (Ok ending.Untraced) r stands fs n t =
+    at_end (λ es y. TurnReported r stands es y) fs (Next, n) (next_reported r stands fs n t)
+turned_reported (Ok ending.Halts) r stands fs n t =
+    at_end (λ es y. TurnReported r stands es y) fs (Stopped stop.Halt, n)
     (record { failed = t.failed; heard = t.heard; on = λ e. t.kept ∙ e })
-turned_told (Ok ending.Waits) r stands fs n t =
-    at_end (λ es y. TurnTold r stands es y) fs (Stopped stop.Wait, n)
+turned_reported (Ok ending.Waits) r stands fs n t =
+    at_end (λ es y. TurnReported r stands es y) fs (Stopped stop.Wait, n)
     (record { failed = t.failed; heard = t.heard; on = λ e. t.kept ∙ e })
-turned_told (Err (Traps v)) r stands fs n t = trapped_told v r stands fs n t
-turned_told (Err (Stops lasting)) r stands fs n t =
-    at_end (λ es y. TurnTold r stands es y) fs (stopped_by lasting n) (stopped_told lasting r stands fs n t)
+turned_reported (Err (Traps v)) r stands fs n t = trapped_reported v r stands fs n t
+turned_reported (Err (Stops lasting)) r stands fs n t =
+    at_end (λ es y. TurnReported r stands es y) fs (stopped_by lasting n) (stopped_reported lasting r stands fs n t)
 
-going_told : (m : Machine) → Every (step_unless None m) (λ es y. TurnTold m.receiver m.stopped es y)
-going_told m =
-    every_after (instruction m) (λ came. turned came.0 came.1) _ (λ es y. TurnTold m.receiver m.stopped es y)
-    (instruction_tells m) (λ fs came t. turned_told came.0 m.receiver m.stopped fs came.1 t)
+going_reported : (m : Machine) → Every (step_unless None m) (λ es y. TurnReported m.receiver m.stopped es y)
+going_reported m =
+    every_after (instruction m) (λ came. turned came.0 came.1) _ (λ es y. TurnReported m.receiver m.stopped es y)
+    (instruction_reports m) (λ fs came t. turned_reported came.0 m.receiver m.stopped fs came.1 t)
 
 -- ---- laws
 
 standing : (stands : Option LastingStop) (m : Machine) → m.stopped ≡ stands → (es : List Exchange)
     (y : Turn × Machine) → Leads (step_unless stands m) es y → GoesOn y.0 y.1
-standing None m e es y h = ((going_told m).each es y h).on e
+standing None m e es y h = ((going_reported m).each es y h).on e
 standing (Some StackFault) m e es y h = once (λ fs z. GoesOn z.0 z.1) _ es y tt h
 standing (Some InputFault) m e es y h = once (λ fs z. GoesOn z.0 z.1) _ es y tt h
 standing (Some OutputFault) m e es y h = once (λ fs z. GoesOn z.0 z.1) _ es y tt h
 
 heard_unless : (stands : Option LastingStop) (m : Machine) (es : List Exchange) (y : Turn × Machine)
     → Leads (step_unless stands m) es y → Hears m.receiver es y.1.receiver
-heard_unless None m es y h = ((going_told m).each es y h).heard
+heard_unless None m es y h = ((going_reported m).each es y h).heard
 heard_unless (Some lasting) m es y h =
     once (λ fs z. Hears m.receiver fs z.1.receiver) _ es y (hears_nothing m.receiver) h
 
@@ -145,7 +145,7 @@ pub step_fails : (m m' : Machine) (turn : Turn) (es : List Exchange) → m.stopp
 unfolding step
 step_fails m m' turn es e h =
     let P : Option LastingStop → Type 0 = λ s. Leads (step_unless s m) es (turn, m') in
-    ((going_told m).each es (turn, m') (subst P e h)).failed
+    ((going_reported m).each es (turn, m') (subst P e h)).failed
 
 pub step_goes_on : (m m' : Machine) (turn : Turn) (es : List Exchange) → Leads (step m) es (turn, m')
     → GoesOn turn m'

@@ -10,7 +10,7 @@ use Rattle.m11_cpu.specs.Machine.{register_of}
 use Rattle.m11_cpu.specs.Status.{psw_of}
 use Rattle.m11_cpu.specs.Steps.{ended, instruction, step, step_unless, turned}
 use Rattle.m11_cpu.specs.Traps.{push_state, trap, trap_pushed}
-use Rattle.m11_cpu_laws.specs.Writes.{one_pushed, push_address, pushed_behind, stack_deepened, StaysBut, StepWrites, two_pushed, word_bytes, written_by, written_bytes}
+use Rattle.m11_cpu_laws.specs.Writes.{one_pushed, push_address, pushed_after, stack_deepened, StaysBut, StepWrites, two_pushed, word_bytes, written_by, written_bytes}
 use Rattle.m11_cpu.specs.declared.abort.Abort.{Abort}
 use Rattle.m11_cpu.specs.declared.abort.Abort.TheVariants.{Traps, Stops}
 use Rattle.m11_cpu.specs.declared.abort.Vector.{Vector}
@@ -112,7 +112,7 @@ traced_stores true m = trap_stores Breakpoint m
 traced_stores false m = at_comes (kept_same [] m.memory m.memory refl)
 
 turned_stores : (executed : Result Ending Abort) (m : Machine)
-    → Always (turned executed m) (λ y. Kept (pushed_behind executed m) m.memory y.1.memory)
+    → Always (turned executed m) (λ y. Kept (pushed_after executed m) m.memory y.1.memory)
 unfolding turned ended
 turned_stores (Ok ending.Next) m = traced_stores m.status.trace m
 turned_stores (Ok ending.Untraced) m = at_comes (kept_same [] m.memory m.memory refl)
@@ -139,10 +139,10 @@ going_writes m m' turn es h =
       is_executed = q.within;
       by_instruction = stays (written_by q.value.0 g.value.0) m q.value.1 g.holds;
       by_abort = (abort_leaves m).each q.within.first q.value q.within.leads;
-      by_trap = stays (pushed_behind q.value.0 q.value.1) q.value.1 m' t;
-      by_step = stays (written_by q.value.0 g.value.0 ++ pushed_behind q.value.0 q.value.1) m m'
+      by_trap = stays (pushed_after q.value.0 q.value.1) q.value.1 m' t;
+      by_step = stays (written_by q.value.0 g.value.0 ++ pushed_after q.value.0 q.value.1) m m'
           (kept_more (written_by q.value.0 g.value.0)
-          (pushed_behind q.value.0 q.value.1) m.memory q.value.1.memory m'.memory
+          (pushed_after q.value.0 q.value.1) m.memory q.value.1.memory m'.memory
           g.holds t);
     }
 

@@ -1,4 +1,4 @@
--- Which stops stand behind a step.
+-- Which stops stand after a step.
 use Rattle.std.proofs.Common.{◌≡◌, Bool, true, false, cond, List, [], ◌∷◌, Option, Some, None, Result, Ok, Err, refl, sym, subst}
 use Rattle.m11_cpu.specs.declared.abort.Abort.{Abort}
 use Rattle.m11_cpu.specs.declared.abort.Abort.TheVariants.{Traps, Stops}
@@ -12,22 +12,22 @@ use Rattle.m11_cpu.specs.declared.stop.LastingStop.TheVariants.{StackFault, Inpu
 use Rattle.m11_cpu.specs.declared.stop.Turn.{Turn}
 use Rattle.m11_cpu.specs.declared.stop.Turn.TheVariants.{Next, Stopped}
 use Rattle.m11_cpu.specs.Dialogue.{after, Asked, Asks, Comes, Dialogue, Exchange, Leads, Sends, Sent}
-use Rattle.m11_cpu_laws.specs.Laws.{Stands}
+use Rattle.m11_cpu_laws.specs.Laws.{StopStands}
 use Rattle.m11_cpu.specs.Steps.{ended, instruction, step, step_unless, turned}
-use Rattle.m11_cpu.specs.Stops.{stop_of}
+use Rattle.m11_cpu.specs.Stop.{stop_of}
 use Rattle.m11_cpu.specs.Traps.{push_state, stopped_by, trap, trap_pushed}
 
--- what comes behind a dialogue, by the exchanges that are left
-pub behind_it : {A B : Type 0} (d : Dialogue A) (next : A → Dialogue B) (es : List Exchange) (y : B)
+-- what comes after a dialogue, by the exchanges that are left
+pub after_it : {A B : Type 0} (d : Dialogue A) (next : A → Dialogue B) (es : List Exchange) (y : B)
     → Leads (after d next) es y → (x : A) × (fs : List Exchange) × Leads (next x) fs y
 unfolding Leads
-behind_it (Comes x) next es y h = (x, es, h)
-behind_it (Asks by) next [] y h = absurd h
-behind_it (Asks by) next (Asked reply ∷ es) y h = behind_it (by reply) next es y h
-behind_it (Asks by) next (Sent byte was_taken ∷ es) y h = absurd h
-behind_it (Sends byte by) next [] y h = absurd h
-behind_it (Sends byte by) next (Asked reply ∷ es) y h = absurd h
-behind_it (Sends byte by) next (Sent sent was_taken ∷ es) y h = behind_it (by was_taken) next es y h.1
+after_it (Comes x) next es y h = (x, es, h)
+after_it (Asks by) next [] y h = absurd h
+after_it (Asks by) next (Asked reply ∷ es) y h = after_it (by reply) next es y h
+after_it (Asks by) next (Sent byte was_taken ∷ es) y h = absurd h
+after_it (Sends byte by) next [] y h = absurd h
+after_it (Sends byte by) next (Asked reply ∷ es) y h = absurd h
+after_it (Sends byte by) next (Sent sent was_taken ∷ es) y h = after_it (by was_taken) next es y h.1
 
 -- what comes at once
 pub at_once : {A : Type 0} (x y : A) (es : List Exchange) → Leads (Comes x) es y → y ≡ x
@@ -36,7 +36,7 @@ at_once x y [] h = h
 at_once x y (e ∷ es) h = absurd h
 
 abbrev pub StandsAt : Turn × Machine → Type 0
-StandsAt y = Stands y.0 y.1
+StandsAt y = StopStands y.0 y.1
 
 stopped_stands : (stop : LastingStop) (m : Machine) → m.stopped ≡ Some stop → StandsAt (Stopped (stop_of stop), m)
 stopped_stands StackFault m e = e
@@ -56,7 +56,7 @@ trap_stands : (vector : Vector) (m : Machine) (es : List Exchange) (y : Turn × 
     → StandsAt y
 unfolding trap
 trap_stands vector m es y h =
-    let b = behind_it (push_state m) (λ pushed. trap_pushed vector pushed.0 pushed.1) es y h in
+    let b = after_it (push_state m) (λ pushed. trap_pushed vector pushed.0 pushed.1) es y h in
     pushed_stands vector b.0.0 b.0.1 b.1 y b.2
 
 traced_stands : (trace : Bool) (m : Machine) (es : List Exchange) (y : Turn × Machine)
@@ -80,14 +80,14 @@ unless_stands : (stands : Option LastingStop) (m : Machine) (es : List Exchange)
     → Leads (step_unless stands m) es y → StandsAt y
 unless_stands (Some stop) m es y e h = subst StandsAt (sym (at_once _ y es h)) (stopped_stands stop m e)
 unless_stands None m es y e h =
-    let b = behind_it (instruction m) (λ came. turned came.0 came.1) es y h in
+    let b = after_it (instruction m) (λ came. turned came.0 came.1) es y h in
     turned_stands b.0.0 b.0.1 b.1 y b.2
 
-pub step_stands : (m : Machine) (es : List Exchange) (y : Turn × Machine) → Leads (step m) es y → Stands y.0 y.1
+pub step_stands : (m : Machine) (es : List Exchange) (y : Turn × Machine) → Leads (step m) es y → StopStands y.0 y.1
 unfolding step
 step_stands m es y h = unless_stands m.stopped m es y refl h
 
--- a stop that stands is answered again, and nothing changes
+-- a stop that stands is returned again, and nothing changes
 pub step_again : (m : Machine) (stop : LastingStop) → m.stopped ≡ Some stop → step m ≡ Comes (Stopped (stop_of stop), m)
 unfolding step
 step_again m stop e =

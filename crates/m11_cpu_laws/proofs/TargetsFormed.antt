@@ -1,7 +1,7 @@
 -- What the forming of a target leaves of the machine, and where it leaves the program counter.
 use Rattle.std.proofs.Common.{◌≡◌, ◌≢◌, ℕ, ◌+◌, ◌%◌, ◌<◌, ◌==◌, Bool, true, false, ◌&&◌, length, None, Result, Ok, Err, refl, sym, ◌∙◌, arith, eq-eqb, true≢false}
 use Rattle.std.specs.Prelude.{⊤}
-use Rattle.m11_base.specs.Operands.{register_number}
+use Rattle.m11_base.specs.Operand.{register_number}
 use Rattle.m11_base.specs.declared.operand.Mode.{Mode}
 use Rattle.m11_base.specs.declared.operand.Mode.TheVariants as mode
 use Rattle.m11_base.specs.declared.operand.Operand.{Operand}
@@ -11,13 +11,13 @@ use Rattle.m11_base.specs.declared.operand.Size.TheVariants.{Word}
 use Rattle.m11_cpu.specs.Access.{load_word}
 use Rattle.m11_cpu.specs.Jumps.{address_of, target}
 use Rattle.m11_cpu.specs.Machine.{advanced, register_of, with_register}
-use Rattle.m11_cpu.specs.Places.{deferred, indexed, next_word, place_by, place_of}
+use Rattle.m11_cpu.specs.Addressing.{deferred, indexed, next_word, place_by, place_of}
 use Rattle.m11_cpu_laws.specs.Returns.{call_length, IsCall, IsRunning, length_by, over_back, over_forward}
 use Rattle.m11_cpu.specs.declared.abort.Abort.{Abort}
 use Rattle.m11_cpu.specs.declared.console.Receiver.{Receiver}
 use Rattle.m11_cpu.specs.declared.machine.Machine.{Machine}
-use Rattle.m11_cpu.specs.declared.operands.Place.{Place}
-use Rattle.m11_cpu.specs.declared.operands.Place.TheVariants.{InRegister, InMemory}
+use Rattle.m11_cpu.specs.declared.addressing.OperandLocation.{OperandLocation}
+use Rattle.m11_cpu.specs.declared.addressing.OperandLocation.TheVariants.{InRegister, InMemory}
 use Rattle.m11_cpu_laws.proofs.Loads.{deferred_keeps, place_keeps, target_keeps, word_keeps}
 use Rattle.m11_cpu_laws.proofs.Parts.{Always, at_bind, at_comes, at_map, Keeps}
 use Rattle.m11_cpu.proofs.RegistersPut.{put_same}
@@ -99,11 +99,11 @@ counted : {A : Type 0} (v : ℕ) (r : Result A Abort) (n : Machine) → CounterA
 counted v (Ok x) n c = c
 counted v (Err e) n c = tt
 
--- two bytes behind the code
-abbrev pub behind : ℕ → ℕ
-behind p = (p + 2) % 0o200000
+-- two bytes after the code
+abbrev pub following : ℕ → ℕ
+following p = (p + 2) % 0o200000
 
-stepped_on : (register : Register) (p : ℕ) (n : Machine) → CounterAt (behind p) n
+stepped_on : (register : Register) (p : ℕ) (n : Machine) → CounterAt (following p) n
     → CounterAt ((p + over_forward register) % 0o200000) (advanced register 2 n)
 stepped_on Pc p n c = record {
   counter = let e = put_same Pc ((register_of Pc n + 2) % 0o200000) n c.count in let f = c.counter in omega
@@ -115,7 +115,7 @@ stepped_on register p n c = record {
   count = put_length register _ n c.count;
 }
 
-stepped_off : (register : Register) (p : ℕ) (n : Machine) → p < 0o200000 → CounterAt (behind p) n
+stepped_off : (register : Register) (p : ℕ) (n : Machine) → p < 0o200000 → CounterAt (following p) n
     → CounterAt ((p + over_back register) % 0o200000)
     (with_register register ((register_of register n + 0o177776) % 0o200000) n)
 stepped_off Pc p n fits c = record {
@@ -128,15 +128,15 @@ stepped_off register p n fits c = record {
   count = put_length register _ n c.count;
 }
 
-next_counts : (p : ℕ) (m : Machine) → CounterAt (behind p) m
+next_counts : (p : ℕ) (m : Machine) → CounterAt (following p) m
     → Always (next_word m) (λ y. Counts ((p + 4) % 0o200000) y)
 unfolding next_word
 next_counts p m c =
-    at_bind (load_word (register_of Pc m)) _ m (λ y. CounterAt (behind p) y.1) (λ y. Counts ((p + 4) % 0o200000) y)
-    (word_keeps (CounterAt (behind p)) (counter_receives (behind p)) (register_of Pc m) m c)
+    at_bind (load_word (register_of Pc m)) _ m (λ y. CounterAt (following p) y.1) (λ y. Counts ((p + 4) % 0o200000) y)
+    (word_keeps (CounterAt (following p)) (counter_receives (following p)) (register_of Pc m) m c)
     (λ e n d. tt) (λ word n d. at_comes (stepped_on Pc p n d))
 
-indexed_counts : (register : Register) (p : ℕ) (m : Machine) → CounterAt (behind p) m
+indexed_counts : (register : Register) (p : ℕ) (m : Machine) → CounterAt (following p) m
     → Always (indexed register m) (λ y. Counts ((p + 4) % 0o200000) y)
 unfolding indexed
 indexed_counts register p m c =
@@ -147,7 +147,7 @@ deferred_counts : (address v : ℕ) (m : Machine) → CounterAt v m → Always (
 deferred_counts address v m c =
     at_map (deferred_keeps (CounterAt v) (counter_receives v) address m c) (λ y d. counted v y.0 y.1 d)
 
-place_counts : (by : Mode) (register : Register) (p : ℕ) (m : Machine) → p < 0o200000 → CounterAt (behind p) m
+place_counts : (by : Mode) (register : Register) (p : ℕ) (m : Machine) → p < 0o200000 → CounterAt (following p) m
     → Always (place_by by register Word m) (λ y. Counts ((p + length_by by register) % 0o200000) y)
 place_counts mode.Register register p m fits c = at_comes c
 place_counts mode.RegisterDeferred register p m fits c = at_comes c
@@ -162,7 +162,7 @@ place_counts mode.IndexDeferred register p m fits c =
     at_bind (indexed register) deferred m (λ y. Counts ((p + 4) % 0o200000) y) (λ y. Counts ((p + 4) % 0o200000) y)
     (indexed_counts register p m c) (λ e n d. tt) (λ address n d. deferred_counts address _ n d)
 
-address_counts : (v : ℕ) (place : Place) (n : Machine) → CounterAt v n → Always (address_of place n) (λ y. Counts v y)
+address_counts : (v : ℕ) (place : OperandLocation) (n : Machine) → CounterAt v n → Always (address_of place n) (λ y. Counts v y)
 address_counts v (InRegister register) n c = at_comes tt
 address_counts v (InMemory address) n c = at_comes c
 
@@ -171,7 +171,7 @@ pub call_counts : (operand : Operand) (m : Machine) → IsRunning m
 unfolding target place_of
 call_counts operand m running =
     let v = (register_of Pc m + call_length operand) % 0o200000 in
-    let begun : CounterAt (behind (register_of Pc m)) (advanced Pc 2 m) = record {
+    let begun : CounterAt (following (register_of Pc m)) (advanced Pc 2 m) = record {
       counter = put_same Pc _ m running.registers;
       count = put_length Pc _ m running.registers;
     } in

@@ -11,7 +11,7 @@ use Rattle.m11_cpu.specs.DoubleOperands.{double}
 use Rattle.m11_cpu.specs.Execution.{bare, execute, numbered, on_register, return_from_trap}
 use Rattle.m11_cpu.specs.Extended.{extended}
 use Rattle.m11_cpu.specs.Jumps.{return_by}
-use Rattle.m11_cpu.specs.Places.{next_word}
+use Rattle.m11_cpu.specs.Addressing.{next_word}
 use Rattle.m11_cpu.specs.SingleOperands.{single}
 use Rattle.m11_cpu.specs.Steps.{ended, instruction, step, step_unless, turned}
 use Rattle.m11_cpu.specs.Traps.{stopped_by, trap}

@@ -1,6 +1,6 @@
 -- A trap comes back where it came from.
 use Rattle.std.proofs.Common.{◌≡◌, ◌≢◌, ℕ, zero, suc, ◌+◌, ◌/◌, ◌%◌, ◌<◌, ◌≤◌, ◌==◌, Bool, true, false, length, Some, None, Result, Ok, Err, refl, sym, ◌∙◌, ap, subst, arith}
-use Rattle.m11_base.specs.Operands.{register_number}
+use Rattle.m11_base.specs.Operand.{register_number}
 use Rattle.m11_base.specs.declared.instruction.BareOp.TheVariants.{Rti, Bpt, Iot}
 use Rattle.m11_base.specs.declared.instruction.Insn.{Insn}
 use Rattle.m11_base.specs.declared.instruction.Insn.TheVariants as insn
@@ -179,11 +179,11 @@ trap_back v m running room =
     let l' = length_put p.memory lower counter in
     let i = room.0.1 in
     let j = room.1.1 in
-    let behind_upper : upper + 1 < length p.memory = omega (arith, l, i) in
-    let behind_lower : lower + 1 < length p.memory = omega (arith, l, j) in
-    let upper_inside : IsWordInside upper trapped = (room.0.0, omega (arith, l', behind_upper)) in
-    let lower_inside : IsWordInside lower trapped = (room.1.0, omega (arith, l', behind_lower)) in
-    let first : word_at q.memory lower ≡ counter = word_put p.memory lower counter behind_lower in
+    let after_upper : upper + 1 < length p.memory = omega (arith, l, i) in
+    let after_lower : lower + 1 < length p.memory = omega (arith, l, j) in
+    let upper_inside : IsWordInside upper trapped = (room.0.0, omega (arith, l', after_upper)) in
+    let lower_inside : IsWordInside lower trapped = (room.1.0, omega (arith, l', after_lower)) in
+    let first : word_at q.memory lower ≡ counter = word_put p.memory lower counter after_lower in
     let second : word_at q.memory upper ≡ s =
     word_put_other p.memory lower counter upper room.1.0 room.0.0 ne ∙ word_put m.memory upper s i in
     record {

@@ -2,7 +2,7 @@
 use Rattle.std.proofs.Common.{◌≡◌, ◌≢◌, ℕ, ◌+◌, ◌/◌, ◌%◌, ◌<◌, List, length, ◌∙◌, arith}
 use Rattle.std.proofs.lemmas.List.{get_or-set_other, get_or-set_same, length-set}
 use Rattle.std.specs.Prelude.{slice_set}
-use Rattle.m11_base.specs.Operands.{register_number}
+use Rattle.m11_base.specs.Operand.{register_number}
 use Rattle.m11_base.specs.declared.operand.Register.{Register}
 use Rattle.m11_cpu.specs.Machine.{register_of, with_register}
 use Rattle.m11_cpu.specs.Memory.{byte_at, with_word, word_at}
@@ -20,12 +20,12 @@ pub word_put : (memory : List ℕ) (a v : ℕ) → a + 1 < length memory → wor
 word_put memory a v inside =
     let apart : a ≢ a + 1 = λ e. omega arith in
     let below : a < length memory = omega arith in
-    let behind : a + 1 < length (slice_set memory a (v % 256)) = omega (arith, length-set memory a (v % 256)) in
+    let following : a + 1 < length (slice_set memory a (v % 256)) = omega (arith, length-set memory a (v % 256)) in
     let low : byte_at (with_word a v memory) a ≡ v % 256 =
     get_or-set_other (slice_set memory a (v % 256)) (a + 1) a (v / 256) 0 apart ∙ get_or-set_same memory a
     (v % 256) 0 below in
     let high : byte_at (with_word a v memory) (a + 1) ≡ v / 256 =
-    get_or-set_same (slice_set memory a (v % 256)) (a + 1) (v / 256) 0 behind in
+    get_or-set_same (slice_set memory a (v % 256)) (a + 1) (v / 256) 0 following in
     omega (arith, low, high)
 
 pub byte_put_other : (memory : List ℕ) (a v other : ℕ) → other ≢ a → other ≢ a + 1

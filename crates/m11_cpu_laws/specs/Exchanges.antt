@@ -2,7 +2,7 @@
 use Rattle.std.specs.Prelude.{◌≡◌, List, ◌++◌}
 use Rattle.m11_cpu.specs.Dialogue.{Dialogue, Exchange, Leads}
 
--- a dialogue comes to a value by a beginning of these exchanges
+-- a dialogue yields a value by a beginning of these exchanges
 pub record ComesWithin {A : Type 0} (dialogue : Dialogue A) (exchanges : List Exchange) (value : A) : Type 0 where
   pub first : List Exchange
   pub rest : List Exchange

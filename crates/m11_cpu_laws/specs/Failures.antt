@@ -7,7 +7,7 @@ use Rattle.m11_cpu.specs.declared.stop.Stop.TheVariants.{Halt, Limit, Wait, Stac
 use Rattle.m11_cpu.specs.declared.stop.Turn.{Turn}
 use Rattle.m11_cpu.specs.declared.stop.Turn.TheVariants.{Next, Stopped}
 
--- the stop of a device, where a step comes to one
+-- the stop of a device, where a step yields one
 abbrev pub device_stop : Turn → Option Stop
 device_stop Next = None
 device_stop (Stopped Halt) = None

@@ -45,15 +45,15 @@ GainedJust (Some old) (Some new) bytes = Appends old.text new.text bytes
 -- ---- stops
 
 -- a stop that stands is kept by the machine
-abbrev pub Stands : Turn → Machine → Type 0
-Stands Next m = ⊤
-Stands (Stopped Halt) m = ⊤
-Stands (Stopped Limit) m = ⊥
-Stands (Stopped Wait) m = ⊤
-Stands (Stopped StackFault) m = m.stopped ≡ Some lasting.StackFault
-Stands (Stopped NoStart) m = ⊥
-Stands (Stopped InputFault) m = m.stopped ≡ Some lasting.InputFault
-Stands (Stopped OutputFault) m = m.stopped ≡ Some lasting.OutputFault
+abbrev pub StopStands : Turn → Machine → Type 0
+StopStands Next m = ⊤
+StopStands (Stopped Halt) m = ⊤
+StopStands (Stopped Limit) m = ⊥
+StopStands (Stopped Wait) m = ⊤
+StopStands (Stopped StackFault) m = m.stopped ≡ Some lasting.StackFault
+StopStands (Stopped NoStart) m = ⊥
+StopStands (Stopped InputFault) m = m.stopped ≡ Some lasting.InputFault
+StopStands (Stopped OutputFault) m = m.stopped ≡ Some lasting.OutputFault
 
 -- ---- runs
 

@@ -2,7 +2,7 @@
 -- "Addressing modes", "Instruction set", "Processor traps".)
 use Rattle.std.specs.Prelude.{◌≡◌, ℕ, Bool, true, false, ◌||◌, if◌then◌else◌, List, [], ◌∷◌, ◌++◌, Ok}
 use Rattle.m11_base.specs.Instructions.{instruction_of}
-use Rattle.m11_base.specs.Operands.{register_number}
+use Rattle.m11_base.specs.Operand.{register_number}
 use Rattle.m11_base.specs.declared.instruction.BareOp.TheVariants.{Rti, Rtt}
 use Rattle.m11_base.specs.declared.instruction.Insn.{Insn}
 use Rattle.m11_base.specs.declared.instruction.Insn.TheVariants as insn
@@ -16,7 +16,7 @@ use Rattle.m11_base.specs.declared.operand.Register.TheVariants.{Pc, R5, Sp}
 use Rattle.m11_cpu.specs.Dialogue.{Exchange, Leads}
 use Rattle.m11_cpu.specs.Extended.{low_word_of}
 use Rattle.m11_cpu.specs.Machine.{register_of}
-use Rattle.m11_cpu.specs.Places.{next_word}
+use Rattle.m11_cpu.specs.Addressing.{next_word}
 use Rattle.m11_cpu.specs.Steps.{step}
 use Rattle.m11_cpu.specs.declared.machine.Machine.{Machine}
 use Rattle.m11_cpu.specs.declared.stop.Turn.{Turn}

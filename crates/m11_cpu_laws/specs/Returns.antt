@@ -1,7 +1,7 @@
 -- Calls and traps come back. (PDP-11/40 Processor Handbook, "Instruction set": JSR, RTS, RTI; "Processor traps".)
 use Rattle.std.specs.Prelude.{◌≡◌, ℕ, ◌+◌, ◌%◌, ◌<◌, ◌==◌, Bool, true, false, ◌&&◌, List, length, None, Option, Some, Ok}
 use Rattle.m11_base.specs.Instructions.{instruction_of}
-use Rattle.m11_base.specs.Operands.{register_number}
+use Rattle.m11_base.specs.Operand.{register_number}
 use Rattle.m11_base.specs.declared.instruction.BareOp.TheVariants.{Rti, Bpt, Iot}
 use Rattle.m11_base.specs.declared.instruction.Insn.{Insn}
 use Rattle.m11_base.specs.declared.instruction.Insn.TheVariants as insn
@@ -57,7 +57,7 @@ is_stepping mode.IndexDeferred = false
 abbrev pub steps : Operand → Register → Bool
 steps operand register = is_stepping operand.mode && (register_number operand.register == register_number register)
 
--- how far the program counter goes on over a call by this operand: over its code, over an index or an address behind
+-- how far the program counter goes on over a call by this operand: over its code, over an index or an address after
 -- it; and back again where the mode steps the program counter back
 abbrev pub over_forward : Register → ℕ
 over_forward Pc = 4
@@ -90,7 +90,7 @@ pub record IsCall (register : Register) (operand : Operand) (m : Machine) : Type
   pub keeps_stack : steps operand Sp ≡ false
   pub pushed : IsWordInside (push_address m) m
 
--- one more step leads behind the call, and the register and the stack pointer are as before
+-- one more step leads after the call, and the register and the stack pointer are as before
 pub record CallIsOver (register : Register) (operand : Operand) (m called : Machine) : Type 0 where
   pub returned : Machine
   pub in_one_step : step called ≡ Comes (Next, returned)
@@ -98,7 +98,7 @@ pub record CallIsOver (register : Register) (operand : Operand) (m called : Mach
   pub link : register_of register returned ≡ register_of register m
   pub stack : register_of Sp returned ≡ register_of Sp m
 
--- the call goes to the address, and comes back where RTS by that register stands there behind the push
+-- the call goes to the address, and comes back where RTS by that register stands there after the push
 pub record CallReturns (register : Register) (operand : Operand) (m : Machine) (exchanges : List Exchange)
     (address : ℕ) : Type 0 where
   pub called : Machine
@@ -141,7 +141,7 @@ pub record IsTrapped (vector : Vector) (trapped : Machine) : Type 0 where
   pub counter : register_of Pc trapped ≡ word_at trapped.memory (vector_address vector)
   pub status : psw_in trapped ≡ word_at trapped.memory (vector_address vector + 2) % 256
 
--- a trap of any vector comes back, where RTI stands at the vector's program counter behind the pushes
+-- a trap of any vector comes back, where RTI stands at the vector's program counter after the pushes
 pub record TrapReturns (vector : Vector) (m : Machine) : Type 0 where
   pub trapped : Machine
   pub traps : trap vector m ≡ Comes (Next, trapped)
@@ -157,7 +157,7 @@ vector_of (insn.Number Trap number) = Some vector.Trap
 vector_of (insn.Reserved word) = Some vector.Reserved
 vector_of other = None
 
--- a step of such an instruction comes back to the word behind it
+-- a step of such an instruction comes back to the word after it
 pub record TrapInstructionReturns (vector : Vector) (m : Machine) : Type 0 where
   pub trapped : Machine
   pub in_one_step : step m ≡ Comes (Next, trapped)

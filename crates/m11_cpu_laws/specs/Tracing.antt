@@ -7,9 +7,9 @@ use Rattle.m11_base.specs.declared.instruction.Insn.{Insn}
 use Rattle.m11_base.specs.declared.instruction.Insn.TheVariants as insn
 use Rattle.m11_cpu.specs.Dialogue.{Exchange, Leads}
 use Rattle.m11_cpu.specs.Execution.{execute}
-use Rattle.m11_cpu.specs.Places.{next_word}
+use Rattle.m11_cpu.specs.Addressing.{next_word}
 use Rattle.m11_cpu.specs.Steps.{instruction, step}
-use Rattle.m11_cpu.specs.Stops.{stop_of}
+use Rattle.m11_cpu.specs.Stop.{stop_of}
 use Rattle.m11_cpu.specs.Traps.{trap}
 use Rattle.m11_cpu.specs.declared.abort.Abort.{Abort}
 use Rattle.m11_cpu.specs.declared.abort.Abort.TheVariants.{Traps, Stops}
@@ -20,7 +20,7 @@ use Rattle.m11_cpu.specs.declared.stop.Stop.TheVariants.{Halt, Wait}
 use Rattle.m11_cpu.specs.declared.stop.Turn.{Turn}
 use Rattle.m11_cpu.specs.declared.stop.Turn.TheVariants.{Next, Stopped}
 
--- nothing more is asked or sent, and the step comes to this turn and this machine
+-- nothing more is asked or sent, and the step yields this turn and this machine
 abbrev pub IsOver : Turn → Machine → List Exchange → Turn × Machine → Type 0
 IsOver turn m exchanges came = (exchanges ≡ []) × (came ≡ (turn, m))
 

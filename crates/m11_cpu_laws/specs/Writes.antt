@@ -17,15 +17,15 @@ use Rattle.m11_cpu.specs.Acts.{Act, ◌>>=◌}
 use Rattle.m11_cpu.specs.Dialogue.{Comes, Exchange}
 use Rattle.m11_cpu.specs.Jumps.{target}
 use Rattle.m11_cpu.specs.Machine.{byte_in, memory_size, register_of, with_register}
-use Rattle.m11_cpu.specs.Places.{fetch_operand, next_word, place_of}
+use Rattle.m11_cpu.specs.Addressing.{fetch_operand, next_word, place_of}
 use Rattle.m11_cpu.specs.Steps.{instruction}
 use Rattle.m11_cpu.specs.declared.abort.Abort.{Abort}
 use Rattle.m11_cpu.specs.declared.abort.Abort.TheVariants.{Traps, Stops}
 use Rattle.m11_cpu.specs.declared.execution.Ending.{Ending}
 use Rattle.m11_cpu.specs.declared.execution.Ending.TheVariants as ending
 use Rattle.m11_cpu.specs.declared.machine.Machine.{Machine}
-use Rattle.m11_cpu.specs.declared.operands.Place.{Place}
-use Rattle.m11_cpu.specs.declared.operands.Place.TheVariants.{InRegister, InMemory}
+use Rattle.m11_cpu.specs.declared.addressing.OperandLocation.{OperandLocation}
+use Rattle.m11_cpu.specs.declared.addressing.OperandLocation.TheVariants.{InRegister, InMemory}
 use Rattle.m11_cpu_laws.specs.Exchanges.{ComesWithin}
 
 -- ---- what stays
@@ -56,7 +56,7 @@ abbrev pub word_bytes : ℕ → List ℕ
 word_bytes address = address ∷ (address + 1) ∷ []
 
 -- a place in memory has two bytes, or one; a register has none
-abbrev pub place_bytes : Place → Size → List ℕ
+abbrev pub place_bytes : OperandLocation → Size → List ℕ
 place_bytes (InRegister register) size = []
 place_bytes (InMemory address) Word = word_bytes address
 place_bytes (InMemory address) Byte = address ∷ []
@@ -112,7 +112,7 @@ operand_bytes operand size = place_of operand size >>= λ place m. Comes (Ok (pl
 abbrev pub no_bytes : Act (List ℕ)
 no_bytes m = Comes (Ok [], m)
 
--- the bytes that an instruction may write: those of its destination, whose address is formed behind the fetch of a
+-- the bytes that an instruction may write: those of its destination, whose address is formed after the fetch of a
 -- source; and for JSR the word that is pushed once its target is formed. All others write registers, the processor
 -- status and the console at most
 abbrev pub destination_bytes : Insn → Act (List ℕ)
@@ -145,13 +145,13 @@ written_by (Ok done) (Err abort) = []
 written_by (Err abort) bytes = []
 
 -- the words of the trap that follows: an instruction that traps, and a trace trap where T is then set
-abbrev pub pushed_behind : Result Ending Abort → Machine → List ℕ
-pushed_behind (Ok ending.Next) m = if m.status.trace then two_pushed m else []
-pushed_behind (Ok ending.Untraced) m = []
-pushed_behind (Ok ending.Halts) m = []
-pushed_behind (Ok ending.Waits) m = []
-pushed_behind (Err (Traps vector)) m = two_pushed m
-pushed_behind (Err (Stops stop)) m = []
+abbrev pub pushed_after : Result Ending Abort → Machine → List ℕ
+pushed_after (Ok ending.Next) m = if m.status.trace then two_pushed m else []
+pushed_after (Ok ending.Untraced) m = []
+pushed_after (Ok ending.Halts) m = []
+pushed_after (Ok ending.Waits) m = []
+pushed_after (Err (Traps vector)) m = two_pushed m
+pushed_after (Err (Stops stop)) m = []
 
 -- before an abort only registers and the console have changed
 abbrev pub AbortLeaves : {A : Type 0} → Result A Abort → Machine → Machine → Type 0
@@ -159,7 +159,7 @@ AbortLeaves (Ok done) m n = ⊤
 AbortLeaves (Err abort) m n = IsElseAsBefore m n
 
 -- a step writes at most the destination of its instruction, and then the words that its trap pushes. Where the
--- destination is, and what the instruction came to, the console's replies of this very step decide
+-- destination is, and what the instruction yielded, the console's replies of this very step decide
 pub record StepWrites (m : Machine) (exchanges : List Exchange) (m' : Machine) : Type 0 where
   pub destination : Result (List ℕ) Abort × Machine
   pub executed : Result Ending Abort × Machine
@@ -167,5 +167,5 @@ pub record StepWrites (m : Machine) (exchanges : List Exchange) (m' : Machine) :
   pub is_executed : ComesWithin (instruction m) exchanges executed
   pub by_instruction : StaysBut (written_by executed.0 destination.0) m executed.1
   pub by_abort : AbortLeaves executed.0 m executed.1
-  pub by_trap : StaysBut (pushed_behind executed.0 executed.1) executed.1 m'
-  pub by_step : StaysBut (written_by executed.0 destination.0 ++ pushed_behind executed.0 executed.1) m m'
+  pub by_trap : StaysBut (pushed_after executed.0 executed.1) executed.1 m'
+  pub by_step : StaysBut (written_by executed.0 destination.0 ++ pushed_after executed.0 executed.1) m m'

@@ -20,7 +20,7 @@ ghost use Rattle.m11_cpu_laws.specs.Addresses.{no_byte_at, no_word_at, StepFault
 /// Bad addresses trap. A load or a store of a word traps through 4 exactly where the address is odd, or is neither in
 /// memory nor a register's; one of a byte exactly where it is neither in memory nor in the word of a register. JMP and
 /// JSR of a register trap through 10. A trap of which no push fails at a device stops by STACK FAULT exactly where a
-/// push finds no word; and a step comes to it by such a trap alone, its instruction's or the trace trap. (PDP-11/40 Processor Handbook, "Processor traps", JMP, JSR.)
+/// push finds no word; and a step yields it by such a trap alone, its instruction's or the trace trap. (PDP-11/40 Processor Handbook, "Processor traps", JMP, JSR.)
 #[tactic(auto, using(crate::proofs::AddressesTrap::load_word_traps, crate::proofs::AddressesTrap::load_byte_traps, crate::proofs::AddressesTrap::store_word_traps, crate::proofs::AddressesTrap::store_byte_traps, crate::proofs::AddressesTrap::jump_traps, crate::proofs::AddressesTrap::call_traps, crate::proofs::AddressesTrap::trap_faults, crate::proofs::StackFaults::step_faulted))]
 pub fn bad_addresses_trap()
     ensures loads_word { (address : ℕ) (m : Machine) → TrapsWhere (no_word_at address m) (load_word address m) }

@@ -12,7 +12,7 @@ ghost use Rattle.m11_cpu_laws.specs.Receiving.{Hears, LoadHears};
 ghost use Rattle.m11_cpu_laws.specs.Writes.{MakesSteps};
 
 /// A device that fails stops the step, and nothing else does so by the stops 6 and 7. Where no stop stood before, the
-/// step comes to INPUT FAULT exactly where its last exchange is an asking that failed, to OUTPUT FAULT exactly where it
+/// step yields INPUT FAULT exactly where its last exchange is an asking that failed, to OUTPUT FAULT exactly where it
 /// is a byte that was not taken, the pushes of traps included; and no earlier exchange failed. After a step that halts,
 /// waits, or can be followed by another, no stop stands.
 #[tactic(auto, using(crate::proofs::StepsTell::step_fails, crate::proofs::StepsTell::step_goes_on))]

@@ -1,4 +1,4 @@
-//! Laws of steps and runs: what the definitions of the machine come to, in words of their own. Each is the contract of
+//! Laws of steps and runs: what the definitions of the machine yield, in words of their own. Each is the contract of
 //! a function that does nothing; no other crate names them.
 #![tactic(auto)]
 

@@ -1,12 +1,12 @@
 //! Which registers a step may change.
 
 ghost use Rattle.std.specs.Prelude.{[], ◌∷◌, List, ℕ, Result};
-ghost use Rattle.m11_base.specs.Operands.{register_number};
+ghost use Rattle.m11_base.specs.Operand.{register_number};
 ghost use Rattle.m11_base.specs.declared.instruction.Insn.{Insn};
 ghost use Rattle.m11_base.specs.declared.operand.Register.TheVariants.{Sp};
 ghost use Rattle.m11_cpu.specs.Dialogue.{Exchange, Leads};
 ghost use Rattle.m11_cpu.specs.Execution.{execute};
-ghost use Rattle.m11_cpu.specs.Places.{next_word};
+ghost use Rattle.m11_cpu.specs.Addressing.{next_word};
 ghost use Rattle.m11_cpu.specs.Traps.{trap};
 ghost use Rattle.m11_cpu.specs.declared.abort.Abort.{Abort};
 ghost use Rattle.m11_cpu.specs.declared.abort.Vector.{Vector};

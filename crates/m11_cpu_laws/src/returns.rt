@@ -9,7 +9,7 @@ ghost use Rattle.m11_cpu_laws.specs.Returns.{CallIsMade, CallsReturn, HasRoom, I
 
 /// A call comes back. The machine makes steps, and T is clear; JSR is by one of the registers 0 to 5, its operand steps
 /// neither that register nor the stack pointer, and its push goes to memory. Then one step leads to the address that
-/// the operand means. Where RTS by that register stands there behind the push, one more step leads behind the call; it
+/// the operand means. Where RTS by that register stands there after the push, one more step leads after the call; it
 /// asks and sends nothing, and that register and the stack pointer are as they were. Some machine makes such a call. (PDP-11/40 Processor Handbook, JSR
 /// and RTS.)
 #[tactic(auto, using(crate::proofs::CallsBack::calls_back, crate::proofs::CallMade::call_made))]
@@ -19,10 +19,10 @@ pub fn calls_return()
 {}
 
 /// A trap comes back. The machine makes steps, T is clear, and both pushes of the trap go to memory. Then it goes on by
-/// the program counter and the processor status that the vector has behind the pushes. Where RTI stands at that program
+/// the program counter and the processor status that the vector has after the pushes. Where RTI stands at that program
 /// counter, one more step leads back, and program counter, processor status and stack pointer are as they were. Neither
-/// step asks or sends anything. Behind BPT, IOT, EMT, TRAP and a reserved code the program counter is then that of the
-/// word behind the instruction. Of T in the vector's status nothing is asked, since T decides as it is behind RTI.
+/// step asks or sends anything. After BPT, IOT, EMT, TRAP and a reserved code the program counter is then that of the
+/// word after the instruction. Of T in the vector's status nothing is asked, since T decides as it is after RTI.
 /// (PDP-11/40 Processor Handbook, "Processor traps", RTI.)
 #[tactic(auto, using(crate::proofs::TrapsBack::trap_back, crate::proofs::TrapsBack::trap_instructions_back))]
 pub fn traps_return()

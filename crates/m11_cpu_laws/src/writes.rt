@@ -11,9 +11,9 @@ ghost use Rattle.m11_cpu_laws.specs.Writes.{MakesSteps, StaysBut, StepWrites, tw
 
 /// Each byte of memory stays over a step, and so does the size of the memory, but for two kinds of bytes. The first are
 /// those of the destination that the instruction at the program counter has in the handbook: the word or byte of the
-/// operand that it stores to, at the address that is formed behind the fetch of a source, and for JSR the word below
+/// operand that it stores to, at the address that is formed after the fetch of a source, and for JSR the word below
 /// the stack pointer. The others are the two words below the stack pointer that a trap pushes, where the instruction
-/// traps or T is set behind it. Before an instruction is aborted, by a trap or a failed device, only registers and the
+/// traps or T is set after it. Before an instruction is aborted, by a trap or a failed device, only registers and the
 /// console have changed. (PDP-11/40 Processor Handbook, "Instruction set", "Processor traps".)
 #[tactic(auto, using(crate::proofs::StepsWrite::step_writes, crate::proofs::StepsWrite::trap_writes))]
 pub fn memory_stays()

@@ -3,7 +3,7 @@ use Rattle.std.proofs.Common.{◌≡◌, ◌∙◌, sym, ap, refl, ℕ, ◌+◌,
 use Rattle.std.proofs.lemmas.Iterator.Adapters.{position_from-zero}
 use Rattle.std.proofs.lemmas.List.Quantifiers.{position-Some}
 use Rattle.std.specs.List.{position_from}
-use Rattle.m11_files.specs.Files.{kept_among}
+use Rattle.m11_files.specs.Opens.{kept_among}
 use Rattle.m11_files.specs.MemoryFiles.{has_path, made_of}
 use Rattle.m11_files.specs.declared.memory_files.MadeFile.{MadeFile}
 

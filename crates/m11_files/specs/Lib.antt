@@ -1,2 +1,2 @@
-pub mod Files
+pub mod Opens
 pub mod MemoryFiles

@@ -2,7 +2,7 @@
 use Rattle.std.specs.Prelude.{Bool, List, [], ◌∷◌, ℕ, map, Option, Some, None, option_map, if◌then◌else◌, string_bytes}
 use Rattle.std.specs.Str.{bytes_eq}
 use Rattle.m11_base.specs.Feed.{Text, Ends}
-use Rattle.m11_files.specs.Files.{Made, Files}
+use Rattle.m11_files.specs.Opens.{Made, Files}
 use Rattle.m11_files.specs.declared.memory_files.MadeFile.{MadeFile}
 use Rattle.m11_files.specs.declared.memory_files.MemoryFile.{MemoryFile}
 

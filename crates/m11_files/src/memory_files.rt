@@ -1,7 +1,7 @@
 //! Files in memory.
 
 ghost use Rattle.std.specs.Prelude.{◌≡◌, [], Some, map, option_map, position};
-ghost use Rattle.m11_files.specs.Files.{kept_among};
+ghost use Rattle.m11_files.specs.Opens.{kept_among};
 ghost use Rattle.m11_files.specs.MemoryFiles.{files_of, has_path, held_among, made_of, text_of};
 
 use crate::opens::{OpenRefusal, Opens};

@@ -1,7 +1,7 @@
 //! What opens the files of a task.
 
 ghost use Rattle.std.specs.Prelude.{◌≡◌, ℕ, Option, IfOk};
-ghost use Rattle.m11_files.specs.Files.{Files, Creates, CountsRefusal, Finds, IsEmptied, keeping};
+ghost use Rattle.m11_files.specs.Opens.{Files, Creates, CountsRefusal, Finds, IsEmptied, keeping};
 
 use m11_base::{Feed, Sink};
 

@@ -1,7 +1,7 @@
 //! The files of the system.
 
 ghost use Rattle.std.specs.Prelude.{◌≡◌};
-ghost use Rattle.m11_files.specs.Files.{Counts};
+ghost use Rattle.m11_files.specs.Opens.{Counts};
 
 use crate::opens::{OpenRefusal, Opens};
 use m11_base::{BufferedFeed, WriterSink};

@@ -1,4 +1,4 @@
--- Sections one behind another have the bases of the definitions, or one of them ends too high.
+-- Sections one after another have the bases of the definitions, or one of them ends too high.
 use Rattle.std.proofs.Common.{◌≡◌, option_and_then, ℕ, ◌+◌, min, sum_by, Bool, true, false, ◌&&◌, ◌||◌, nat_lt, if◌then◌else◌, List, [], ◌∷◌, ◌++◌, map, append-nil, Option, Some, None, refl, sym, ap, ◌∙◌, subst, arith}
 use Rattle.std.specs.List.{list_any}
 use Rattle.std.proofs.Math.Seq.{append_snoc}
@@ -9,8 +9,8 @@ use Rattle.indexmap.specs.IndexMap.{insert_entry}
 use Rattle.m11_modules.specs.Names.{is_name}
 use Rattle.m11_modules.specs.Parts.{Part}
 use Rattle.m11_modules.specs.Places.{section_names}
-use Rattle.m11_layout.specs.Gathering.{size_cap}
-use Rattle.m11_layout.specs.Planning.{Bases, bases_onto}
+use Rattle.m11_layout.specs.Tables.{size_cap}
+use Rattle.m11_layout.specs.Plan.{Bases, bases_onto}
 use Rattle.m11_layout.specs.Sections.{first_attributes, flags_of, is_relocatable, is_too_large, names_before, section_base, section_size, top}
 use Rattle.m11_layout.specs.declared.definition.Total.{Total}
 use Rattle.m11_layout.proofs.Finding.{neither, Apart, is_name_itself, is_name_same, turned}
@@ -75,13 +75,13 @@ capped_test next size = grind (arith, nat_tests)
 uncapped : (next size : ℕ) → nat_lt 57344 (next + size) ≡ false → min 65536 size ≡ size
 uncapped next size e = grind (arith, nat_tests)
 
--- one section more, where the others lead to this answer
+-- one section more, where the others lead to this result
 module _ (onto : List (Name × ℕ) → ℕ → Option Bases) (bases : List (Name × ℕ)) (name : Name) (next size : ℕ)
     (more : Bool) (answer : Bases)
     (last : (value : ℕ) → insert_entry is_name bases name value ≡ bases ++ (name, value) ∷ []) where
   lower : (high : Bool) → (high ≡ false → min 65536 size ≡ size)
       → onto (bases ++ (name, next) ∷ []) (next + size) ≡ (if more then None else Some answer)
-      → option_and_then (λ (behind : Bases). onto behind.bases behind.top)
+      → option_and_then (λ (following : Bases). onto following.bases following.top)
       (if high then None else Some
       (record { bases = insert_entry is_name bases name next; top = next + min 65536 size }))
       ≡ (if high || more then None else Some answer)
@@ -95,17 +95,17 @@ module _ (onto : List (Name × ℕ) → ℕ → Option Bases) (bases : List (Nam
   pub one_placed : (relocatable : Bool) (base : ℕ) → base ≡ next
       → onto (bases ++ (name, (if relocatable then base else 0)) ∷ []) (next + (if relocatable then size else 0))
       ≡ (if more then None else Some answer)
-      → option_and_then (λ (behind : Bases). onto behind.bases behind.top)
+      → option_and_then (λ (following : Bases). onto following.bases following.top)
       (if relocatable
       then (if nat_lt 57344 (next + min 65536 size) then None
       else Some (record { bases = insert_entry is_name bases name next; top = next + min 65536 size }))
       else Some (record { bases = insert_entry is_name bases name 0; top = next }))
       ≡ (if (relocatable && nat_lt 57344 ((if relocatable then base else 0) + size)) || more then None else Some answer)
   one_placed true base e h =
-      let P : Bool → Type 0 = λ b. option_and_then (λ (behind : Bases). onto behind.bases behind.top)
+      let P : Bool → Type 0 = λ b. option_and_then (λ (following : Bases). onto following.bases following.top)
       (if b then None else Some (record { bases = insert_entry is_name bases name next; top = next + min 65536 size }))
       ≡ (if nat_lt 57344 (base + size) || more then None else Some answer) in
-      let Q : ℕ → Type 0 = λ n. option_and_then (λ (behind : Bases). onto behind.bases behind.top)
+      let Q : ℕ → Type 0 = λ n. option_and_then (λ (following : Bases). onto following.bases following.top)
       (if nat_lt 57344 (next + size) then None else Some
       (record { bases = insert_entry is_name bases name next; top = next + min 65536 size }))
       ≡ (if nat_lt 57344 (n + size) || more then None else Some answer) in

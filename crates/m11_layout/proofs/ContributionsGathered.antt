@@ -13,7 +13,7 @@ use Rattle.m11_modules.specs.Names.{is_name}
 use Rattle.m11_modules.specs.Parts.{Part, Directory, Entry, EndOfDirectory, Text, Relocations, Relocated, EndOfModule, EndOfFile}
 use Rattle.m11_modules.specs.Places.{global_of, known_of, modules_in, section_by, section_in, sections_in, this_module}
 use Rattle.m11_modules.specs.Rules.{entry_fault, fault_known, fault_of, first_there, is_past, most_sections}
-use Rattle.m11_layout.specs.Gathering.{Gathered, gathered_behind, is_contribution, next_offset, nothing_gathered, with_entry}
+use Rattle.m11_layout.specs.Tables.{Gathered, gathered_after, is_contribution, next_offset, nothing_gathered, with_entry}
 use Rattle.m11_layout.specs.Modules.{module_at}
 use Rattle.m11_layout.specs.Sections.{attribute_bits, attributes_by, attributes_in, control_attributes}
 use Rattle.m11_layout.proofs.OneContribution.{contribution_entered, contribution_kept}
@@ -63,8 +63,8 @@ none_there : (found : Option ℕ) (past : Bool) → first_there
 none_there None past e = refl
 none_there (Some size) past e = search
 
-abbrev contributions_told : Gathered → Contributions
-contributions_told g = g.contributions
+abbrev contributions_reported : Gathered → Contributions
+contributions_reported g = g.contributions
 
 entry_step : (bottom : ℕ) (before : List Part) (g : Gathered) (kind : GsdKind) (entry : GsdEntry)
     → filter_map attributes_in (Entry entry ∷ []) ≡ cons_option (attributes_by kind entry) []
@@ -86,7 +86,7 @@ entry_step bottom before g ModuleName entry a s n l t c = kept before (Entry ent
 entry_step bottom before g InternalSymbol entry a s n l t c = kept before (Entry entry) g.contributions _ refl a s c
 entry_step bottom before g TransferAddress entry a s n l t c = kept before (Entry entry) g.contributions _ refl a s c
 entry_step bottom before g GlobalSymbol entry a s n l t c =
-    kept before (Entry entry) g.contributions _ (symbol_keeps contributions_told g
+    kept before (Entry entry) g.contributions _ (symbol_keeps contributions_reported g
     (λ definitions references weak. refl) entry) a s c
 entry_step bottom before g Identification entry a s n l t c = kept before (Entry entry) g.contributions _ refl a s c
 
@@ -98,8 +98,8 @@ no_fault before entry n = n
 
 pub contributions_step : (bottom : ℕ) (before : List Part) (g : Gathered) (part : Part) → fault_of before part ≡ None
     → length g.names ≡ modules_in before → SectionsOf before g.sections → ContributionsOf before g.contributions
-    → ContributionsOf (before ++ part ∷ []) (gathered_behind bottom g part).contributions
-unfolding gathered_behind
+    → ContributionsOf (before ++ part ∷ []) (gathered_after bottom g part).contributions
+unfolding gathered_after
 contributions_step bottom before g Directory n l t c = kept before Directory g.contributions _ refl refl refl c
 contributions_step bottom before g (Entry entry) n l t c =
     entry_step bottom before g entry.kind entry refl refl (no_fault before entry n) l t c
@@ -110,7 +110,7 @@ contributions_step bottom before g (Text address bytes) n l t c =
 contributions_step bottom before g Relocations n l t c = kept before Relocations g.contributions _ refl refl refl c
 contributions_step bottom before g (Relocated relocation) n l t c =
     kept before (Relocated relocation) g.contributions _
-    (relocated_keeps contributions_told g (λ definitions references weak. refl)
+    (relocated_keeps contributions_reported g (λ definitions references weak. refl)
     (global_of relocation.target)) refl refl c
 contributions_step bottom before g EndOfModule n l t c = kept before EndOfModule g.contributions _ refl refl refl c
 contributions_step bottom before g EndOfFile n l t c = kept before EndOfFile g.contributions _ refl refl refl c

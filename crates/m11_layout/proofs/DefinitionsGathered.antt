@@ -8,7 +8,7 @@ use Rattle.m11_obj.specs.declared.gsd.GsdKind.TheVariants.{ModuleName, ControlSe
 use Rattle.m11_modules.specs.Parts.{Part, Directory, Entry, EndOfDirectory, Text, Relocations, Relocated, EndOfModule, EndOfFile}
 use Rattle.m11_modules.specs.Places.{distinct, global_of, modules_in, this_module}
 use Rattle.m11_modules.specs.Rules.{defines, has_bits}
-use Rattle.m11_layout.specs.Gathering.{Gathered, gathered_behind, nothing_gathered, with_definition, with_entry, with_first, with_reference, with_relocated, with_weak}
+use Rattle.m11_layout.specs.Tables.{Gathered, gathered_after, nothing_gathered, with_definition, with_entry, with_first, with_reference, with_relocated, with_weak}
 use Rattle.m11_layout.specs.Globals.{definition_by, definition_in, definitions_of, first_definition, last_section, place_of}
 use Rattle.m11_layout.specs.declared.definition.Definition.{Definition}
 use Rattle.std.specs.Option.{option_or}
@@ -19,7 +19,7 @@ use Rattle.indexmap.proofs.SetLemmas.{keys_insert_entry}
 use Rattle.m11_modules.specs.Names.{is_name}
 use Rattle.m11_layout.proofs.Finding.{is_name_itself, is_name_same, lookup_append, lookup_inserted}
 use Rattle.m11_layout.proofs.Sizing.{or_none}
-use Rattle.m11_layout.proofs.Telling.{names_more, told_more}
+use Rattle.m11_layout.proofs.Reporting.{names_more, reported_more}
 
 abbrev Definitions : Type 0
 Definitions = List ((ℕ × ℕ) × Definition)
@@ -32,7 +32,7 @@ pub record DefinitionsOf (before : List Part) (table : List ((ℕ × ℕ) × Def
 definitions_more : (before : List Part) (part : Part)
     → definitions_of (before ++ part ∷ []) ≡ definitions_of before ++ cons_option (definition_in before part) []
 unfolding definitions_of
-definitions_more before part = told_more definition_in before part
+definitions_more before part = reported_more definition_in before part
 
 -- a pair more, which counts where it is the first of its name
 first_keys : (b : Bool) (table : Definitions) (pair : (ℕ × ℕ) × Definition)
@@ -75,17 +75,17 @@ first_found b table pair name e =
     either true = refl
     either false = lookup_inserted is_name is_name_same is_name_itself name pair.0 pair.1 table
 
-pair_more : (pairs table : Definitions) (told : Option ((ℕ × ℕ) × Definition))
+pair_more : (pairs table : Definitions) (reported : Option ((ℕ × ℕ) × Definition))
     → keys_of table ≡ distinct (keys_of pairs)
-    → keys_of (with_first table told) ≡ distinct (keys_of (pairs ++ cons_option told []))
+    → keys_of (with_first table reported) ≡ distinct (keys_of (pairs ++ cons_option reported []))
 pair_more pairs table None e = e ∙ ap (λ these. distinct (keys_of these)) (sym (append-nil pairs))
 pair_more pairs table (Some pair) e =
     first_keys (is_some (lookup (is_name pair.0) table)) table pair refl
     ∙ ap (λ names. insert_key is_name names pair.0) e ∙ sym (names_more pairs pair)
 
-pair_found : (pairs table : Definitions) (told : Option ((ℕ × ℕ) × Definition)) (name : ℕ × ℕ)
+pair_found : (pairs table : Definitions) (reported : Option ((ℕ × ℕ) × Definition)) (name : ℕ × ℕ)
     → lookup (is_name name) table ≡ lookup (is_name name) pairs
-    → lookup (is_name name) (with_first table told) ≡ lookup (is_name name) (pairs ++ cons_option told [])
+    → lookup (is_name name) (with_first table reported) ≡ lookup (is_name name) (pairs ++ cons_option reported [])
 pair_found pairs table None name e = e ∙ ap (λ these. lookup (is_name name) these) (sym (append-nil pairs))
 pair_found pairs table (Some pair) name e =
     first_found (is_some (lookup (is_name pair.0) table)) table pair name refl
@@ -117,33 +117,33 @@ relocated_definitions : (global : Option (ℕ × ℕ)) (g : Gathered) → (with_
 relocated_definitions None g = refl
 relocated_definitions (Some name) g = refl
 
-told_definitions : (bottom : ℕ) (before : List Part) (g : Gathered) (part : Part) → length g.names ≡ modules_in before
+reported_definitions : (bottom : ℕ) (before : List Part) (g : Gathered) (part : Part) → length g.names ≡ modules_in before
     → g.section ≡ last_section (this_module before)
-    → (gathered_behind bottom g part).definitions ≡ with_first g.definitions (definition_in before part)
-unfolding gathered_behind
-told_definitions bottom before g Directory l s = refl
-told_definitions bottom before g (Entry entry) l s =
+    → (gathered_after bottom g part).definitions ≡ with_first g.definitions (definition_in before part)
+unfolding gathered_after
+reported_definitions bottom before g Directory l s = refl
+reported_definitions bottom before g (Entry entry) l s =
     entry_definitions bottom entry.kind entry g
     ∙ (λ j. with_first g.definitions (definition_by entry.kind entry (l j) (s j)))
-told_definitions bottom before g EndOfDirectory l s = refl
-told_definitions bottom before g (Text address bytes) l s = refl
-told_definitions bottom before g Relocations l s = refl
-told_definitions bottom before g (Relocated relocation) l s = relocated_definitions (global_of relocation.target) g
-told_definitions bottom before g EndOfModule l s = refl
-told_definitions bottom before g EndOfFile l s = refl
+reported_definitions bottom before g EndOfDirectory l s = refl
+reported_definitions bottom before g (Text address bytes) l s = refl
+reported_definitions bottom before g Relocations l s = refl
+reported_definitions bottom before g (Relocated relocation) l s = relocated_definitions (global_of relocation.target) g
+reported_definitions bottom before g EndOfModule l s = refl
+reported_definitions bottom before g EndOfFile l s = refl
 
 pub definitions_step : (bottom : ℕ) (before : List Part) (g : Gathered) (part : Part)
     → length g.names ≡ modules_in before
     → g.section ≡ last_section (this_module before) → DefinitionsOf before g.definitions
-    → DefinitionsOf (before ++ part ∷ []) (gathered_behind bottom g part).definitions
+    → DefinitionsOf (before ++ part ∷ []) (gathered_after bottom g part).definitions
 definitions_step bottom before g part l s d =
-    let told = told_definitions bottom before g part l s in
+    let reported = reported_definitions bottom before g part l s in
     let more = definitions_more before part in
     record {
-      names = ap (λ table. keys_of table) told ∙ pair_more (definitions_of before) g.definitions
+      names = ap (λ table. keys_of table) reported ∙ pair_more (definitions_of before) g.definitions
           (definition_in before part) d.names
           ∙ ap (λ pairs. distinct (keys_of pairs)) (sym more);
-      found = λ name. ap (λ table. lookup (is_name name) table) told
+      found = λ name. ap (λ table. lookup (is_name name) table) reported
           ∙ pair_found (definitions_of before) g.definitions (definition_in before part) name (d.found name)
           ∙ ap (λ pairs. lookup (is_name name) pairs) (sym more);
     }

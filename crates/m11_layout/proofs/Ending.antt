@@ -1,4 +1,4 @@
--- The end of the first reading.
+-- The end of the first pass.
 use Rattle.std.proofs.Common.{◌≡◌, ℕ, if◌then◌else◌, List, [], ◌∷◌, ◌++◌, append-nil, Option, Some, None, Result, Ok, Err, refl, sym, subst}
 use Rattle.std.specs.Option.{option_or}
 use Rattle.std.proofs.Math.Seq.{append_snoc}
@@ -9,10 +9,10 @@ use Rattle.m11_modules.specs.declared.stage.Stage.TheVariants.{Between, InDirect
 use Rattle.m11_modules.specs.Parts.{Part, EndOfFile}
 use Rattle.m11_modules.specs.Places.{known_of}
 use Rattle.m11_modules.specs.Rules.{fault_known, fault_of, first_fault, may_stand}
-use Rattle.m11_layout.specs.Faults.{of_module}
-use Rattle.m11_layout.specs.Gathering.{Gathered, gathered_behind, gathered_behind_all, nothing_gathered}
-use Rattle.m11_layout.specs.Planning.{Ends, IsPlan, Places, Planned, Plans, bases_onto}
-use Rattle.m11_layout.specs.Reading.{FirstFault, Reading, Stands}
+use Rattle.m11_layout.specs.Fault.{of_module}
+use Rattle.m11_layout.specs.Tables.{Gathered, gathered_after, gathered_after_all, nothing_gathered}
+use Rattle.m11_layout.specs.Plan.{LayoutEnds, IsPlan, Places, Planned, Plans, bases_onto}
+use Rattle.m11_layout.specs.Layout.{FirstFault, LayoutState, LayoutStands}
 use Rattle.m11_layout.specs.declared.fault.LinkFault.{LinkFault}
 use Rattle.m11_layout.specs.declared.fault.LinkFault.TheVariants as fault
 use Rattle.m11_layout.proofs.PlansOfParts.{plan_is, too_large_is}
@@ -41,7 +41,7 @@ plan_failed bottom gathered entries new fault.TooManyModules e h = h
 plan_failed bottom gathered entries new fault.TooMuch e h = h
 plan_failed bottom gathered entries new fault.TextOutside e h = h
 
--- ---- behind the end of the last file
+-- ---- after the end of the last file
 
 end_sound : (done before : List Part) → first_fault done (before ++ EndOfFile ∷ []) ≡ None
     → fault_of (done ++ before) EndOfFile ≡ None
@@ -65,13 +65,13 @@ rest_sound done (part ∷ before) e =
     subst P (sym first) (rest_sound (done ++ part ∷ []) before (rest_none (fault_of done part) rest e))
 
 nothing_more : (bottom : ℕ) (before : List Part)
-    → gathered_behind_all bottom nothing_gathered (before ++ EndOfFile ∷ [])
-    ≡ gathered_behind_all bottom nothing_gathered before
-unfolding gathered_behind
+    → gathered_after_all bottom nothing_gathered (before ++ EndOfFile ∷ [])
+    ≡ gathered_after_all bottom nothing_gathered before
+unfolding gathered_after
 nothing_more bottom before = gathered_append bottom nothing_gathered before (EndOfFile ∷ [])
 
-planned : (bottom : ℕ) (before : List Part) (reading : Reading) (plan : Planned)
-    → Stands bottom (before ++ EndOfFile ∷ []) reading
+planned : (bottom : ℕ) (before : List Part) (reading : LayoutState) (plan : Planned)
+    → LayoutStands bottom (before ++ EndOfFile ∷ []) reading
     → Plans reading.bottom reading.gathered (Ok plan) → IsPlan bottom before plan
 planned bottom before reading plan s h =
     let P : Gathered → Type 0 = λ g. plan.gathered ≡ g in
@@ -86,18 +86,18 @@ planned bottom before reading plan s h =
       bottom_is = subst Q s.bottom_is h.1;
     }
 
-too_large : (bottom : ℕ) (before : List Part) (reading : Reading) → Stands bottom (before ++ EndOfFile ∷ []) reading
+too_large : (bottom : ℕ) (before : List Part) (reading : LayoutState) → LayoutStands bottom (before ++ EndOfFile ∷ []) reading
     → bases_onto [] reading.bottom reading.gathered.sections ≡ None
-    → bases_onto [] bottom (gathered_behind_all bottom nothing_gathered before).sections ≡ None
+    → bases_onto [] bottom (gathered_after_all bottom nothing_gathered before).sections ≡ None
 too_large bottom before reading s h =
     let P : Gathered → Type 0 = λ g. bases_onto [] bottom g.sections ≡ None in
     let S : ℕ → Type 0 = λ n. bases_onto [] n reading.gathered.sections ≡ None in
     subst P (nothing_more bottom before) (subst P s.gathered (subst S s.bottom_is h))
 
--- the plan behind the end of the last file
-pub ended : (bottom : ℕ) (before : List Part) (reading : Reading) (result : Result Planned LinkFault)
-    → Stands bottom (before ++ EndOfFile ∷ []) reading → Plans reading.bottom reading.gathered result
-    → Ends bottom before result
+-- the plan after the end of the last file
+pub ended : (bottom : ℕ) (before : List Part) (reading : LayoutState) (result : Result Planned LinkFault)
+    → LayoutStands bottom (before ++ EndOfFile ∷ []) reading → Plans reading.bottom reading.gathered result
+    → LayoutEnds bottom before result
 ended bottom before reading (Ok plan) s h = (
   end_sound [] before s.sound,
   plan_is bottom before plan (rest_sound [] before s.sound)
@@ -123,12 +123,12 @@ ended bottom before reading (Err fault.TooManyModules) s h = absurd h
 ended bottom before reading (Err fault.TooMuch) s h = absurd h
 ended bottom before reading (Err fault.TextOutside) s h = absurd h
 
-pub ended_seen : {seen : Reading} (bottom : ℕ) (before : List Part) (reading : Reading)
+pub ended_seen : {seen : LayoutState} (bottom : ℕ) (before : List Part) (reading : LayoutState)
     (result : Result Planned LinkFault) → seen ≡ reading
-    → Stands bottom (before ++ EndOfFile ∷ []) reading → Plans seen.bottom seen.gathered result
-    → Ends bottom before result
+    → LayoutStands bottom (before ++ EndOfFile ∷ []) reading → Plans seen.bottom seen.gathered result
+    → LayoutEnds bottom before result
 ended_seen {seen} bottom before reading result is s h =
-    let P : Reading → Type 0 = λ r. Stands bottom (before ++ EndOfFile ∷ []) r in
+    let P : LayoutState → Type 0 = λ r. LayoutStands bottom (before ++ EndOfFile ∷ []) r in
     ended bottom before seen result (subst P (sym is) s) h
 
 -- ---- an end inside a module
@@ -145,16 +145,16 @@ pub end_fault : (before : List Part) (said : ModuleFault) → first_fault before
 unfolding first_fault fault_known
 end_fault before said e = inside (known_of before).stage said e
 
-ends_inside : (bottom : ℕ) (before : List Part) (told : LinkFault) (said : ModuleFault)
-    → first_fault before (EndOfFile ∷ []) ≡ Some said → told ≡ of_module said → Ends bottom before (Err told)
-ends_inside bottom before told said e t =
+ends_inside : (bottom : ℕ) (before : List Part) (reported : LinkFault) (said : ModuleFault)
+    → first_fault before (EndOfFile ∷ []) ≡ Some said → reported ≡ of_module said → LayoutEnds bottom before (Err reported)
+ends_inside bottom before reported said e t =
     let f = end_fault before said e in
-    let P : ModuleFault → Type 0 = λ m. told ≡ of_module m in
-    let Q : LinkFault → Type 0 = λ l. Ends bottom before (Err l) in
+    let P : ModuleFault → Type 0 = λ m. reported ≡ of_module m in
+    let Q : LinkFault → Type 0 = λ l. LayoutEnds bottom before (Err l) in
     subst Q (sym (subst P f.0 t)) f.1
 
-pub end_refused : (bottom : ℕ) (before : List Part) (told : LinkFault) → FirstFault before (EndOfFile ∷ []) told
-    → Ends bottom before (Err told)
+pub end_refused : (bottom : ℕ) (before : List Part) (reported : LinkFault) → FirstFault before (EndOfFile ∷ []) reported
+    → LayoutEnds bottom before (Err reported)
 end_refused bottom before fault.NoMemory h = tt
 end_refused bottom before fault.TooLarge h = ends_inside bottom before fault.TooLarge h.0 h.1 h.2
 end_refused bottom before fault.Read h = ends_inside bottom before fault.Read h.0 h.1 h.2

@@ -1,10 +1,10 @@
--- Contributions of relocatable sections lie at even distances from the bottom, so an address behind one is even by the
+-- Contributions of relocatable sections lie at even distances from the bottom, so an address after one is even by the
 -- bottom and its value.
 use Rattle.std.proofs.Common.{◌≡◌, ℕ, ◌+◌, ◌%◌, max, sum, sum_by, nat_eq, Bool, true, false, ◌&&◌, not, if◌then◌else◌, List, [], ◌∷◌, map, is_some, Option, Some, None, refl, sym, ap, subst, arith}
 use Rattle.std.proofs.lemmas.List.Sums.{sum_by-cons}
 use Rattle.m11_modules.specs.Parts.{Part}
 use Rattle.m11_modules.specs.Places.{section_names}
-use Rattle.m11_layout.specs.Gathering.{is_even_behind}
+use Rattle.m11_layout.specs.Tables.{is_even_after}
 use Rattle.m11_layout.specs.Modules.{modules_before}
 use Rattle.m11_layout.specs.Sections.{base_entered, contribution_base, first_attributes, greatest, is_overlaid, is_relocatable, module_base, names_before, room_of, rounded, section_base, section_size, sizes_of}
 use Rattle.m11_layout.specs.Transfers.{is_even, transfer_value}
@@ -78,7 +78,7 @@ even_none value = omega arith
 even_by : (entered : Option ℕ) (relocatable overlaid : Bool) (bottom rooms value : ℕ) (sizes : List ℕ) → Even rooms
     → is_even ((base_entered entered ((if relocatable then bottom + rooms else 0)
     + (if relocatable && not overlaid then sum (map rounded sizes) else 0)) % 65536 + value) % 65536)
-    ≡ is_even_behind (is_some entered && relocatable) bottom value
+    ≡ is_even_after (is_some entered && relocatable) bottom value
 even_by None relocatable overlaid bottom rooms value sizes e = ap (λ n. nat_eq n 0) (even_none value)
 even_by (Some size) true overlaid bottom rooms value sizes e =
     ap (λ n. nat_eq n 0) (even_far bottom rooms (if not overlaid then sum (map rounded sizes) else 0) value e
@@ -87,7 +87,7 @@ even_by (Some size) false overlaid bottom rooms value sizes e = ap (λ n. nat_eq
 
 pub even_is : (bottom : ℕ) (parts : List Part) (transfer : Transfer)
     → is_even (transfer_value bottom parts transfer)
-    ≡ is_even_behind (relocated_at parts transfer.module_index transfer.section) bottom transfer.value
+    ≡ is_even_after (relocated_at parts transfer.module_index transfer.section) bottom transfer.value
 unfolding module_base contribution_base section_base
 even_is bottom parts transfer =
     even_by (entered_at parts transfer.module_index transfer.section)

@@ -8,8 +8,8 @@ use Rattle.std.proofs.lemmas.List.Folds.{list_any-append}
 use Rattle.indexmap.specs.IndexMap.{insert_entry}
 use Rattle.indexmap.specs.IndexSet.{insert_key}
 use Rattle.m11_modules.specs.Names.{is_name}
-use Rattle.m11_modules.specs.Places.{distinct, distinct_behind}
-use Rattle.m11_layout.specs.Gathering.{is_contribution}
+use Rattle.m11_modules.specs.Places.{distinct, distinct_after}
+use Rattle.m11_layout.specs.Tables.{is_contribution}
 
 -- ---- two names are one where the test says so
 
@@ -54,10 +54,10 @@ same_tests : {A : Type 0} (b : Bool) (x y z : A) → cond b x y ≡ cond b x (co
 same_tests true x y z = refl
 same_tests false x y z = refl
 
-chosen_or : {X : Type 0} (b : Bool) (x : X) (this behind more : Option X) → this ≡ option_or behind more
-    → cond b (Some x) this ≡ option_or (cond b (Some x) behind) more
-chosen_or true x this behind more e = refl
-chosen_or false x this behind more e = e
+chosen_or : {X : Type 0} (b : Bool) (x : X) (this following more : Option X) → this ≡ option_or following more
+    → cond b (Some x) this ≡ option_or (cond b (Some x) following) more
+chosen_or true x this following more e = refl
+chosen_or false x this following more e = e
 
 pub lookup_append : {K X : Type 0} (test : K → Bool) (es fs : List (K × X))
     → lookup test (es ++ fs) ≡ option_or (lookup test es) (lookup test fs)
@@ -101,7 +101,7 @@ module _ {K : Type 0} (eq : K → K → Bool) (same : (x y : K) → eq x y ≡ t
       ap (λ o. cond (eq q e.0) (Some e.1) o) h ∙ swap_tests (eq q e.0) (eq q k) (Some e.1) (Some v)
       (lookup (eq q) es) two
 
-  -- what is found behind one more pair
+  -- what is found after one more pair
   pub lookup_inserted : {X : Type 0} (q k : K) (v : X) (es : List (K × X))
       → lookup (eq q) (insert_entry eq es k v) ≡ cond (eq q k) (Some v) (lookup (eq q) es)
   lookup_inserted q k v [] = refl
@@ -135,13 +135,13 @@ module _ {K : Type 0} (eq : K → K → Bool) (same : (x y : K) → eq x y ≡ t
   pub apart_inserted : (ks : List K) (k : K) → Apart eq ks → Apart eq (insert_key eq ks k)
   apart_inserted ks k d = inserted_apart (list_any (eq k) ks) ks k refl d
 
-  found_behind : {X : Type 0} (f : K → X) (e : K × X) (es : List (K × X)) (q : K) (b : Bool) → eq q e.0 ≡ b
+  found_after : {X : Type 0} (f : K → X) (e : K × X) (es : List (K × X)) (q : K) (b : Bool) → eq q e.0 ≡ b
       → list_any (eq e.0) (keys_of es) ≡ false
       → list_any (eq q) (keys_of es) ≡ true → cond (eq q e.0) (Some e.1) (lookup (eq q) es) ≡ Some (f q)
       → lookup (eq q) es ≡ Some (f q)
-  found_behind {X} f e es q false t d a h =
+  found_after {X} f e es q false t d a h =
       let P : Bool → Type 0 = λ b. cond b (Some e.1) (lookup (eq q) es) ≡ Some (f q) in subst P t h
-  found_behind f e es q true t d a h =
+  found_after f e es q true t d a h =
       let P : K → Type 0 = λ k. list_any (eq k) (keys_of es) ≡ true in
       absurd (true≢false (sym (subst P (same q e.0 t) a) ∙ d))
 
@@ -154,7 +154,7 @@ module _ {K : Type 0} (eq : K → K → Bool) (same : (x y : K) → eq x y ≡ t
       let P : Bool → Type 0 = λ b. (b || list_any (eq e.0) (keys_of es)) ≡ true in
       let Q : Bool → Type 0 = λ b. cond b (Some e.1) (lookup (eq e.0) es) ≡ Some (f e.0) in
       let first = same_some e.1 (f e.0) (subst Q (itself e.0) (h e.0 (subst P (sym (itself e.0)) refl))) in
-      let rest = pairs_found f es d.1 (λ q t. found_behind f e es q (eq q e.0) refl d.0 t
+      let rest = pairs_found f es d.1 (λ q t. found_after f e es q (eq q e.0) refl d.0 t
       (h q (or_true (eq q e.0) (list_any (eq q) (keys_of es)) t))) in
       paired e es (f e.0) (map (λ k. (k, f k)) (keys_of es)) first rest
 
@@ -166,25 +166,25 @@ module _ {K : Type 0} (eq : K → K → Bool) (same : (x y : K) → eq x y ≡ t
       let P : K → Type 0 = λ k. list_any (eq k) (keys_of es) ≡ true in
       absurd (true≢false (sym (subst P (same q e.0 t) a) ∙ d))
 
-  -- what is told by name of pairs whose names stand once is what the pairs tell
-  pub each_told : {X Y : Type 0} (tell : K → X → Y) (find : K → Option X) (es : List (K × X)) → Apart eq (keys_of es)
+  -- what is said by name of pairs whose names stand once is what the pairs say
+  pub each_reported : {X Y : Type 0} (report : K → X → Y) (find : K → Option X) (es : List (K × X)) → Apart eq (keys_of es)
       → ((q : K) → list_any (eq q) (keys_of es) ≡ true → find q ≡ lookup (eq q) es)
-      → filter_map (λ k. option_map (tell k) (find k)) (keys_of es) ≡ map (λ e. tell e.0 e.1) es
-  each_told tell find [] d h = refl
-  each_told tell find (e ∷ es) d h =
+      → filter_map (λ k. option_map (report k) (find k)) (keys_of es) ≡ map (λ e. report e.0 e.1) es
+  each_reported report find [] d h = refl
+  each_reported report find (e ∷ es) d h =
       let P : Bool → Type 0 = λ b. (b || list_any (eq e.0) (keys_of es)) ≡ true in
       let first = h e.0 (subst P (sym (itself e.0)) refl)
       ∙ ap (λ b. cond b (Some e.1) (lookup (eq e.0) es)) (itself e.0) in
-      let rest = each_told tell find es d.1 (λ q t. found_later e es q (eq q e.0) (find q) refl d.0 t
+      let rest = each_reported report find es d.1 (λ q t. found_later e es q (eq q e.0) (find q) refl d.0 t
       (h q (or_true (eq q e.0) (list_any (eq q) (keys_of es)) t))) in
-      λ j. cons_option (option_map (tell e.0) (first j)) (rest j)
+      λ j. cons_option (option_map (report e.0) (first j)) (rest j)
 
--- names that are told in order of first appearance stand once
-apart_behind : (seen names : List (ℕ × ℕ)) → Apart is_name seen → Apart is_name (distinct_behind seen names)
-apart_behind seen [] d = d
-apart_behind seen (name ∷ names) d =
-    apart_behind (insert_key is_name seen name) names (apart_inserted is_name is_name_same is_name_itself seen name d)
+-- names that are reported in order of first appearance stand once
+apart_after : (seen names : List (ℕ × ℕ)) → Apart is_name seen → Apart is_name (distinct_after seen names)
+apart_after seen [] d = d
+apart_after seen (name ∷ names) d =
+    apart_after (insert_key is_name seen name) names (apart_inserted is_name is_name_same is_name_itself seen name d)
 
 pub apart_distinct : (names : List (ℕ × ℕ)) → Apart is_name (distinct names)
 unfolding distinct
-apart_distinct names = apart_behind [] names tt
+apart_distinct names = apart_after [] names tt

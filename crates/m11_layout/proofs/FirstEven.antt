@@ -1,18 +1,18 @@
--- The first transfer entry with an even address, behind one more part.
+-- The first transfer entry with an even address, after one more part.
 use Rattle.std.proofs.Common.{◌≡◌, ℕ, ◌+◌, nat_eq, nat_lt, Bool, true, false, cond, ◌&&◌, ◌||◌, if◌then◌else◌, List, [], ◌∷◌, ◌++◌, is_some, Option, Some, refl, sym, ap, ◌∙◌, subst, true≢false, arith}
 use Rattle.std.specs.List.{cons_option, find}
 use Rattle.std.proofs.lemmas.Bool.Decides.{nat_tests}
 use Rattle.m11_modules.specs.Names.{absolute_name, is_name}
 use Rattle.m11_modules.specs.Parts.{Part, EndOfModule}
 use Rattle.m11_modules.specs.Places.{modules_in}
-use Rattle.m11_layout.specs.Gathering.{transfer_behind}
+use Rattle.m11_layout.specs.Tables.{transfer_after}
 use Rattle.m11_layout.specs.Transfers.{transfer_in, transfers_of}
 use Rattle.m11_layout.specs.declared.definition.Transfer.{Transfer}
 use Rattle.m11_layout.proofs.Evenness.{relocated_at}
 use Rattle.m11_layout.proofs.ModulesOfParts.{one_ended}
 use Rattle.m11_layout.proofs.Offsets.{entered_at}
 use Rattle.m11_layout.proofs.TransfersKnown.{AllKnown, entered_stays, is_absolute_here, known_at, relocated_under, stays_known}
-use Rattle.m11_layout.proofs.Telling.{told_more}
+use Rattle.m11_layout.proofs.Reporting.{reported_more}
 
 -- ---- lists of transfer entries
 
@@ -26,12 +26,12 @@ find_same before p q (transfer ∷ transfers) k h =
     λ j. cond (first j) (Some transfer) (rest j)
 
 pub find_more : (p : Transfer → Bool) (transfers : List Transfer) (transfer : Transfer)
-    → find p (transfers ++ transfer ∷ []) ≡ transfer_behind (find p transfers) (p transfer) transfer
+    → find p (transfers ++ transfer ∷ []) ≡ transfer_after (find p transfers) (p transfer) transfer
 find_more p [] transfer = refl
 find_more p (first ∷ transfers) transfer = by (p first) _ _ (find_more p transfers transfer)
   where
-    by : (b : Bool) (more rest : Option Transfer) → more ≡ transfer_behind rest (p transfer) transfer
-        → cond b (Some first) more ≡ transfer_behind (cond b (Some first) rest) (p transfer) transfer
+    by : (b : Bool) (more rest : Option Transfer) → more ≡ transfer_after rest (p transfer) transfer
+        → cond b (Some first) more ≡ transfer_after (cond b (Some first) rest) (p transfer) transfer
     by true more rest e = refl
     by false more rest e = e
 
@@ -50,9 +50,9 @@ one_known before (first ∷ transfers) transfer k e = (k.0, one_known before tra
 pub transfers_more : (before : List Part) (part : Part)
     → transfers_of (before ++ part ∷ []) ≡ transfers_of before ++ cons_option (transfer_in before part) []
 unfolding transfers_of
-transfers_more before part = told_more transfer_in before part
+transfers_more before part = reported_more transfer_in before part
 
--- ---- known behind one more part
+-- ---- known after one more part
 
 more_known : (l n a x : Bool) → (l || (n && (false || a))) ≡ true → (l || (n && (x || a))) ≡ true
 more_known true n a x e = refl
@@ -114,7 +114,7 @@ known_ended before transfer k =
     || is_name transfer.section absolute_name)))
     (known_below before transfer k)
 
--- ---- relocated behind one more part
+-- ---- relocated after one more part
 
 under_by : (before : List Part) (part : Part) (assumed : Bool) (transfer : Transfer) (b : Bool)
     → is_absolute_here before transfer ≡ b

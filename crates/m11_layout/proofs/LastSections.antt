@@ -9,8 +9,8 @@ use Rattle.m11_obj.specs.declared.gsd.GsdKind.{GsdKind}
 use Rattle.m11_obj.specs.declared.gsd.GsdKind.TheVariants.{ModuleName, ControlSection, InternalSymbol, TransferAddress, GlobalSymbol, ProgramSection, Identification}
 use Rattle.m11_modules.specs.Parts.{Part, Directory, Entry, EndOfDirectory, Text, Relocations, Relocated, EndOfModule, EndOfFile}
 use Rattle.m11_modules.specs.Places.{ends_module, global_of, section_by, section_in, sections_in, this_module}
-use Rattle.m11_modules.proofs.KnownBehind.{this_module_ended, this_module_goes_on}
-use Rattle.m11_layout.specs.Gathering.{Gathered, gathered_behind, nothing_gathered, with_entry}
+use Rattle.m11_modules.proofs.KnownAfter.{this_module_ended, this_module_goes_on}
+use Rattle.m11_layout.specs.Tables.{Gathered, gathered_after, nothing_gathered, with_entry}
 use Rattle.m11_layout.specs.Globals.{last_of, last_section}
 use Rattle.m11_layout.proofs.Keeping.{relocated_keeps, symbol_keeps}
 
@@ -23,7 +23,7 @@ last_section_more : (own : List Part) (part : Part)
     → last_section (own ++ part ∷ []) ≡ last_of (keys_of (sections_in own) ++ keys_of (sections_in (part ∷ [])))
 unfolding last_section sections_in
 last_section_more own part =
-    ap (λ told. last_of (keys_of told)) (filter_map-append section_in own (part ∷ []))
+    ap (λ reported. last_of (keys_of reported)) (filter_map-append section_in own (part ∷ []))
     ∙ ap last_of (map-append (λ e. e.0) (filter_map section_in own) (filter_map section_in (part ∷ [])))
 
 section_kept : (before : List Part) (part : Part) (old new : Option (ℕ × ℕ)) → ends_module part ≡ false
@@ -33,7 +33,7 @@ unfolding last_section sections_in
 section_kept before part old new e s same is =
     let own = this_module before in
     same ∙ is ∙ ap last_of (sym (append-nil (keys_of (filter_map section_in own))))
-    ∙ ap (λ told. last_of (keys_of (filter_map section_in own) ++ keys_of told)) (sym s)
+    ∙ ap (λ reported. last_of (keys_of (filter_map section_in own) ++ keys_of reported)) (sym s)
     ∙ sym (last_section_more own part) ∙ ap (λ parts. last_section parts) (sym (this_module_goes_on before part e))
 
 section_entered : (before : List Part) (part : Part) (name : ℕ × ℕ) (size : ℕ) → ends_module part ≡ false
@@ -43,11 +43,11 @@ unfolding last_section sections_in
 section_entered before part name size e s =
     let own = this_module before in
     sym (last_more (keys_of (filter_map section_in own)) name)
-    ∙ ap (λ told. last_of (keys_of (filter_map section_in own) ++ keys_of told)) (sym s)
+    ∙ ap (λ reported. last_of (keys_of (filter_map section_in own) ++ keys_of reported)) (sym s)
     ∙ sym (last_section_more own part) ∙ ap (λ parts. last_section parts) (sym (this_module_goes_on before part e))
 
-abbrev section_told : Gathered → Option (ℕ × ℕ)
-section_told g = g.section
+abbrev section_reported : Gathered → Option (ℕ × ℕ)
+section_reported g = g.section
 
 section_entry : (bottom : ℕ) (before : List Part) (g : Gathered) (kind : GsdKind) (entry : GsdEntry)
     → filter_map section_in (Entry entry ∷ []) ≡ cons_option (section_by kind entry) []
@@ -62,7 +62,7 @@ section_entry bottom before g InternalSymbol entry s is = section_kept before (E
 section_entry bottom before g TransferAddress entry s is = section_kept before (Entry entry) g.section _ refl s refl is
 section_entry bottom before g GlobalSymbol entry s is =
     section_kept before (Entry entry) g.section _ refl s
-    (symbol_keeps section_told g (λ definitions references weak. refl) entry) is
+    (symbol_keeps section_reported g (λ definitions references weak. refl) entry) is
 section_entry bottom before g Identification entry s is = section_kept before (Entry entry) g.section _ refl s refl is
 
 section_ended : (before : List Part) → None ≡ last_section (this_module (before ++ EndOfModule ∷ []))
@@ -71,8 +71,8 @@ section_ended before = ap (λ parts. last_section parts) (sym (this_module_ended
 
 pub section_step : (bottom : ℕ) (before : List Part) (g : Gathered) (part : Part)
     → g.section ≡ last_section (this_module before)
-    → (gathered_behind bottom g part).section ≡ last_section (this_module (before ++ part ∷ []))
-unfolding gathered_behind
+    → (gathered_after bottom g part).section ≡ last_section (this_module (before ++ part ∷ []))
+unfolding gathered_after
 section_step bottom before g Directory is = section_kept before Directory g.section _ refl refl refl is
 section_step bottom before g (Entry entry) is = section_entry bottom before g entry.kind entry refl is
 section_step bottom before g EndOfDirectory is = section_kept before EndOfDirectory g.section _ refl refl refl is
@@ -81,7 +81,7 @@ section_step bottom before g (Text address bytes) is =
 section_step bottom before g Relocations is = section_kept before Relocations g.section _ refl refl refl is
 section_step bottom before g (Relocated relocation) is =
     section_kept before (Relocated relocation) g.section _ refl refl
-    (relocated_keeps section_told g (λ definitions references weak. refl) (global_of relocation.target)) is
+    (relocated_keeps section_reported g (λ definitions references weak. refl) (global_of relocation.target)) is
 section_step bottom before g EndOfModule is = section_ended before
 section_step bottom before g EndOfFile is = section_kept before EndOfFile g.section _ refl refl refl is
 

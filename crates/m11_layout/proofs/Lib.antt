@@ -21,7 +21,7 @@ pub mod ReferencesGathered
 pub mod SectionsGathered
 pub mod Sizing
 pub mod Standing
-pub mod Telling
+pub mod Reporting
 pub mod TransferPlanned
 pub mod TransferSteps
 pub mod TransfersGathered

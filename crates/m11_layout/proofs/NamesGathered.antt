@@ -10,17 +10,17 @@ use Rattle.m11_obj.specs.declared.gsd.GsdKind.{GsdKind}
 use Rattle.m11_obj.specs.declared.gsd.GsdKind.TheVariants.{ModuleName, ControlSection, InternalSymbol, TransferAddress, GlobalSymbol, ProgramSection, Identification}
 use Rattle.m11_modules.specs.Parts.{Part, Directory, Entry, EndOfDirectory, Text, Relocations, Relocated, EndOfModule, EndOfFile}
 use Rattle.m11_modules.specs.Places.{ends_module, global_of, modules_in, this_module}
-use Rattle.m11_modules.proofs.KnownBehind.{this_module_ended, this_module_goes_on}
-use Rattle.m11_layout.specs.Gathering.{Gathered, gathered_behind, nothing_gathered, with_entry, with_relocated}
-use Rattle.m11_layout.specs.Modules.{first_of, module_at, module_name, name_at, name_by, name_in, name_told}
+use Rattle.m11_modules.proofs.KnownAfter.{this_module_ended, this_module_goes_on}
+use Rattle.m11_layout.specs.Tables.{Gathered, gathered_after, nothing_gathered, with_entry, with_relocated}
+use Rattle.m11_layout.specs.Modules.{first_of, module_at, module_name, name_at, name_by, name_in, name_reported}
 use Rattle.m11_layout.proofs.Keeping.{relocated_keeps, symbol_keeps}
 use Rattle.m11_layout.proofs.ModulesOfParts.{add_zero, one_ended, module_more, modules_are, modules_more, where_true}
 use Rattle.m11_layout.proofs.Sizing.{or_none}
 
--- the names of the modules that ended, and that of this one as far as it is told
+-- the names of the modules that ended, and that of this one as far as it is given
 pub record NamesOf (before : List Part) (names : List (ℕ × ℕ)) (name : Option (ℕ × ℕ)) : Type 0 where
   pub count : length names ≡ modules_in before
-  pub told : name ≡ name_told (this_module before)
+  pub reported : name ≡ name_reported (this_module before)
   pub each : (index : ℕ) → index < modules_in before → get_or names index (0, 0) ≡ module_name (module_at before index)
 
 -- ---- one more part of a module
@@ -29,10 +29,10 @@ first_more : {X : Type 0} (xs ys : List X) → first_of (xs ++ ys) ≡ option_or
 first_more [] ys = refl
 first_more (x ∷ xs) ys = refl
 
-told_more : (own : List Part) (part : Part) → name_told (own ++ part ∷ [])
-    ≡ option_or (name_told own) (first_of (filter_map name_in (part ∷ [])))
-unfolding name_told
-told_more own part =
+reported_more : (own : List Part) (part : Part) → name_reported (own ++ part ∷ [])
+    ≡ option_or (name_reported own) (first_of (filter_map name_in (part ∷ [])))
+unfolding name_reported
+reported_more own part =
     ap first_of (filter_map-append name_in own (part ∷ []))
     ∙ first_more (filter_map name_in own) (filter_map name_in (part ∷ []))
 
@@ -55,9 +55,9 @@ goes_on before part names old new e z is n =
     ∙ ap (λ k. modules_in before + k) z ∙ add_zero (modules_in before) in
     record {
       count = n.count ∙ sym same;
-      told = is ∙ ap (λ name. option_or name (first_of (filter_map name_in (part ∷ [])))) n.told
-          ∙ sym (told_more (this_module before) part)
-          ∙ ap (λ own. name_told own) (sym (this_module_goes_on before part e));
+      reported = is ∙ ap (λ name. option_or name (first_of (filter_map name_in (part ∷ [])))) n.reported
+          ∙ sym (reported_more (this_module before) part)
+          ∙ ap (λ own. name_reported own) (sym (this_module_goes_on before part e));
       each = λ index h.
           let P : ℕ → Type 0 = λ k. index < k in
           let h' = subst P same h in n.each index h'
@@ -76,11 +76,11 @@ this_ends before =
     module_more before EndOfModule (modules_in before)
     ∙ (λ j. (modules_are before).this j ++ where_true (here (modules_in before) j) EndOfModule)
 
-this_name : (before : List Part) (name : Option (ℕ × ℕ)) → name ≡ name_told (this_module before)
+this_name : (before : List Part) (name : Option (ℕ × ℕ)) → name ≡ name_reported (this_module before)
     → unwrap_or name (0, 0) ≡ module_name (module_at (before ++ EndOfModule ∷ []) (modules_in before))
 this_name before name e =
-    ap (λ told. unwrap_or told (0, 0)) (e ∙ sym (or_none (name_told (this_module before)))
-    ∙ sym (told_more (this_module before) EndOfModule))
+    ap (λ reported. unwrap_or reported (0, 0)) (e ∙ sym (or_none (name_reported (this_module before)))
+    ∙ sym (reported_more (this_module before) EndOfModule))
     ∙ ap (λ own. module_name own) (sym (this_ends before))
 
 each_name : (before : List Part) (names : List (ℕ × ℕ)) (name : Option (ℕ × ℕ)) (index : ℕ) (b : Bool)
@@ -99,33 +99,33 @@ each_name before names name index false t h n =
     let P : ℕ → Type 0 = λ k. get_or (names ++ unwrap_or name (0, 0) ∷ []) k (0, 0)
     ≡ module_name (module_at (before ++ EndOfModule ∷ []) k) in
     subst P at (get_or_push names (unwrap_or name (0, 0)) (0, 0) (modules_in before) n.count
-    ∙ this_name before name n.told)
+    ∙ this_name before name n.reported)
 
 ended : (before : List Part) (names : List (ℕ × ℕ)) (name : Option (ℕ × ℕ)) → NamesOf before names name
     → NamesOf (before ++ EndOfModule ∷ []) (names ++ unwrap_or name (0, 0) ∷ []) None
-unfolding name_told
+unfolding name_reported
 ended before names name n = record {
   count = length_push names (unwrap_or name (0, 0)) ∙ ap (λ k. k + 1) n.count ∙ sym (one_ended before);
-  told = ap (λ own. name_told own) (sym (this_module_ended before));
+  reported = ap (λ own. name_reported own) (sym (this_module_ended before));
   each = λ index h. let P : ℕ → Type 0 = λ k. index < k in
       each_name before names name index (nat_lt index (modules_in before)) refl (subst P (one_ended before) h) n;
 }
 
 -- ---- one more part gathered
 
-abbrev names_told : Gathered → List (ℕ × ℕ) × Option (ℕ × ℕ)
-names_told g = (g.names, g.name)
+abbrev names_reported : Gathered → List (ℕ × ℕ) × Option (ℕ × ℕ)
+names_reported g = (g.names, g.name)
 
 abbrev Named : List Part → Gathered → Type 0
 Named before g = NamesOf before g.names g.name
 
 kept : (before : List Part) (g new : Gathered) (part : Part) → ends_module part ≡ false → modules_in (part ∷ []) ≡ 0
-    → filter_map name_in (part ∷ []) ≡ [] → names_told new ≡ names_told g → Named before g
+    → filter_map name_in (part ∷ []) ≡ [] → names_reported new ≡ names_reported g → Named before g
     → Named (before ++ part ∷ []) new
 kept before g new part e z none same n =
-    let P : List (ℕ × ℕ) × Option (ℕ × ℕ) → Type 0 = λ told. NamesOf (before ++ part ∷ []) told.0 told.1 in
+    let P : List (ℕ × ℕ) × Option (ℕ × ℕ) → Type 0 = λ reported. NamesOf (before ++ part ∷ []) reported.0 reported.1 in
     subst P (sym same) (goes_on before part g.names g.name g.name e z
-    (sym (or_none g.name) ∙ ap (λ told. option_or g.name (first_of told)) (sym none)) n)
+    (sym (or_none g.name) ∙ ap (λ reported. option_or g.name (first_of reported)) (sym none)) n)
 
 entry_step : (bottom : ℕ) (before : List Part) (g : Gathered) (kind : GsdKind) (entry : GsdEntry)
     → modules_in (Entry entry ∷ []) ≡ 0
@@ -133,7 +133,7 @@ entry_step : (bottom : ℕ) (before : List Part) (g : Gathered) (kind : GsdKind)
     → Named (before ++ Entry entry ∷ []) (with_entry bottom kind entry g)
 entry_step bottom before g ModuleName entry z a n =
     goes_on before (Entry entry) g.names g.name (option_or g.name (Some entry.name)) refl z
-    (ap (λ told. option_or g.name (first_of told)) (sym a)) n
+    (ap (λ reported. option_or g.name (first_of reported)) (sym a)) n
 entry_step bottom before g ControlSection entry z a n =
     kept before g (with_entry bottom ControlSection entry g) (Entry entry) refl z a refl n
 entry_step bottom before g ProgramSection entry z a n =
@@ -144,13 +144,13 @@ entry_step bottom before g TransferAddress entry z a n =
     kept before g (with_entry bottom TransferAddress entry g) (Entry entry) refl z a refl n
 entry_step bottom before g GlobalSymbol entry z a n =
     kept before g (with_entry bottom GlobalSymbol entry g) (Entry entry) refl z a
-    (symbol_keeps names_told g (λ definitions references weak. refl) entry) n
+    (symbol_keeps names_reported g (λ definitions references weak. refl) entry) n
 entry_step bottom before g Identification entry z a n =
     kept before g (with_entry bottom Identification entry g) (Entry entry) refl z a refl n
 
 pub names_step : (bottom : ℕ) (before : List Part) (g : Gathered) (part : Part) → NamesOf before g.names g.name
-    → NamesOf (before ++ part ∷ []) (gathered_behind bottom g part).names (gathered_behind bottom g part).name
-unfolding gathered_behind modules_in
+    → NamesOf (before ++ part ∷ []) (gathered_after bottom g part).names (gathered_after bottom g part).name
+unfolding gathered_after modules_in
 names_step bottom before g Directory n = kept before g g Directory refl refl refl refl n
 names_step bottom before g (Entry entry) n = entry_step bottom before g entry.kind entry refl refl n
 names_step bottom before g EndOfDirectory n = kept before g g EndOfDirectory refl refl refl refl n
@@ -158,7 +158,7 @@ names_step bottom before g (Text address bytes) n = kept before g g (Text addres
 names_step bottom before g Relocations n = kept before g g Relocations refl refl refl refl n
 names_step bottom before g (Relocated relocation) n =
     kept before g (with_relocated (global_of relocation.target) g) (Relocated relocation) refl refl refl
-    (relocated_keeps names_told g (λ definitions references weak. refl) (global_of relocation.target)) n
+    (relocated_keeps names_reported g (λ definitions references weak. refl) (global_of relocation.target)) n
 names_step bottom before g EndOfModule n = ended before g.names g.name n
 names_step bottom before g EndOfFile n = kept before g g EndOfFile refl refl refl refl n
 
@@ -166,8 +166,8 @@ below_none : (index : ℕ) → index < 0 → ⊥
 below_none index h = omega arith
 
 pub names_none : NamesOf [] nothing_gathered.names nothing_gathered.name
-unfolding modules_in name_told this_module
-names_none = record { count = refl; told = refl; each = λ index h. absurd (below_none index h) }
+unfolding modules_in name_reported this_module
+names_none = record { count = refl; reported = refl; each = λ index h. absurd (below_none index h) }
 
 -- ---- the name of any index
 

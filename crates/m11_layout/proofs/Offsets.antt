@@ -1,4 +1,4 @@
--- Where a module's contribution lies behind those of earlier modules.
+-- Where a module's contribution lies after those of earlier modules.
 use Rattle.std.proofs.Common.{◌≡◌, ℕ, ◌&&◌, min, sum, not, nat_eq, nat_lt, Bool, true, false, cond, if◌then◌else◌, List, [], ◌∷◌, ◌++◌, map, append-nil, Option, Some, None, refl, sym, ap, ◌∙◌, subst}
 use Rattle.std.specs.Int.RustNames.{bit_and}
 use Rattle.std.specs.List.{cons_option, filter_map}
@@ -11,9 +11,9 @@ use Rattle.m11_obj.specs.declared.gsd.GsdKind.TheVariants.{ModuleName, ControlSe
 use Rattle.m11_modules.specs.Names.{is_name}
 use Rattle.m11_modules.specs.Parts.{Part, Directory, Entry, EndOfDirectory, Text, Relocations, Relocated, EndOfModule, EndOfFile}
 use Rattle.m11_modules.specs.Places.{modules_in, section_by, section_in, sections_in, this_module}
-use Rattle.m11_layout.specs.Gathering.{is_concatenated, next_offset, size_cap}
+use Rattle.m11_layout.specs.Tables.{is_concatenated, next_offset, size_cap}
 use Rattle.m11_layout.specs.Modules.{module_at, modules_before}
-use Rattle.m11_layout.specs.Sections.{attribute_bits, attributes_by, attributes_in, control_attributes, first_attributes, greatest, is_overlaid, is_relocatable, offset_behind, rounded, size_under, sizes_of}
+use Rattle.m11_layout.specs.Sections.{attribute_bits, attributes_by, attributes_in, control_attributes, first_attributes, greatest, is_overlaid, is_relocatable, offset_after, rounded, size_under, sizes_of}
 use Rattle.m11_layout.proofs.Finding.{lookup_append}
 use Rattle.m11_layout.proofs.ModulesOfParts.{before_more, module_more, modules_are, where_true}
 use Rattle.m11_layout.proofs.Sizing.{attributes_found, attributes_more, total_from}
@@ -21,41 +21,41 @@ use Rattle.m11_layout.proofs.Walking.{grown}
 
 -- ---- a part enters one section or none
 
-pub data Tells (part : Part) : Type 0 where
-  TellsNone : filter_map attributes_in (part ∷ []) ≡ [] → filter_map section_in (part ∷ []) ≡ [] → Tells part
-  TellsOne : (name : ℕ × ℕ) (attributes size : ℕ) → filter_map attributes_in (part ∷ []) ≡ (name, attributes) ∷ []
-      → filter_map section_in (part ∷ []) ≡ (name, size) ∷ [] → Tells part
+pub data Reports (part : Part) : Type 0 where
+  ReportsNone : filter_map attributes_in (part ∷ []) ≡ [] → filter_map section_in (part ∷ []) ≡ [] → Reports part
+  ReportsOne : (name : ℕ × ℕ) (attributes size : ℕ) → filter_map attributes_in (part ∷ []) ≡ (name, attributes) ∷ []
+      → filter_map section_in (part ∷ []) ≡ (name, size) ∷ [] → Reports part
 
-entry_tells : (entry : GsdEntry) (kind : GsdKind) → filter_map attributes_in (Entry entry ∷ [])
+entry_reports : (entry : GsdEntry) (kind : GsdKind) → filter_map attributes_in (Entry entry ∷ [])
     ≡ cons_option (attributes_by kind entry) []
-    → filter_map section_in (Entry entry ∷ []) ≡ cons_option (section_by kind entry) [] → Tells (Entry entry)
-entry_tells entry ControlSection a s = TellsOne entry.name (control_attributes entry.name) entry.value a s
-entry_tells entry ProgramSection a s = TellsOne entry.name (bit_and entry.flags attribute_bits) entry.value a s
-entry_tells entry ModuleName a s = TellsNone a s
-entry_tells entry InternalSymbol a s = TellsNone a s
-entry_tells entry TransferAddress a s = TellsNone a s
-entry_tells entry GlobalSymbol a s = TellsNone a s
-entry_tells entry Identification a s = TellsNone a s
+    → filter_map section_in (Entry entry ∷ []) ≡ cons_option (section_by kind entry) [] → Reports (Entry entry)
+entry_reports entry ControlSection a s = ReportsOne entry.name (control_attributes entry.name) entry.value a s
+entry_reports entry ProgramSection a s = ReportsOne entry.name (bit_and entry.flags attribute_bits) entry.value a s
+entry_reports entry ModuleName a s = ReportsNone a s
+entry_reports entry InternalSymbol a s = ReportsNone a s
+entry_reports entry TransferAddress a s = ReportsNone a s
+entry_reports entry GlobalSymbol a s = ReportsNone a s
+entry_reports entry Identification a s = ReportsNone a s
 
-pub tells : (part : Part) → Tells part
-tells Directory = TellsNone refl refl
-tells (Entry entry) = entry_tells entry entry.kind refl refl
-tells EndOfDirectory = TellsNone refl refl
-tells (Text address bytes) = TellsNone refl refl
-tells Relocations = TellsNone refl refl
-tells (Relocated relocation) = TellsNone refl refl
-tells EndOfModule = TellsNone refl refl
-tells EndOfFile = TellsNone refl refl
+pub reports : (part : Part) → Reports part
+reports Directory = ReportsNone refl refl
+reports (Entry entry) = entry_reports entry entry.kind refl refl
+reports EndOfDirectory = ReportsNone refl refl
+reports (Text address bytes) = ReportsNone refl refl
+reports Relocations = ReportsNone refl refl
+reports (Relocated relocation) = ReportsNone refl refl
+reports EndOfModule = ReportsNone refl refl
+reports EndOfFile = ReportsNone refl refl
 
 -- ---- what a module enters
 
 abbrev pub entered_at : List Part → ℕ → ℕ × ℕ → Option ℕ
 entered_at parts index name = lookup (is_name name) (sections_in (module_at parts index))
 
-abbrev pub told_where : Bool → Part → List ((ℕ × ℕ) × ℕ)
-told_where b part = if b then filter_map section_in (part ∷ []) else []
+abbrev pub reported_where : Bool → Part → List ((ℕ × ℕ) × ℕ)
+reported_where b part = if b then filter_map section_in (part ∷ []) else []
 
-sections_where : (b : Bool) (part : Part) → sections_in (where_true b part) ≡ told_where b part
+sections_where : (b : Bool) (part : Part) → sections_in (where_true b part) ≡ reported_where b part
 unfolding sections_in
 sections_where true part = refl
 sections_where false part = refl
@@ -63,29 +63,29 @@ sections_where false part = refl
 pub entered_more : (before : List Part) (part : Part) (index : ℕ) (name : ℕ × ℕ)
     → entered_at (before ++ part ∷ []) index name
     ≡ option_or (entered_at before index name) (lookup (is_name name)
-    (told_where (nat_eq (modules_in before) index) part))
+    (reported_where (nat_eq (modules_in before) index) part))
 unfolding sections_in
 entered_more before part index name =
     ap (λ parts. lookup (is_name name) (sections_in parts)) (module_more before part index)
-    ∙ ap (λ told. lookup (is_name name) told) (filter_map-append section_in (module_at before index)
+    ∙ ap (λ reported. lookup (is_name name) reported) (filter_map-append section_in (module_at before index)
     (where_true (nat_eq (modules_in before) index) part))
     ∙ lookup_append (is_name name) (sections_in (module_at before index))
     (sections_in (where_true (nat_eq (modules_in before) index) part))
-    ∙ ap (λ told. option_or (entered_at before index name) (lookup (is_name name) told))
+    ∙ ap (λ reported. option_or (entered_at before index name) (lookup (is_name name) reported))
     (sections_where (nat_eq (modules_in before) index) part)
 
 pub earlier_sizes_more : (before : List Part) (part : Part) (index : ℕ) (name : ℕ × ℕ)
     → sizes_of (modules_before (before ++ part ∷ []) index) name
     ≡ sizes_of (modules_before before index) name ++ filter_map (size_under name)
-    (told_where (nat_lt (modules_in before) index) part)
+    (reported_where (nat_lt (modules_in before) index) part)
 unfolding sizes_of sections_in
 earlier_sizes_more before part index name =
     ap (λ parts. sizes_of parts name) (before_more before part index)
-    ∙ ap (λ told. filter_map (size_under name) told)
+    ∙ ap (λ reported. filter_map (size_under name) reported)
     (filter_map-append section_in (modules_before before index) (where_true (nat_lt (modules_in before) index) part))
     ∙ filter_map-append (size_under name) (sections_in (modules_before before index))
     (sections_in (where_true (nat_lt (modules_in before) index) part))
-    ∙ ap (λ told. sizes_of (modules_before before index) name ++ filter_map (size_under name) told)
+    ∙ ap (λ reported. sizes_of (modules_before before index) name ++ filter_map (size_under name) reported)
     (sections_where (nat_lt (modules_in before) index) part)
 
 -- a module enters no section without attributes
@@ -98,41 +98,41 @@ one_found : (b : Bool) (size : ℕ) (attributes : ℕ) → cond b (Some attribut
 one_found true size attributes e = search
 one_found false size attributes e = refl
 
-neither_found : (b : Bool) (part : Part) (name : ℕ × ℕ) → Tells part
+neither_found : (b : Bool) (part : Part) (name : ℕ × ℕ) → Reports part
     → lookup (is_name name) (filter_map attributes_in (part ∷ [])) ≡ None
-    → lookup (is_name name) (told_where b part) ≡ None
+    → lookup (is_name name) (reported_where b part) ≡ None
 neither_found false part name t e = refl
-neither_found true part name (TellsNone a s) e = ap (λ told. lookup (is_name name) told) s
-neither_found true part name (TellsOne entered attributes size a s) e =
-    let P : List ((ℕ × ℕ) × ℕ) → Type 0 = λ told. lookup (is_name name) told ≡ None in
+neither_found true part name (ReportsNone a s) e = ap (λ reported. lookup (is_name name) reported) s
+neither_found true part name (ReportsOne entered attributes size a s) e =
+    let P : List ((ℕ × ℕ) × ℕ) → Type 0 = λ reported. lookup (is_name name) reported ≡ None in
     subst P (sym s) (one_found (is_name name entered) size attributes (subst P a e))
 
-abbrev EntersTold : List Part → Type 0
-EntersTold parts = (index : ℕ) (name : ℕ × ℕ) → attributes_found parts name ≡ None → entered_at parts index name ≡ None
+abbrev EntersReported : List Part → Type 0
+EntersReported parts = (index : ℕ) (name : ℕ × ℕ) → attributes_found parts name ≡ None → entered_at parts index name ≡ None
 
-enters_more : (before : List Part) (part : Part) → EntersTold before → EntersTold (before ++ part ∷ [])
+enters_more : (before : List Part) (part : Part) → EntersReported before → EntersReported (before ++ part ∷ [])
 enters_more before part h index name e =
     let n = both_none (attributes_found before name) (lookup (is_name name) (filter_map attributes_in (part ∷ [])))
     (sym (attributes_more before part name) ∙ e) in
     entered_more before part index name
     ∙ (λ j. option_or (h index name n.0 j) (neither_found (nat_eq (modules_in before) index) part name
-    (tells part) n.1 j))
+    (reports part) n.1 j))
 
-enters_none : EntersTold []
+enters_none : EntersReported []
 unfolding module_at sections_in
 enters_none index name e = refl
 
-pub enters_told : (parts : List Part) (index : ℕ) (name : ℕ × ℕ) → attributes_found parts name ≡ None
+pub enters_reported : (parts : List Part) (index : ℕ) (name : ℕ × ℕ) → attributes_found parts name ≡ None
     → entered_at parts index name ≡ None
-enters_told parts = grown EntersTold enters_more parts enters_none
+enters_reported parts = grown EntersReported enters_more parts enters_none
 
 -- a module that hasn't entered a section has no size of it
-no_size : (name : ℕ × ℕ) (told : List ((ℕ × ℕ) × ℕ)) → lookup (is_name name) told ≡ None
-    → filter_map (size_under name) told ≡ []
+no_size : (name : ℕ × ℕ) (reported : List ((ℕ × ℕ) × ℕ)) → lookup (is_name name) reported ≡ None
+    → filter_map (size_under name) reported ≡ []
 no_size name [] e = refl
-no_size name (first ∷ told) e =
-    by (is_name name first.0) first.1 (lookup (is_name name) told) (filter_map (size_under name) told)
-    (no_size name told) e
+no_size name (first ∷ reported) e =
+    by (is_name name first.0) first.1 (lookup (is_name name) reported) (filter_map (size_under name) reported)
+    (no_size name reported) e
   where
     by : (b : Bool) (size : ℕ) (found : Option ℕ) (sizes : List ℕ) → (found ≡ None → sizes ≡ [])
         → cond b (Some size) found ≡ None
@@ -150,14 +150,14 @@ earlier_sizes before name e =
     sym (append-nil (sizes_of first name))
     ∙ ap (λ these. sizes_of first name ++ these) (sym (no_size name (sections_in (this_module before)) e))
     ∙ sym (filter_map-append (size_under name) (sections_in first) (sections_in (this_module before)))
-    ∙ ap (λ told. filter_map (size_under name) told) (sym (filter_map-append section_in first (this_module before)))
+    ∙ ap (λ reported. filter_map (size_under name) reported) (sym (filter_map-append section_in first (this_module before)))
     ∙ ap (λ parts. sizes_of parts name) (modules_are before).all
 
 -- ---- the offset of a contribution
 
 abbrev pub offset_in : List Part → ℕ → ℕ × ℕ → ℕ
 offset_in parts index name =
-    min size_cap (offset_behind (first_attributes parts name) (sizes_of (modules_before parts index) name))
+    min size_cap (offset_after (first_attributes parts name) (sizes_of (modules_before parts index) name))
 
 abbrev pub offset_from : Option ℕ → ℕ → Option ℕ
 offset_from None offset = None
@@ -179,11 +179,11 @@ next_by true true sizes = refl
 next_by true false sizes = refl
 next_by false overlaid sizes = refl
 
--- the next contribution lies behind those before it
+-- the next contribution lies after those before it
 pub next_is : (found : Option ℕ) (sizes : List ℕ) (attributes : ℕ) → (found ≡ None → sizes ≡ [])
     → next_offset (total_from found sizes) ≡ min size_cap
-    (offset_behind (unwrap_or (option_or found (Some attributes)) 0) sizes)
+    (offset_after (unwrap_or (option_or found (Some attributes)) 0) sizes)
 next_is None sizes attributes h =
-    let P : List ℕ → Type 0 = λ sizes. 0 ≡ min size_cap (offset_behind attributes sizes) in
+    let P : List ℕ → Type 0 = λ sizes. 0 ≡ min size_cap (offset_after attributes sizes) in
     subst P (sym (h refl)) (no_offset (is_concatenated attributes))
 next_is (Some first) sizes attributes h = next_by (is_relocatable first) (is_overlaid first) sizes

@@ -1,7 +1,7 @@
--- Sections that are placed one behind another.
+-- Sections that are placed one after another.
 use Rattle.std.proofs.Common.{◌≡◌, option_and_then, ℕ, ◌+◌, ◌≤◌, List, length, drop, slice_get, Option, Some, None, Ok, Err, sym, subst}
 use Rattle.std.proofs.lemmas.List.{drop_all}
-use Rattle.m11_layout.specs.Planning.{Bases, Places, bases_onto, placed}
+use Rattle.m11_layout.specs.Plan.{Bases, Places, bases_onto, placed}
 use Rattle.m11_layout.specs.declared.definition.Total.{Total}
 use Rattle.m11_layout.specs.declared.fault.LinkFault.{LinkFault}
 use Rattle.m11_layout.specs.declared.fault.LinkFault.TheVariants as fault
@@ -16,7 +16,7 @@ Sections = List ((ℕ × ℕ) × Total)
 -- what is left of the sections leads to all of them
 opened : (now : Based) (next : ℕ) (sections : Sections) (index : ℕ) (section : (ℕ × ℕ) × Total) (all : Option Bases)
     → slice_get sections index ≡ Some section → bases_onto now next (drop index sections) ≡ all
-    → option_and_then (λ behind. bases_onto behind.bases behind.top (drop (index + 1) sections))
+    → option_and_then (λ following. bases_onto following.bases following.top (drop (index + 1) sections))
     (placed now next section) ≡ all
 opened now next sections index section all e i =
     let P : Sections → Type 0 = λ left. bases_onto now next left ≡ all in subst P (drop_at sections index section e) i
@@ -28,7 +28,7 @@ pub placed_next : (now later : Based) (next top : ℕ) (sections : Sections) (in
     → bases_onto later top (drop (index + 1) sections) ≡ all
 placed_next now later next top sections index section all e i h =
     let P : Option Bases → Type 0 = λ o. option_and_then
-    (λ behind. bases_onto behind.bases behind.top (drop (index + 1) sections)) o ≡ all in
+    (λ following. bases_onto following.bases following.top (drop (index + 1) sections)) o ≡ all in
     subst P h (opened now next sections index section all e i)
 
 none_placed : (now : Based) (next : ℕ) (sections : Sections) (index : ℕ) (section : (ℕ × ℕ) × Total)
@@ -37,7 +37,7 @@ none_placed : (now : Based) (next : ℕ) (sections : Sections) (index : ℕ) (se
     → placed now next section ≡ None → all ≡ None
 none_placed now next sections index section all e i h =
     let P : Option Bases → Type 0 = λ o. option_and_then
-    (λ behind. bases_onto behind.bases behind.top (drop (index + 1) sections)) o ≡ all in
+    (λ following. bases_onto following.bases following.top (drop (index + 1) sections)) o ≡ all in
     sym (subst P h (opened now next sections index section all e i))
 
 pub place_failed : (now later new : Based) (next : ℕ) (sections : Sections) (index : ℕ) (section : (ℕ × ℕ) × Total)

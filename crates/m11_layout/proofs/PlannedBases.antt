@@ -1,4 +1,4 @@
--- The base that a plan tells of a contribution is that of the definitions.
+-- The base that a plan reports a contribution is that of the definitions.
 use Rattle.std.proofs.Common.{◌≡◌, ℕ, ◌+◌, ◌%◌, ◌≤◌, min, sum, Bool, true, false, cond, ◌&&◌, ◌||◌, not, nat_lt, if◌then◌else◌, List, [], ◌∷◌, ◌++◌, map, is_some, Option, Some, None, refl, sym, ap, ◌∙◌, true≢false, arith}
 use Rattle.std.specs.List.{filter_map, list_any}
 use Rattle.std.specs.Map.{lookup}
@@ -10,14 +10,14 @@ use Rattle.std.proofs.lemmas.Map.Made.{is_some-lookup}
 use Rattle.m11_modules.specs.Names.{is_name}
 use Rattle.m11_modules.specs.Parts.{Part}
 use Rattle.m11_modules.specs.Places.{known_of, modules_in, section_in, section_names}
-use Rattle.m11_layout.specs.Gathering.{size_cap}
+use Rattle.m11_layout.specs.Tables.{size_cap}
 use Rattle.m11_layout.specs.Modules.{modules_before}
-use Rattle.m11_layout.specs.Planning.{Planned, behind_offset, planned_base}
-use Rattle.m11_layout.specs.Sections.{base_entered, contribution_base, ends_too_high, first_attributes, greatest, is_overlaid, is_relocatable, is_too_large, module_base, offset_behind, rounded, section_base, section_size, size_under, sizes_of}
+use Rattle.m11_layout.specs.Plan.{Planned, after_offset, planned_base}
+use Rattle.m11_layout.specs.Sections.{base_entered, contribution_base, ends_too_high, first_attributes, greatest, is_overlaid, is_relocatable, is_too_large, module_base, offset_after, rounded, section_base, section_size, size_under, sizes_of}
 use Rattle.m11_layout.specs.declared.definition.Total.{Total}
 use Rattle.m11_layout.proofs.ContributionsGathered.{ContributionsOf}
 use Rattle.m11_layout.proofs.Finding.{is_name_same}
-use Rattle.m11_layout.proofs.Offsets.{earlier_sizes_more, enters_told, entered_at, offset_from, offset_in, told_where}
+use Rattle.m11_layout.proofs.Offsets.{earlier_sizes_more, enters_reported, entered_at, offset_from, offset_in, reported_where}
 use Rattle.m11_layout.proofs.SectionsGathered.{SectionsOf}
 use Rattle.m11_layout.proofs.Sizing.{attributes_found, sizes_more, total_from}
 use Rattle.m11_layout.proofs.Walking.{grown}
@@ -38,7 +38,7 @@ is_section parts sections index name size s e =
     ap (λ names. list_any (is_name name) names) (sym s.names) ∙ sym (is_some-lookup (is_name name) sections)
     ∙ ap is_some (s.totals name)
     ∙ found_somewhere (attributes_found parts name) (sizes_of parts name) (entered_at parts index name) size e
-    (enters_told parts index name)
+    (enters_reported parts index name)
 
 -- what is true of no name of a list is true of none in it
 none_high : (test : ℕ × ℕ → Bool) (names : List (ℕ × ℕ)) (name : ℕ × ℕ) → list_any test names ≡ false
@@ -74,7 +74,7 @@ abbrev rounded_sum : List ℕ → ℕ
 rounded_sum sizes = sum (map rounded sizes)
 
 part_of_sum : (b : Bool) (part : Part) (name : ℕ × ℕ)
-    → rounded_sum (filter_map (size_under name) (told_where b part))
+    → rounded_sum (filter_map (size_under name) (reported_where b part))
     ≤ rounded_sum (filter_map (size_under name) (filter_map section_in (part ∷ [])))
 part_of_sum true part name = omega arith
 part_of_sum false part name = omega arith
@@ -89,7 +89,7 @@ added a b c d a' b' h k e f = omega arith
 earlier_more : (before : List Part) (part : Part) → Earlier before → Earlier (before ++ part ∷ [])
 earlier_more before part h index name =
     let first = sizes_of (modules_before before index) name in
-    let more = filter_map (size_under name) (told_where (nat_lt (modules_in before) index) part) in
+    let more = filter_map (size_under name) (reported_where (nat_lt (modules_in before) index) part) in
     let all = sizes_of before name in
     let last = filter_map (size_under name) (filter_map section_in (part ∷ [])) in
     added (rounded_sum first) (rounded_sum all) (rounded_sum more) (rounded_sum last) _ _ (h index name)
@@ -124,7 +124,7 @@ within_limit false overlaid base earlier sizes h n = refl
 -- where nothing is too large no offset is capped
 offset_uncapped : (bottom : ℕ) (parts : List Part) (index : ℕ) (name : ℕ × ℕ) → is_too_large bottom parts ≡ false
     → list_any (is_name name) (section_names parts) ≡ true
-    → offset_in parts index name ≡ offset_behind (first_attributes parts name)
+    → offset_in parts index name ≡ offset_after (first_attributes parts name)
     (sizes_of (modules_before parts index) name)
 unfolding is_too_large section_size
 offset_uncapped bottom parts index name n t =
@@ -139,15 +139,15 @@ offset_uncapped bottom parts index name n t =
 abbrev pub bases_of : ℕ → List Part → List ((ℕ × ℕ) × ℕ)
 bases_of bottom parts = map (λ name. (name, section_base bottom parts name)) (section_names parts)
 
-base_told : (bottom : ℕ) (parts : List Part) (sections : List ((ℕ × ℕ) × Total)) (index : ℕ) (name : ℕ × ℕ)
+base_reported : (bottom : ℕ) (parts : List Part) (sections : List ((ℕ × ℕ) × Total)) (index : ℕ) (name : ℕ × ℕ)
     (entered : Option ℕ) → SectionsOf parts sections
     → is_too_large bottom parts ≡ false → entered_at parts index name ≡ entered
-    → behind_offset (offset_from entered (offset_in parts index name))
+    → after_offset (offset_from entered (offset_in parts index name))
     (unwrap_or (lookup (is_name name) (bases_of bottom parts)) 0)
-    ≡ base_entered entered (section_base bottom parts name + offset_behind (first_attributes parts name)
+    ≡ base_entered entered (section_base bottom parts name + offset_after (first_attributes parts name)
     (sizes_of (modules_before parts index) name)) % 0o200000
-base_told bottom parts sections index name None s n e = refl
-base_told bottom parts sections index name (Some size) s n e =
+base_reported bottom parts sections index name None s n e = refl
+base_reported bottom parts sections index name (Some size) s n e =
     let t = is_section parts sections index name size s e in
     let found = ap (λ o. unwrap_or o 0) (found_mapped (section_base bottom parts) (section_names parts) name t) in
     let offset = offset_uncapped bottom parts index name n t in
@@ -160,5 +160,5 @@ pub base_planned : (bottom : ℕ) (parts : List Part) (plan : Planned) (index : 
     → planned_base plan index name ≡ module_base bottom parts index name
 unfolding module_base contribution_base
 base_planned bottom parts plan index name s c b n =
-    (λ j. behind_offset (c index name j) (unwrap_or (lookup (is_name name) (b j)) 0))
-    ∙ base_told bottom parts plan.gathered.sections index name (entered_at parts index name) s n refl
+    (λ j. after_offset (c index name j) (unwrap_or (lookup (is_name name) (b j)) 0))
+    ∙ base_reported bottom parts plan.gathered.sections index name (entered_at parts index name) s n refl

@@ -1,4 +1,4 @@
--- The sections and globals that a plan tells in order are those of all parts.
+-- The sections and globals that a plan reports in order are those of all parts.
 use Rattle.std.proofs.Common.{◌≡◌, ℕ, ◌||◌, min, Bool, true, List, [], ◌∷◌, length, map, option_map, slice_get, Option, Some, None, refl, sym, ap, ◌∙◌, subst, arith}
 use Rattle.std.specs.List.{filter_map, list_any}
 use Rattle.std.specs.Map.{lookup}
@@ -8,18 +8,18 @@ use Rattle.std.proofs.lemmas.Option.{slice_get-map}
 use Rattle.m11_modules.specs.Names.{is_name}
 use Rattle.m11_modules.specs.Parts.{Part}
 use Rattle.m11_modules.specs.Places.{section_names}
-use Rattle.m11_layout.specs.Gathering.{size_cap}
-use Rattle.m11_layout.specs.Globals.{first_definition, global_defined, global_told, globals_of, place_value}
+use Rattle.m11_layout.specs.Tables.{size_cap}
+use Rattle.m11_layout.specs.Globals.{first_definition, global_defined, global_reported, globals_of, place_value}
 use Rattle.m11_layout.specs.Modules.{name_at}
-use Rattle.m11_layout.specs.Planning.{Planned, attributes_told, global_planned, planned_attributes, planned_globals, planned_module, planned_section_base, planned_sections, section_planned, value_at}
-use Rattle.m11_layout.specs.Sections.{first_attributes, flags_of, most_size, section_base, section_size, section_told, sections_of, sizes_of}
+use Rattle.m11_layout.specs.Plan.{Planned, attributes_reported, global_planned, planned_attributes, planned_globals, planned_module, planned_section_base, planned_sections, section_planned, value_at}
+use Rattle.m11_layout.specs.Sections.{first_attributes, flags_of, most_size, section_base, section_size, section_reported, sections_of, sizes_of}
 use Rattle.m11_layout.specs.declared.definition.Definition.{Definition}
 use Rattle.m11_layout.specs.declared.definition.GlobalPlace.{GlobalPlace}
 use Rattle.m11_layout.specs.declared.definition.Total.{Total}
 use Rattle.m11_layout.specs.declared.planned.PlannedGlobal.{PlannedGlobal}
 use Rattle.m11_layout.specs.declared.planned.PlannedSection.{PlannedSection}
 use Rattle.m11_layout.proofs.DefinitionsGathered.{DefinitionsOf}
-use Rattle.m11_layout.proofs.Finding.{apart_distinct, Apart, each_told, is_name_itself, is_name_same, or_true}
+use Rattle.m11_layout.proofs.Finding.{apart_distinct, Apart, each_reported, is_name_itself, is_name_same, or_true}
 use Rattle.m11_layout.proofs.PlannedBases.{bases_of, found_mapped}
 use Rattle.m11_layout.proofs.SectionsGathered.{SectionsOf, sections_are}
 use Rattle.m11_layout.proofs.Sizing.{attributes_found, total_from, total_in}
@@ -53,34 +53,34 @@ global_found plan index global e =
 capped : (size : ℕ) → min most_size (min size_cap size) ≡ min most_size size
 capped size = omega arith
 
-abbrev told_so : (name : ℕ × ℕ) (base size attributes : ℕ) → PlannedSection
-told_so name base size attributes =
+abbrev reported_so : (name : ℕ × ℕ) (base size attributes : ℕ) → PlannedSection
+reported_so name base size attributes =
     record { name = name; base = base; size = size; attributes = flags_of attributes }
 
-sections_told : (bottom : ℕ) (parts : List Part) (plan : Planned) (names : List (ℕ × ℕ))
+sections_reported : (bottom : ℕ) (parts : List Part) (plan : Planned) (names : List (ℕ × ℕ))
     → ((name : ℕ × ℕ) → list_any (is_name name) names ≡ true
     → planned_section_base plan name ≡ section_base bottom parts name)
     → map (section_planned plan) (map (λ name. (name, total_in parts name)) names)
-    ≡ map (section_told bottom parts) names
-sections_told bottom parts plan [] h = refl
-sections_told bottom parts plan (name ∷ names) h =
+    ≡ map (section_reported bottom parts) names
+sections_reported bottom parts plan [] h = refl
+sections_reported bottom parts plan (name ∷ names) h =
     let P : Bool → Type 0 = λ b. (b || list_any (is_name name) names) ≡ true in
     let base = h name (subst P (sym (is_name_itself name)) refl) in
     let size = capped (section_size parts name) in
-    let rest = sections_told bottom parts plan names
+    let rest = sections_reported bottom parts plan names
     (λ other t. h other (or_true (is_name other name) (list_any (is_name other) names) t)) in
-    λ j. told_so name (base j) (size j) (first_attributes parts name) ∷ rest j
+    λ j. reported_so name (base j) (size j) (first_attributes parts name) ∷ rest j
 
 pub sections_listed : (bottom : ℕ) (parts : List Part) (plan : Planned) → SectionsOf parts plan.gathered.sections
     → plan.bases ≡ bases_of bottom parts → planned_sections plan ≡ sections_of bottom parts
 unfolding planned_sections sections_of
 sections_listed bottom parts plan s b =
     ap (λ sections. map (section_planned plan) sections) (sections_are parts plan.gathered.sections s)
-    ∙ sections_told bottom parts plan (section_names parts) (λ name t.
+    ∙ sections_reported bottom parts plan (section_names parts) (λ name t.
     ap (λ bases. unwrap_or (lookup (is_name name) bases) 0) b
     ∙ ap (λ found. unwrap_or found 0) (found_mapped (section_base bottom parts) (section_names parts) name t))
 
-attributes_from : (found : Option ℕ) (sizes : List ℕ) → attributes_told (total_from found sizes) ≡ unwrap_or found 0
+attributes_from : (found : Option ℕ) (sizes : List ℕ) → attributes_reported (total_from found sizes) ≡ unwrap_or found 0
 attributes_from None sizes = refl
 attributes_from (Some attributes) sizes = refl
 
@@ -88,7 +88,7 @@ pub attributes_are : (parts : List Part) (plan : Planned) (name : ℕ × ℕ) �
     → planned_attributes plan name ≡ first_attributes parts name
 unfolding first_attributes
 attributes_are parts plan name s =
-    ap attributes_told (s.totals name) ∙ attributes_from (attributes_found parts name) (sizes_of parts name)
+    ap attributes_reported (s.totals name) ∙ attributes_from (attributes_found parts name) (sizes_of parts name)
 
 -- ---- globals
 
@@ -107,8 +107,8 @@ unfolding planned_globals globals_of
 globals_listed bottom parts plan d values names =
     let P : List (ℕ × ℕ) → Type 0 = λ these. Apart is_name these in
     let apart = subst P (sym d.names) (apart_distinct _) in
-    let alike = mapped_alike (global_planned plan) (λ e. global_told bottom parts e.0 e.1)
+    let alike = mapped_alike (global_planned plan) (λ e. global_reported bottom parts e.0 e.1)
     (λ e j. global_as e.0 (values e.1.module_index e.1.place j) (names e.1.module_index j)) plan.gathered.definitions in
-    let told = each_told is_name is_name_same is_name_itself (global_told bottom parts) (first_definition parts)
+    let reported = each_reported is_name is_name_same is_name_itself (global_reported bottom parts) (first_definition parts)
     plan.gathered.definitions apart (λ name t. sym (d.found name)) in
-    alike ∙ sym told ∙ ap (λ these. filter_map (global_defined bottom parts) these) d.names
+    alike ∙ sym reported ∙ ap (λ these. filter_map (global_defined bottom parts) these) d.names

@@ -1,14 +1,14 @@
--- What is gathered of all parts is what the definitions say of them, and so is what a plan tells.
+-- What is gathered of all parts is what the definitions say of them, and so is what a plan reports.
 use Rattle.std.proofs.Common.{◌≡◌, ℕ, ◌+◌, ◌%◌, Bool, true, false, if◌then◌else◌, List, [], ◌∷◌, ◌++◌, Option, Some, None, refl, sym, ap, ◌∙◌, subst}
 use Rattle.std.specs.Option.{option_map}
 use Rattle.m11_modules.specs.Names.{is_name}
 use Rattle.m11_modules.specs.Parts.{Part}
 use Rattle.m11_modules.specs.Places.{known_of, section_names, this_module}
 use Rattle.m11_modules.specs.Rules.{fault_of, first_fault}
-use Rattle.m11_layout.specs.Gathering.{Gathered, gathered_behind, gathered_behind_all, nothing_gathered}
+use Rattle.m11_layout.specs.Tables.{Gathered, gathered_after, gathered_after_all, nothing_gathered}
 use Rattle.m11_layout.specs.Globals.{definition_value, first_definition, global_value, last_section, place_value}
 use Rattle.m11_layout.specs.Modules.{name_at}
-use Rattle.m11_layout.specs.Planning.{Bases, IsPlan, IsPlanOf, Planned, bases_onto, defined_value, planned_base, planned_module, planned_value, value_at}
+use Rattle.m11_layout.specs.Plan.{Bases, IsPlan, IsPlanOf, Planned, bases_onto, defined_value, planned_base, planned_module, planned_value, value_at}
 use Rattle.m11_layout.specs.Sections.{is_too_large, module_base, top}
 use Rattle.m11_layout.specs.declared.definition.Definition.{Definition}
 use Rattle.m11_layout.specs.declared.definition.GlobalPlace.{GlobalPlace}
@@ -40,7 +40,7 @@ pub record Means (bottom : ℕ) (before : List Part) (g : Gathered) : Type 0 whe
 
 means_step : (bottom : ℕ) (before : List Part) (g : Gathered) (part : Part) → fault_of before part ≡ None
     → Means bottom before g
-    → Means bottom (before ++ part ∷ []) (gathered_behind bottom g part)
+    → Means bottom (before ++ part ∷ []) (gathered_after bottom g part)
 means_step bottom before g part n m = record {
   sections = sections_step bottom before g part n m.sections;
   contributions = contributions_step bottom before g part n m.names.count m.sections m.contributions;
@@ -63,7 +63,7 @@ means_none bottom = record {
 }
 
 pub gathered_means : (bottom : ℕ) (parts : List Part) → first_fault [] parts ≡ None
-    → Means bottom parts (gathered_behind_all bottom nothing_gathered parts)
+    → Means bottom parts (gathered_after_all bottom nothing_gathered parts)
 gathered_means bottom parts n =
     walked bottom (Means bottom) (means_step bottom) [] parts nothing_gathered n (means_none bottom)
 
@@ -74,28 +74,28 @@ apart_names : (parts : List Part) (sections : List ((ℕ × ℕ) × Total)) → 
 unfolding known_of
 apart_names parts sections s = let P : List (ℕ × ℕ) → Type 0 = λ names. Apart is_name names in subst P s.names s.apart
 
-abbrev bases_told : ℕ → List Part → Bases
-bases_told bottom parts = record { bases = bases_of bottom parts; top = top bottom parts }
+abbrev bases_reported : ℕ → List Part → Bases
+bases_reported bottom parts = record { bases = bases_of bottom parts; top = top bottom parts }
 
 bases_are : (bottom : ℕ) (parts : List Part) (sections : List ((ℕ × ℕ) × Total)) → SectionsOf parts sections
-    → bases_onto [] bottom sections ≡ (if is_too_large bottom parts then None else Some (bases_told bottom parts))
+    → bases_onto [] bottom sections ≡ (if is_too_large bottom parts then None else Some (bases_reported bottom parts))
 bases_are bottom parts sections s =
     ap (λ these. bases_onto [] bottom these) (sections_are parts sections s)
     ∙ bases_placed bottom parts (apart_names parts sections s)
 
-there : (b : Bool) (told answer : Bases) → (if b then None else Some answer) ≡ Some told → (b ≡ false) × (told ≡ answer)
-there true told answer e = search
-there false told answer e = (refl, cc)
+there : (b : Bool) (reported answer : Bases) → (if b then None else Some answer) ≡ Some reported → (b ≡ false) × (reported ≡ answer)
+there true reported answer e = search
+there false reported answer e = (refl, cc)
 
 nowhere : (b : Bool) (answer : Bases) → (if b then None else Some answer) ≡ None → b ≡ true
 nowhere true answer e = refl
 nowhere false answer e = search
 
 pub too_large_is : (bottom : ℕ) (parts : List Part) → first_fault [] parts ≡ None
-    → bases_onto [] bottom (gathered_behind_all bottom nothing_gathered parts).sections ≡ None
+    → bases_onto [] bottom (gathered_after_all bottom nothing_gathered parts).sections ≡ None
     → is_too_large bottom parts ≡ true
 too_large_is bottom parts n e =
-    nowhere (is_too_large bottom parts) (bases_told bottom parts)
+    nowhere (is_too_large bottom parts) (bases_reported bottom parts)
     (sym (bases_are bottom parts _ (gathered_means bottom parts n).sections) ∙ e)
 
 -- ---- values
@@ -129,8 +129,8 @@ pub plan_is : (bottom : ℕ) (parts : List Part) (plan : Planned) → first_faul
 plan_is bottom parts plan n is =
     let P : Gathered → Type 0 = λ g. Means bottom parts g in
     let means = subst P (sym is.gathered) (gathered_means bottom parts n) in
-    let told : Bases = record { bases = plan.bases; top = plan.top } in
-    let placed = there (is_too_large bottom parts) told (bases_told bottom parts)
+    let reported : Bases = record { bases = plan.bases; top = plan.top } in
+    let placed = there (is_too_large bottom parts) reported (bases_reported bottom parts)
     (sym (bases_are bottom parts plan.gathered.sections means.sections) ∙ is.bases) in
     let bases : HasBases bottom parts plan = λ index name.
     base_planned bottom parts plan index name means.sections means.contributions

@@ -1,4 +1,4 @@
--- References and weak names behind one more part.
+-- References and weak names after one more part.
 use Rattle.std.proofs.Common.{◌≡◌, ℕ, Bool, true, false, ◌&&◌, ◌||◌, not, if◌then◌else◌, List, [], ◌∷◌, ◌++◌, append-nil, Option, Some, None, refl, sym, ap, ◌∙◌, subst}
 use Rattle.std.specs.List.{cons_option, filter_map}
 use Rattle.std.specs.Map.{lookup}
@@ -14,8 +14,8 @@ use Rattle.m11_modules.specs.Names.{is_among, is_name}
 use Rattle.m11_modules.specs.Parts.{Part, Directory, Entry, EndOfDirectory, Text, Relocations, Relocated, EndOfModule, EndOfFile}
 use Rattle.m11_modules.specs.Places.{ends_module, global_of, this_module}
 use Rattle.m11_modules.specs.Rules.{defines, has_bits}
-use Rattle.m11_modules.proofs.KnownBehind.{this_module_ended, this_module_goes_on}
-use Rattle.m11_layout.specs.Gathering.{Gathered, gathered_behind, nothing_gathered, with_definition, with_entry, with_reference, with_relocated, with_weak}
+use Rattle.m11_modules.proofs.KnownAfter.{this_module_ended, this_module_goes_on}
+use Rattle.m11_layout.specs.Tables.{Gathered, gathered_after, nothing_gathered, with_definition, with_entry, with_reference, with_relocated, with_weak}
 use Rattle.m11_layout.specs.Globals.{reference_by, reference_in, references_of, referred, relocated_reference, weak_by, weak_in, weak_names}
 use Rattle.m11_layout.proofs.Finding.{is_name_same}
 use Rattle.m11_layout.proofs.ReferencesGathered.{TableOf, none_referred, one_referred, references_more, table_is}
@@ -50,21 +50,21 @@ inserted_by true names name other e = by (is_name other name) refl
         let t = subst P (sym (is_name_same other name f)) e in
         t ∙ ap (λ b. b || true) (sym t)
 
-weak_kept : (before : List Part) (part : Part) (weak : List (ℕ × ℕ)) (told : Option (ℕ × ℕ)) → ends_module part ≡ false
-    → filter_map weak_in (part ∷ []) ≡ cons_option told [] → told ≡ None → WeakOf before weak
+weak_kept : (before : List Part) (part : Part) (weak : List (ℕ × ℕ)) (reported : Option (ℕ × ℕ)) → ends_module part ≡ false
+    → filter_map weak_in (part ∷ []) ≡ cons_option reported [] → reported ≡ None → WeakOf before weak
     → WeakOf (before ++ part ∷ []) weak
-weak_kept before part weak told e t n w name =
+weak_kept before part weak reported e t n w name =
     w name ∙ sym (or_false (is_among (weak_names (this_module before)) name))
     ∙ ap (λ names. is_among (weak_names (this_module before)) name || is_among names name)
     (sym (t ∙ ap (λ o. cons_option o []) n))
     ∙ sym (weak_more (this_module before) part name)
     ∙ ap (λ own. is_among (weak_names own) name) (sym (this_module_goes_on before part e))
 
-weak_noted : (before : List Part) (part : Part) (weak : List (ℕ × ℕ)) (told : Option (ℕ × ℕ)) (noted : ℕ × ℕ)
+weak_noted : (before : List Part) (part : Part) (weak : List (ℕ × ℕ)) (reported : Option (ℕ × ℕ)) (noted : ℕ × ℕ)
     → ends_module part ≡ false
-    → filter_map weak_in (part ∷ []) ≡ cons_option told [] → told ≡ Some noted → WeakOf before weak
+    → filter_map weak_in (part ∷ []) ≡ cons_option reported [] → reported ≡ Some noted → WeakOf before weak
     → WeakOf (before ++ part ∷ []) (insert_key is_name weak noted)
-weak_noted before part weak told noted e t n w name =
+weak_noted before part weak reported noted e t n w name =
     inserted_by (is_among weak noted) weak noted name refl
     ∙ ap (λ b. b || (is_name name noted || false)) (w name)
     ∙ ap (λ names. is_among (weak_names (this_module before)) name || is_among names name)
@@ -103,15 +103,15 @@ table_noted before part table name strong n t =
     subst P (sym (references_more before part ∙ ap (λ o. references_of before ++ cons_option o []) n))
     (one_referred (references_of before) table name strong t)
 
-kept : (before : List Part) (g : Gathered) (part : Part) (told : Option (ℕ × ℕ)) → ends_module part ≡ false
+kept : (before : List Part) (g : Gathered) (part : Part) (reported : Option (ℕ × ℕ)) → ends_module part ≡ false
     → reference_in before part ≡ None
-    → filter_map weak_in (part ∷ []) ≡ cons_option told [] → told ≡ None → Referring before g
+    → filter_map weak_in (part ∷ []) ≡ cons_option reported [] → reported ≡ None → Referring before g
     → Referring (before ++ part ∷ []) g
-kept before g part told e r w n t =
+kept before g part reported e r w n t =
     record {
       table = table_kept before part g.references r t.table;
       weak_is =
-          weak_kept before part g.weak told e w n t.weak_is;
+          weak_kept before part g.weak reported e w n t.weak_is;
     }
 
 symbol_step : (before : List Part) (g : Gathered) (entry : GsdEntry) (d w : Bool)
@@ -156,8 +156,8 @@ relocated_step before g part (Some name) e r n t = record {
 
 pub references_step : (bottom : ℕ) (before : List Part) (g : Gathered) (part : Part)
     → ReferencesOf before g.references g.weak
-    → ReferencesOf (before ++ part ∷ []) (gathered_behind bottom g part).references (gathered_behind bottom g part).weak
-unfolding gathered_behind
+    → ReferencesOf (before ++ part ∷ []) (gathered_after bottom g part).references (gathered_after bottom g part).weak
+unfolding gathered_after
 references_step bottom before g Directory t = kept before g Directory None refl refl refl refl t
 references_step bottom before g (Entry entry) t = entry_step bottom before g entry.kind entry refl refl t
 references_step bottom before g EndOfDirectory t = kept before g EndOfDirectory None refl refl refl refl t

@@ -14,7 +14,7 @@ use Rattle.m11_modules.specs.Parts.{Part}
 use Rattle.m11_modules.specs.Places.{distinct}
 use Rattle.m11_layout.specs.Globals.{is_strong_to, reference_in, references_of}
 use Rattle.m11_layout.proofs.Finding.{Apart, apart_inserted, is_name_itself, is_name_same, lookup_inserted, pairs_found}
-use Rattle.m11_layout.proofs.Telling.{names_more, told_more}
+use Rattle.m11_layout.proofs.Reporting.{names_more, reported_more}
 
 abbrev References : Type 0
 References = List ((ℕ × ℕ) × Bool)
@@ -112,9 +112,9 @@ table_is references table t =
     (sym (ap is_some (t.found name)) ∙ is_some-lookup (is_name name) table ∙ e))
     ∙ ap (λ names. map (λ name. (name, list_any (is_strong_to name) references)) names) t.names
 
--- ---- references behind one more part
+-- ---- references after one more part
 
 pub references_more : (before : List Part) (part : Part)
     → references_of (before ++ part ∷ []) ≡ references_of before ++ cons_option (reference_in before part) []
 unfolding references_of
-references_more before part = told_more reference_in before part
+references_more before part = reported_more reference_in before part

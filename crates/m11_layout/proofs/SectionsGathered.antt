@@ -15,10 +15,10 @@ use Rattle.m11_modules.specs.Names.{is_name}
 use Rattle.m11_modules.specs.Parts.{Part, Directory, Entry, EndOfDirectory, Text, Relocations, Relocated, EndOfModule, EndOfFile}
 use Rattle.m11_modules.specs.Places.{Known, distinct, global_of, known_of, section_by, section_in, section_names, sections_in}
 use Rattle.m11_modules.specs.Rules.{fault_of, first_fault}
-use Rattle.m11_modules.specs.Steps.{known_behind}
+use Rattle.m11_modules.specs.Steps.{known_after}
 use Rattle.m11_modules.specs.Steps as steps
-use Rattle.m11_modules.proofs.KnownBehind.{known_behind_part}
-use Rattle.m11_layout.specs.Gathering.{Gathered, gathered_behind, gathered_behind_all, nothing_gathered, size_cap, total_behind, with_entry}
+use Rattle.m11_modules.proofs.KnownAfter.{known_after_part}
+use Rattle.m11_layout.specs.Tables.{Gathered, gathered_after, gathered_after_all, nothing_gathered, size_cap, total_after, with_entry}
 use Rattle.m11_layout.specs.Sections.{attribute_bits, attributes_by, attributes_in, control_attributes, first_attributes, flags_of, section_size, sizes_of, total}
 use Rattle.m11_layout.specs.declared.definition.Total.{Total}
 use Rattle.m11_layout.proofs.Finding.{Apart, apart_inserted, is_name_itself, is_name_same, lookup_inserted, pairs_found}
@@ -36,42 +36,42 @@ abbrev Sections : Type 0
 Sections = List ((ℕ × ℕ) × Total)
 
 kept : (before : List Part) (part : Part) (old new : Sections) → new ≡ old
-    → (known_behind (known_of before) part).sections ≡ (known_of before).sections
+    → (known_after (known_of before) part).sections ≡ (known_of before).sections
     → filter_map attributes_in (part ∷ []) ≡ [] → filter_map section_in (part ∷ []) ≡ [] → fault_of before part ≡ None
     → SectionsOf before old → SectionsOf (before ++ part ∷ []) new
 kept before part old new e k a f n s =
     let P : Sections → Type 0 = λ sections. SectionsOf (before ++ part ∷ []) sections in
     subst P (sym e) (record {
-      names = s.names ∙ sym k ∙ sym (ap (λ known. known.sections) (known_behind_part before part n));
+      names = s.names ∙ sym k ∙ sym (ap (λ known. known.sections) (known_after_part before part n));
       apart = s.apart;
       totals = λ name. s.totals name ∙ sym (total_kept before part name a f);
     })
 
 entered : (before : List Part) (part : Part) (old new : Sections) (name : ℕ × ℕ) (attributes size : ℕ)
-    → new ≡ insert_entry is_name old name (total_behind (lookup (is_name name) old) attributes size)
-    → (known_behind (known_of before) part).sections ≡ insert_key is_name (known_of before).sections name
+    → new ≡ insert_entry is_name old name (total_after (lookup (is_name name) old) attributes size)
+    → (known_after (known_of before) part).sections ≡ insert_key is_name (known_of before).sections name
     → filter_map attributes_in (part ∷ []) ≡ (name, attributes) ∷ []
     → filter_map section_in (part ∷ []) ≡ (name, size) ∷ []
     → fault_of before part ≡ None → SectionsOf before old → SectionsOf (before ++ part ∷ []) new
 entered before part old new name attributes size e k a f n s =
     let P : Sections → Type 0 = λ sections. SectionsOf (before ++ part ∷ []) sections in
-    let total = total_behind (lookup (is_name name) old) attributes size in
+    let total = total_after (lookup (is_name name) old) attributes size in
     let keys = keys_insert_entry is_name old name total in
     let Q : List (ℕ × ℕ) → Type 0 = λ names. Apart is_name names in
     subst P (sym e) (record {
       names = keys ∙ ap (λ names. insert_key is_name names name) s.names ∙ sym k
-          ∙ sym (ap (λ known. known.sections) (known_behind_part before part n));
+          ∙ sym (ap (λ known. known.sections) (known_after_part before part n));
       apart = subst Q (sym keys) (apart_inserted is_name is_name_same is_name_itself (keys_of old) name s.apart);
       totals = λ other. lookup_inserted is_name is_name_same is_name_itself other name total old
-          ∙ (λ j. cond (is_name other name) (Some (total_behind (s.totals name j) attributes size)) (s.totals other j))
+          ∙ (λ j. cond (is_name other name) (Some (total_after (s.totals name j) attributes size)) (s.totals other j))
           ∙ sym (total_entered before part other name attributes size a f);
     })
 
-abbrev sections_told : Gathered → Sections
-sections_told g = g.sections
+abbrev sections_reported : Gathered → Sections
+sections_reported g = g.sections
 
 entry_step : (bottom : ℕ) (before : List Part) (g : Gathered) (kind : GsdKind) (entry : GsdEntry)
-    → (known_behind (known_of before) (Entry entry)).sections ≡ (steps.with_entry kind entry (known_of before)).sections
+    → (known_after (known_of before) (Entry entry)).sections ≡ (steps.with_entry kind entry (known_of before)).sections
     → filter_map attributes_in (Entry entry ∷ []) ≡ cons_option (attributes_by kind entry) []
     → filter_map section_in (Entry entry ∷ []) ≡ cons_option (section_by kind entry) []
     → fault_of before (Entry entry) ≡ None
@@ -84,7 +84,7 @@ entry_step bottom before g ModuleName entry k a f n s = kept before (Entry entry
 entry_step bottom before g InternalSymbol entry k a f n s = kept before (Entry entry) g.sections _ refl k a f n s
 entry_step bottom before g TransferAddress entry k a f n s = kept before (Entry entry) g.sections _ refl k a f n s
 entry_step bottom before g GlobalSymbol entry k a f n s =
-    kept before (Entry entry) g.sections _ (symbol_keeps sections_told g
+    kept before (Entry entry) g.sections _ (symbol_keeps sections_reported g
     (λ definitions references weak. refl) entry) k a f n s
 entry_step bottom before g Identification entry k a f n s = kept before (Entry entry) g.sections _ refl k a f n s
 
@@ -94,8 +94,8 @@ target_known None known = refl
 target_known (Some name) known = refl
 
 pub sections_step : (bottom : ℕ) (before : List Part) (g : Gathered) (part : Part) → fault_of before part ≡ None
-    → SectionsOf before g.sections → SectionsOf (before ++ part ∷ []) (gathered_behind bottom g part).sections
-unfolding gathered_behind known_behind
+    → SectionsOf before g.sections → SectionsOf (before ++ part ∷ []) (gathered_after bottom g part).sections
+unfolding gathered_after known_after
 sections_step bottom before g Directory n s = kept before Directory g.sections _ refl refl refl refl n s
 sections_step bottom before g (Entry entry) n s = entry_step bottom before g entry.kind entry refl refl refl n s
 sections_step bottom before g EndOfDirectory n s = kept before EndOfDirectory g.sections _ refl refl refl refl n s
@@ -104,7 +104,7 @@ sections_step bottom before g (Text address bytes) n s =
 sections_step bottom before g Relocations n s = kept before Relocations g.sections _ refl refl refl refl n s
 sections_step bottom before g (Relocated relocation) n s =
     kept before (Relocated relocation) g.sections _
-    (relocated_keeps sections_told g (λ definitions references weak. refl) (global_of relocation.target))
+    (relocated_keeps sections_reported g (λ definitions references weak. refl) (global_of relocation.target))
     (target_known (global_of relocation.target) _) refl refl n s
 sections_step bottom before g EndOfModule n s = kept before EndOfModule g.sections _ refl refl refl refl n s
 sections_step bottom before g EndOfFile n s = kept before EndOfFile g.sections _ refl refl refl refl n s
@@ -145,7 +145,7 @@ sections_are parts sections s =
 
 -- what is gathered of parts without a fault
 pub sections_gathered : (bottom : ℕ) (parts : List Part) → first_fault [] parts ≡ None
-    → SectionsOf parts (gathered_behind_all bottom nothing_gathered parts).sections
+    → SectionsOf parts (gathered_after_all bottom nothing_gathered parts).sections
 sections_gathered bottom parts n =
     walked bottom (λ before g. SectionsOf before g.sections)
     (λ before g part f s. sections_step bottom before g part f s) [] parts nothing_gathered n sections_none

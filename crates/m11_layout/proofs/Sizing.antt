@@ -1,4 +1,4 @@
--- The totals of sections: the attributes of the first entry, and the size that all contributions come to.
+-- The totals of sections: the attributes of the first entry, and the size that all contributions yield.
 use Rattle.std.proofs.Common.{◌≡◌, ℕ, ◌+◌, max, min, sum, Bool, true, false, cond, ◌&&◌, not, if◌then◌else◌, List, [], ◌∷◌, ◌++◌, map, append-nil, Option, Some, None, refl, sym, ap, ◌∙◌, subst, arith}
 use Rattle.std.specs.Int.RustNames.{bit_and}
 use Rattle.std.specs.List.{cons_option, filter_map}
@@ -13,7 +13,7 @@ use Rattle.m11_obj.specs.declared.gsd.GsdKind.TheVariants.{ModuleName, ControlSe
 use Rattle.m11_modules.specs.Names.{is_name}
 use Rattle.m11_modules.specs.Parts.{Part, Directory, Entry, EndOfDirectory, Text, Relocations, Relocated, EndOfModule, EndOfFile}
 use Rattle.m11_modules.specs.Places.{section_by, section_in, section_names, sections_in}
-use Rattle.m11_layout.specs.Gathering.{size_cap, total_behind}
+use Rattle.m11_layout.specs.Tables.{size_cap, total_after}
 use Rattle.m11_layout.specs.Sections.{attributes_by, attributes_in, first_attributes, flags_of, greatest, is_overlaid, is_relocatable, attribute_bits, control_attributes, rounded, section_size, size_under, sizes_of, total}
 use Rattle.m11_layout.specs.declared.definition.Total.{Total}
 use Rattle.m11_layout.proofs.Finding.{is_name_same, lookup_append}
@@ -107,35 +107,35 @@ sized attributes one other e = ap (λ n. Some (record { attributes = flags_of at
 -- an entry more
 total_joined : (found : Option ℕ) (sizes : List ℕ) (attributes size : ℕ) → (found ≡ None → sizes ≡ [])
     → total_from (option_or found (Some attributes)) (sizes ++ size ∷ [])
-    ≡ Some (total_behind (total_from found sizes) attributes size)
+    ≡ Some (total_after (total_from found sizes) attributes size)
 total_joined None sizes attributes size h =
     let P : List ℕ → Type 0 = λ before. total_from (Some attributes) (before ++ size ∷ [])
-    ≡ Some (total_behind None attributes size) in
+    ≡ Some (total_after None attributes size) in
     subst P (sym (h refl)) (sized attributes _ _ (total_one (is_relocatable attributes) (is_overlaid attributes) size))
 total_joined (Some first) sizes attributes size h =
     sized first _ _ (total_more (is_relocatable first) (is_overlaid first) sizes size)
 
 -- a section without attributes has no sizes
-none_sized : (b : Bool) (attributes size : ℕ) (told : Option ℕ) (sizes : List ℕ) → (told ≡ None → sizes ≡ [])
-    → cond b (Some attributes) told ≡ None → cons_option (if b then Some size else None) sizes ≡ []
-none_sized true attributes size told sizes h e = search
-none_sized false attributes size told sizes h e = h e
+none_sized : (b : Bool) (attributes size : ℕ) (reported : Option ℕ) (sizes : List ℕ) → (reported ≡ None → sizes ≡ [])
+    → cond b (Some attributes) reported ≡ None → cons_option (if b then Some size else None) sizes ≡ []
+none_sized true attributes size reported sizes h e = search
+none_sized false attributes size reported sizes h e = h e
 
-entry_no_sizes : (kind : GsdKind) (entry : GsdEntry) (name : ℕ × ℕ) (told sizes : List ((ℕ × ℕ) × ℕ))
-    → (lookup (is_name name) told ≡ None → filter_map (size_under name) sizes ≡ [])
-    → lookup (is_name name) (cons_option (attributes_by kind entry) told) ≡ None
+entry_no_sizes : (kind : GsdKind) (entry : GsdEntry) (name : ℕ × ℕ) (reported sizes : List ((ℕ × ℕ) × ℕ))
+    → (lookup (is_name name) reported ≡ None → filter_map (size_under name) sizes ≡ [])
+    → lookup (is_name name) (cons_option (attributes_by kind entry) reported) ≡ None
     → filter_map (size_under name) (cons_option (section_by kind entry) sizes) ≡ []
-entry_no_sizes ControlSection entry name told sizes h e =
-    none_sized (is_name name entry.name) (control_attributes entry.name) entry.value (lookup (is_name name) told)
+entry_no_sizes ControlSection entry name reported sizes h e =
+    none_sized (is_name name entry.name) (control_attributes entry.name) entry.value (lookup (is_name name) reported)
     (filter_map (size_under name) sizes) h e
-entry_no_sizes ProgramSection entry name told sizes h e =
+entry_no_sizes ProgramSection entry name reported sizes h e =
     none_sized (is_name name entry.name) (bit_and entry.flags attribute_bits) entry.value
-    (lookup (is_name name) told) (filter_map (size_under name) sizes) h e
-entry_no_sizes ModuleName entry name told sizes h e = h e
-entry_no_sizes InternalSymbol entry name told sizes h e = h e
-entry_no_sizes TransferAddress entry name told sizes h e = h e
-entry_no_sizes GlobalSymbol entry name told sizes h e = h e
-entry_no_sizes Identification entry name told sizes h e = h e
+    (lookup (is_name name) reported) (filter_map (size_under name) sizes) h e
+entry_no_sizes ModuleName entry name reported sizes h e = h e
+entry_no_sizes InternalSymbol entry name reported sizes h e = h e
+entry_no_sizes TransferAddress entry name reported sizes h e = h e
+entry_no_sizes GlobalSymbol entry name reported sizes h e = h e
+entry_no_sizes Identification entry name reported sizes h e = h e
 
 pub no_sizes : (parts : List Part) (name : ℕ × ℕ) → attributes_found parts name ≡ None → sizes_of parts name ≡ []
 unfolding sizes_of sections_in
@@ -151,13 +151,13 @@ no_sizes (Relocated relocation ∷ parts) name e = no_sizes parts name e
 no_sizes (EndOfModule ∷ parts) name e = no_sizes parts name e
 no_sizes (EndOfFile ∷ parts) name e = no_sizes parts name e
 
--- ---- behind one more part
+-- ---- after one more part
 
 pub attributes_more : (before : List Part) (part : Part) (name : ℕ × ℕ)
     → attributes_found (before ++ part ∷ []) name ≡ option_or (attributes_found before name)
     (lookup (is_name name) (filter_map attributes_in (part ∷ [])))
 attributes_more before part name =
-    ap (λ told. lookup (is_name name) told) (filter_map-append attributes_in before (part ∷ []))
+    ap (λ reported. lookup (is_name name) reported) (filter_map-append attributes_in before (part ∷ []))
     ∙ lookup_append (is_name name) (filter_map attributes_in before) (filter_map attributes_in (part ∷ []))
 
 pub sizes_more : (before : List Part) (part : Part) (name : ℕ × ℕ)
@@ -182,7 +182,7 @@ pub total_kept : (before : List Part) (part : Part) (name : ℕ × ℕ) → filt
 total_kept before part name e f =
     both_more _ _ _ _
     (attributes_more before part name
-    ∙ ap (λ told. option_or (attributes_found before name) (lookup (is_name name) told)) e
+    ∙ ap (λ reported. option_or (attributes_found before name) (lookup (is_name name) reported)) e
     ∙ or_none (attributes_found before name))
     (sizes_more before part name ∙ ap (λ entered. sizes_of before name ++ filter_map (size_under name) entered) f
     ∙ append-nil (sizes_of before name))
@@ -191,11 +191,11 @@ total_kept before part name e f =
 entered_by : (b : Bool) (before : List Part) (name entered : ℕ × ℕ) (attributes size : ℕ) → is_name name entered ≡ b
     → total_from (option_or (attributes_found before name) (cond b (Some attributes) None))
     (sizes_of before name ++ cons_option (if b then Some size else None) [])
-    ≡ cond b (Some (total_behind (total_of before entered) attributes size)) (total_of before name)
+    ≡ cond b (Some (total_after (total_of before entered) attributes size)) (total_of before name)
 entered_by true before name entered attributes size e =
     let P : ℕ × ℕ → Type 0 = λ k. total_from (option_or (attributes_found before name) (Some attributes))
     (sizes_of before name ++ size ∷ [])
-    ≡ Some (total_behind (total_of before k) attributes size) in
+    ≡ Some (total_after (total_of before k) attributes size) in
     subst P (is_name_same name entered e) (total_joined (attributes_found before name)
     (sizes_of before name) attributes size (no_sizes before name))
 entered_by false before name entered attributes size e =
@@ -205,10 +205,10 @@ pub total_entered : (before : List Part) (part : Part) (name entered : ℕ × �
     → filter_map attributes_in (part ∷ []) ≡ (entered, attributes) ∷ []
     → filter_map section_in (part ∷ []) ≡ (entered, size) ∷ []
     → total_of (before ++ part ∷ []) name
-    ≡ cond (is_name name entered) (Some (total_behind (total_of before entered) attributes size)) (total_of before name)
+    ≡ cond (is_name name entered) (Some (total_after (total_of before entered) attributes size)) (total_of before name)
 total_entered before part name entered attributes size e f =
     both_more _ _ _ _
     (attributes_more before part name
-    ∙ ap (λ told. option_or (attributes_found before name) (lookup (is_name name) told)) e)
+    ∙ ap (λ reported. option_or (attributes_found before name) (lookup (is_name name) reported)) e)
     (sizes_more before part name ∙ ap (λ these. sizes_of before name ++ filter_map (size_under name) these) f)
     ∙ entered_by (is_name name entered) before name entered attributes size refl

@@ -1,4 +1,4 @@
--- A layout that stands behind parts, and behind more of them.
+-- A layout that stands after parts, and after more of them.
 use Rattle.std.proofs.Common.{◌≡◌, ℕ, List, [], ◌∷◌, ◌++◌, append-nil, Option, Some, None, Result, Ok, Err, refl, sym, subst}
 use Rattle.std.specs.Option.{option_or}
 use Rattle.std.specs.Prelude.{is_ok, true}
@@ -7,21 +7,21 @@ use Rattle.m11_obj.specs.Reading.{◌>>=◌, IsRecord, content_of, record_of}
 use Rattle.m11_obj.specs.Records.{Content}
 use Rattle.m11_obj.specs.declared.fault.RecordFault.{RecordFault}
 use Rattle.m11_modules.specs.declared.fault.ModuleFault.{ModuleFault}
-use Rattle.m11_modules.specs.Laws.{TakesBehind}
+use Rattle.m11_modules.specs.Laws.{TakesAfter}
 use Rattle.m11_modules.specs.Parts.{Part, EndOfFile}
 use Rattle.m11_modules.specs.Places.{known_of}
 use Rattle.m11_modules.specs.Rules.{fault_of, first_fault}
 use Rattle.m11_modules.specs.Parts.{record_parts}
-use Rattle.m11_layout.specs.Gathering.{Gathered, gathered_behind, gathered_behind_all, nothing_gathered}
-use Rattle.m11_layout.specs.Reading.{Reading, Stands}
+use Rattle.m11_layout.specs.Tables.{Gathered, gathered_after, gathered_after_all, nothing_gathered}
+use Rattle.m11_layout.specs.Layout.{LayoutState, LayoutStands}
 use Rattle.m11_layout.specs.declared.fault.LinkFault.{LinkFault}
 
-pub begins : (bottom : ℕ) (reading : Reading) → reading.known ≡ known_of [] → reading.gathered ≡ nothing_gathered
-    → reading.bottom ≡ bottom → reading.fault ≡ None → Stands bottom [] reading
+pub begins : (bottom : ℕ) (reading : LayoutState) → reading.known ≡ known_of [] → reading.gathered ≡ nothing_gathered
+    → reading.bottom ≡ bottom → reading.fault ≡ None → LayoutStands bottom [] reading
 unfolding first_fault
 begins bottom reading k g b f = record { sound = refl; known = k; gathered = g; bottom_is = b; fault = f }
 
--- ---- parts behind parts
+-- ---- parts after parts
 
 both_none : (first rest : Option ModuleFault) → option_or first rest ≡ None → (first ≡ None) × (rest ≡ None)
 both_none None rest e = (refl, e)
@@ -30,36 +30,36 @@ both_none (Some fault) rest e = search
 joined_none : (first rest : Option ModuleFault) → first ≡ None → rest ≡ None → option_or first rest ≡ None
 joined_none first rest e f = let P : Option ModuleFault → Type 0 = λ o. option_or o rest ≡ None in subst P (sym e) f
 
-pub sound_behind : (done before parts : List Part) → first_fault done before ≡ None
+pub sound_after : (done before parts : List Part) → first_fault done before ≡ None
     → first_fault (done ++ before) parts ≡ None
     → first_fault done (before ++ parts) ≡ None
 unfolding first_fault
-sound_behind done [] parts e f =
+sound_after done [] parts e f =
     let P : List Part → Type 0 = λ all. first_fault all parts ≡ None in subst P (append-nil done) f
-sound_behind done (part ∷ before) parts e f =
+sound_after done (part ∷ before) parts e f =
     let n = both_none (fault_of done part) (first_fault (done ++ part ∷ []) before) e in
     let P : List Part → Type 0 = λ all. first_fault all parts ≡ None in
     joined_none (fault_of done part) (first_fault (done ++ part ∷ []) (before ++ parts)) n.0
-    (sound_behind (done ++ part ∷ []) before parts n.1 (subst P (sym (append_snoc done part before)) f))
+    (sound_after (done ++ part ∷ []) before parts n.1 (subst P (sym (append_snoc done part before)) f))
 
 pub gathered_append : (bottom : ℕ) (g : Gathered) (before parts : List Part)
-    → gathered_behind_all bottom g (before ++ parts)
-    ≡ gathered_behind_all bottom (gathered_behind_all bottom g before) parts
+    → gathered_after_all bottom g (before ++ parts)
+    ≡ gathered_after_all bottom (gathered_after_all bottom g before) parts
 gathered_append bottom g [] parts = refl
-gathered_append bottom g (part ∷ before) parts = gathered_append bottom (gathered_behind bottom g part) before parts
+gathered_append bottom g (part ∷ before) parts = gathered_append bottom (gathered_after bottom g part) before parts
 
 -- parts were taken and noted
-pub goes_on : (bottom : ℕ) (before parts : List Part) (old new : Reading) → Stands bottom before old
-    → TakesBehind before new.known parts (Ok tt) → new.gathered ≡ gathered_behind_all old.bottom old.gathered parts
-    → new.bottom ≡ old.bottom → new.fault ≡ old.fault → Stands bottom (before ++ parts) new
+pub goes_on : (bottom : ℕ) (before parts : List Part) (old new : LayoutState) → LayoutStands bottom before old
+    → TakesAfter before new.known parts (Ok tt) → new.gathered ≡ gathered_after_all old.bottom old.gathered parts
+    → new.bottom ≡ old.bottom → new.fault ≡ old.fault → LayoutStands bottom (before ++ parts) new
 goes_on bottom before parts old new s t g b f =
-    let P : ℕ → Type 0 = λ n. new.gathered ≡ gathered_behind_all n old.gathered parts in
-    let Q : Gathered → Type 0 = λ h. new.gathered ≡ gathered_behind_all bottom h parts in
+    let P : ℕ → Type 0 = λ n. new.gathered ≡ gathered_after_all n old.gathered parts in
+    let Q : Gathered → Type 0 = λ h. new.gathered ≡ gathered_after_all bottom h parts in
     let R : Gathered → Type 0 = λ h. new.gathered ≡ h in
     let S : ℕ → Type 0 = λ n. new.bottom ≡ n in
     let T : Option LinkFault → Type 0 = λ o. new.fault ≡ o in
     record {
-      sound = sound_behind [] before parts s.sound t.0;
+      sound = sound_after [] before parts s.sound t.0;
       known = t.1;
       gathered = subst R (sym (gathered_append bottom nothing_gathered before parts))
           (subst Q s.gathered (subst P s.bottom_is g));
@@ -90,33 +90,33 @@ pub record_there : (items bytes : List ℕ) → ◌≡◌ {A = Result (List ℕ)
 record_there items bytes e = there (content_of items) items bytes e
 
 -- a block that is a record was taken
-pub block_taken : {seen new : Reading} (bottom : ℕ) (before : List Part) (old : Reading) (items bytes : List ℕ)
+pub block_taken : {seen new : LayoutState} (bottom : ℕ) (before : List Part) (old : LayoutState) (items bytes : List ℕ)
     → seen ≡ old
-    → ◌≡◌ {A = Result (List ℕ) RecordFault} (Ok bytes) (record_of items) → Stands bottom before old
-    → (seen.known ≡ known_of before → TakesBehind before new.known (record_parts bytes) (Ok tt))
-    → new.gathered ≡ gathered_behind_all seen.bottom seen.gathered (record_parts bytes)
-    → new.bottom ≡ seen.bottom → new.fault ≡ seen.fault → Stands bottom (before ++ record_parts items) new
+    → ◌≡◌ {A = Result (List ℕ) RecordFault} (Ok bytes) (record_of items) → LayoutStands bottom before old
+    → (seen.known ≡ known_of before → TakesAfter before new.known (record_parts bytes) (Ok tt))
+    → new.gathered ≡ gathered_after_all seen.bottom seen.gathered (record_parts bytes)
+    → new.bottom ≡ seen.bottom → new.fault ≡ seen.fault → LayoutStands bottom (before ++ record_parts items) new
 block_taken {seen} {new} bottom before old items bytes is e s t g b f =
-    let P : Reading → Type 0 = λ reading. Stands bottom before reading in
-    let Q : List ℕ → Type 0 = λ these. Stands bottom (before ++ record_parts these) new in
+    let P : LayoutState → Type 0 = λ reading. LayoutStands bottom before reading in
+    let Q : List ℕ → Type 0 = λ these. LayoutStands bottom (before ++ record_parts these) new in
     let s' = subst P (sym is) s in
     subst Q (record_is items bytes e) (goes_on bottom before (record_parts bytes) seen new s' (t s'.known) g b f)
 
-pub fault_kept : {seen : Reading} (old : Reading) → seen ≡ old → seen.fault ≡ old.fault
-fault_kept {seen} old is = let P : Reading → Type 0 = λ reading. seen.fault ≡ reading.fault in subst P is refl
+pub fault_kept : {seen : LayoutState} (old : LayoutState) → seen ≡ old → seen.fault ≡ old.fault
+fault_kept {seen} old is = let P : LayoutState → Type 0 = λ reading. seen.fault ≡ reading.fault in subst P is refl
 
 -- the end of a file was taken
-nothing_noted : (bottom : ℕ) (g : Gathered) → g ≡ gathered_behind_all bottom g (EndOfFile ∷ [])
-unfolding gathered_behind
+nothing_noted : (bottom : ℕ) (g : Gathered) → g ≡ gathered_after_all bottom g (EndOfFile ∷ [])
+unfolding gathered_after
 nothing_noted bottom g = refl
 
-pub end_taken : {seen new : Reading} (bottom : ℕ) (before : List Part) (old : Reading) → seen ≡ old
-    → Stands bottom before old
-    → (seen.known ≡ known_of before → TakesBehind before new.known (EndOfFile ∷ []) (Ok tt))
+pub end_taken : {seen new : LayoutState} (bottom : ℕ) (before : List Part) (old : LayoutState) → seen ≡ old
+    → LayoutStands bottom before old
+    → (seen.known ≡ known_of before → TakesAfter before new.known (EndOfFile ∷ []) (Ok tt))
     → new.gathered ≡ seen.gathered → new.bottom ≡ seen.bottom → new.fault ≡ seen.fault
-    → Stands bottom (before ++ EndOfFile ∷ []) new
+    → LayoutStands bottom (before ++ EndOfFile ∷ []) new
 end_taken {seen} {new} bottom before old is s t g b f =
-    let P : Reading → Type 0 = λ reading. Stands bottom before reading in
+    let P : LayoutState → Type 0 = λ reading. LayoutStands bottom before reading in
     let Q : Gathered → Type 0 = λ h. new.gathered ≡ h in
     let s' = subst P (sym is) s in
     goes_on bottom before (EndOfFile ∷ []) seen new s' (t s'.known)

@@ -11,8 +11,8 @@ use Rattle.m11_modules.specs.Names.{absolute_name, is_name}
 use Rattle.m11_modules.specs.Parts.{Part, Directory, Entry, EndOfDirectory, Text, Relocations, Relocated, EndOfModule, EndOfFile}
 use Rattle.m11_modules.specs.Places.{global_of, known_of, modules_in, sections_in, this_module}
 use Rattle.m11_modules.specs.Rules.{entry_fault, fault_of, first_there}
-use Rattle.m11_layout.specs.Gathering.{Gathered, gathered_behind, is_even_behind, nothing_gathered, with_entry, with_relocated}
-use Rattle.m11_layout.specs.Planning.{Planned, planned_base, planned_transfer, transfer_at}
+use Rattle.m11_layout.specs.Tables.{Gathered, gathered_after, is_even_after, nothing_gathered, with_entry, with_relocated}
+use Rattle.m11_layout.specs.Plan.{Planned, planned_base, planned_transfer, transfer_at}
 use Rattle.m11_layout.specs.Sections.{module_base}
 use Rattle.m11_layout.specs.Transfers.{is_even, transfer_address, transfer_by, transfer_in, transfer_value, transfers_of}
 use Rattle.m11_layout.specs.declared.definition.Transfer.{Transfer}
@@ -31,8 +31,8 @@ use Rattle.m11_layout.proofs.TransfersGathered.{TransfersOf, possible_before, tr
 abbrev pub TransfersIn : ℕ → List Part → Gathered → Type 0
 TransfersIn bottom before g = TransfersOf bottom before g.transfer g.moved
 
-abbrev transfers_told : Gathered → Option Transfer × Option Transfer
-transfers_told g = (g.transfer, g.moved)
+abbrev transfers_reported : Gathered → Option Transfer × Option Transfer
+transfers_reported g = (g.transfer, g.moved)
 
 no_end : (before : List Part) (part : Part) → modules_in (part ∷ []) ≡ 0
     → modules_in (before ++ part ∷ []) ≡ modules_in before
@@ -40,10 +40,10 @@ no_end before part z = modules_more before part ∙ ap (λ n. modules_in before 
 
 kept : (bottom : ℕ) (before : List Part) (g new : Gathered) (part : Part) → modules_in (part ∷ []) ≡ 0
     → transfer_in before part ≡ None
-    → transfers_told new ≡ transfers_told g → TransfersIn bottom before g → TransfersIn bottom (before ++ part ∷ []) new
+    → transfers_reported new ≡ transfers_reported g → TransfersIn bottom before g → TransfersIn bottom (before ++ part ∷ []) new
 kept bottom before g new part z e same t =
     let P : Option Transfer × Option Transfer → Type 0 =
-    λ told. TransfersOf bottom (before ++ part ∷ []) told.0 told.1 in
+    λ reported. TransfersOf bottom (before ++ part ∷ []) reported.0 reported.1 in
     subst P (sym same) (transfers_kept bottom before part g.transfer g.moved (no_end before part z) e t)
 
 -- a transfer entry without a fault names a section that its module knows
@@ -86,13 +86,13 @@ entry_step bottom before g ModuleName entry z e n l s c t =
 entry_step bottom before g InternalSymbol entry z e n l s c t = kept bottom before g g (Entry entry) z e refl t
 entry_step bottom before g GlobalSymbol entry z e n l s c t =
     kept bottom before g (with_entry bottom GlobalSymbol entry g) (Entry entry) z e
-    (symbol_keeps transfers_told g (λ definitions references weak. refl) entry) t
+    (symbol_keeps transfers_reported g (λ definitions references weak. refl) entry) t
 entry_step bottom before g Identification entry z e n l s c t = kept bottom before g g (Entry entry) z e refl t
 
 pub transfers_step : (bottom : ℕ) (before : List Part) (g : Gathered) (part : Part) → fault_of before part ≡ None
     → length g.names ≡ modules_in before → SectionsOf before g.sections → ContributionsOf before g.contributions
-    → TransfersIn bottom before g → TransfersIn bottom (before ++ part ∷ []) (gathered_behind bottom g part)
-unfolding gathered_behind modules_in
+    → TransfersIn bottom before g → TransfersIn bottom (before ++ part ∷ []) (gathered_after bottom g part)
+unfolding gathered_after modules_in
 transfers_step bottom before g Directory n l s c t = kept bottom before g g Directory refl refl refl t
 transfers_step bottom before g (Entry entry) n l s c t =
     entry_step bottom before g entry.kind entry refl refl (no_fault before entry n) l s c t
@@ -102,7 +102,7 @@ transfers_step bottom before g (Text address bytes) n l s c t =
 transfers_step bottom before g Relocations n l s c t = kept bottom before g g Relocations refl refl refl t
 transfers_step bottom before g (Relocated relocation) n l s c t =
     kept bottom before g (with_relocated (global_of relocation.target) g) (Relocated relocation) refl refl
-    (relocated_keeps transfers_told g (λ definitions references weak. refl) (global_of relocation.target)) t
+    (relocated_keeps transfers_reported g (λ definitions references weak. refl) (global_of relocation.target)) t
 transfers_step bottom before g EndOfModule n l s c t = transfers_ended bottom before g l s c t
 transfers_step bottom before g EndOfFile n l s c t = kept bottom before g g EndOfFile refl refl refl t
 
@@ -140,7 +140,7 @@ pub transfer_planned : (bottom : ℕ) (parts : List Part) (plan : Planned) → l
 unfolding transfer_address
 transfer_planned bottom parts plan l s c t b =
     ap (λ found. transfer_at plan found) (settled_is bottom parts plan.gathered l s c t
-    ∙ find_same parts (λ one. is_even_behind (relocated_at parts one.module_index one.section) bottom one.value)
+    ∙ find_same parts (λ one. is_even_after (relocated_at parts one.module_index one.section) bottom one.value)
     (λ one. is_even (transfer_value bottom parts one)) (transfers_of parts) t.known
     (λ one k. sym (even_is bottom parts one)))
     ∙ at_is bottom parts plan (find (λ one. is_even (transfer_value bottom parts one)) (transfers_of parts)) b

@@ -1,4 +1,4 @@
--- The transfer address behind a transfer entry, behind an end, and in a plan.
+-- The transfer address after a transfer entry, after an end, and in a plan.
 use Rattle.std.proofs.Common.{◌≡◌, ℕ, nat_eq, nat_lt, Bool, true, false, ◌&&◌, ◌||◌, if◌then◌else◌, List, [], ◌∷◌, ◌++◌, length, is_some, Option, Some, refl, sym, ap, ◌∙◌, subst, arith}
 use Rattle.std.specs.List.{cons_option, find}
 use Rattle.std.proofs.lemmas.Bool.Decides.{nat_tests}
@@ -6,7 +6,7 @@ use Rattle.m11_obj.specs.declared.gsd.GsdEntry.{GsdEntry}
 use Rattle.m11_modules.specs.Names.{absolute_name, is_name}
 use Rattle.m11_modules.specs.Parts.{Part, EndOfModule}
 use Rattle.m11_modules.specs.Places.{modules_in}
-use Rattle.m11_layout.specs.Gathering.{Gathered, entered_total, is_even_behind, is_relocated, settled, transfer_behind, with_transfer}
+use Rattle.m11_layout.specs.Tables.{Gathered, entered_total, is_even_after, is_relocated, settled, transfer_after, with_transfer}
 use Rattle.m11_layout.specs.Sections.{first_attributes, is_relocatable}
 use Rattle.m11_layout.specs.Transfers.{transfer_in, transfers_of}
 use Rattle.m11_layout.specs.declared.definition.Transfer.{Transfer}
@@ -23,8 +23,8 @@ use Rattle.m11_layout.proofs.ModulesOfParts.{itself}
 -- ---- a transfer entry
 
 in_both : (assumed : Bool) (transfer moved : Option Transfer) (now : Bool → Bool) (one : Transfer)
-    → slot assumed (transfer_behind transfer (now false) one) (transfer_behind moved (now true) one)
-    ≡ transfer_behind (slot assumed transfer moved) (now assumed) one
+    → slot assumed (transfer_after transfer (now false) one) (transfer_after moved (now true) one)
+    ≡ transfer_after (slot assumed transfer moved) (now assumed) one
 in_both true transfer moved now one = refl
 in_both false transfer moved now one = refl
 
@@ -49,7 +49,7 @@ transfer_entered bottom before g entry part m e k l s c p t =
     let same = transfers_more before part ∙ ap (λ found. transfers_of before ++ cons_option found []) e in
     let known_one = known_here (nat_lt index index) (nat_eq index index) _ (itself index) k in
     let P : List Transfer → Type 0 = λ these. AllKnown all these in
-    let now : Bool → Bool = λ assumed. is_even_behind
+    let now : Bool → Bool = λ assumed. is_even_after
     (is_relocated (entered_total g entry.name) assumed) bottom entry.value in
     record {
       known = subst P (sym same) (one_known all (transfers_of before) one
@@ -58,8 +58,8 @@ transfer_entered bottom before g entry part m e k l s c p t =
       first = λ assumed possible.
           in_both assumed g.transfer g.moved now
           (record { module_index = length g.names; section = entry.name; value = entry.value })
-          ∙ (λ j. transfer_behind (earlier_first bottom before part g.transfer g.moved assumed m t possible j)
-          (is_even_behind ((relocated_is before g entry.name assumed l s c
+          ∙ (λ j. transfer_after (earlier_first bottom before part g.transfer g.moved assumed m t possible j)
+          (is_even_after ((relocated_is before g entry.name assumed l s c
           ∙ this_under before part entry.name entry.value assumed m k (p assumed possible)) j) bottom entry.value)
           (record { module_index = l j; section = entry.name; value = entry.value }))
           ∙ sym (find_more (even_under bottom all assumed) (transfers_of before) one)
@@ -104,15 +104,15 @@ under_settled before assumed one a =
 pub settled_is : (bottom : ℕ) (before : List Part) (g : Gathered) → length g.names ≡ modules_in before
     → SectionsOf before g.sections
     → ContributionsOf before g.contributions → TransfersOf bottom before g.transfer g.moved
-    → settled g ≡ find (λ one. is_even_behind (relocated_at before one.module_index one.section) bottom one.value)
+    → settled g ≡ find (λ one. is_even_after (relocated_at before one.module_index one.section) bottom one.value)
     (transfers_of before)
 settled_is bottom before g l s c t =
     let assumed = is_relocated (entered_total g absolute_name) false in
     let is = absolute_relocated before g l s c in
     t.first assumed (λ e. is ∙ ap (λ b. b && is_relocatable (first_attributes before absolute_name)) e)
     ∙ find_same before (even_under bottom before assumed)
-    (λ one. is_even_behind (relocated_at before one.module_index one.section) bottom one.value)
-    (transfers_of before) t.known (λ one k. ap (λ b. is_even_behind b bottom one.value)
+    (λ one. is_even_after (relocated_at before one.module_index one.section) bottom one.value)
+    (transfers_of before) t.known (λ one k. ap (λ b. is_even_after b bottom one.value)
     (under_settled before assumed one is))
 
 -- ---- an end
@@ -144,9 +144,9 @@ transfers_ended bottom before g l s c t =
       known = subst P (sym same) (all_known before all (transfers_of before)
           (λ one k. known_ended before one k) t.known);
       first = λ assumed possible. same_slot assumed (settled g) ∙ settled_is bottom before g l s c t
-          ∙ find_same before (λ one. is_even_behind
+          ∙ find_same before (λ one. is_even_after
           (relocated_at before one.module_index one.section) bottom one.value) (even_under bottom all assumed)
-          (transfers_of before) t.known (λ one k. ap (λ b. is_even_behind b bottom one.value)
+          (transfers_of before) t.known (λ one k. ap (λ b. is_even_after b bottom one.value)
           (sym (under_ended before assumed one k)))
           ∙ ap (λ these. find (even_under bottom all assumed) these) (sym same);
     }

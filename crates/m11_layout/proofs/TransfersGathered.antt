@@ -6,7 +6,7 @@ use Rattle.std.specs.Option.{unwrap_or}
 use Rattle.m11_modules.specs.Names.{absolute_name, is_name}
 use Rattle.m11_modules.specs.Parts.{Part}
 use Rattle.m11_modules.specs.Places.{modules_in}
-use Rattle.m11_layout.specs.Gathering.{Gathered, entered_total, is_contribution, is_even_behind, is_relocated}
+use Rattle.m11_layout.specs.Tables.{Gathered, entered_total, is_contribution, is_even_after, is_relocated}
 use Rattle.m11_layout.specs.Sections.{first_attributes, is_relocatable, sizes_of}
 use Rattle.m11_layout.specs.Transfers.{transfer_in, transfers_of}
 use Rattle.m11_layout.specs.declared.definition.Transfer.{Transfer}
@@ -14,7 +14,7 @@ use Rattle.m11_layout.proofs.ContributionsGathered.{ContributionsOf}
 use Rattle.m11_layout.proofs.Evenness.{relocated_at}
 use Rattle.m11_layout.proofs.Finding.{is_name_same}
 use Rattle.m11_layout.proofs.FirstEven.{all_known, find_same, known_goes_on, transfers_more, under_goes_on}
-use Rattle.m11_layout.proofs.Offsets.{entered_at, enters_told, offset_from, offset_in}
+use Rattle.m11_layout.proofs.Offsets.{entered_at, enters_reported, offset_from, offset_in}
 use Rattle.m11_layout.proofs.SectionsGathered.{SectionsOf}
 use Rattle.m11_layout.proofs.Sizing.{attributes_found, total_from}
 use Rattle.m11_layout.proofs.TransfersKnown.{AllKnown, attributes_stay, both_stay, entered_stays, relocated_under}
@@ -28,7 +28,7 @@ Possible before assumed =
 
 abbrev pub even_under : ℕ → List Part → Bool → Transfer → Bool
 even_under bottom before assumed transfer =
-    is_even_behind (relocated_under before assumed transfer) bottom transfer.value
+    is_even_after (relocated_under before assumed transfer) bottom transfer.value
 
 abbrev pub slot : Bool → Option Transfer → Option Transfer → Option Transfer
 slot assumed transfer moved = if assumed then moved else transfer
@@ -59,7 +59,7 @@ earlier_first bottom before part transfer moved assumed m t p =
     t.first assumed (possible_before before part assumed m p)
     ∙ find_same before (even_under bottom before assumed) (even_under bottom (before ++ part ∷ []) assumed)
     (transfers_of before) t.known
-    (λ one k. ap (λ b. is_even_behind b bottom one.value) (sym (under_goes_on before part assumed one m k)))
+    (λ one k. ap (λ b. is_even_after b bottom one.value) (sym (under_goes_on before part assumed one m k)))
 
 pub no_transfer : (before : List Part) (part : Part) → transfer_in before part ≡ None
     → transfers_of (before ++ part ∷ []) ≡ transfers_of before
@@ -101,7 +101,7 @@ relocated_is before g name assumed l s c =
     (is_name name) g.sections else None) assumed)
     ∙ (λ j. is_relocated (if is_some (c (modules_in before) name j) then s.totals name j else None) assumed)
     ∙ entered_by (entered_at before (modules_in before) name) (attributes_found before name) (sizes_of before name)
-    (offset_in before (modules_in before) name) assumed (enters_told before (modules_in before) name)
+    (offset_in before (modules_in before) name) assumed (enters_reported before (modules_in before) name)
 
 -- ---- a transfer entry
 

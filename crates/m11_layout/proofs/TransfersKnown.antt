@@ -10,7 +10,7 @@ use Rattle.m11_modules.specs.Places.{modules_in}
 use Rattle.m11_layout.specs.Sections.{attributes_in, first_attributes, is_relocatable}
 use Rattle.m11_layout.specs.declared.definition.Transfer.{Transfer}
 use Rattle.m11_layout.proofs.Evenness.{relocated_at}
-use Rattle.m11_layout.proofs.Offsets.{entered_at, entered_more, enters_told, told_where}
+use Rattle.m11_layout.proofs.Offsets.{entered_at, entered_more, enters_reported, reported_where}
 use Rattle.m11_layout.proofs.Sizing.{attributes_found, attributes_more, or_none}
 
 -- ---- what a module entered stays
@@ -30,7 +30,7 @@ pub entered_stays : (before : List Part) (part : Part) (index : ℕ) (name : ℕ
 entered_stays before part index name e =
     entered_more before part index name
     ∙ some_or (entered_at before index name) (lookup (is_name name)
-    (told_where (nat_eq (modules_in before) index) part)) e
+    (reported_where (nat_eq (modules_in before) index) part)) e
 
 pub attributes_stay : (before : List Part) (part : Part) (index : ℕ) (name : ℕ × ℕ)
     → is_some (entered_at before index name) ≡ true
@@ -40,7 +40,7 @@ attributes_stay before part index name e =
     ap (λ found. unwrap_or found 0)
     (attributes_more before part name
     ∙ some_or (attributes_found before name) (lookup (is_name name) (filter_map attributes_in (part ∷ [])))
-    (found_where (entered_at before index name) (attributes_found before name) e (enters_told before index name)))
+    (found_where (entered_at before index name) (attributes_found before name) e (enters_reported before index name)))
 
 pub both_stay : (before : List Part) (part : Part) (index : ℕ) (name : ℕ × ℕ)
     → is_some (entered_at before index name) ≡ true
@@ -52,13 +52,13 @@ both_stay before part index name e =
 -- nothing more comes of a module that isn't this one, and of none at an end
 none_comes : (before : List Part) (part : Part) (index : ℕ) (name : ℕ × ℕ) (b : Bool)
     → is_some (entered_at before index name) ≡ b
-    → told_where (nat_eq (modules_in before) index) part ≡ []
+    → reported_where (nat_eq (modules_in before) index) part ≡ []
     → relocated_at (before ++ part ∷ []) index name ≡ relocated_at before index name
 none_comes before part index name true e t = both_stay before part index name e
 none_comes before part index name false e t =
     let same : entered_at (before ++ part ∷ []) index name ≡ entered_at before index name =
     entered_more before part index name
-    ∙ ap (λ told. option_or (entered_at before index name) (lookup (is_name name) told)) t
+    ∙ ap (λ reported. option_or (entered_at before index name) (lookup (is_name name) reported)) t
     ∙ or_none (entered_at before index name) in
     ap (λ b. b && is_relocatable (first_attributes (before ++ part ∷ []) name)) (ap is_some same ∙ e)
     ∙ ap (λ b. b && is_relocatable (first_attributes before name)) (sym e)
@@ -66,16 +66,16 @@ none_comes before part index name false e t =
 pub ended_relocated : (before : List Part) (index : ℕ) (name : ℕ × ℕ)
     → relocated_at (before ++ EndOfModule ∷ []) index name ≡ relocated_at before index name
 ended_relocated before index name =
-    none_comes before EndOfModule index name _ refl (told_none (nat_eq (modules_in before) index))
+    none_comes before EndOfModule index name _ refl (reported_none (nat_eq (modules_in before) index))
   where
-    told_none : (b : Bool) → told_where b EndOfModule ≡ []
-    told_none true = refl
-    told_none false = refl
+    reported_none : (b : Bool) → reported_where b EndOfModule ≡ []
+    reported_none true = refl
+    reported_none false = refl
 
 other_relocated : (before : List Part) (part : Part) (index : ℕ) (name : ℕ × ℕ)
     → nat_eq (modules_in before) index ≡ false
     → relocated_at (before ++ part ∷ []) index name ≡ relocated_at before index name
-other_relocated before part index name e = none_comes before part index name _ refl (ap (λ b. told_where b part) e)
+other_relocated before part index name e = none_comes before part index name _ refl (ap (λ b. reported_where b part) e)
 
 -- ---- transfer entries that are known
 

@@ -10,7 +10,7 @@ use Rattle.m11_modules.specs.Names.{is_name, is_among}
 use Rattle.m11_modules.specs.Parts.{Part, Entry, Relocated}
 use Rattle.m11_modules.specs.Places.{distinct, this_module, modules_in, sections_in, global_of}
 use Rattle.m11_modules.specs.Rules.{has_bits, defines}
-use Rattle.m11_layout.specs.Modules.{name_at, told_behind}
+use Rattle.m11_layout.specs.Modules.{name_at, reported_after}
 use Rattle.m11_layout.specs.Sections.{module_base}
 use Rattle.m11_layout.specs.declared.definition.Definition.{Definition}
 use Rattle.m11_layout.specs.declared.definition.GlobalPlace.{GlobalPlace}
@@ -34,14 +34,14 @@ place_in None value = Absolute value
 place_in (Some section) value = In section value
 
 abbrev pub place_of : Option (ℕ × ℕ) → GsdEntry → GlobalPlace
-place_of section entry = if has_bits 32 entry.flags then place_in section entry.value else Absolute entry.value
+place_of section entry = if has_bits 0o40 entry.flags then place_in section entry.value else Absolute entry.value
 
 abbrev pub definition_by : GsdKind → GsdEntry → ℕ → Option (ℕ × ℕ) → Option ((ℕ × ℕ) × Definition)
 definition_by GlobalSymbol entry modules section =
     if defines entry then Some (entry.name, record { module_index = modules; place = place_of section entry }) else None
 definition_by kind entry modules section = None
 
--- the definition in a part, behind the parts before it
+-- the definition in a part, after the parts before it
 abbrev pub definition_in : List Part → Part → Option ((ℕ × ℕ) × Definition)
 definition_in before (Entry entry) =
     definition_by entry.kind entry (modules_in before) (last_section (this_module before))
@@ -49,11 +49,11 @@ definition_in before part = None
 
 -- all definitions, in order
 unfoldable pub definitions_of : List Part → List ((ℕ × ℕ) × Definition)
-definitions_of parts = told_behind definition_in [] parts
+definitions_of parts = reported_after definition_in [] parts
 
 -- ---- values
 
--- what a definition's place is worth: a relocatable one lies behind its module's contribution
+-- the value of a definition's place: a relocatable one lies after its module's contribution
 abbrev pub place_value : ℕ → List Part → ℕ → GlobalPlace → ℕ
 place_value bottom parts index (Absolute value) = value
 place_value bottom parts index (In section value) = (module_base bottom parts index section + value) % 0o200000
@@ -69,15 +69,15 @@ first_definition parts name = lookup (is_name name) (definitions_of parts)
 unfoldable pub global_value : ℕ → List Part → ℕ × ℕ → Option ℕ
 global_value bottom parts name = option_map (definition_value bottom parts) (first_definition parts name)
 
-abbrev pub global_told : ℕ → List Part → ℕ × ℕ → Definition → PlannedGlobal
-global_told bottom parts name definition = record {
+abbrev pub global_reported : ℕ → List Part → ℕ × ℕ → Definition → PlannedGlobal
+global_reported bottom parts name definition = record {
   name = name;
   value = definition_value bottom parts definition;
   module_name = name_at parts definition.module_index;
 }
 
 abbrev pub global_defined : ℕ → List Part → ℕ × ℕ → Option PlannedGlobal
-global_defined bottom parts name = option_map (global_told bottom parts name) (first_definition parts name)
+global_defined bottom parts name = option_map (global_reported bottom parts name) (first_definition parts name)
 
 -- the globals that are defined, in order of first definition, each with its value and the name of the module that
 -- defines it first
@@ -116,7 +116,7 @@ reference_in before part = None
 
 -- all references, in order
 unfoldable pub references_of : List Part → List ((ℕ × ℕ) × Bool)
-references_of parts = told_behind reference_in [] parts
+references_of parts = reported_after reference_in [] parts
 
 abbrev pub is_strong_to : ℕ × ℕ → (ℕ × ℕ) × Bool → Bool
 is_strong_to name reference = is_name name reference.0 && reference.1

@@ -1,8 +1,8 @@
-pub mod Faults
-pub mod Gathering
+pub mod Fault
+pub mod Tables
 pub mod Globals
 pub mod Modules
-pub mod Planning
-pub mod Reading
+pub mod Plan
+pub mod Layout
 pub mod Sections
 pub mod Transfers

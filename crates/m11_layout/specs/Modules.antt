@@ -1,4 +1,4 @@
--- The modules of objects, and what each tells of itself. (RT-11 Volume and File Formats Manual, "Object file format",
+-- The modules of objects, and what each says of itself. (RT-11 Volume and File Formats Manual, "Object file format",
 -- GSD block, module name.)
 use Rattle.std.specs.Prelude.{ℕ, ◌+◌, nat_eq, nat_lt, List, [], ◌∷◌, ◌++◌, Option, Some, None, if◌then◌else◌}
 use Rattle.std.specs.List.{cons_option, filter_map}
@@ -29,11 +29,11 @@ module_at parts index = filter_map (part_at index) (indexed 0 parts)
 unfoldable pub modules_before : List Part → ℕ → List Part
 modules_before parts index = filter_map (part_before index) (indexed 0 parts)
 
--- what the parts tell, in order, each behind those before it
-abbrev pub told_behind : {X : Type 0} → (List Part → Part → Option X) → List Part → List Part → List X
-told_behind tell before [] = []
-told_behind tell before (part ∷ parts) =
-    cons_option (tell before part) (told_behind tell (before ++ part ∷ []) parts)
+-- what the parts say, in order, each after those before it
+abbrev pub reported_after : {X : Type 0} → (List Part → Part → Option X) → List Part → List Part → List X
+reported_after report before [] = []
+reported_after report before (part ∷ parts) =
+    cons_option (report before part) (reported_after report (before ++ part ∷ []) parts)
 
 abbrev pub name_by : GsdKind → GsdEntry → Option (ℕ × ℕ)
 name_by ModuleName entry = Some entry.name
@@ -47,12 +47,12 @@ abbrev pub first_of : {X : Type 0} → List X → Option X
 first_of [] = None
 first_of (x ∷ xs) = Some x
 
--- the first name that a module tells, wherever its entry stands; without one the name is blank
-unfoldable pub name_told : List Part → Option (ℕ × ℕ)
-name_told parts = first_of (filter_map name_in parts)
+-- the first name that a module gives, wherever its entry stands; without one the name is blank
+unfoldable pub name_reported : List Part → Option (ℕ × ℕ)
+name_reported parts = first_of (filter_map name_in parts)
 
 abbrev pub module_name : List Part → ℕ × ℕ
-module_name parts = unwrap_or (name_told parts) (0, 0)
+module_name parts = unwrap_or (name_reported parts) (0, 0)
 
 -- the name of the module of an index; past the last module that ended it is blank
 abbrev pub name_at : List Part → ℕ → ℕ × ℕ

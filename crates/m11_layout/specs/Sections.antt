@@ -21,7 +21,7 @@ use Rattle.m11_layout.specs.declared.planned.PlannedSection.{PlannedSection}
 
 -- the bits that are attributes: octal 365, for SAV, OVR, RO, REL, GBL and D
 abbrev pub attribute_bits : ℕ
-attribute_bits = 245
+attribute_bits = 0o365
 
 abbrev pub flags_of : ℕ → SectionFlags
 flags_of attributes = record { 0 = attributes }
@@ -30,7 +30,7 @@ flags_of attributes = record { 0 = attributes }
 -- name, octal 144 for one with a name
 abbrev pub control_attributes : ℕ × ℕ → ℕ
 control_attributes name =
-    if is_name name absolute_name then 68 else if is_name name (0, 0) then 32 else 100
+    if is_name name absolute_name then 0o104 else if is_name name (0, 0) then 0o40 else 0o144
 
 abbrev pub attributes_by : GsdKind → GsdEntry → Option ((ℕ × ℕ) × ℕ)
 attributes_by ControlSection entry = Some (entry.name, control_attributes entry.name)
@@ -47,7 +47,7 @@ first_attributes parts name = unwrap_or (lookup (is_name name) (filter_map attri
 
 -- octal 40 and octal 4
 abbrev pub is_relocatable : ℕ → Bool
-is_relocatable attributes = has_bits 32 attributes
+is_relocatable attributes = has_bits 0o40 attributes
 
 abbrev pub is_overlaid : ℕ → Bool
 is_overlaid attributes = has_bits 4 attributes
@@ -94,27 +94,27 @@ section_base bottom parts name =
     if is_relocatable (first_attributes parts name)
     then bottom + sum_by (room_of parts) (names_before name (section_names parts)) else 0
 
--- the first address behind the relocatable sections
+-- the first address after the relocatable sections
 unfoldable pub top : ℕ → List Part → ℕ
 top bottom parts = bottom + sum_by (room_of parts) (section_names parts)
 
 -- a relocatable section that ends past octal 160000, where the devices are
 abbrev pub ends_too_high : ℕ → List Part → ℕ × ℕ → Bool
 ends_too_high bottom parts name = is_relocatable (first_attributes parts name)
-    && nat_lt 57344 (section_base bottom parts name + section_size parts name)
+    && nat_lt 0o160000 (section_base bottom parts name + section_size parts name)
 
 unfoldable pub is_too_large : ℕ → List Part → Bool
 is_too_large bottom parts = list_any (ends_too_high bottom parts) (section_names parts)
 
 -- ---- all sections
 
--- octal 177777: no size is told that is greater. None is: entries tell no greater ones, so that no absolute section has
+-- octal 177777: there is no size that is greater. None is: entries give no greater ones, so that no absolute section has
 -- one, and relocatable sections end by octal 160000
 abbrev pub most_size : ℕ
-most_size = 65535
+most_size = 0o177777
 
-abbrev pub section_told : ℕ → List Part → ℕ × ℕ → PlannedSection
-section_told bottom parts name = record {
+abbrev pub section_reported : ℕ → List Part → ℕ × ℕ → PlannedSection
+section_reported bottom parts name = record {
   name = name;
   base = section_base bottom parts name;
   size = min most_size (section_size parts name);
@@ -123,13 +123,13 @@ section_told bottom parts name = record {
 
 -- the sections in order of first appearance, each with its base, its size and the attributes of its first entry
 unfoldable pub sections_of : ℕ → List Part → List PlannedSection
-sections_of bottom parts = map (section_told bottom parts) (section_names parts)
+sections_of bottom parts = map (section_reported bottom parts) (section_names parts)
 
 -- ---- contributions
 
--- where in its section the contribution of a module lies, behind those of earlier modules with these sizes
-abbrev pub offset_behind : ℕ → List ℕ → ℕ
-offset_behind attributes sizes =
+-- where in its section the contribution of a module lies, after those of earlier modules with these sizes
+abbrev pub offset_after : ℕ → List ℕ → ℕ
+offset_after attributes sizes =
     if is_relocatable attributes && not (is_overlaid attributes) then sum (map rounded sizes) else 0
 
 -- the base of a module's contribution to a section, the parts of earlier modules being these; a section that the
@@ -140,9 +140,9 @@ base_entered (Some size) base = base
 
 unfoldable pub contribution_base : ℕ → List Part → List Part → List Part → ℕ × ℕ → ℕ
 contribution_base bottom parts earlier own name = base_entered (lookup (is_name name) (sections_in own))
-    (section_base bottom parts name + offset_behind (first_attributes parts name) (sizes_of earlier name))
+    (section_base bottom parts name + offset_after (first_attributes parts name) (sizes_of earlier name))
 
--- the same for the module of an index, as an address: octal 200000 is behind the last one
+-- the same for the module of an index, as an address: octal 200000 is after the last one
 unfoldable pub module_base : ℕ → List Part → ℕ → ℕ × ℕ → ℕ
 module_base bottom parts index name =
     contribution_base bottom parts (modules_before parts index) (module_at parts index) name % 0o200000

@@ -8,7 +8,7 @@ use Rattle.m11_obj.specs.declared.gsd.GsdKind.{GsdKind}
 use Rattle.m11_obj.specs.declared.gsd.GsdKind.TheVariants.{TransferAddress}
 use Rattle.m11_modules.specs.Parts.{Part, Entry}
 use Rattle.m11_modules.specs.Places.{modules_in}
-use Rattle.m11_layout.specs.Modules.{told_behind}
+use Rattle.m11_layout.specs.Modules.{reported_after}
 use Rattle.m11_layout.specs.Sections.{module_base}
 use Rattle.m11_layout.specs.declared.definition.Transfer.{Transfer}
 
@@ -17,16 +17,16 @@ transfer_by TransferAddress entry index =
     Some (record { module_index = index; section = entry.name; value = entry.value })
 transfer_by kind entry index = None
 
--- the transfer entry in a part, behind the parts before it
+-- the transfer entry in a part, after the parts before it
 abbrev pub transfer_in : List Part → Part → Option Transfer
 transfer_in before (Entry entry) = transfer_by entry.kind entry (modules_in before)
 transfer_in before part = None
 
 -- all transfer entries, in order
 unfoldable pub transfers_of : List Part → List Transfer
-transfers_of parts = told_behind transfer_in [] parts
+transfers_of parts = reported_after transfer_in [] parts
 
--- so many bytes behind the module's contribution to a section
+-- n bytes after the module's contribution to a section
 abbrev pub transfer_value : ℕ → List Part → Transfer → ℕ
 transfer_value bottom parts transfer =
     (module_base bottom parts transfer.module_index transfer.section + transfer.value) % 0o200000

@@ -1,4 +1,4 @@
-//! The attributes that entries of sections tell. (MACRO-11 Language Reference Manual, ".PSECT directive", ".ASECT and
+//! The attributes that entries of sections have. (MACRO-11 Language Reference Manual, ".PSECT directive", ".ASECT and
 //! .CSECT directives"; RT-11 Volume and File Formats Manual, "Object file format", GSD block.)
 
 ghost use Rattle.std.specs.Prelude.{◌≡◌, Some, option_map};

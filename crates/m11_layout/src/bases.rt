@@ -2,7 +2,7 @@
 //! ".PSECT directive".)
 
 ghost use Rattle.std.specs.Prelude.{◌≡◌, ◌+◌, Some, None, nat_lt, if◌then◌else◌};
-ghost use Rattle.m11_layout.specs.Planning.{Places, address_limit, bases_onto, placed};
+ghost use Rattle.m11_layout.specs.Plan.{Places, address_limit, bases_onto, placed};
 
 use crate::definition::Total;
 use crate::fault::LinkFault;
@@ -31,7 +31,7 @@ fn end_of(next: u16, size: u32) -> Option<u16>
     }
 }
 
-// Gives a section its base, and answers the address behind it.
+// Gives a section its base, and returns the address after it.
 fn place(
     bases: &mut IndexMap<Name, u16>,
     next: u16,
@@ -54,7 +54,7 @@ fn place(
     }
 }
 
-/// Gives each section its base, the relocatable ones from the bottom on, and answers the address behind them.
+/// Gives each section its base, the relocatable ones from the bottom on, and returns the address after them.
 ///
 /// `TooLarge` where a relocatable section ends past 160000.
 pub(crate) fn place_all(

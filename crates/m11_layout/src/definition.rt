@@ -3,7 +3,7 @@
 use m11_base::Name;
 use m11_obj::SectionFlags;
 
-/// A section so far: the attributes of its first entry, and the size that its contributions come to.
+/// A section so far: the attributes of its first entry, and the size that its contributions yield.
 #[derive(Clone, Copy, Debug, PartialEq, Eq)]
 pub(crate) struct Total {
     pub(crate) attributes: SectionFlags,
@@ -15,7 +15,7 @@ pub(crate) struct Total {
 pub(crate) enum GlobalPlace {
     /// At an absolute address.
     Absolute(u16),
-    /// So many bytes behind the base of its module's contribution to a section.
+    /// N bytes after the base of its module's contribution to a section.
     In(Name, u16),
 }
 
@@ -26,7 +26,7 @@ pub(crate) struct Definition {
     pub(crate) place: GlobalPlace,
 }
 
-/// A transfer address: so many bytes behind the base of a module's contribution to a section.
+/// A transfer address: n bytes after the base of a module's contribution to a section.
 #[derive(Clone, Copy, Debug, PartialEq, Eq)]
 pub(crate) struct Transfer {
     pub(crate) module_index: usize,

@@ -1,7 +1,7 @@
 //! What can go wrong in a link, each with its number and name.
 
 ghost use Rattle.std.specs.Prelude.{◌≡◌};
-ghost use Rattle.m11_layout.specs.Faults.{link_fault_name, link_fault_number, of_module};
+ghost use Rattle.m11_layout.specs.Fault.{link_fault_name, link_fault_number, of_module};
 ghost use Rattle.m11_layout.specs.declared.fault.LinkFault.TheVariants.{NoMemory, Record};
 
 use m11_modules::ModuleFault;

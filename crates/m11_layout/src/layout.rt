@@ -1,11 +1,11 @@
-//! The first reading of a link: what it gathers, record by record.
+//! The first pass of a link: what it gathers, record by record.
 
 ghost use Rattle.std.specs.Prelude.{◌≡◌, ◌∷◌, [], ℕ, List, Some, Err, IfOk};
 ghost use Rattle.m11_obj.specs.Reading.{IsRecord};
 ghost use Rattle.m11_modules.specs.Parts.{Part, EndOfFile};
-ghost use Rattle.m11_layout.specs.Planning.{Ends};
+ghost use Rattle.m11_layout.specs.Plan.{LayoutEnds};
 ghost use Rattle.m11_layout.specs.declared.fault.LinkFault.{LinkFault};
-ghost use Rattle.m11_layout.specs.Reading.{FailsAgain, KeepsFault, Stands, TakesBlock, TakesParts};
+ghost use Rattle.m11_layout.specs.Layout.{FailsAgain, KeepsFault, LayoutStands, TakesBlock, TakesParts};
 
 use crate::fault::LinkFault;
 use crate::plan::{Plan, plan_of};
@@ -15,7 +15,7 @@ use m11_obj::{Block, read_record};
 use std::alloc::Global;
 use std::marker::Model;
 
-/// What the blocks of all objects have told so far. It keeps modules, sections and globals, never text.
+/// What the blocks of all objects have reported so far. It keeps modules, sections and globals, never text.
 #[derive(Drop)]
 pub struct Layout {
     alloc: Global,
@@ -26,9 +26,9 @@ pub struct Layout {
 }
 
 impl Model for Layout {
-    ghost use Rattle.m11_layout.specs.Reading.{Reading};
+    ghost use Rattle.m11_layout.specs.Layout.{LayoutState};
 
-    ghost Value = { Reading };
+    ghost Value = { LayoutState };
 
     ghost view = { λ l. record { known = l.rules; gathered = l.tables; bottom = l.bottom; fault = l.fault } };
 }
@@ -36,7 +36,7 @@ impl Model for Layout {
 impl Layout {
     /// No block came so far; relocatable sections will lie from the bottom on, which may be any address.
     pub fn new(alloc: Global, bottom: u16) -> Layout
-        ensures { Stands bottom [] result }
+        ensures { LayoutStands bottom [] result }
     {
         Layout {
             alloc,
@@ -50,9 +50,9 @@ impl Layout {
     /// Takes one block.
     ///
     /// Faults: `Record` where the block is no record, and then the first fault of its order and its entries. After a
-    /// fault each call answers it again.
+    /// fault each call returns it again.
     pub fn block(&mut self, block: &Block) -> Result<(), LinkFault>
-        ensures takes { (bottom : ℕ) (before : List Part) → Stands bottom before self.old
+        ensures takes { (bottom : ℕ) (before : List Part) → LayoutStands bottom before self.old
             → TakesBlock bottom before self.new block.now.items result }
         ensures is_record { IfOk result (λ _. IsRecord block.now.items) }
         ensures again { FailsAgain self.old self.new result }
@@ -70,9 +70,9 @@ impl Layout {
         }
     }
 
-    /// Takes the end of an object: `BadOrder` inside a module. After a fault it is answered again.
+    /// Takes the end of an object: `BadOrder` inside a module. After a fault it is returned again.
     pub fn end_file(&mut self) -> Result<(), LinkFault>
-        ensures takes { (bottom : ℕ) (before : List Part) → Stands bottom before self.old
+        ensures takes { (bottom : ℕ) (before : List Part) → LayoutStands bottom before self.old
             → TakesParts bottom before self.new (EndOfFile ∷ []) result }
         ensures again { FailsAgain self.old self.new result }
         ensures kept { KeepsFault self.new result }
@@ -89,12 +89,12 @@ impl Layout {
         }
     }
 
-    /// The end of the first reading: what it has found, as a plan for the second.
+    /// The end of the first pass: what it has found, as a plan for the second.
     ///
     /// Faults: the one that came before; `BadOrder` inside a module; then `TooLarge` where a relocatable section ends
     /// past 160000; `NoMemory` where memory is refused.
     pub fn end(self) -> Result<Plan, LinkFault>
-        ensures ends { (bottom : ℕ) (before : List Part) → Stands bottom before self → Ends bottom before result }
+        ensures ends { (bottom : ℕ) (before : List Part) → LayoutStands bottom before self → LayoutEnds bottom before result }
         ensures again { (fault : LinkFault) → self.fault ≡ Some fault → result ≡ Err fault }
     {
         let mut layout = self;
@@ -111,9 +111,9 @@ impl Layout {
         }
     }
 
-    // Takes the end of the last object, or answers the fault that came before.
+    // Takes the end of the last object, or returns the fault that came before.
     fn finish(&mut self) -> Result<(), LinkFault>
-        ensures takes { (bottom : ℕ) (before : List Part) → Stands bottom before self.old
+        ensures takes { (bottom : ℕ) (before : List Part) → LayoutStands bottom before self.old
             → TakesParts bottom before self.new (EndOfFile ∷ []) result }
         ensures again { (fault : LinkFault) → self.old.fault ≡ Some fault → result ≡ Err fault }
     {
@@ -125,7 +125,7 @@ impl Layout {
 
     // Takes the end of an object where no fault came before.
     fn take_end(&mut self) -> Result<(), LinkFault>
-        ensures takes { (bottom : ℕ) (before : List Part) → Stands bottom before self.old
+        ensures takes { (bottom : ℕ) (before : List Part) → LayoutStands bottom before self.old
             → TakesParts bottom before self.new (EndOfFile ∷ []) result }
         ensures kept { self.new.fault ≡ self.old.fault }
     {
@@ -135,7 +135,7 @@ impl Layout {
 
     // Takes one block where no fault came before.
     fn take_block(&mut self, block: &Block) -> Result<(), LinkFault>
-        ensures takes { (bottom : ℕ) (before : List Part) → Stands bottom before self.old
+        ensures takes { (bottom : ℕ) (before : List Part) → LayoutStands bottom before self.old
             → TakesBlock bottom before self.new block.now.items result }
         ensures is_record { IfOk result (λ _. IsRecord block.now.items) }
         ensures kept { self.new.fault ≡ self.old.fault }

@@ -1,4 +1,4 @@
-//! The layout of a link: where the sections of all modules lie, and what their globals are worth. (MACRO-11 Language
+//! The layout of a link: where the sections of all modules lie, and the values of their globals. (MACRO-11 Language
 //! Reference Manual, ".PSECT directive"; RT-11 Volume and File Formats Manual, "Object file format".)
 #![tactic(auto)]
 

@@ -1,7 +1,7 @@
-//! What the first reading of a link has found: the plan for the second.
+//! What the first pass of a link has found: the plan for the second.
 
 ghost use Rattle.std.specs.Prelude.{◌≡◌, ◌<◌, Some, length, min, slice_get};
-ghost use Rattle.m11_layout.specs.Planning.{Plans, planned_attributes, planned_base, planned_globals, planned_module, planned_section_base, planned_sections, planned_transfer, planned_value, value_at};
+ghost use Rattle.m11_layout.specs.Plan.{Plans, planned_attributes, planned_base, planned_globals, planned_module, planned_section_base, planned_sections, planned_transfer, planned_value, value_at};
 ghost use Rattle.m11_layout.specs.Sections.{most_size};
 
 use crate::bases::place_all;
@@ -16,7 +16,7 @@ use m11_obj::SectionFlags;
 use std::alloc::Global;
 use std::marker::Model;
 
-/// Where sections and the modules' contributions to them lie, what globals are worth, and where the program starts.
+/// Where sections and the modules' contributions to them lie, the values of globals, and where the program starts.
 #[derive(Drop)]
 pub struct Plan {
     pub(crate) tables: Tables,
@@ -26,18 +26,18 @@ pub struct Plan {
 }
 
 impl Model for Plan {
-    ghost use Rattle.m11_layout.specs.Planning.{Planned};
+    ghost use Rattle.m11_layout.specs.Plan.{Planned};
 
     ghost Value = { Planned };
 
     ghost view = { λ p. record { gathered = p.tables; bases = p.bases.entries; bottom = p.bottom; top = p.top } };
 }
 
-// The greatest size that is told.
+// The greatest size that there is.
 const MOST_SIZE: u32 = 0o177777;
 
-// The size of a section, as it is told.
-fn told_size(size: u32) -> u16
+// The size of a section, as it is given.
+fn reported_size(size: u32) -> u16
     ensures { result ≡ min most_size size }
 {
     size.min(MOST_SIZE) as u16
@@ -93,7 +93,7 @@ impl Plan {
         Some(self.value_at(definition.module_index, definition.place))
     }
 
-    // What a global is worth that a module defines at this place.
+    // The value of a global that a module defines at this place.
     fn value_at(&self, module_index: usize, place: GlobalPlace) -> u16
         ensures { result ≡ value_at self.now module_index place }
     {
@@ -115,7 +115,7 @@ impl Plan {
         }
     }
 
-    /// The first address of relocatable sections, and the first one behind them.
+    /// The first address of relocatable sections, and the first one after them.
     pub fn limits(&self) -> (u16, u16)
         ensures { result ≡ (self.now.bottom, self.now.top) }
     {
@@ -140,7 +140,7 @@ impl Plan {
         PlannedSection {
             name,
             base: self.section_base(name),
-            size: told_size(total.size),
+            size: reported_size(total.size),
             attributes: total.attributes,
         }
     }

@@ -1,4 +1,4 @@
-//! What a plan tells of sections and globals: what the lines of a map show.
+//! What a plan says of sections and globals: what the lines of a map show.
 
 use m11_base::Name;
 use m11_obj::SectionFlags;

@@ -8,7 +8,7 @@ ghost use Rattle.std.specs.Int.RustNames.{bit_and};
 ghost use Rattle.std.specs.Map.{lookup};
 ghost use Rattle.m11_modules.specs.Names as names;
 ghost use Rattle.m11_modules.specs.Places.{global_of};
-ghost use Rattle.m11_layout.specs.Gathering.{Keeps, is_contribution, contributed, gathered_behind_all, nothing_gathered, entered_total, is_concatenated, is_even_behind, is_relocated, joined, next_offset, settled, total_behind, with_definition, with_end, with_entry, with_name, with_reference, with_relocated, with_contribution, with_section, with_settled, with_symbol, with_total, with_transfer, with_weak};
+ghost use Rattle.m11_layout.specs.Tables.{TablesKeep, is_contribution, contributed, gathered_after_all, nothing_gathered, entered_total, is_concatenated, is_even_after, is_relocated, joined, next_offset, settled, total_after, with_definition, with_end, with_entry, with_name, with_reference, with_relocated, with_contribution, with_section, with_settled, with_symbol, with_total, with_transfer, with_weak};
 ghost use Rattle.m11_layout.specs.Globals.{place_of};
 ghost use Rattle.m11_layout.specs.Sections.{control_attributes, is_overlaid, is_relocatable};
 
@@ -34,12 +34,12 @@ pub(crate) struct Tables {
     definitions: IndexMap<Name, Definition>,
     references: IndexMap<Name, bool>,
     transfer: Option<Transfer>,
-    // The same, should this module still enter `. ABS.` as relocatable, which its entries so far don't tell.
+    // The same, should this module still enter `. ABS.` as relocatable, which its entries so far don't say.
     moved: Option<Transfer>,
 }
 
 impl Model for Tables {
-    ghost use Rattle.m11_layout.specs.Gathering.{Gathered};
+    ghost use Rattle.m11_layout.specs.Tables.{Gathered};
 
     ghost Value = { Gathered };
 
@@ -70,14 +70,14 @@ fn contributed(attributes: SectionFlags, size: u16) -> u32
     }
 }
 
-// Whether contributions lie one behind another.
+// Whether contributions lie one after another.
 fn is_concatenated(attributes: SectionFlags) -> bool
     ensures { result ≡ is_concatenated attributes.0 }
 {
     attributes.contains(SectionFlags::RELOCATABLE) && !attributes.contains(SectionFlags::OVERLAID)
 }
 
-// The size of a section behind one more contribution.
+// The size of a section after one more contribution.
 fn joined(attributes: SectionFlags, before: u32, size: u16) -> u32
     ensures { result ≡ joined attributes.0 before size }
 {
@@ -90,12 +90,12 @@ fn joined(attributes: SectionFlags, before: u32, size: u16) -> u32
     joined.min(SIZE_CAP)
 }
 
-// No size is told that is greater: it is past all addresses.
+// There is no size that is greater: it is past all addresses.
 const SIZE_CAP: u32 = 0o200000;
 
-// A section behind one more entry.
-fn total_behind(found: Option<Total>, attributes: SectionFlags, size: u16) -> Total
-    ensures { result ≡ total_behind found attributes.0 size }
+// A section after one more entry.
+fn total_after(found: Option<Total>, attributes: SectionFlags, size: u16) -> Total
+    ensures { result ≡ total_after found attributes.0 size }
 {
     match found {
         None => Total {
@@ -125,9 +125,9 @@ fn next_offset(found: Option<Total>) -> u32
     }
 }
 
-// Whether an address is even that lies so many bytes behind a contribution.
-fn is_even_behind(is_relocated: bool, bottom: u16, value: u16) -> bool
-    ensures { result ≡ is_even_behind is_relocated bottom value }
+// Whether an address is even that lies n bytes after a contribution.
+fn is_even_after(is_relocated: bool, bottom: u16, value: u16) -> bool
+    ensures { result ≡ is_even_after is_relocated bottom value }
 {
     if is_relocated {
         (u32::from(bottom) + u32::from(value)) % 2 == 0
@@ -274,10 +274,10 @@ impl Tables {
         }
     }
 
-    /// Notes what a record tells, which the rules have taken.
-    #[tactic(auto, unfolding(crate::specs::Gathering::gathered_behind))]
+    /// Notes what a record says, which the rules have taken.
+    #[tactic(auto, unfolding(crate::specs::Tables::gathered_after))]
     pub(crate) fn note(&mut self, bottom: u16, record: &Record<'_>) -> Result<(), AllocError>
-        ensures { Keeps self.new (gathered_behind_all bottom self.old (record_parts «record».now)) result }
+        ensures { TablesKeep self.new (gathered_after_all bottom self.old (record_parts «record».now)) result }
     {
         match record.kind() {
             RecordKind::Gsd => self.note_entries(bottom, record),
@@ -291,7 +291,7 @@ impl Tables {
 
     // The entries of a directory record.
     fn note_entries(&mut self, bottom: u16, record: &Record<'_>) -> Result<(), AllocError>
-        ensures { Keeps self.new (gathered_behind_all bottom self.old
+        ensures { TablesKeep self.new (gathered_after_all bottom self.old
             (map (λ entry. Entry entry) (record_entries «record».now))) result }
     {
         'entries: for index in 0..record.entry_count() {
@@ -305,7 +305,7 @@ impl Tables {
 
     // The relocations of a record.
     fn note_relocations(&mut self, bottom: u16, record: &Record<'_>) -> Result<(), AllocError>
-        ensures { Keeps self.new (gathered_behind_all bottom self.old
+        ensures { TablesKeep self.new (gathered_after_all bottom self.old
             (map (λ relocation. Relocated relocation) (record_relocations «record».now))) result }
     {
         'relocations: for relocation in record.each_relocation() {
@@ -317,9 +317,9 @@ impl Tables {
         Ok(())
     }
 
-    // A section behind one more contribution.
+    // A section after one more contribution.
     fn note_total(&mut self, name: Name, total: Total) -> Result<(), AllocError>
-        ensures { Keeps self.new (with_total name total self.old) result }
+        ensures { TablesKeep self.new (with_total name total self.old) result }
     {
         self.sections.insert(name, total)?;
         Ok(())
@@ -327,7 +327,7 @@ impl Tables {
 
     // The contribution of this module to a section.
     fn note_contribution(&mut self, name: Name, offset: u32) -> Result<(), AllocError>
-        ensures { Keeps self.new (with_contribution name offset self.old) result }
+        ensures { TablesKeep self.new (with_contribution name offset self.old) result }
     {
         self.contributions.insert((self.names.len(), name), offset)?;
         self.section = Some(name);
@@ -336,16 +336,16 @@ impl Tables {
 
     // A section's entry.
     fn note_section(&mut self, entry: &GsdEntry, attributes: SectionFlags) -> Result<(), AllocError>
-        ensures { Keeps self.new (with_section entry.now attributes.0 self.old) result }
+        ensures { TablesKeep self.new (with_section entry.now attributes.0 self.old) result }
     {
         let found = self.total(entry.name);
-        self.note_total(entry.name, total_behind(found, attributes, entry.value))?;
+        self.note_total(entry.name, total_after(found, attributes, entry.value))?;
         self.note_contribution(entry.name, next_offset(found))
     }
 
     // A reference to a global.
     fn note_reference(&mut self, name: Name, is_strong: bool) -> Result<(), AllocError>
-        ensures { Keeps self.new (with_reference name is_strong self.old) result }
+        ensures { TablesKeep self.new (with_reference name is_strong self.old) result }
     {
         let was_strong = self.references.get(&name).copied().unwrap_or(false);
         self.references.insert(name, was_strong || is_strong)?;
@@ -354,7 +354,7 @@ impl Tables {
 
     // A definition of a global, of which the first counts.
     fn note_definition(&mut self, entry: &GsdEntry) -> Result<(), AllocError>
-        ensures { Keeps self.new (with_definition entry.now self.old) result }
+        ensures { TablesKeep self.new (with_definition entry.now self.old) result }
     {
         match self.definitions.get(&entry.name) {
             Some(_) => Ok(()),
@@ -371,7 +371,7 @@ impl Tables {
 
     // A weak reference to a global by an entry.
     fn note_weak(&mut self, name: Name) -> Result<(), AllocError>
-        ensures { Keeps self.new (with_weak name self.old) result }
+        ensures { TablesKeep self.new (with_weak name self.old) result }
     {
         self.note_reference(name, false)?;
         self.weak.insert(name)?;
@@ -380,7 +380,7 @@ impl Tables {
 
     // A global symbol's entry.
     fn note_symbol(&mut self, entry: &GsdEntry) -> Result<(), AllocError>
-        ensures { Keeps self.new (with_symbol entry.now self.old) result }
+        ensures { TablesKeep self.new (with_symbol entry.now self.old) result }
     {
         let flags = SymbolFlags::from_bits_retain(entry.flags);
         if flags.contains(SymbolFlags::DEFINED) {
@@ -410,14 +410,14 @@ impl Tables {
         let module_index = self.names.len();
         let section = entry.name;
         let value = entry.value;
-        if self.transfer.is_none() && is_even_behind(is_relocated(total, false), bottom, value) {
+        if self.transfer.is_none() && is_even_after(is_relocated(total, false), bottom, value) {
             self.transfer = Some(Transfer {
                 module_index,
                 section,
                 value,
             });
         }
-        if self.moved.is_none() && is_even_behind(is_relocated(total, true), bottom, value) {
+        if self.moved.is_none() && is_even_after(is_relocated(total, true), bottom, value) {
             self.moved = Some(Transfer {
                 module_index,
                 section,
@@ -448,7 +448,7 @@ impl Tables {
 
     /// An entry of a directory.
     pub(crate) fn note_entry(&mut self, bottom: u16, entry: &GsdEntry) -> Result<(), AllocError>
-        ensures { Keeps self.new (with_entry bottom entry.now.kind entry.now self.old) result }
+        ensures { TablesKeep self.new (with_entry bottom entry.now.kind entry.now self.old) result }
     {
         match entry.kind {
             GsdKind::ModuleName => {
@@ -469,7 +469,7 @@ impl Tables {
 
     /// The target of a relocation, which may refer to a global.
     pub(crate) fn note_target(&mut self, target: Target) -> Result<(), AllocError>
-        ensures { Keeps self.new (with_relocated (global_of target) self.old) result }
+        ensures { TablesKeep self.new (with_relocated (global_of target) self.old) result }
     {
         match target {
             Target::Global(name) => self.note_relocated(name),
@@ -482,7 +482,7 @@ impl Tables {
 
     // A relocation's reference to a global: weak where an entry of this module is.
     fn note_relocated(&mut self, name: Name) -> Result<(), AllocError>
-        ensures { Keeps self.new (with_relocated (Some name) self.old) result }
+        ensures { TablesKeep self.new (with_relocated (Some name) self.old) result }
     {
         let is_weak = self.weak.contains(&name);
         self.note_reference(name, !is_weak)
@@ -490,7 +490,7 @@ impl Tables {
 
     /// The end of a module.
     pub(crate) fn note_end(&mut self) -> Result<(), AllocError>
-        ensures { Keeps self.new (with_end self.old) result }
+        ensures { TablesKeep self.new (with_end self.old) result }
     {
         let name = match self.name {
             Some(name) => name,
@@ -505,7 +505,7 @@ impl Tables {
     }
 }
 
-// The name of a module that tells none.
+// The name of a module that gives none.
 fn blank_name() -> Name
     ensures { result ≡ (0, 0) }
 {

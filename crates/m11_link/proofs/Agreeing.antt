@@ -1,4 +1,4 @@
--- Findings that agree come to the same writes.
+-- Findings that agree yield the same writes.
 use Rattle.std.proofs.Common.{◌≡◌, ℕ, Bool, true, false, List, [], ◌∷◌, ◌++◌, map, length, ◌+◌, ◌-◌, if◌then◌else◌, Option, Some, None, refl, ap, ap₂, ◌∙◌}
 use Rattle.std.specs.List.{cons_option}
 use Rattle.m11_obj.specs.declared.gsd.GsdEntry.{GsdEntry}
@@ -10,15 +10,15 @@ use Rattle.m11_obj.specs.declared.relocations.Target.TheVariants as target
 use Rattle.m11_modules.specs.Parts.{Part, Directory, Entry, EndOfDirectory, Text, Relocations, Relocated, EndOfModule, EndOfFile}
 use Rattle.m11_modules.specs.Places.{current_section, modules_in, this_module}
 use Rattle.m11_modules.specs.Rules.{lies_within}
-use Rattle.m11_layout.specs.Planning.{IsPlanOf, Planned}
+use Rattle.m11_layout.specs.Plan.{IsPlanOf, Planned}
 use Rattle.m11_layout.specs.Sections.{attributes_by}
 use Rattle.m11_link_text.specs.Findings.{Agree, Findings, findings_of, planned}
-use Rattle.m11_link.specs.MapText.{front_writes, global_writes, map_writes, name_write, name_writes, section_writes, undefined_by, undefined_names, undefined_write, undefined_writes}
-use Rattle.m11_link_text.specs.Storing.{behind, less, modulo, relocated, replaced, stored_bytes, value_bytes, value_of}
-use Rattle.m11_link.specs.Writes.{Write}
-use Rattle.m11_link.specs.Written.{PlacedText, defined_names, different_writes, ended_writes, entry_writes, has_ended, link_writes, parts_writes, placed_text, relocations_behind, text_writes, with_relocation, with_relocations, writes_at, writes_behind, writes_by}
+use Rattle.m11_link.specs.Front.{front_writes, global_writes, map_writes, name_write, name_writes, section_writes, undefined_by, undefined_names, undefined_write, undefined_writes}
+use Rattle.m11_link_text.specs.Relocation.{following, less, modulo, relocated, replaced, stored_bytes, value_bytes, value_of}
+use Rattle.m11_link.specs.Outputs.{Write}
+use Rattle.m11_link.specs.Written.{PlacedText, defined_names, different_writes, ended_writes, entry_writes, has_ended, link_writes, parts_writes, placed_text, relocations_after, text_writes, with_relocation, with_relocations, writes_at, writes_after, writes_by}
 
--- a plan of all parts tells what the definitions give
+-- a plan of all parts reports what the definitions give
 pub plan_agrees : (bottom : ℕ) (parts : List Part) (plan : Planned) → IsPlanOf bottom parts plan
     → Agree (planned plan) (findings_of bottom parts)
 unfolding findings_of
@@ -147,7 +147,7 @@ module _ (f g : Findings) (a : Agree f g) where
 
   ended_same : (text : PlacedText) (parts : List Part) → ended_writes f text parts ≡ ended_writes g text parts
   ended_same text parts = ap (λ t. if has_ended parts then text_writes t else [])
-      (relocations_same text (relocations_behind parts))
+      (relocations_same text (relocations_after parts))
 
   -- ---- entries
 
@@ -184,14 +184,14 @@ module _ (f g : Findings) (a : Agree f g) where
   at_same before EndOfModule parts = refl
   at_same before EndOfFile parts = refl
 
-  behind_same : (before parts : List Part) → writes_behind f before parts ≡ writes_behind g before parts
-  behind_same before [] = refl
-  behind_same before (part ∷ parts) =
-      ap₂ (λ xs ys. xs ++ ys) (at_same before part parts) (behind_same (before ++ part ∷ []) parts)
+  after_same : (before parts : List Part) → writes_after f before parts ≡ writes_after g before parts
+  after_same before [] = refl
+  after_same before (part ∷ parts) =
+      ap₂ (λ xs ys. xs ++ ys) (at_same before part parts) (after_same (before ++ part ∷ []) parts)
 
   parts_same : (parts : List Part) → parts_writes f parts ≡ parts_writes g parts
   unfolding parts_writes
-  parts_same parts = behind_same [] parts
+  parts_same parts = after_same [] parts
 
   pub link_same : (parts : List Part) → link_writes f parts ≡ link_writes g parts
   link_same parts = rw (front_same, parts_same parts, a.transfer) refl

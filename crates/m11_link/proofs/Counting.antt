@@ -3,9 +3,9 @@ use Rattle.std.proofs.Common.{◌≡◌, ℕ, Bool, true, false, List, [], ◌�
 use Rattle.m11_layout.specs.declared.planned.PlannedGlobal.{PlannedGlobal}
 use Rattle.m11_layout.specs.declared.planned.PlannedSection.{PlannedSection}
 use Rattle.m11_link_text.specs.Findings.{Findings}
-use Rattle.m11_link.specs.MapText.{front_writes, global_writes, last_writes, map_writes, name_writes, section_writes, undefined_names, undefined_writes, weak_writes}
+use Rattle.m11_link.specs.Front.{front_writes, global_writes, last_writes, map_writes, name_writes, section_writes, undefined_names, undefined_writes, weak_writes}
 use Rattle.m11_link_text.specs.Lines as line
-use Rattle.m11_link.specs.Writes.{Write, to_map}
+use Rattle.m11_link.specs.Outputs.{Write, to_map}
 use Rattle.m11_link.specs.Written.{counted, is_message, one_more}
 
 pub counted-append : (count : ℕ) (xs ys : List Write) → counted (counted count xs) ys ≡ counted count (xs ++ ys)
@@ -53,9 +53,9 @@ map_not_counted found count =
       names_not_counted found false count found.references,
     ) refl)))
 
-pub front_counted : (found : Findings) (count told : ℕ) → told ≡ counted count (undefined_writes found found.references)
-    → told ≡ counted count (front_writes found)
+pub front_counted : (found : Findings) (count reported : ℕ) → reported ≡ counted count (undefined_writes found found.references)
+    → reported ≡ counted count (front_writes found)
 unfolding front_writes
-front_counted found count told e = e
+front_counted found count reported e = e
     ∙ sym (map_not_counted found (counted count (undefined_writes found found.references)))
     ∙ counted-append count (undefined_writes found found.references) (map_writes found)

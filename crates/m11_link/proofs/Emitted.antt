@@ -1,45 +1,45 @@
--- A second reading that stands behind parts, and behind more of them.
+-- A second pass that stands after parts, and after more of them.
 use Rattle.std.proofs.Common.{◌≡◌, ℕ, Bool, true, false, if◌then◌else◌, List, [], ◌∷◌, ◌++◌, append_assoc, append-nil, Option, Some, None, Result, Ok, Err, IsErrAnd, refl, sym, subst, ap, ap₂, ◌∙◌}
 use Rattle.std.proofs.lemmas.Bool.{false≢true, true≢false}
 use Rattle.m11_obj.specs.Reading.{◌>>=◌, content_of, entries_in, kind_in, record_of, relocations_in, text_in}
 use Rattle.m11_obj.specs.Records as records
 use Rattle.m11_obj.specs.declared.fault.RecordFault.{RecordFault}
-use Rattle.m11_modules.specs.Laws.{TakesBehind}
+use Rattle.m11_modules.specs.Laws.{TakesAfter}
 use Rattle.m11_modules.specs.Parts.{Part, EndOfFile, parts_in, parts_of, record_parts}
 use Rattle.m11_layout.specs.Globals.{definitions_of}
 use Rattle.m11_modules.specs.Places.{Known, current_section, distinct, known_of, modules_in, this_module}
 use Rattle.m11_modules.specs.Rules.{fault_of, first_fault}
 use Rattle.m11_modules.specs.declared.fault.ModuleFault.{ModuleFault}
 use Rattle.m11_modules.specs.declared.fault.ModuleFault.TheVariants as rule
-use Rattle.m11_layout.proofs.Standing.{record_is, sound_behind}
-use Rattle.m11_layout.specs.Faults.{of_module}
-use Rattle.m11_layout.specs.Planning.{Planned}
+use Rattle.m11_layout.proofs.Standing.{record_is, sound_after}
+use Rattle.m11_layout.specs.Fault.{of_module}
+use Rattle.m11_layout.specs.Plan.{Planned}
 use Rattle.m11_layout.specs.declared.fault.LinkFault.{LinkFault}
 use Rattle.m11_layout.specs.declared.fault.LinkFault.TheVariants as fault
-use Rattle.m11_link.specs.Emitting.{Emitting, Telling, Goes, GoesOn, Stands, TakesBlock, TakesParts, begin_writes, begun_telling, bytes_writes, entries_writes, held_text, held_with_all, held_writes, record_writes, with_bytes, with_count, with_held, with_record, with_telling, written}
+use Rattle.m11_link.specs.Emit.{Emitting, Reporting, Goes, GoesOn, EmitStands, TakesBlock, TakesParts, begin_writes, begun_reporting, bytes_writes, entries_writes, held_text, held_with_all, held_writes, record_writes, with_bytes, with_count, with_held, with_record, with_reporting, written}
 use Rattle.m11_link_text.specs.Findings.{planned}
-use Rattle.m11_link.specs.MapText.{front_writes}
-use Rattle.m11_link.specs.Writes.{Outputs, Write, Gains, Stops, StopsBetween, StopsIn, Writes}
+use Rattle.m11_link.specs.Front.{front_writes}
+use Rattle.m11_link.specs.Outputs.{Outputs, Write, Gains, Stops, StopsBetween, StopsIn, Writes}
 use Rattle.m11_link.specs.Written.{PlacedText, block_at, counted, defined_names, parts_writes, placed_text, text_writes}
 use Rattle.m11_link.proofs.Counting.{counted-append}
 use Rattle.m11_link.proofs.Entering.{goes_stopped_alone}
-use Rattle.m11_link.proofs.Writing.{gains_nothing, gains_then, refused_before, stops_behind, writes_then}
-use Rattle.m11_link.proofs.WritesBehind.{content_defined_is, content_held, content_held_is, content_told, content_told_is, file_defined, held_more, parts_more, told_all}
+use Rattle.m11_link.proofs.Writing.{gains_nothing, gains_then, refused_before, stops_after, writes_then}
+use Rattle.m11_link.proofs.WritesAfter.{content_defined_is, content_held, content_held_is, content_reported, content_reported_is, file_defined, held_more, parts_more, reported_all}
 
 -- ---- what is held
 
-pub record Holds (plan : Planned) (parts : List Part) (t : Telling) : Type 0 where
+pub record Holds (plan : Planned) (parts : List Part) (t : Reporting) : Type 0 where
   pub planned_so : t.plan ≡ plan
   pub defined : t.defined ≡ defined_names parts
   pub held : t.held ≡ held_text (planned plan) parts
 
--- what parts write by what is held before them, and what is held behind them
-pub record Makes (plan : Planned) (before parts : List Part) (ws : Telling → List Write) (u : Telling → Telling) : Type 0
+-- what parts write by what is held before them, and what is held after them
+pub record Makes (plan : Planned) (before parts : List Part) (ws : Reporting → List Write) (u : Reporting → Reporting) : Type 0
   where
-    pub told : (t : Telling) → Holds plan before t
-        → ws t ≡ told_all (planned plan) before (held_text (planned plan) before) parts
-    pub holds : (t : Telling) → Holds plan before t → Holds plan (before ++ parts) (u t)
-    pub counts : (t : Telling) → (u t).messages ≡ counted t.messages (ws t)
+    pub reported : (t : Reporting) → Holds plan before t
+        → ws t ≡ reported_all (planned plan) before (held_text (planned plan) before) parts
+    pub holds : (t : Reporting) → Holds plan before t → Holds plan (before ++ parts) (u t)
+    pub counts : (t : Reporting) → (u t).messages ≡ counted t.messages (ws t)
 
 -- blocks of the tape are no messages
 block_uncounted : (count address : ℕ) (bytes : List ℕ) (ws : List Write)
@@ -58,76 +58,76 @@ held_alone count held =
 
 -- ---- a record
 
-content_told_by : (plan : Planned) (before : List Part) (t : Telling) (c : records.Content) → Holds plan before t
+content_reported_by : (plan : Planned) (before : List Part) (t : Reporting) (c : records.Content) → Holds plan before t
     → record_writes (modules_in before) (Ok (kind_in c)) (entries_in (Ok c)) t
-    ≡ content_told (planned plan) before (held_text (planned plan) before) c
-content_told_by plan before t (records.Gsd entries) h = rw (h.planned_so, h.defined, h.held) refl
-content_told_by plan before t records.EndOfGsd h = ap held_writes h.held
-content_told_by plan before t (records.Text address bytes) h = ap held_writes h.held
-content_told_by plan before t (records.Relocations relocations) h = refl
-content_told_by plan before t records.InternalSymbols h = refl
-content_told_by plan before t records.EndOfModule h = ap held_writes h.held
+    ≡ content_reported (planned plan) before (held_text (planned plan) before) c
+content_reported_by plan before t (records.Gsd entries) h = rw (h.planned_so, h.defined, h.held) refl
+content_reported_by plan before t records.EndOfGsd h = ap held_writes h.held
+content_reported_by plan before t (records.Text address bytes) h = ap held_writes h.held
+content_reported_by plan before t (records.Relocations relocations) h = refl
+content_reported_by plan before t records.InternalSymbols h = refl
+content_reported_by plan before t records.EndOfModule h = ap held_writes h.held
 
-abbrev behind : List Part → records.Content → Telling → Telling
-behind before c t = with_record (modules_in before) (current_section (this_module before)) (Ok (kind_in c))
+abbrev following : List Part → records.Content → Reporting → Reporting
+following before c t = with_record (modules_in before) (current_section (this_module before)) (Ok (kind_in c))
     (entries_in (Ok c)) (text_in (Ok c)) (relocations_in (Ok c)) t
 
-behind_plan : (before : List Part) (c : records.Content) (t : Telling) → (behind before c t).plan ≡ t.plan
-behind_plan before (records.Gsd entries) t = refl
-behind_plan before records.EndOfGsd t = refl
-behind_plan before (records.Text address bytes) t = refl
-behind_plan before (records.Relocations relocations) t = refl
-behind_plan before records.InternalSymbols t = refl
-behind_plan before records.EndOfModule t = refl
+after_plan : (before : List Part) (c : records.Content) (t : Reporting) → (following before c t).plan ≡ t.plan
+after_plan before (records.Gsd entries) t = refl
+after_plan before records.EndOfGsd t = refl
+after_plan before (records.Text address bytes) t = refl
+after_plan before (records.Relocations relocations) t = refl
+after_plan before records.InternalSymbols t = refl
+after_plan before records.EndOfModule t = refl
 
-behind_held : (before : List Part) (c : records.Content) (t : Telling)
-    → (behind before c t).held ≡ content_held (planned t.plan) before t.held c
-behind_held before (records.Gsd entries) t = refl
-behind_held before records.EndOfGsd t = refl
-behind_held before (records.Text address bytes) t = refl
-behind_held before (records.Relocations relocations) t = refl
-behind_held before records.InternalSymbols t = refl
-behind_held before records.EndOfModule t = refl
+after_held : (before : List Part) (c : records.Content) (t : Reporting)
+    → (following before c t).held ≡ content_held (planned t.plan) before t.held c
+after_held before (records.Gsd entries) t = refl
+after_held before records.EndOfGsd t = refl
+after_held before (records.Text address bytes) t = refl
+after_held before (records.Relocations relocations) t = refl
+after_held before records.InternalSymbols t = refl
+after_held before records.EndOfModule t = refl
 
-behind_defined : (plan : Planned) (before : List Part) (c : records.Content) (t : Telling) → Holds plan before t
-    → (behind before c t).defined ≡ defined_names (before ++ parts_of c)
-behind_defined plan before (records.Gsd entries) t h =
+after_defined : (plan : Planned) (before : List Part) (c : records.Content) (t : Reporting) → Holds plan before t
+    → (following before c t).defined ≡ defined_names (before ++ parts_of c)
+after_defined plan before (records.Gsd entries) t h =
     rw h.defined (sym (content_defined_is before (records.Gsd entries)))
-behind_defined plan before records.EndOfGsd t h = h.defined ∙ sym (content_defined_is before records.EndOfGsd)
-behind_defined plan before (records.Text address bytes) t h =
+after_defined plan before records.EndOfGsd t h = h.defined ∙ sym (content_defined_is before records.EndOfGsd)
+after_defined plan before (records.Text address bytes) t h =
     h.defined ∙ sym (content_defined_is before (records.Text address bytes))
-behind_defined plan before (records.Relocations relocations) t h =
+after_defined plan before (records.Relocations relocations) t h =
     h.defined ∙ sym (content_defined_is before (records.Relocations relocations))
-behind_defined plan before records.InternalSymbols t h =
+after_defined plan before records.InternalSymbols t h =
     h.defined ∙ sym (content_defined_is before records.InternalSymbols)
-behind_defined plan before records.EndOfModule t h = h.defined ∙ sym (content_defined_is before records.EndOfModule)
+after_defined plan before records.EndOfModule t h = h.defined ∙ sym (content_defined_is before records.EndOfModule)
 
-behind_counts : (before : List Part) (c : records.Content) (t : Telling)
-    → (behind before c t).messages
+after_counts : (before : List Part) (c : records.Content) (t : Reporting)
+    → (following before c t).messages
     ≡ counted t.messages (record_writes (modules_in before) (Ok (kind_in c)) (entries_in (Ok c)) t)
-behind_counts before (records.Gsd entries) t = sym (held_uncounted t.messages t.held
+after_counts before (records.Gsd entries) t = sym (held_uncounted t.messages t.held
     (entries_writes (planned t.plan) (modules_in before) t.defined entries))
-behind_counts before records.EndOfGsd t = sym (held_alone t.messages t.held)
-behind_counts before (records.Text address bytes) t = sym (held_alone t.messages t.held)
-behind_counts before (records.Relocations relocations) t = refl
-behind_counts before records.InternalSymbols t = refl
-behind_counts before records.EndOfModule t = sym (held_alone t.messages t.held)
+after_counts before records.EndOfGsd t = sym (held_alone t.messages t.held)
+after_counts before (records.Text address bytes) t = sym (held_alone t.messages t.held)
+after_counts before (records.Relocations relocations) t = refl
+after_counts before records.InternalSymbols t = refl
+after_counts before records.EndOfModule t = sym (held_alone t.messages t.held)
 
 content_makes : (plan : Planned) (before : List Part) (c : records.Content)
     → Makes plan before (parts_of c)
-    (λ t. record_writes (modules_in before) (Ok (kind_in c)) (entries_in (Ok c)) t) (behind before c)
+    (λ t. record_writes (modules_in before) (Ok (kind_in c)) (entries_in (Ok c)) t) (following before c)
 content_makes plan before c = record {
-  told = λ t h. content_told_by plan before t c h
-      ∙ sym (content_told_is (planned plan) before (held_text (planned plan) before) c);
+  reported = λ t h. content_reported_by plan before t c h
+      ∙ sym (content_reported_is (planned plan) before (held_text (planned plan) before) c);
   holds = λ t h. record {
-    planned_so = behind_plan before c t ∙ h.planned_so;
-    defined = behind_defined plan before c t h;
-    held = behind_held before c t
+    planned_so = after_plan before c t ∙ h.planned_so;
+    defined = after_defined plan before c t h;
+    held = after_held before c t
         ∙ ap₂ (λ p o. content_held (planned p) before o c) h.planned_so h.held
         ∙ sym (content_held_is (planned plan) before (held_text (planned plan) before) c)
         ∙ sym (held_more (planned plan) before (parts_of c));
   };
-  counts = λ t. behind_counts before c t;
+  counts = λ t. after_counts before c t;
 }
 
 -- the parts of a block that is a record
@@ -145,7 +145,7 @@ block_makes plan before bytes c e =
 pub end_makes : (plan : Planned) (before : List Part)
     → Makes plan before (EndOfFile ∷ []) (λ t. held_writes t.held) (with_held None)
 end_makes plan before = record {
-  told = λ t h. ap held_writes h.held ∙ sym (append-nil (held_writes (held_text (planned plan) before)));
+  reported = λ t h. ap held_writes h.held ∙ sym (append-nil (held_writes (held_text (planned plan) before)));
   holds = λ t h. record {
     planned_so = h.planned_so;
     defined = h.defined ∙ sym (file_defined before);
@@ -154,14 +154,14 @@ end_makes plan before = record {
   counts = λ t. sym (held_alone t.messages t.held);
 }
 
--- ---- with what goes out first
+-- ---- with what is written first
 
-pub begun_holds : (plan : Planned) (parts : List Part) (b : Bool) (t : Telling) (ws : List Write) → Holds plan parts t
+pub begun_holds : (plan : Planned) (parts : List Part) (b : Bool) (t : Reporting) (ws : List Write) → Holds plan parts t
     → Holds plan parts (if b then t else with_count ws t)
 begun_holds plan parts true t ws h = h
 begun_holds plan parts false t ws h = record { planned_so = h.planned_so; defined = h.defined; held = h.held }
 
-pub begun_counts : (b : Bool) (t : Telling) (ws : List Write)
+pub begun_counts : (b : Bool) (t : Reporting) (ws : List Write)
     → (if b then t else with_count ws t).messages ≡ counted t.messages (if b then [] else ws)
 begun_counts true t ws = refl
 begun_counts false t ws = refl
@@ -170,9 +170,9 @@ pub none_written : (plan : Planned) (before : List Part) → before ≡ [] → p
 unfolding parts_writes
 none_written plan before e = ap (λ parts. parts_writes (planned plan) parts) e
 
--- all that is written behind more parts
+-- all that is written after more parts
 all_split : (plan : Planned) (before parts : List Part) (b : Bool) (ws : List Write)
-    → ws ≡ told_all (planned plan) before (held_text (planned plan) before) parts → (b ≡ false → before ≡ [])
+    → ws ≡ reported_all (planned plan) before (held_text (planned plan) before) parts → (b ≡ false → before ≡ [])
     → written plan true (before ++ parts)
     ≡ written plan b before ++ ((if b then [] else front_writes (planned plan)) ++ ws)
 all_split plan before parts true ws e first =
@@ -181,13 +181,13 @@ all_split plan before parts true ws e first =
     ∙ ap (λ these. (front_writes (planned plan) ++ parts_writes (planned plan) before) ++ these) (sym e)
 all_split plan before parts false ws e first =
     ap (λ these. front_writes (planned plan) ++ these) (parts_more (planned plan) before parts
-    ∙ ap (λ done. done ++ told_all (planned plan) before (held_text (planned plan) before) parts)
+    ∙ ap (λ done. done ++ reported_all (planned plan) before (held_text (planned plan) before) parts)
     (none_written plan before (first refl)) ∙ sym e)
 
 -- nothing stands before any part
 pub stands_first : (plan : Planned) (s : Emitting) → s.known ≡ known_of []
-    → s.telling ≡ record { plan = plan; defined = []; held = None; messages = 0 } → s.has_begun ≡ false → s.fault ≡ None
-    → Stands plan [] s
+    → s.reporting ≡ record { plan = plan; defined = []; held = None; messages = 0 } → s.has_begun ≡ false → s.fault ≡ None
+    → EmitStands plan [] s
 unfolding first_fault defined_names definitions_of distinct held_text
 stands_first plan s k t b f = record {
   sound = refl;
@@ -200,41 +200,41 @@ stands_first plan s k t b f = record {
   fault = f;
 }
 
-module _ (plan : Planned) (before parts : List Part) (ws : Telling → List Write) (u : Telling → Telling)
-    (makes : Makes plan before parts ws u) (s : Emitting) (stands : Stands plan before s) where
-  holds_now : Holds plan before s.telling
+module _ (plan : Planned) (before parts : List Part) (ws : Reporting → List Write) (u : Reporting → Reporting)
+    (makes : Makes plan before parts ws u) (s : Emitting) (stands : EmitStands plan before s) where
+  holds_now : Holds plan before s.reporting
   holds_now = record { planned_so = stands.planned_so; defined = stands.defined; held = stands.held }
 
   abbrev front : List Write
-  front = front_writes (planned s.telling.plan)
+  front = front_writes (planned s.reporting.plan)
 
-  holds_begun : Holds plan before (begun_telling s)
-  holds_begun = begun_holds plan before s.has_begun s.telling front holds_now
+  holds_begun : Holds plan before (begun_reporting s)
+  holds_begun = begun_holds plan before s.has_begun s.reporting front holds_now
 
   abbrev made : List Write
-  made = begin_writes s ++ ws (begun_telling s)
+  made = begin_writes s ++ ws (begun_reporting s)
 
   split : written plan true (before ++ parts) ≡ written plan s.has_begun before ++ made
-  split = all_split plan before parts s.has_begun (ws (begun_telling s)) (makes.told (begun_telling s) holds_begun) stands.begun
+  split = all_split plan before parts s.has_begun (ws (begun_reporting s)) (makes.reported (begun_reporting s) holds_begun) stands.begun
       ∙ ap (λ p. written plan s.has_begun before
-      ++ ((if s.has_begun then [] else front_writes (planned p)) ++ ws (begun_telling s))) (sym stands.planned_so)
+      ++ ((if s.has_begun then [] else front_writes (planned p)) ++ ws (begun_reporting s))) (sym stands.planned_so)
 
-  stands_behind : (s' : Emitting) → first_fault before parts ≡ None → s'.known ≡ known_of (before ++ parts)
-      → s'.telling ≡ u (begun_telling s) → s'.has_begun ≡ true → s'.fault ≡ s.fault → Stands plan (before ++ parts) s'
-  stands_behind s' sound k t b f =
-      let h = makes.holds (begun_telling s) holds_begun in
-      let P : Telling → Type 0 = λ x. Holds plan (before ++ parts) x in
+  stands_after : (s' : Emitting) → first_fault before parts ≡ None → s'.known ≡ known_of (before ++ parts)
+      → s'.reporting ≡ u (begun_reporting s) → s'.has_begun ≡ true → s'.fault ≡ s.fault → EmitStands plan (before ++ parts) s'
+  stands_after s' sound k t b f =
+      let h = makes.holds (begun_reporting s) holds_begun in
+      let P : Reporting → Type 0 = λ x. Holds plan (before ++ parts) x in
       let h' = subst P (sym t) h in
       record {
-        sound = sound_behind [] before parts stands.sound sound;
+        sound = sound_after [] before parts stands.sound sound;
         known = k;
         planned_so = h'.planned_so;
         defined = h'.defined;
         held = h'.held;
-        messages = ap (λ x. x.messages) t ∙ makes.counts (begun_telling s)
-            ∙ ap (λ n. counted n (ws (begun_telling s))) (begun_counts s.has_begun s.telling front
+        messages = ap (λ x. x.messages) t ∙ makes.counts (begun_reporting s)
+            ∙ ap (λ n. counted n (ws (begun_reporting s))) (begun_counts s.has_begun s.reporting front
             ∙ ap (λ n. counted n (begin_writes s)) stands.messages)
-            ∙ counted-append (counted 0 (written plan s.has_begun before)) (begin_writes s) (ws (begun_telling s))
+            ∙ counted-append (counted 0 (written plan s.has_begun before)) (begin_writes s) (ws (begun_reporting s))
             ∙ counted-append 0 (written plan s.has_begun before) made
             ∙ ap (λ these. counted 0 these) (sym split)
             ∙ ap (λ x. counted 0 (written plan x (before ++ parts))) (sym b);
@@ -249,10 +249,10 @@ module _ (plan : Planned) (before parts : List Part) (ws : Telling → List Writ
   -- parts were judged, and written
   pub parts_taken : (a b : Outputs) (s' : Emitting) (known : Known) (result : Result (Unit {0}) LinkFault)
       → first_fault before parts ≡ None → known ≡ known_of (before ++ parts)
-      → Goes a b made s' (let now : Emitting = record s { known = known } in with_telling (u (begun_telling s)) now) result
+      → Goes a b made s' (let now : Emitting = record s { known = known } in with_reporting (u (begun_reporting s)) now) result
       → TakesParts plan before a b s s' parts result
   parts_taken a b s' known (Ok done) sound k (gains, is) = (
-    stands_behind s' sound (ap (λ x. x.known) is ∙ k) (ap (λ x. x.telling) is) (ap (λ x. x.has_begun) is)
+    stands_after s' sound (ap (λ x. x.known) is ∙ k) (ap (λ x. x.reporting) is) (ap (λ x. x.has_begun) is)
         (ap (λ x. x.fault) is),
     ap (λ x. x.has_begun) is,
     went_on (λ more. Gains a b more) gains,
@@ -275,7 +275,7 @@ module _ (plan : Planned) (before parts : List Part) (ws : Telling → List Writ
 
   -- parts were refused
   refused_by : (a : Outputs) (s' : Emitting) (new : Known) (broken : ModuleFault)
-      → TakesBehind before new parts (Err broken) → TakesParts plan before a a s s' parts (Err (of_module broken))
+      → TakesAfter before new parts (Err broken) → TakesParts plan before a a s s' parts (Err (of_module broken))
   refused_by a s' new rule.BadOrder h = ((rule.BadOrder, h, refl), refl)
   refused_by a s' new rule.NoText h = ((rule.NoText, h, refl), refl)
   refused_by a s' new rule.BadDisplacement h = ((rule.BadDisplacement, h, refl), refl)
@@ -287,81 +287,81 @@ module _ (plan : Planned) (before parts : List Part) (ws : Telling → List Writ
   refused_by a s' new rule.NoMemory h = went_on (λ more. StopsBetween a a more) (refused_before a made)
 
   pub parts_refused : (a : Outputs) (s' : Emitting) (new : Known) (broken : ModuleFault) (result : Result (Unit {0}) LinkFault)
-      → TakesBehind before new parts (Err broken) → IsErrAnd result (λ e. e ≡ of_module broken)
+      → TakesAfter before new parts (Err broken) → IsErrAnd result (λ e. e ≡ of_module broken)
       → TakesParts plan before a a s s' parts result
   parts_refused a s' new broken (Ok done) h e = absurd e
   parts_refused a s' new broken (Err stopped) h e =
       let P : LinkFault → Type 0 = λ x. TakesParts plan before a a s s' parts (Err x) in
       subst P (sym e) (refused_by a s' new broken h)
 
--- ---- what goes out first, by calls
+-- ---- what is written first, by calls
 
 module _ {seen : Emitting} (old : Emitting) (is : seen ≡ old) where
   pub begun_before : (a : Outputs) → seen.has_begun ≡ true
-      → Gains a a (begin_writes old) × (old ≡ with_telling (begun_telling old) old)
+      → Gains a a (begin_writes old) × (old ≡ with_reporting (begun_reporting old) old)
   begun_before a e =
-      let P : Emitting → Type 0 = λ x. Gains a a (begin_writes x) × (x ≡ with_telling (begun_telling x) x) in
-      let front = front_writes (planned seen.telling.plan) in
+      let P : Emitting → Type 0 = λ x. Gains a a (begin_writes x) × (x ≡ with_reporting (begun_reporting x) x) in
+      let front = front_writes (planned seen.reporting.plan) in
       let Q : Bool → Type 0 = λ b. Gains a a (if b then [] else front)
       × (seen ≡ (let x : Emitting = record seen {
-        telling = if b then seen.telling else with_count front seen.telling;
+        reporting = if b then seen.reporting else with_count front seen.reporting;
         has_begun = true;
       } in x)) in
       subst P is (subst Q (sym e) (gains_nothing a, ap (λ b. let x : Emitting = record seen { has_begun = b } in x) e))
 
   pub begin_stopped : (a b : Outputs) (stopped : LinkFault) (state expected : Emitting) (result : Result (Unit {0}) LinkFault)
-      → seen.has_begun ≡ false → Stops a b (front_writes (planned seen.telling.plan)) stopped
+      → seen.has_begun ≡ false → Stops a b (front_writes (planned seen.reporting.plan)) stopped
       → IsErrAnd result (λ f. f ≡ stopped) → Goes a b (begin_writes old) state expected result
   begin_stopped a b stopped state expected result e h f =
       let P : Emitting → Type 0 = λ x. Goes a b (begin_writes x) state expected result in
       let Q : Bool → Type 0 = λ x.
-      Goes a b (if x then [] else front_writes (planned seen.telling.plan)) state expected result in
+      Goes a b (if x then [] else front_writes (planned seen.reporting.plan)) state expected result in
       subst P is (subst Q (sym e) (goes_stopped_alone a b _ state expected stopped result h f))
 
-  pub begun_now : (a b : Outputs) (telling : Telling) → seen.has_begun ≡ false
-      → Gains a b (front_writes (planned seen.telling.plan))
-      × (telling ≡ with_count (front_writes (planned seen.telling.plan)) seen.telling)
+  pub begun_now : (a b : Outputs) (reporting : Reporting) → seen.has_begun ≡ false
+      → Gains a b (front_writes (planned seen.reporting.plan))
+      × (reporting ≡ with_count (front_writes (planned seen.reporting.plan)) seen.reporting)
       → Gains a b (begin_writes old)
-      × ((let x : Emitting = record seen { telling = telling; has_begun = true } in x) ≡ with_telling (begun_telling old) old)
-  begun_now a b telling e h =
-      let front = front_writes (planned seen.telling.plan) in
+      × ((let x : Emitting = record seen { reporting = reporting; has_begun = true } in x) ≡ with_reporting (begun_reporting old) old)
+  begun_now a b reporting e h =
+      let front = front_writes (planned seen.reporting.plan) in
       let P : Emitting → Type 0 = λ x. Gains a b (begin_writes x)
-      × ((let y : Emitting = record seen { telling = telling; has_begun = true } in y) ≡ with_telling (begun_telling x) x) in
+      × ((let y : Emitting = record seen { reporting = reporting; has_begun = true } in y) ≡ with_reporting (begun_reporting x) x) in
       let Q : Bool → Type 0 = λ x. Gains a b (if x then [] else front)
-      × ((let y : Emitting = record seen { telling = telling; has_begun = true } in y) ≡ (let z : Emitting = record seen {
-        telling = if x then seen.telling else with_count front seen.telling;
+      × ((let y : Emitting = record seen { reporting = reporting; has_begun = true } in y) ≡ (let z : Emitting = record seen {
+        reporting = if x then seen.reporting else with_count front seen.reporting;
         has_begun = true;
       } in z)) in
-      subst P is (subst Q (sym e) (h.0, ap (λ t. let y : Emitting = record seen { telling = t; has_begun = true } in y) h.1))
+      subst P is (subst Q (sym e) (h.0, ap (λ t. let y : Emitting = record seen { reporting = t; has_begun = true } in y) h.1))
 
 goes_in : {A S T : Type 0} (a b c : Outputs) (xs ys : List Write) (of : T → S) (t u : T) (result : Result A LinkFault)
     → Gains a b xs → Goes b c ys t u result → Goes a c (xs ++ ys) (of t) (of u) result
 goes_in a b c xs ys of t u (Ok x) g h = (gains_then a b c xs ys g h.0, ap of h.1)
-goes_in a b c xs ys of t u (Err stopped) g h = stops_behind a b c xs ys stopped g h
+goes_in a b c xs ys of t u (Err stopped) g h = stops_after a b c xs ys stopped g h
 
--- what is written behind it
-pub written_then : {seen : Emitting} (old mid : Emitting) (a b c : Outputs) (ws : Telling → List Write)
-    (u : Telling → Telling) (telling : Telling) (result : Result (Unit {0}) LinkFault) → seen ≡ mid
-    → Gains a b (begin_writes old) × (mid ≡ with_telling (begun_telling old) old)
-    → Goes b c (ws seen.telling) telling (u seen.telling) result
-    → Goes a c (begin_writes old ++ ws (begun_telling old)) (let x : Emitting = record seen { telling = telling } in x)
-    (with_telling (u (begun_telling old)) old) result
-written_then old mid a b c ws u telling result is h k =
-    let P : Emitting → Type 0 = λ x. Goes b c (ws x.telling) telling (u x.telling) result
-    → Goes a c (begin_writes old ++ ws (begun_telling old)) (let y : Emitting = record x { telling = telling } in y)
-    (with_telling (u (begun_telling old)) old) result in
-    subst P (sym (is ∙ h.1)) (λ g. goes_in a b c (begin_writes old) (ws (begun_telling old)) (λ t. with_telling t old) telling
-    (u (begun_telling old)) result h.0 g) k
+-- what is written after it
+pub written_then : {seen : Emitting} (old mid : Emitting) (a b c : Outputs) (ws : Reporting → List Write)
+    (u : Reporting → Reporting) (reporting : Reporting) (result : Result (Unit {0}) LinkFault) → seen ≡ mid
+    → Gains a b (begin_writes old) × (mid ≡ with_reporting (begun_reporting old) old)
+    → Goes b c (ws seen.reporting) reporting (u seen.reporting) result
+    → Goes a c (begin_writes old ++ ws (begun_reporting old)) (let x : Emitting = record seen { reporting = reporting } in x)
+    (with_reporting (u (begun_reporting old)) old) result
+written_then old mid a b c ws u reporting result is h k =
+    let P : Emitting → Type 0 = λ x. Goes b c (ws x.reporting) reporting (u x.reporting) result
+    → Goes a c (begin_writes old ++ ws (begun_reporting old)) (let y : Emitting = record x { reporting = reporting } in y)
+    (with_reporting (u (begun_reporting old)) old) result in
+    subst P (sym (is ∙ h.1)) (λ g. goes_in a b c (begin_writes old) (ws (begun_reporting old)) (λ t. with_reporting t old) reporting
+    (u (begun_reporting old)) result h.0 g) k
 
 -- ---- blocks and ends, by calls
 
 module _ {seen : Emitting} (plan : Planned) (before : List Part) (s : Emitting) (is : seen ≡ s)
-    (stands : Stands plan before s) where
-  pub here : Stands plan before seen
-  here = let P : Emitting → Type 0 = λ x. Stands plan before x in subst P (sym is) stands
+    (stands : EmitStands plan before s) where
+  pub here : EmitStands plan before seen
+  here = let P : Emitting → Type 0 = λ x. EmitStands plan before x in subst P (sym is) stands
 
   pub end_refused : (a : Outputs) (s' : Emitting) (new : Known) (broken : ModuleFault) (result : Result (Unit {0}) LinkFault)
-      → (seen.known ≡ known_of before → TakesBehind before new (EndOfFile ∷ []) (Err broken))
+      → (seen.known ≡ known_of before → TakesAfter before new (EndOfFile ∷ []) (Err broken))
       → IsErrAnd result (λ e. e ≡ of_module broken) → TakesParts plan before a a s s' (EndOfFile ∷ []) result
   end_refused a s' new broken result h e =
       let P : Emitting → Type 0 = λ x. TakesParts plan before a a x s' (EndOfFile ∷ []) result in
@@ -369,9 +369,9 @@ module _ {seen : Emitting} (plan : Planned) (before : List Part) (s : Emitting) 
       seen here a s' new broken result (h here.known) e)
 
   pub end_taken : (a b : Outputs) (s' : Emitting) (known : Known) (result : Result (Unit {0}) LinkFault)
-      → (seen.known ≡ known_of before → TakesBehind before known (EndOfFile ∷ []) (Ok tt))
-      → Goes a b (begin_writes seen ++ held_writes (begun_telling seen).held) s'
-      (let now : Emitting = record seen { known = known } in with_telling (with_held None (begun_telling seen)) now) result
+      → (seen.known ≡ known_of before → TakesAfter before known (EndOfFile ∷ []) (Ok tt))
+      → Goes a b (begin_writes seen ++ held_writes (begun_reporting seen).held) s'
+      (let now : Emitting = record seen { known = known } in with_reporting (with_held None (begun_reporting seen)) now) result
       → TakesParts plan before a b s s' (EndOfFile ∷ []) result
   end_taken a b s' known result h k =
       let P : Emitting → Type 0 = λ x. TakesParts plan before a b x s' (EndOfFile ∷ []) result in
@@ -429,7 +429,7 @@ unfolding known_of
 location_of before known e = ap (λ k. (k.modules, k.section)) e
 
 module _ {seen : Emitting} (plan : Planned) (before : List Part) (s : Emitting) (items bytes : List ℕ) (is : seen ≡ s)
-    (e : ◌≡◌ {A = Result (List ℕ) RecordFault} (Ok bytes) (record_of items)) (stands : Stands plan before s) where
+    (e : ◌≡◌ {A = Result (List ℕ) RecordFault} (Ok bytes) (record_of items)) (stands : EmitStands plan before s) where
   abbrev index : ℕ
   index = modules_in before
 
@@ -443,7 +443,7 @@ module _ {seen : Emitting} (plan : Planned) (before : List Part) (s : Emitting) 
       block_makes plan before bytes c.0 (subst P (sym (record_is items bytes e)) c.1)
 
   pub block_refused : (a : Outputs) (s' : Emitting) (new : Known) (broken : ModuleFault) (result : Result (Unit {0}) LinkFault)
-      → (seen.known ≡ known_of before → TakesBehind before new (record_parts bytes) (Err broken))
+      → (seen.known ≡ known_of before → TakesAfter before new (record_parts bytes) (Err broken))
       → IsErrAnd result (λ f. f ≡ of_module broken) → TakesBlock plan before a a s s' items result
   block_refused a s' new broken (Ok done) h f = absurd f
   block_refused a s' new broken (Err stopped) h f =
@@ -457,18 +457,18 @@ module _ {seen : Emitting} (plan : Planned) (before : List Part) (s : Emitting) 
 
   pub block_taken : (a b : Outputs) (s' : Emitting) (known : Known) (location : Place) (result : Result (Unit {0}) LinkFault)
       → ◌≡◌ {A = Place} location (s.known.modules, s.known.section)
-      → (seen.known ≡ known_of before → TakesBehind before known (record_parts bytes) (Ok tt))
-      → Goes a b (begin_writes seen ++ bytes_writes location.0 bytes (begun_telling seen)) s'
+      → (seen.known ≡ known_of before → TakesAfter before known (record_parts bytes) (Ok tt))
+      → Goes a b (begin_writes seen ++ bytes_writes location.0 bytes (begun_reporting seen)) s'
       (let now : Emitting = record seen { known = known } in
-      with_telling (with_bytes location.0 location.1 bytes (begun_telling seen)) now) result
+      with_reporting (with_bytes location.0 location.1 bytes (begun_reporting seen)) now) result
       → TakesBlock plan before a b s s' items result
   block_taken a b s' known location result l h k =
       let now = here plan before s is stands in
       let t = h now.known in
       let expected : Place → Emitting = λ at. let x : Emitting = record seen { known = known } in
-      with_telling (with_bytes at.0 at.1 bytes (begun_telling seen)) x in
+      with_reporting (with_bytes at.0 at.1 bytes (begun_reporting seen)) x in
       let G : Place → Type 0 = λ at.
-      Goes a b (begin_writes seen ++ bytes_writes at.0 bytes (begun_telling seen)) s' (expected at) result in
+      Goes a b (begin_writes seen ++ bytes_writes at.0 bytes (begun_reporting seen)) s' (expected at) result in
       let k' = subst G (l ∙ location_of before s.known stands.known) k in
       let P : Emitting → Type 0 = λ x. TakesParts plan before a b x s' (record_parts bytes) result in
       let Q : List ℕ → Type 0 = λ these. TakesParts plan before a b s s' (record_parts these) result in
@@ -478,15 +478,15 @@ module _ {seen : Emitting} (plan : Planned) (before : List Part) (s : Emitting) 
 
 -- ---- the transfer block, by calls
 
-pub telling_after : {seen : Emitting} (old mid : Emitting) → seen ≡ mid → mid ≡ with_telling (begun_telling old) old
-    → seen.telling ≡ begun_telling old
-telling_after old mid is e = ap (λ x. x.telling) (is ∙ e)
+pub reporting_after : {seen : Emitting} (old mid : Emitting) → seen ≡ mid → mid ≡ with_reporting (begun_reporting old) old
+    → seen.reporting ≡ begun_reporting old
+reporting_after old mid is e = ap (λ x. x.reporting) (is ∙ e)
 
 pub transfer_then : {seen : Emitting} {A : Type 0} (old mid : Emitting) (a b c : Outputs) (ws : Planned → List Write)
     (result : Result A LinkFault) → seen ≡ mid
-    → Gains a b (begin_writes old) × (mid ≡ with_telling (begun_telling old) old)
-    → Writes b c (ws seen.telling.plan) result → Writes a c (begin_writes old ++ ws (begun_telling old).plan) result
+    → Gains a b (begin_writes old) × (mid ≡ with_reporting (begun_reporting old) old)
+    → Writes b c (ws seen.reporting.plan) result → Writes a c (begin_writes old ++ ws (begun_reporting old).plan) result
 transfer_then {seen} old mid a b c ws result is h k =
-    let P : Telling → Type 0 = λ t. Writes b c (ws t.plan) result in
-    writes_then a b c (begin_writes old) (ws (begun_telling old).plan) result h.0
-    (subst P (telling_after old mid is h.1) k)
+    let P : Reporting → Type 0 = λ t. Writes b c (ws t.plan) result in
+    writes_then a b c (begin_writes old) (ws (begun_reporting old).plan) result h.0
+    (subst P (reporting_after old mid is h.1) k)

@@ -1,8 +1,8 @@
--- The end of the second reading.
+-- The end of the second pass.
 use Rattle.std.proofs.Common.{◌≡◌, ℕ, Bool, true, false, if◌then◌else◌, List, [], ◌∷◌, ◌++◌, append_assoc, append-nil, Option, Some, None, Result, Ok, Err, IsErrAnd, IfOk, refl, sym, subst, ap, ap₂, ◌∙◌}
 use Rattle.std.specs.Option.{option_or}
 use Rattle.m11_blocks.specs.Tapes.{tape_block}
-use Rattle.m11_modules.specs.Laws.{TakesBehind}
+use Rattle.m11_modules.specs.Laws.{TakesAfter}
 use Rattle.m11_modules.specs.Parts.{Part, EndOfFile}
 use Rattle.m11_modules.specs.Places.{Known, known_of}
 use Rattle.m11_modules.specs.Rules.{fault_of, first_fault}
@@ -10,15 +10,15 @@ use Rattle.m11_modules.specs.declared.fault.ModuleFault.{ModuleFault}
 use Rattle.m11_modules.specs.declared.fault.ModuleFault.TheVariants as rule
 use Rattle.m11_layout.proofs.Ending.{end_fault}
 use Rattle.m11_layout.proofs.Walking.{head_none}
-use Rattle.m11_layout.specs.Faults.{of_module}
-use Rattle.m11_layout.specs.Planning.{Planned}
+use Rattle.m11_layout.specs.Fault.{of_module}
+use Rattle.m11_layout.specs.Plan.{Planned}
 use Rattle.m11_layout.specs.declared.fault.LinkFault.{LinkFault}
 use Rattle.m11_layout.specs.declared.fault.LinkFault.TheVariants as fault
 use Rattle.m11_link.specs.declared.emit.LinkDone.{LinkDone}
-use Rattle.m11_link.specs.Emitting.{Emitting, Telling, Ends, GoesOn, Stands, begin_writes, begun_telling, with_count, with_telling, written}
+use Rattle.m11_link.specs.Emit.{Emitting, Reporting, EmitEnds, GoesOn, EmitStands, begin_writes, begun_reporting, with_count, with_reporting, written}
 use Rattle.m11_link_text.specs.Findings.{planned}
-use Rattle.m11_link.specs.MapText.{front_writes}
-use Rattle.m11_link.specs.Writes.{Outputs, Write, Gains, StopsBetween, StopsIn, Writes, to_tape}
+use Rattle.m11_link.specs.Front.{front_writes}
+use Rattle.m11_link.specs.Outputs.{Outputs, Write, Gains, StopsBetween, StopsIn, Writes, to_tape}
 use Rattle.m11_link.specs.Written.{counted, link_writes, parts_writes}
 use Rattle.m11_link.proofs.Counting.{counted-append}
 use Rattle.m11_link.proofs.Emitted.{begun_counts, begun_holds, here, none_written}
@@ -37,16 +37,16 @@ all_written plan before false ws first =
     ap (λ these. (front_writes (planned plan) ++ these) ++ transfer plan) (none_written plan before (first refl))
     ∙ ap (λ these. these ++ transfer plan) (append-nil (front_writes (planned plan)))
 
-module _ {seen : Emitting} (plan : Planned) (before : List Part) (s : Emitting) (is : seen ≡ s) (stands : Stands plan before s)
+module _ {seen : Emitting} (plan : Planned) (before : List Part) (s : Emitting) (is : seen ≡ s) (stands : EmitStands plan before s)
   where
-    now : Stands plan before seen
+    now : EmitStands plan before seen
     now = here plan before s is stands
 
     abbrev made : List Write
-    made = begin_writes seen ++ transfer (begun_telling seen).plan
+    made = begin_writes seen ++ transfer (begun_reporting seen).plan
 
-    begun_plan : (begun_telling seen).plan ≡ plan
-    begun_plan = (begun_holds plan before seen.has_begun seen.telling (front_writes (planned seen.telling.plan))
+    begun_plan : (begun_reporting seen).plan ≡ plan
+    begun_plan = (begun_holds plan before seen.has_begun seen.reporting (front_writes (planned seen.reporting.plan))
         (record { planned_so = now.planned_so; defined = now.defined; held = now.held })).planned_so
 
     split : link_writes (planned plan) before ≡ written plan seen.has_begun before ++ made
@@ -58,21 +58,21 @@ module _ {seen : Emitting} (plan : Planned) (before : List Part) (s : Emitting) 
         → GoesOn Went (written plan seen.has_begun before) (link_writes (planned plan) before)
     went_on Went h = record { more = made; split = split; went = h }
 
-    counts : (done : LinkDone) → done.messages ≡ (begun_telling seen).messages
+    counts : (done : LinkDone) → done.messages ≡ (begun_reporting seen).messages
         → done.messages ≡ counted 0 (link_writes (planned plan) before)
     counts done e = e
-        ∙ begun_counts seen.has_begun seen.telling (front_writes (planned seen.telling.plan))
+        ∙ begun_counts seen.has_begun seen.reporting (front_writes (planned seen.reporting.plan))
         ∙ ap (λ n. counted n (begin_writes seen)) now.messages
         ∙ counted-append 0 (written plan seen.has_begun before) (begin_writes seen)
-        ∙ counted-append 0 (written plan seen.has_begun before ++ begin_writes seen) (transfer (begun_telling seen).plan)
+        ∙ counted-append 0 (written plan seen.has_begun before ++ begin_writes seen) (transfer (begun_reporting seen).plan)
         ∙ ap (λ ws. counted 0 ws) (append_assoc (written plan seen.has_begun before) (begin_writes seen)
-        (transfer (begun_telling seen).plan) ∙ sym split)
+        (transfer (begun_reporting seen).plan) ∙ sym split)
 
     abbrev Ended : Outputs → Outputs → Emitting → Result LinkDone LinkFault → Type 0
-    Ended a b x result = Ends plan before a b x result
+    Ended a b x result = EmitEnds plan before a b x result
 
     ended_here : (a b : Outputs) (result : Result LinkDone LinkFault) → fault_of before EndOfFile ≡ None
-        → Writes a b made result → IfOk result (λ done. done.messages ≡ (begun_telling seen).messages)
+        → Writes a b made result → IfOk result (λ done. done.messages ≡ (begun_reporting seen).messages)
         → Ended a b seen result
     ended_here a b (Ok done) sound h n = (sound, counts done n, went_on (λ more. Gains a b more) h)
     ended_here a b (Err (fault.Write output)) sound h n = (sound, went_on (λ more. StopsIn output a b more) h)
@@ -96,13 +96,13 @@ module _ {seen : Emitting} (plan : Planned) (before : List Part) (s : Emitting) 
     sound_end e = head_none (fault_of before EndOfFile) None e
 
     pub ended : (a b : Outputs) (known : Known) (result : Result LinkDone LinkFault)
-        → (seen.known ≡ known_of before → TakesBehind before known (EndOfFile ∷ []) (Ok tt)) → Writes a b made result
-        → IfOk result (λ done. done.messages ≡ (begun_telling seen).messages) → Ended a b s result
+        → (seen.known ≡ known_of before → TakesAfter before known (EndOfFile ∷ []) (Ok tt)) → Writes a b made result
+        → IfOk result (λ done. done.messages ≡ (begun_reporting seen).messages) → Ended a b s result
     ended a b known result t h n =
         let P : Emitting → Type 0 = λ x. Ended a b x result in
         subst P is (ended_here a b result (sound_end (t now.known).0) h n)
 
-    inside : (a : Outputs) (new : Known) (broken : ModuleFault) → TakesBehind before new (EndOfFile ∷ []) (Err broken)
+    inside : (a : Outputs) (new : Known) (broken : ModuleFault) → TakesAfter before new (EndOfFile ∷ []) (Err broken)
         → Ended a a seen (Err (of_module broken))
     inside a new rule.BadOrder h = ((end_fault before rule.BadOrder h).1, refl)
     inside a new rule.NoMemory h = went_on (λ more. StopsBetween a a more) (refused_before a made)
@@ -115,7 +115,7 @@ module _ {seen : Emitting} (plan : Planned) (before : List Part) (s : Emitting) 
     inside a new rule.TooManyModules h = let e = (end_fault before rule.TooManyModules h).0 in absurd cc
 
     pub ended_inside : (a : Outputs) (new : Known) (broken : ModuleFault) (result : Result LinkDone LinkFault)
-        → (seen.known ≡ known_of before → TakesBehind before new (EndOfFile ∷ []) (Err broken))
+        → (seen.known ≡ known_of before → TakesAfter before new (EndOfFile ∷ []) (Err broken))
         → IsErrAnd result (λ e. e ≡ of_module broken) → Ended a a s result
     ended_inside a new broken (Ok done) t e = absurd e
     ended_inside a new broken (Err stopped) t e =

@@ -1,4 +1,4 @@
--- Entries whose messages go out one after another, and what stands behind them. (This project's own words.)
+-- Entries whose messages are written one after another, and what stands after them. (This project's own words.)
 use Rattle.std.proofs.Common.{◌≡◌, ◌≤◌, ℕ, ◌+◌, cond, Bool, true, false, ◌&&◌, List, [], ◌∷◌, ◌++◌, length, drop, slice_get, option_map, is_some, Option, Some, None, Result, Ok, Err, IsErrAnd, sym, subst, ap, ap₂, refl, arith}
 use Rattle.std.specs.Bool.{◌==◌}
 use Rattle.std.specs.Option.{unwrap_or}
@@ -7,7 +7,7 @@ use Rattle.std.proofs.lemmas.List.{drop_all}
 use Rattle.m11_modules.proofs.Indexing.{drop_at}
 use Rattle.m11_layout.specs.declared.fault.LinkFault.{LinkFault}
 use Rattle.m11_layout.specs.declared.fault.LinkFault.TheVariants as fault
-use Rattle.m11_layout.specs.Planning.{planned_attributes, planned_module}
+use Rattle.m11_layout.specs.Plan.{planned_attributes, planned_module}
 use Rattle.m11_layout.specs.Sections.{attributes_by}
 use Rattle.m11_modules.specs.Names.{is_among}
 use Rattle.m11_modules.specs.Rules.{defines}
@@ -15,14 +15,14 @@ use Rattle.m11_blocks.specs.Tapes.{tape_block}
 use Rattle.m11_obj.specs.declared.gsd.GsdEntry.{GsdEntry}
 use Rattle.m11_obj.specs.declared.gsd.GsdKind.{GsdKind}
 use Rattle.m11_obj.specs.declared.gsd.GsdKind.TheVariants as kind
-use Rattle.m11_link.specs.Emitting.{Goes, Keeps, Telling, defined_by, defined_with, defined_with_all, entries_writes, held_writes, text_held, with_count, with_entries, with_entry, with_held, with_name, with_symbol}
+use Rattle.m11_link.specs.Emit.{Goes, EmitKeeps, Reporting, defined_by, defined_with, defined_with_all, entries_writes, held_writes, text_held, with_count, with_entries, with_entry, with_held, with_name, with_symbol}
 use Rattle.m11_link_text.specs.Findings.{planned}
 use Rattle.m11_link_text.specs.Lines.{different_line, multiple_line}
-use Rattle.m11_link.specs.MapText.{front_writes}
-use Rattle.m11_link.specs.Writes.{Outputs, Write, Gains, Stops, to_messages, to_tape}
+use Rattle.m11_link.specs.Front.{front_writes}
+use Rattle.m11_link.specs.Outputs.{Outputs, Write, Gains, Stops, to_messages, to_tape}
 use Rattle.m11_link.specs.Written.{PlacedText, block_at, counted, different_writes, entry_writes, placed_text, symbol_writes, writes_by}
 use Rattle.m11_link.proofs.Counting.{counted-append}
-use Rattle.m11_link.proofs.Writing.{gains_nothing, gains_then, stops_before, stops_behind, refused_before}
+use Rattle.m11_link.proofs.Writing.{gains_nothing, gains_then, stops_before, stops_after, refused_before}
 
 -- ---- calls one after another
 
@@ -30,7 +30,7 @@ module _ {A : Type 0} {S : Type 0} where
   pub goes_then : (a b c : Outputs) (xs ys : List Write) (state expected : S) (result : Result A LinkFault) → Gains a b xs
       → Goes b c ys state expected result → Goes a c (xs ++ ys) state expected result
   goes_then a b c xs ys state expected (Ok x) g h = (gains_then a b c xs ys g h.0, h.1)
-  goes_then a b c xs ys state expected (Err stopped) g h = stops_behind a b c xs ys stopped g h
+  goes_then a b c xs ys state expected (Err stopped) g h = stops_after a b c xs ys stopped g h
 
   pub goes_stopped : (a b : Outputs) (xs ys : List Write) (state expected : S) (stopped : LinkFault)
       (result : Result A LinkFault) → Stops a b xs stopped → IsErrAnd result (λ f. f ≡ stopped)
@@ -56,41 +56,41 @@ pub ruleset entering = (gains_nothing, goes_then, goes_stopped, goes_stopped_alo
 -- ---- entries
 
 -- what is left of the entries leads to all of them
-abbrev pub LeadsEntries : ℕ → Outputs → Telling → Outputs → Telling → List GsdEntry → List GsdEntry → Type 0
-LeadsEntries index start first now state left all = (new : Outputs) (later : Telling) (result : Result (Unit {0}) LinkFault)
+abbrev pub LeadsEntries : ℕ → Outputs → Reporting → Outputs → Reporting → List GsdEntry → List GsdEntry → Type 0
+LeadsEntries index start first now state left all = (new : Outputs) (later : Reporting) (result : Result (Unit {0}) LinkFault)
     → Goes now new (entries_writes (planned state.plan) index state.defined left) later (with_entries index left state) result
     → Goes start new (entries_writes (planned first.plan) index first.defined all) later (with_entries index all first) result
 
 -- an entry, and then the others
-one_then : (index : ℕ) (entry : GsdEntry) (entries : List GsdEntry) (t : Telling)
+one_then : (index : ℕ) (entry : GsdEntry) (entries : List GsdEntry) (t : Reporting)
     → with_entries index entries (with_entry index entry t) ≡ with_entries index (entry ∷ entries) t
-one_then index entry entries t = ap (λ n. let all : Telling = record t {
+one_then index entry entries t = ap (λ n. let all : Reporting = record t {
   defined = defined_with_all t.defined (entry ∷ entries);
   messages = n;
 } in all) (counted-append t.messages (entry_writes (planned t.plan) index t.defined entry)
     (entries_writes (planned t.plan) index (defined_with t.defined entry) entries))
 
-module _ (index : ℕ) (start now : Outputs) (first state : Telling) (entries : List GsdEntry) (at : ℕ)
+module _ (index : ℕ) (start now : Outputs) (first state : Reporting) (entries : List GsdEntry) (at : ℕ)
     (leads : LeadsEntries index start first now state (drop at entries) entries) where
-  pub entry_went : (later : Outputs) (behind : Telling) (entry : GsdEntry) → slice_get entries at ≡ Some entry
+  pub entry_went : (later : Outputs) (following : Reporting) (entry : GsdEntry) → slice_get entries at ≡ Some entry
       → Gains now later (entry_writes (planned state.plan) index state.defined entry)
-      → behind ≡ with_entry index entry state
-      → LeadsEntries index start first later behind (drop (at + 1) entries) entries
-  entry_went later behind entry e gains b = λ new after result h.
+      → following ≡ with_entry index entry state
+      → LeadsEntries index start first later following (drop (at + 1) entries) entries
+  entry_went later following entry e gains b = λ new after result h.
       let rest = drop (at + 1) entries in
       let P : List GsdEntry → Type 0 = λ left.
       Goes now new (entries_writes (planned state.plan) index state.defined left) after (with_entries index left state) result in
-      let Q : Telling → Type 0 = λ t.
+      let Q : Reporting → Type 0 = λ t.
       Goes later new (entries_writes (planned t.plan) index t.defined rest) after (with_entries index rest t) result in
       let k = subst Q b h in
-      let R : Telling → Type 0 = λ t.
+      let R : Reporting → Type 0 = λ t.
       Goes now new (entries_writes (planned state.plan) index state.defined (entry ∷ rest)) after t result in
       let whole = goes_then now later new (entry_writes (planned state.plan) index state.defined entry)
       (entries_writes (planned state.plan) index (defined_with state.defined entry) rest) after
       (with_entries index rest (with_entry index entry state)) result gains k in
       leads new after result (subst P (sym (drop_at entries at entry e)) (subst R (one_then index entry rest state) whole))
 
-  pub entry_stopped : (later : Outputs) (after : Telling) (entry : GsdEntry) (stopped : LinkFault)
+  pub entry_stopped : (later : Outputs) (after : Reporting) (entry : GsdEntry) (stopped : LinkFault)
       → slice_get entries at ≡ Some entry
       → Stops now later (entry_writes (planned state.plan) index state.defined entry) stopped
       → Stops start later (entries_writes (planned first.plan) index first.defined entries) stopped
@@ -113,24 +113,24 @@ module _ (index : ℕ) (start now : Outputs) (first state : Telling) (entries : 
 
 -- ---- what one call sets
 
-pub count_set : {seen : Telling} (old : Telling) (count : ℕ) (writes : List Write) → seen ≡ old
-    → count ≡ counted seen.messages writes → (let t : Telling = record seen { messages = count } in t) ≡ with_count writes old
+pub count_set : {seen : Reporting} (old : Reporting) (count : ℕ) (writes : List Write) → seen ≡ old
+    → count ≡ counted seen.messages writes → (let t : Reporting = record seen { messages = count } in t) ≡ with_count writes old
 count_set {seen} old count writes v e =
-    let P : Telling → Type 0 = λ o. (let t : Telling = record seen { messages = count } in t) ≡ with_count writes o in
-    subst P v (ap (λ n. let t : Telling = record seen { messages = n } in t) e)
+    let P : Reporting → Type 0 = λ o. (let t : Reporting = record seen { messages = count } in t) ≡ with_count writes o in
+    subst P v (ap (λ n. let t : Reporting = record seen { messages = n } in t) e)
 
-pub held_set : {seen : Telling} (old : Telling) (held : Option PlacedText) → seen ≡ old
-    → (let t : Telling = record seen { held = held } in t) ≡ with_held held old
-held_set {seen} old held v = ap (λ o. let t : Telling = record o { held = held } in t) v
+pub held_set : {seen : Reporting} (old : Reporting) (held : Option PlacedText) → seen ≡ old
+    → (let t : Reporting = record seen { held = held } in t) ≡ with_held held old
+held_set {seen} old held v = ap (λ o. let t : Reporting = record o { held = held } in t) v
 
-pub front_set : {seen : Telling} (old : Telling) (count : ℕ) (a b : Outputs) → seen ≡ old
+pub front_set : {seen : Reporting} (old : Reporting) (count : ℕ) (a b : Outputs) → seen ≡ old
     → Gains a b (front_writes (planned seen.plan)) → count ≡ counted seen.messages (front_writes (planned seen.plan))
     → Gains a b (front_writes (planned old.plan))
-    × ((let t : Telling = record seen { messages = count } in t) ≡ with_count (front_writes (planned old.plan)) old)
+    × ((let t : Reporting = record seen { messages = count } in t) ≡ with_count (front_writes (planned old.plan)) old)
 front_set {seen} old count a b v h e =
-    let P : Telling → Type 0 = λ o. Gains a b (front_writes (planned o.plan))
-    × ((let t : Telling = record seen { messages = count } in t) ≡ with_count (front_writes (planned o.plan)) o) in
-    subst P v (h, ap (λ n. let t : Telling = record seen { messages = n } in t) e)
+    let P : Reporting → Type 0 = λ o. Gains a b (front_writes (planned o.plan))
+    × ((let t : Reporting = record seen { messages = count } in t) ≡ with_count (front_writes (planned o.plan)) o) in
+    subst P v (h, ap (λ n. let t : Reporting = record seen { messages = n } in t) e)
 
 -- ---- texts
 
@@ -151,75 +151,75 @@ text_is (Some text) address bytes e f =
     let same : text.1 ≡ bytes = ap (λ o. unwrap_or o []) f in
     ap₂ (λ a b. Some (a, b)) place same
 
-pub text_then : (a b : Outputs) (t s s' : Telling) (index : ℕ) (section : ℕ × ℕ) (address : ℕ) (bytes : List ℕ)
+pub text_then : (a b : Outputs) (t s s' : Reporting) (index : ℕ) (section : ℕ × ℕ) (address : ℕ) (bytes : List ℕ)
     (o : Option (ℕ × List ℕ)) → option_map (λ text. text.0) o ≡ Some address → option_map (λ text. text.1) o ≡ Some bytes
     → Gains a b (held_writes t.held) × (s ≡ with_held None t)
     → s' ≡ with_held (Some (placed_text (planned s.plan) index section address bytes)) s
     → Gains a b (held_writes t.held) × (s' ≡ with_held (text_held (planned t.plan) index section o) t)
 text_then a b t s s' index section address bytes o e f h k =
     let P : Option (ℕ × List ℕ) → Type 0 = λ x. s' ≡ with_held (text_held (planned t.plan) index section x) t in
-    let Q : Telling → Type 0 = λ x. s' ≡ with_held (Some (placed_text (planned x.plan) index section address bytes)) x in
+    let Q : Reporting → Type 0 = λ x. s' ≡ with_held (Some (placed_text (planned x.plan) index section address bytes)) x in
     (h.0, subst P (sym (text_is o address bytes e f)) (subst Q h.1 k))
 
-pub directory_then : (a b c : Outputs) (t s s' : Telling) (index : ℕ) (entries : List GsdEntry) (result : Result (Unit {0}) LinkFault)
+pub directory_then : (a b c : Outputs) (t s s' : Reporting) (index : ℕ) (entries : List GsdEntry) (result : Result (Unit {0}) LinkFault)
     → Gains a b (held_writes t.held) × (s ≡ with_held None t)
     → Goes b c (entries_writes (planned s.plan) index s.defined entries) s' (with_entries index entries s) result
     → Goes a c (held_writes t.held ++ entries_writes (planned t.plan) index t.defined entries) s'
     (with_entries index entries (with_held None t)) result
 directory_then a b c t s s' index entries result h k =
-    let P : Telling → Type 0 = λ x. Goes b c (entries_writes (planned x.plan) index x.defined entries) s'
+    let P : Reporting → Type 0 = λ x. Goes b c (entries_writes (planned x.plan) index x.defined entries) s'
     (with_entries index entries x) result in
     goes_then a b c (held_writes t.held) (entries_writes (planned t.plan) index t.defined entries) s'
     (with_entries index entries (with_held None t)) result h.0 (subst P h.1 k)
 
 -- ---- one entry
 
-abbrev section_test : Telling → (ℕ × ℕ) × ℕ → Bool
+abbrev section_test : Reporting → (ℕ × ℕ) × ℕ → Bool
 section_test t section = section.1 == planned_attributes t.plan section.0
 
-abbrev section_told : Telling → ℕ → (ℕ × ℕ) × ℕ → List Write
-section_told t index section = to_messages (different_line section.0 (planned_module t.plan index)) ∷ []
+abbrev section_reported : Reporting → ℕ → (ℕ × ℕ) × ℕ → List Write
+section_reported t index section = to_messages (different_line section.0 (planned_module t.plan index)) ∷ []
 
-pub section_same : (a : Outputs) (t : Telling) (index : ℕ) (section : (ℕ × ℕ) × ℕ) → section_test t section ≡ true
+pub section_same : (a : Outputs) (t : Reporting) (index : ℕ) (section : (ℕ × ℕ) × ℕ) → section_test t section ≡ true
     → Gains a a (different_writes (planned t.plan) index (Some section))
     × (t ≡ with_count (different_writes (planned t.plan) index (Some section)) t)
 section_same a t index section e =
-    let P : Bool → Type 0 = λ x. Gains a a (cond x [] (section_told t index section))
-    × (t ≡ with_count (cond x [] (section_told t index section)) t) in
+    let P : Bool → Type 0 = λ x. Gains a a (cond x [] (section_reported t index section))
+    × (t ≡ with_count (cond x [] (section_reported t index section)) t) in
     subst P (sym e) (gains_nothing a, refl)
 
-pub section_differs : {A : Type 0} (a b : Outputs) (t s : Telling) (index : ℕ) (section : (ℕ × ℕ) × ℕ) (result : Result A LinkFault)
+pub section_differs : {A : Type 0} (a b : Outputs) (t s : Reporting) (index : ℕ) (section : (ℕ × ℕ) × ℕ) (result : Result A LinkFault)
     → section_test t section ≡ false
-    → Goes a b (section_told t index section) s (with_count (section_told t index section) t) result
+    → Goes a b (section_reported t index section) s (with_count (section_reported t index section) t) result
     → Goes a b (different_writes (planned t.plan) index (Some section)) s
     (with_count (different_writes (planned t.plan) index (Some section)) t) result
 section_differs a b t s index section result e h =
-    let P : Bool → Type 0 = λ x. Goes a b (cond x [] (section_told t index section)) s
-    (with_count (cond x [] (section_told t index section)) t) result in
+    let P : Bool → Type 0 = λ x. Goes a b (cond x [] (section_reported t index section)) s
+    (with_count (cond x [] (section_reported t index section)) t) result in
     subst P (sym e) h
 
 -- a symbol, by whether it is defined here, and whether it was before
-abbrev symbol_told : Telling → ℕ → GsdEntry → List Write
-symbol_told t index entry = to_messages (multiple_line entry.name (planned_module t.plan index)) ∷ []
+abbrev symbol_reported : Reporting → ℕ → GsdEntry → List Write
+symbol_reported t index entry = to_messages (multiple_line entry.name (planned_module t.plan index)) ∷ []
 
-abbrev told_by : Bool → Bool → Telling → ℕ → GsdEntry → List Write
-told_by defines before t index entry = cond (defines && before) (symbol_told t index entry) []
+abbrev reported_by : Bool → Bool → Reporting → ℕ → GsdEntry → List Write
+reported_by defines before t index entry = cond (defines && before) (symbol_reported t index entry) []
 
-abbrev kept_by : Bool → Bool → Telling → ℕ → GsdEntry → Telling
+abbrev kept_by : Bool → Bool → Reporting → ℕ → GsdEntry → Reporting
 kept_by defines before t index entry = record t {
   defined = cond defines (cond before t.defined (t.defined ++ entry.name ∷ [])) t.defined;
-  messages = counted t.messages (told_by defines before t index entry);
+  messages = counted t.messages (reported_by defines before t index entry);
 }
 
-pub symbol_refers : (a : Outputs) (t : Telling) (index : ℕ) (entry : GsdEntry) → defines entry ≡ false
+pub symbol_refers : (a : Outputs) (t : Reporting) (index : ℕ) (entry : GsdEntry) → defines entry ≡ false
     → Gains a a (symbol_writes (planned t.plan) index t.defined entry) × (t ≡ with_symbol index entry t)
 symbol_refers a t index entry e =
     let m = is_among t.defined entry.name in
-    let P : Bool → Type 0 = λ d. Gains a a (told_by d m t index entry) × (t ≡ kept_by d m t index entry) in
+    let P : Bool → Type 0 = λ d. Gains a a (reported_by d m t index entry) × (t ≡ kept_by d m t index entry) in
     subst P (sym e) (gains_nothing a, refl)
 
-kept_or_refused : (a : Outputs) (s expected : Telling) (xs : List Write) (result : Result (Unit {0}) LinkFault)
-    → Keeps s expected result → xs ≡ [] → Goes a a xs s expected result
+kept_or_refused : (a : Outputs) (s expected : Reporting) (xs : List Write) (result : Result (Unit {0}) LinkFault)
+    → EmitKeeps s expected result → xs ≡ [] → Goes a a xs s expected result
 kept_or_refused a s expected xs (Ok done) h e = (rw e (gains_nothing a), h)
 kept_or_refused a s expected xs (Err fault.NoMemory) h e = refused_before a xs
 kept_or_refused a s expected xs (Err fault.Read) h e = absurd h
@@ -237,33 +237,33 @@ kept_or_refused a s expected xs (Err fault.TooManyModules) h e = absurd h
 kept_or_refused a s expected xs (Err fault.TooMuch) h e = absurd h
 kept_or_refused a s expected xs (Err fault.TextOutside) h e = absurd h
 
-pub symbol_first : (a : Outputs) (t s : Telling) (index : ℕ) (entry : GsdEntry) (result : Result (Unit {0}) LinkFault)
-    → defines entry ≡ true → is_among t.defined entry.name ≡ false → Keeps s (with_name entry.name t) result
+pub symbol_first : (a : Outputs) (t s : Reporting) (index : ℕ) (entry : GsdEntry) (result : Result (Unit {0}) LinkFault)
+    → defines entry ≡ true → is_among t.defined entry.name ≡ false → EmitKeeps s (with_name entry.name t) result
     → Goes a a (symbol_writes (planned t.plan) index t.defined entry) s (with_symbol index entry t) result
 symbol_first a t s index entry result d m h =
-    let P : Bool → Type 0 = λ x. Goes a a (told_by x (is_among t.defined entry.name) t index entry) s
+    let P : Bool → Type 0 = λ x. Goes a a (reported_by x (is_among t.defined entry.name) t index entry) s
     (kept_by x (is_among t.defined entry.name) t index entry) result in
-    let Q : Bool → Type 0 = λ x. Goes a a (told_by true x t index entry) s (kept_by true x t index entry) result in
+    let Q : Bool → Type 0 = λ x. Goes a a (reported_by true x t index entry) s (kept_by true x t index entry) result in
     let R : Bool → Type 0 = λ x.
-    Keeps s (let k : Telling = record t { defined = cond x t.defined (t.defined ++ entry.name ∷ []) } in k) result in
+    EmitKeeps s (let k : Reporting = record t { defined = cond x t.defined (t.defined ++ entry.name ∷ []) } in k) result in
     subst P (sym d) (subst Q (sym m) (kept_or_refused a s (kept_by true false t index entry) [] result (subst R m h) refl))
 
-pub symbol_again : {A : Type 0} (a b : Outputs) (t s : Telling) (index : ℕ) (entry : GsdEntry) (result : Result A LinkFault)
+pub symbol_again : {A : Type 0} (a b : Outputs) (t s : Reporting) (index : ℕ) (entry : GsdEntry) (result : Result A LinkFault)
     → defines entry ≡ true → is_among t.defined entry.name ≡ true
-    → Goes a b (symbol_told t index entry) s (with_count (symbol_told t index entry) t) result
+    → Goes a b (symbol_reported t index entry) s (with_count (symbol_reported t index entry) t) result
     → Goes a b (symbol_writes (planned t.plan) index t.defined entry) s (with_symbol index entry t) result
 symbol_again a b t s index entry result d m h =
-    let P : Bool → Type 0 = λ x. Goes a b (told_by x (is_among t.defined entry.name) t index entry) s
+    let P : Bool → Type 0 = λ x. Goes a b (reported_by x (is_among t.defined entry.name) t index entry) s
     (kept_by x (is_among t.defined entry.name) t index entry) result in
-    let Q : Bool → Type 0 = λ x. Goes a b (told_by true x t index entry) s (kept_by true x t index entry) result in
+    let Q : Bool → Type 0 = λ x. Goes a b (reported_by true x t index entry) s (kept_by true x t index entry) result in
     subst P (sym d) (subst Q (sym m) h)
 
 -- ---- by its type
 
-module _ {A : Type 0} (a b : Outputs) (t s : Telling) (index : ℕ) (entry : GsdEntry) (result : Result A LinkFault) where
+module _ {A : Type 0} (a b : Outputs) (t s : Reporting) (index : ℕ) (entry : GsdEntry) (result : Result A LinkFault) where
   abbrev Noted : GsdKind → Type 0
   Noted k = Goes a b (writes_by k (planned t.plan) index t.defined entry) s
-      (let n : Telling = record t {
+      (let n : Reporting = record t {
         defined = defined_by k t.defined entry;
         messages = counted t.messages (writes_by k (planned t.plan) index t.defined entry);
       } in n) result
@@ -283,9 +283,9 @@ module _ {A : Type 0} (a b : Outputs) (t s : Telling) (index : ℕ) (entry : Gsd
       → Noted entry.kind
   entry_symbol e h = subst Noted (sym e) h
 
-module _ (a : Outputs) (t : Telling) (index : ℕ) (entry : GsdEntry) where
+module _ (a : Outputs) (t : Reporting) (index : ℕ) (entry : GsdEntry) where
   abbrev Silent : GsdKind → Type 0
-  Silent k = Gains a a (writes_by k (planned t.plan) index t.defined entry) × (t ≡ (let n : Telling = record t {
+  Silent k = Gains a a (writes_by k (planned t.plan) index t.defined entry) × (t ≡ (let n : Reporting = record t {
     defined = defined_by k t.defined entry;
     messages = counted t.messages (writes_by k (planned t.plan) index t.defined entry);
   } in n))

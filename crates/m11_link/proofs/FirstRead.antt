@@ -1,4 +1,4 @@
--- The loops of the first reading.
+-- The loops of the first pass.
 use Rattle.std.proofs.Common.{◌≡◌, ◌∙◌, ℕ, ◌+◌, ◌<◌, ◌≤◌, Bool, true, false, if◌then◌else◌, List, [], ◌∷◌, ◌++◌, length, get_or, set, Option, Some, None, Result, Ok, Err, refl, sym, ap, subst, append_assoc}
 use Rattle.std.proofs.lemmas.List.{append-nil}
 use Rattle.m11_base.specs.Feed.{Text}
@@ -9,32 +9,32 @@ use Rattle.m11_obj.specs.Reading.{IsRecord}
 use Rattle.m11_modules.specs.Parts.{Part, EndOfFile, record_parts}
 use Rattle.m11_modules.specs.declared.fault.ModuleFault.{ModuleFault}
 use Rattle.m11_modules.specs.declared.fault.ModuleFault.TheVariants as rule
-use Rattle.m11_layout.specs.Planning.{Ends, Planned}
+use Rattle.m11_layout.specs.Plan.{LayoutEnds, Planned}
 use Rattle.m11_layout.specs.Sections.{is_too_large}
-use Rattle.m11_layout.specs.Reading.{Reading, Stands, TakesBlock, TakesParts}
+use Rattle.m11_layout.specs.Layout.{LayoutState, LayoutStands, TakesBlock, TakesParts}
 use Rattle.m11_layout.specs.declared.fault.LinkFault.{LinkFault}
 use Rattle.m11_layout.specs.declared.fault.LinkFault.TheVariants as fault
-use Rattle.m11_link.specs.FirstReading.{LaysOut, LaysOutObject, ReadsFirst, Reaches, StandsBetween, of_block}
+use Rattle.m11_link.specs.FirstPass.{LaysOut, LaysOutObject, ReadsFirst, Reaches, StandsBetween, of_block}
 use Rattle.m11_link.specs.Objects.{Item, AreItems, BlockOf, ObjectEnds, Refused, GivesItems, BeginsItems, ObjectItems, taken, taken_item, unless_too_large}
 use Rattle.m11_link.specs.Objects as objects
 use Rattle.m11_base.proofs.FeedsRead.{SoFar, begin, all_read, failed_here, given_more, none_failed, read_more}
-use Rattle.m11_link.proofs.ItemsTaken.{Decides, bind_on, bind_stops, block_decides, block_taken, decides_more, decides_then, end_decides, end_taken, ends_again, ends_first, fault_behind, one_taken, taken_behind}
+use Rattle.m11_link.proofs.ItemsTaken.{Decides, bind_on, bind_stops, block_decides, block_taken, decides_more, decides_then, end_decides, end_taken, ends_again, ends_first, fault_after, one_taken, taken_after}
 use Rattle.m11_link.proofs.Steady.{objects_come}
 use Rattle.m11_link.proofs.ObjectsRead.{Walked, StopsObject, walk_begins, walk_ends, walk_more, walk_stops, walk_whole}
 
 -- ---- one object
 
--- the feed has come behind blocks, whose parts the layout has taken
-pub record Laid (text text' : Option Text) (faults faults' room bottom : ℕ) (before : List Part) (layout : Reading)
+-- the feed has come after blocks, whose parts the layout has taken
+pub record Laid (text text' : Option Text) (faults faults' room bottom : ℕ) (before : List Part) (layout : LayoutState)
     : Type 0 where
   pub done : List Item
   pub walked : Walked text text' faults faults' room done
   pub parts : List Part
   pub taken-is : taken before done ≡ Ok parts
-  pub stands : Stands bottom parts layout
+  pub stands : LayoutStands bottom parts layout
 
-pub laid_first : (text : Option Text) (faults bottom : ℕ) (before : List Part) (layout : Reading)
-    → Stands bottom before layout → Laid text text faults faults most_bytes bottom before layout
+pub laid_first : (text : Option Text) (faults bottom : ℕ) (before : List Part) (layout : LayoutState)
+    → LayoutStands bottom before layout → Laid text text faults faults most_bytes bottom before layout
 laid_first text faults bottom before layout s = record {
   done = [];
   walked = walk_begins text faults;
@@ -43,17 +43,17 @@ laid_first text faults bottom before layout s = record {
   stands = s;
 }
 
--- items that decide, and what comes behind them
-object_decided : (text : Option Text) (faults faults' bottom : ℕ) (before : List Part) (layout : Reading)
+-- items that decide, and what comes after them
+object_decided : (text : Option Text) (faults faults' bottom : ℕ) (before : List Part) (layout : LayoutState)
     (items : List Item) (stopped : LinkFault) → faults' ≡ faults → GivesItems text items → Decides before items stopped
     → LaysOutObject text faults faults' bottom before layout (Err stopped)
 object_decided text faults faults' bottom before layout items fault.Read same g d = absurd d
 object_decided text faults faults' bottom before layout items fault.NoMemory same g d = same
 object_decided text faults faults' bottom before layout items stopped same g d = (same, items, g, d)
 
-module _ (text text1 : Option Text) (faults faults1 room1 bottom : ℕ) (before : List Part) (layout1 : Reading)
+module _ (text text1 : Option Text) (faults faults1 room1 bottom : ℕ) (before : List Part) (layout1 : LayoutState)
     (l : Laid text text1 faults faults1 room1 bottom before layout1) (text2 : Option Text) (faults2 room2 : ℕ)
-    (layout2 : Reading) where
+    (layout2 : LayoutState) where
   module _ (content : List ℕ)
       (r : Reads first_block (place text1 faults1 room1) (place text2 faults2 room2) content) where
     walked : Walked text text2 faults faults2 room2 (l.done ++ BlockOf content ∷ [])
@@ -65,7 +65,7 @@ module _ (text text1 : Option Text) (faults faults1 room1 bottom : ℕ) (before 
       done = l.done ++ BlockOf content ∷ [];
       walked = walked;
       parts = l.parts ++ record_parts content;
-      taken-is = taken_behind before l.done (BlockOf content ∷ []) l.parts l.taken-is
+      taken-is = taken_after before l.done (BlockOf content ∷ []) l.parts l.taken-is
           ∙ one_taken l.parts (BlockOf content) (Ok (l.parts ++ record_parts content))
           (block_taken l.parts content is t.sound);
       stands = t;
@@ -91,7 +91,7 @@ module _ (text text1 : Option Text) (faults faults1 room1 bottom : ℕ) (before 
         end.0,
         record {
           parts = l.parts ++ EndOfFile ∷ [];
-          taken-is = taken_behind before l.done (ObjectEnds ∷ []) l.parts l.taken-is
+          taken-is = taken_after before l.done (ObjectEnds ∷ []) l.parts l.taken-is
               ∙ one_taken l.parts ObjectEnds (Ok (l.parts ++ EndOfFile ∷ [])) (end_taken l.parts t.sound);
           stands = record { stands = t; between = ends_again l.parts t.sound };
         },
@@ -111,7 +111,7 @@ module _ (text text1 : Option Text) (faults faults1 room1 bottom : ℕ) (before 
     h.0,
     l.done ++ Refused stopped ∷ [],
     h.1,
-    taken_behind before l.done (Refused stopped ∷ []) l.parts l.taken-is,
+    taken_after before l.done (Refused stopped ∷ []) l.parts l.taken-is,
   )
 
   pub laid_stops : (inner : BlockFault)
@@ -125,24 +125,24 @@ module _ (text text1 : Option Text) (faults faults1 room1 bottom : ℕ) (before 
 
 -- ---- objects one after another
 
-pub are_behind : (sources others : List (List ℕ)) (items more : List Item) → AreItems sources items
+pub are_after : (sources others : List (List ℕ)) (items more : List Item) → AreItems sources items
     → AreItems others more
     → AreItems (sources ++ others) (items ++ more)
-are_behind _ others _ more objects.AreItems.Nothing h = h
-are_behind _ others _ more
+are_after _ others _ more objects.AreItems.Nothing h = h
+are_after _ others _ more
     (objects.AreItems.Object {source = source} {sources = sources} {own = own} {items = items} o a) h =
     let P : List Item → Type 0 = λ these. AreItems (source ∷ (sources ++ others)) these in
     subst P (sym (append_assoc own items more))
-    (objects.AreItems.Object o (are_behind sources others items more a h))
+    (objects.AreItems.Object o (are_after sources others items more a h))
 
 pub one_object : (source : List ℕ) (own : List Item) → ObjectItems most_bytes source own → AreItems (source ∷ []) own
 one_object source own o =
     let P : List Item → Type 0 = λ these. AreItems (source ∷ []) these in
     subst P (append-nil own) (objects.AreItems.Object o objects.AreItems.Nothing)
 
--- feeds have come behind objects, whose parts the layout has taken
+-- feeds have come after objects, whose parts the layout has taken
 pub record LaidAll {F : Type 0} (text : F → Option Text) (faults : F → ℕ) (initial now : List F) (index : ℕ)
-    (bottom : ℕ) (before : List Part) (layout : Reading) : Type 0 where
+    (bottom : ℕ) (before : List Part) (layout : LayoutState) : Type 0 where
   pub sources : List (List ℕ)
   pub items : List Item
   pub feeds : SoFar text faults initial now index sources
@@ -150,7 +150,7 @@ pub record LaidAll {F : Type 0} (text : F → Option Text) (faults : F → ℕ) 
   pub reaches : Reaches bottom before items layout
 
 module _ {F : Type 0} (text : F → Option Text) (faults : F → ℕ) where
-  pub all_begin : (initial : List F) (bottom : ℕ) (before : List Part) (layout : Reading)
+  pub all_begin : (initial : List F) (bottom : ℕ) (before : List Part) (layout : LayoutState)
       → StandsBetween bottom before layout → LaidAll text faults initial initial 0 bottom before layout
   all_begin initial bottom before layout s = record {
     sources = [];
@@ -160,7 +160,7 @@ module _ {F : Type 0} (text : F → Option Text) (faults : F → ℕ) where
     reaches = record { parts = before; taken-is = refl; stands = s };
   }
 
-  pub all_laid : (initial now : List F) (index bottom : ℕ) (before : List Part) (layout : Reading)
+  pub all_laid : (initial now : List F) (index bottom : ℕ) (before : List Part) (layout : LayoutState)
       → LaidAll text faults initial now index bottom before layout → length now ≤ index
       → LaysOut text faults initial now bottom before layout (Ok tt)
   all_laid initial now index bottom before layout l over =
@@ -168,7 +168,7 @@ module _ {F : Type 0} (text : F → Option Text) (faults : F → ℕ) where
       (all.0, l.items, record { sources = l.sources; given = all.1; are = l.are }, l.reaches)
 
   -- one more object
-  module _ (initial now : List F) (index bottom : ℕ) (before : List Part) (layout new : Reading)
+  module _ (initial now : List F) (index bottom : ℕ) (before : List Part) (layout new : LayoutState)
       (l : LaidAll text faults initial now index bottom before layout)
       (inside : index < length now) (d x z : F) (x-is : x ≡ get_or now index d) where
     pub object_laid : LaysOutObject (text x) (faults x) (faults z) bottom l.reaches.parts new (Ok tt)
@@ -177,10 +177,10 @@ module _ {F : Type 0} (text : F → Option Text) (faults : F → ℕ) where
       sources = l.sources ++ h.2.source ∷ [];
       items = l.items ++ h.1;
       feeds = read_more text faults initial now index l.sources l.feeds inside d x z x-is h.2.source h.2.has h.0;
-      are = are_behind l.sources (h.2.source ∷ []) l.items h.1 l.are (one_object h.2.source h.1 h.2.are);
+      are = are_after l.sources (h.2.source ∷ []) l.items h.1 l.are (one_object h.2.source h.1 h.2.are);
       reaches = record {
         parts = h.3.parts;
-        taken-is = taken_behind before l.items h.1 l.reaches.parts l.reaches.taken-is ∙ h.3.taken-is;
+        taken-is = taken_after before l.items h.1 l.reaches.parts l.reaches.taken-is ∙ h.3.taken-is;
         stands = h.3.stands;
       };
     }
@@ -201,7 +201,7 @@ module _ {F : Type 0} (text : F → Option Text) (faults : F → ℕ) where
         begun = h.2.are;
         items-are = refl;
       },
-      (h.3.0, taken_behind before l.items h.1 l.reaches.parts l.reaches.taken-is ∙ h.3.1),
+      (h.3.0, taken_after before l.items h.1 l.reaches.parts l.reaches.taken-is ∙ h.3.1),
     )
     object_stops fault.NoMemory h = none_failed text faults initial now index l.sources l.feeds inside d x z x-is h
     object_stops stopped h =
@@ -212,16 +212,16 @@ module _ {F : Type 0} (text : F → Option Text) (faults : F → ℕ) where
           record {
             sources = l.sources ++ h.2.source ∷ given.0;
             given = given.1;
-            are = are_behind l.sources (h.2.source ∷ given.0) l.items (h.1 ++ others.0) l.are
+            are = are_after l.sources (h.2.source ∷ given.0) l.items (h.1 ++ others.0) l.are
                 (objects.AreItems.Object h.2.are others.1);
           },
-          taken_behind before l.items (h.1 ++ others.0) l.reaches.parts l.reaches.taken-is
-              ∙ fault_behind l.reaches.parts h.1 others.0 stopped h.3,
+          taken_after before l.items (h.1 ++ others.0) l.reaches.parts l.reaches.taken-is
+              ∙ fault_after l.reaches.parts h.1 others.0 stopped h.3,
         )
 
--- ---- the whole first reading
+-- ---- the whole first pass
 
-pub layout_begins : (bottom : ℕ) (layout : Reading) → Stands bottom [] layout → StandsBetween bottom [] layout
+pub layout_begins : (bottom : ℕ) (layout : LayoutState) → LayoutStands bottom [] layout → StandsBetween bottom [] layout
 layout_begins bottom layout s = record { stands = s; between = ends_first }
 
 fits_is : (bottom : ℕ) (parts : List Part) (is_large : Bool) → is_too_large bottom parts ≡ is_large
@@ -230,7 +230,7 @@ fits_is bottom parts is_large e =
     ap (λ (b : Bool). if b then Err fault.TooLarge else Ok parts) e
 
 module _ {F : Type 0} (text : F → Option Text) (faults : F → ℕ) (feeds feeds' : List F) (bottom : ℕ)
-    (layout : Reading) where
+    (layout : LayoutState) where
   pub reading_stops : (stopped : LinkFault) → LaysOut text faults feeds feeds' bottom [] layout (Err stopped)
       → ReadsFirst text faults feeds feeds' bottom (Err stopped)
   reading_stops fault.Read h = h
@@ -239,7 +239,7 @@ module _ {F : Type 0} (text : F → Option Text) (faults : F → ℕ) (feeds fee
       (h.0, h.1, h.2, bind_stops (taken [] h.1) (unless_too_large bottom) stopped h.3)
 
   pub reading_ends : (l : LaysOut text faults feeds feeds' bottom [] layout (Ok tt)) (result : Result Planned LinkFault)
-      → Ends bottom l.3.parts result → ReadsFirst text faults feeds feeds' bottom result
+      → LayoutEnds bottom l.3.parts result → ReadsFirst text faults feeds feeds' bottom result
   reading_ends l (Ok plan) e = (
     l.0,
     l.1,

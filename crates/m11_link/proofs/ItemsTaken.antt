@@ -8,12 +8,12 @@ use Rattle.m11_obj.specs.declared.fault.RecordFault.{RecordFault}
 use Rattle.m11_modules.specs.declared.fault.ModuleFault.{ModuleFault}
 use Rattle.m11_modules.specs.declared.fault.ModuleFault.TheVariants as rule
 use Rattle.m11_modules.specs.Parts.{Part, EndOfFile, parts_in, parts_of, record_parts}
-use Rattle.m11_modules.specs.Places.{Known, known_of, stage_behind}
+use Rattle.m11_modules.specs.Places.{Known, known_of, stage_after}
 use Rattle.m11_modules.specs.Rules.{fault_known, fault_of, first_fault}
-use Rattle.m11_modules.specs.Steps.{known_behind}
-use Rattle.m11_modules.proofs.KnownBehind.{known_behind_part}
-use Rattle.m11_layout.specs.Faults.{of_module}
-use Rattle.m11_layout.specs.Reading.{FirstFault, Reading, TakesBlock}
+use Rattle.m11_modules.specs.Steps.{known_after}
+use Rattle.m11_modules.proofs.KnownAfter.{known_after_part}
+use Rattle.m11_layout.specs.Fault.{of_module}
+use Rattle.m11_layout.specs.Layout.{FirstFault, LayoutState, TakesBlock}
 use Rattle.m11_layout.specs.declared.fault.LinkFault.{LinkFault}
 use Rattle.m11_layout.specs.declared.fault.LinkFault.TheVariants as fault
 use Rattle.m11_layout.proofs.Walking.{head_none, rest_none}
@@ -39,26 +39,26 @@ bind_stops r f stopped e = ap (λ (a : Answer). a >>= f) e
 same_parts : (xs ys : List Part) → ◌≡◌ {A = Answer} (Ok xs) (Ok ys) → xs ≡ ys
 same_parts xs ys e = cc
 
-pub taken_behind : (before : List Part) (xs ys : List Item) (parts : List Part) → taken before xs ≡ Ok parts
+pub taken_after : (before : List Part) (xs ys : List Item) (parts : List Part) → taken before xs ≡ Ok parts
     → taken before (xs ++ ys) ≡ taken parts ys
-taken_behind before [] ys parts e = ap (λ (these : List Part). taken these ys) (same_parts before parts e)
-taken_behind before (x ∷ xs) ys parts e =
+taken_after before [] ys parts e = ap (λ (these : List Part). taken these ys) (same_parts before parts e)
+taken_after before (x ∷ xs) ys parts e =
     let first = bind_ok (taken_item before x) (λ these. taken these xs) parts e in
     bind_on (taken_item before x) (λ these. taken these (xs ++ ys)) first.0 first.1
-    ∙ taken_behind first.0 xs ys parts first.2
+    ∙ taken_after first.0 xs ys parts first.2
 
 split_fault : (r : Answer) (f g : List Part → Answer) (stopped : LinkFault) → (r >>= f) ≡ Err stopped
     → ((middle : List Part) → f middle ≡ Err stopped → g middle ≡ Err stopped) → (r >>= g) ≡ Err stopped
 split_fault (Ok middle) f g stopped e h = h middle e
 split_fault (Err other) f g stopped e h = e
 
--- what comes behind a fault tells nothing
-pub fault_behind : (before : List Part) (xs ys : List Item) (stopped : LinkFault) → taken before xs ≡ Err stopped
+-- what comes after a fault says nothing
+pub fault_after : (before : List Part) (xs ys : List Item) (stopped : LinkFault) → taken before xs ≡ Err stopped
     → taken before (xs ++ ys) ≡ Err stopped
-fault_behind before [] ys stopped e = absurd cc
-fault_behind before (x ∷ xs) ys stopped e =
+fault_after before [] ys stopped e = absurd cc
+fault_after before (x ∷ xs) ys stopped e =
     split_fault (taken_item before x) (λ these. taken these xs) (λ these. taken these (xs ++ ys)) stopped e
-    (λ middle h. fault_behind middle xs ys stopped h)
+    (λ middle h. fault_after middle xs ys stopped h)
 
 pub one_taken : (before : List Part) (item : Item) (answer : Answer) → taken_item before item ≡ answer
     → taken before (item ∷ []) ≡ answer
@@ -70,7 +70,7 @@ one_taken before item answer e = alone (taken_item before item) ∙ e
 
 -- ---- one item
 
--- parts that have no fault behind those before them
+-- parts that have no fault after those before them
 pub rest_sound : (done before parts : List Part) → first_fault done (before ++ parts) ≡ None
     → first_fault (done ++ before) parts ≡ None
 unfolding first_fault
@@ -102,15 +102,15 @@ pub end_taken : (before : List Part) → first_fault [] (before ++ EndOfFile ∷
     → taken_item before ObjectEnds ≡ Ok (before ++ EndOfFile ∷ [])
 end_taken before e = parts_taken before (EndOfFile ∷ []) e
 
--- behind the end of an object another one may stand
+-- after the end of an object another one may stand
 end_sound : (before : List Part) → first_fault before (EndOfFile ∷ []) ≡ None → fault_of before EndOfFile ≡ None
 unfolding first_fault
 end_sound before e = head_none (fault_of before EndOfFile) None e
 
 known_again : (before : List Part) → fault_of before EndOfFile ≡ None
     → known_of (before ++ EndOfFile ∷ []) ≡ known_of before
-unfolding known_behind
-known_again before e = known_behind_part before EndOfFile e
+unfolding known_after
+known_again before e = known_after_part before EndOfFile e
 
 pub ends_again : (before : List Part) → first_fault [] (before ++ EndOfFile ∷ []) ≡ None
     → fault_of (before ++ EndOfFile ∷ []) EndOfFile ≡ None
@@ -119,7 +119,7 @@ ends_again before e =
     ap (λ (known : Known). fault_known known EndOfFile) (known_again before sound) ∙ sound
 
 pub ends_first : fault_of [] EndOfFile ≡ None
-unfolding fault_known known_of stage_behind
+unfolding fault_known known_of stage_after
 ends_first = refl
 
 -- ---- the fault of an item
@@ -141,9 +141,9 @@ module _ (before : List Part) (item : Item) (parts : List Part)
   where
     first_decides : (stopped : LinkFault) (broken : ModuleFault) → first_fault before parts ≡ Some broken
         → stopped ≡ of_module broken → Decides before (item ∷ []) stopped
-    first_decides stopped broken e told =
+    first_decides stopped broken e reported =
         let P : LinkFault → Type 0 = λ these. Decides before (item ∷ []) these in
-        subst P (sym told) (decided before (item ∷ []) broken
+        subst P (sym reported) (decided before (item ∷ []) broken
         (one_taken before item (Err (of_module broken)) (comes broken e)))
 
     fault_decides : (stopped : LinkFault) → FirstFault before parts stopped → Decides before (item ∷ []) stopped
@@ -182,22 +182,22 @@ end_decides before stopped h =
     fault_decides before ObjectEnds (EndOfFile ∷ []) (λ broken e. parts_refused before (EndOfFile ∷ []) broken e)
     stopped h
 
-pub block_decides : (bottom : ℕ) (before : List Part) (layout : Reading) (bytes : List ℕ) (stopped : LinkFault)
+pub block_decides : (bottom : ℕ) (before : List Part) (layout : LayoutState) (bytes : List ℕ) (stopped : LinkFault)
     → TakesBlock bottom before layout bytes (Err stopped) → Decides before (BlockOf bytes ∷ []) stopped
 block_decides bottom before layout bytes (fault.Record inner) h = no_record_decides before bytes inner h
 block_decides bottom before layout bytes stopped h = parts_decide before bytes stopped h
 
--- ---- behind other items
+-- ---- after other items
 
 pub decides_then : (before parts : List Part) (done items : List Item) (stopped : LinkFault)
     → taken before done ≡ Ok parts
     → Decides parts items stopped → Decides before (done ++ items) stopped
 decides_then before parts done items fault.Read e h = absurd h
 decides_then before parts done items fault.NoMemory e h = tt
-decides_then before parts done items stopped e h = taken_behind before done items parts e ∙ h
+decides_then before parts done items stopped e h = taken_after before done items parts e ∙ h
 
 pub decides_more : (before : List Part) (items more : List Item) (stopped : LinkFault)
     → Decides before items stopped → Decides before (items ++ more) stopped
 decides_more before items more fault.Read h = absurd h
 decides_more before items more fault.NoMemory h = tt
-decides_more before items more stopped h = fault_behind before items more stopped h
+decides_more before items more stopped h = fault_after before items more stopped h

@@ -2,7 +2,7 @@ pub mod Writing
 pub mod Counting
 pub mod Looping
 pub mod Entering
-pub mod WritesBehind
+pub mod WritesAfter
 pub mod Emitted
 pub mod Ended
 pub mod Steady

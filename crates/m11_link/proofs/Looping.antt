@@ -8,8 +8,8 @@ use Rattle.m11_layout.specs.declared.planned.PlannedGlobal.{PlannedGlobal}
 use Rattle.m11_layout.specs.declared.planned.PlannedSection.{PlannedSection}
 use Rattle.m11_link_text.specs.Findings.{Findings}
 use Rattle.std.specs.List.{cons_option, filter_map}
-use Rattle.m11_link.specs.MapText.{is_empty, written_if, undefined_by, undefined_names, section_write, section_writes, global_write, global_writes, name_write, name_writes, undefined_write, undefined_writes, weak_writes}
-use Rattle.m11_link.specs.Writes.{Outputs, Write, Gains, Stops, Writes, to_map}
+use Rattle.m11_link.specs.Front.{is_empty, written_if, undefined_by, undefined_names, section_write, section_writes, global_write, global_writes, name_write, name_writes, undefined_write, undefined_writes, weak_writes}
+use Rattle.m11_link.specs.Outputs.{Outputs, Write, Gains, Stops, Writes, to_map}
 use Rattle.m11_link.specs.Written.{counted}
 use Rattle.m11_link.proofs.Counting.{counted-append}
 use Rattle.m11_link.proofs.Writing.{gains_nothing, stops_before, writes_then}
@@ -111,21 +111,21 @@ module _ (found : Findings) (references : List ((ℕ × ℕ) × Bool)) (index : 
 
 -- ---- the count of messages
 
-module _ (found : Findings) (references : List ((ℕ × ℕ) × Bool)) (index count told : ℕ) where
+module _ (found : Findings) (references : List ((ℕ × ℕ) × Bool)) (index count reported : ℕ) where
   pub count_left : (later : ℕ) (reference : (ℕ × ℕ) × Bool) → slice_get references index ≡ Some reference
-      → later ≡ counted told (written_if undefined_write (undefined_by found true reference))
-      → counted told (undefined_writes found (drop index references)) ≡ counted count (undefined_writes found references)
+      → later ≡ counted reported (written_if undefined_write (undefined_by found true reference))
+      → counted reported (undefined_writes found (drop index references)) ≡ counted count (undefined_writes found references)
       → counted later (undefined_writes found (drop (index + 1) references)) ≡ counted count (undefined_writes found references)
   count_left later reference e l h =
       let one = written_if undefined_write (undefined_by found true reference) in
       let rest = undefined_writes found (drop (index + 1) references) in
-      ap (λ n. counted n rest) l ∙ counted-append told one rest
-      ∙ ap (λ ws. counted told ws) (sym (message_left found references index reference e)) ∙ h
+      ap (λ n. counted n rest) l ∙ counted-append reported one rest
+      ∙ ap (λ ws. counted reported ws) (sym (message_left found references index reference e)) ∙ h
 
   pub count_end : length references ≤ index
-      → counted told (undefined_writes found (drop index references)) ≡ counted count (undefined_writes found references)
-      → told ≡ counted count (undefined_writes found references)
-  count_end le h = ap (λ ws. counted told ws) (sym (messages_end found references index le)) ∙ h
+      → counted reported (undefined_writes found (drop index references)) ≡ counted count (undefined_writes found references)
+      → reported ≡ counted count (undefined_writes found references)
+  count_end le h = ap (λ ws. counted reported ws) (sym (messages_end found references index le)) ∙ h
 
 -- ---- a weak name
 

@@ -10,7 +10,7 @@ use Rattle.m11_blocks.specs.Limited.{Fails, EndsBetween, EndsInside, Passes, Ref
 use Rattle.m11_blocks.proofs.Limits.{took_nothing, took_then}
 use Rattle.m11_layout.specs.declared.fault.LinkFault.{LinkFault}
 use Rattle.m11_layout.specs.declared.fault.LinkFault.TheVariants as fault
-use Rattle.m11_link.specs.FirstReading.{of_block}
+use Rattle.m11_link.specs.FirstPass.{of_block}
 use Rattle.m11_link.specs.Objects.{Item, BlockOf, ObjectEnds, Refused, ObjectItems, BeginningItems, GivesItems, BeginsItems}
 use Rattle.m11_link.specs.Objects as objects
 use Rattle.m11_link.proofs.Steady.{block_shorter, object_comes}
@@ -65,7 +65,7 @@ passed_more room left now given more content done p is fits = record {
       (objects.BeginningItems.Begins (is rest) (omega (arith, length-append more rest, fits)) h)));
 }
 
--- a feed has come behind the blocks of these items
+-- a feed has come after the blocks of these items
 pub record Walked (text text' : Option Text) (faults faults' room : ℕ) (done : List Item) : Type 0 where
   pub given : List ℕ
   pub took : Took (place text faults most_bytes) (place text' faults' room) given
@@ -78,7 +78,7 @@ walk_begins text faults = record {
   passed = passed_none most_bytes;
 }
 
--- a reader that gave an answer goes on
+-- a reader that gave a result goes on
 pub reads_on : {X : Type 0} (has_failed : Bool) (answer : X) → (IsTrue has_failed ↔ IsErr {E = BlockFault} (Ok answer))
     → has_failed ≡ false
 reads_on false answer h = refl
@@ -168,17 +168,17 @@ module _ (text text1 : Option Text) (faults faults1 room1 : ℕ) (done : List It
         let took = took_then start here s.1.0 w.given s.0 w.took s.1.1 in
         let lacks = s.1.2 in
         let more = gave_byte text s.1.0.text text2 (w.given ++ s.0) lacks.0 took.gave lacks.1 in
-        let behind : List ℕ = lacks.0 ∷ more.0 in
+        let following : List ℕ = lacks.0 ∷ more.0 in
         let all : length s.0 ≡ room1 = omega (arith, s.1.1.room, lacks.3) in
-        let front : take room1 (s.0 ++ behind) ≡ s.0 = take_at s.0 behind room1 all in
+        let front : take room1 (s.0 ++ following) ≡ s.0 = take_at s.0 following room1 all in
         let P : List ℕ → Type 0 = λ bytes. IsShort (first_block bytes) in (
           lacks.2 ∙ took.faults,
           record {
-            source = (w.given ++ s.0) ++ behind;
+            source = (w.given ++ s.0) ++ following;
             has = more.1;
-            are = rw (append_assoc w.given s.0 behind)
-                (w.passed.whole (s.0 ++ behind) (Refused fault.TooMuch ∷ [])
-                (objects.ObjectItems.Passes (omega (arith, length-append s.0 behind, all)) (subst P (sym front) s.2)));
+            are = rw (append_assoc w.given s.0 following)
+                (w.passed.whole (s.0 ++ following) (Refused fault.TooMuch ∷ [])
+                (objects.ObjectItems.Passes (omega (arith, length-append s.0 following, all)) (subst P (sym front) s.2)));
           },
         )
 

@@ -1,4 +1,4 @@
--- The loops of the second reading.
+-- The loops of the second pass.
 use Rattle.std.proofs.Common.{◌≡◌, ◌∙◌, ℕ, ◌+◌, ◌<◌, ◌≤◌, Bool, true, false, List, [], ◌∷◌, ◌++◌, length, get_or, set, append-nil, append_assoc, Option, Some, None, Result, Ok, Err, refl, sym, ap, subst}
 use Rattle.std.proofs.lemmas.Grind.{flat_map-append}
 use Rattle.m11_base.specs.Devices.{Rises}
@@ -15,25 +15,25 @@ use Rattle.m11_modules.specs.Parts.{Part, EndOfFile, parts_in, parts_of, record_
 use Rattle.m11_modules.specs.Rules.{fault_of, first_fault}
 use Rattle.m11_modules.specs.declared.fault.ModuleFault.TheVariants as rule
 use Rattle.m11_blocks.specs.Tapes.{tape_block}
-use Rattle.m11_layout.specs.Planning.{Planned}
+use Rattle.m11_layout.specs.Plan.{Planned}
 use Rattle.m11_layout.specs.declared.fault.LinkFault.{LinkFault}
 use Rattle.m11_layout.specs.declared.fault.LinkFault.TheVariants as fault
 use Rattle.m11_layout.specs.declared.fault.LinkOutput.{LinkOutput}
-use Rattle.m11_link.specs.Emitting.{Emitting, Ends, GoesOn, Stands, TakesBlock, TakesParts, written}
-use Rattle.m11_link.specs.FirstReading.{of_block}
+use Rattle.m11_link.specs.Emit.{Emitting, EmitEnds, GoesOn, EmitStands, TakesBlock, TakesParts, written}
+use Rattle.m11_link.specs.FirstPass.{of_block}
 use Rattle.m11_link.specs.Objects.{◌>>=◌, AreItems, Item, BlockOf, ObjectEnds, Refused, GiveItems, GivesItems, parts_or_fault, taken, taken_item, taken_parts, unless_fault}
 use Rattle.m11_link.specs.Objects as objects
 use Rattle.m11_link.specs.declared.emit.LinkDone.{LinkDone}
 use Rattle.m11_link_text.specs.Findings.{planned}
 use Rattle.m11_link.specs.Written.{link_writes}
-use Rattle.m11_link.specs.SecondReading.{Emits, ReadsSecond, all_writes, Emitted, EmitsObject, IsOfItems, StopsAmong, items_parts, items_writes, parts_within}
-use Rattle.m11_link.specs.Writes.{Outputs, Write, Gains, StopsBetween, StopsIn, to_tape}
+use Rattle.m11_link.specs.SecondPass.{Emits, ReadsSecond, all_writes, Emitted, EmitsObject, IsOfItems, StopsAmong, items_parts, items_writes, parts_within}
+use Rattle.m11_link.specs.Outputs.{Outputs, Write, Gains, StopsBetween, StopsIn, to_tape}
 use Rattle.m11_base.proofs.FeedsRead.{SoFar, begin, all_read, failed_here, given_more, none_failed, read_more}
-use Rattle.m11_link.proofs.FirstRead.{are_behind, one_object}
+use Rattle.m11_link.proofs.FirstRead.{are_after, one_object}
 use Rattle.m11_link.proofs.Steady.{objects_come}
-use Rattle.m11_link.proofs.ItemsTaken.{fault_behind, Answer, Decides, bind_ok, block_taken, decides_more, decides_then, end_decides, end_taken, ends_again, no_record_decides, one_taken, parts_decide, taken_behind}
+use Rattle.m11_link.proofs.ItemsTaken.{fault_after, Answer, Decides, bind_ok, block_taken, decides_more, decides_then, end_decides, end_taken, ends_again, no_record_decides, one_taken, parts_decide, taken_after}
 use Rattle.m11_link.proofs.ObjectsRead.{StopsObject, Walked, walk_begins, walk_ends, walk_more, walk_stops, walk_whole}
-use Rattle.m11_link.proofs.Writing.{gains_nothing, gains_then, stops_before, stops_behind}
+use Rattle.m11_link.proofs.Writing.{gains_nothing, gains_then, stops_before, stops_after}
 use Rattle.m11_link.proofs.WritesLeft.{Begins, written_more}
 
 -- ---- the parts of items that were taken
@@ -76,7 +76,7 @@ one_item : (item : Item) → items_parts (item ∷ []) ≡ parts_within item
 unfolding items_parts
 one_item item = append-nil (parts_within item)
 
--- behind the parts of the items that were taken stand those of the others
+-- after the parts of the items that were taken stand those of the others
 pub parts_and : (before : List Part) (done more : List Item) (parts : List Part) → taken before done ≡ Ok parts
     → before ++ items_parts (done ++ more) ≡ parts ++ items_parts more
 parts_and before done more parts e =
@@ -96,13 +96,13 @@ stops_in_on : (output : LinkOutput) (first now new : Outputs) (some all : List W
     → GoesOn (StopsIn output now new) some all → StopsIn output first new all
 stops_in_on output first now new some all g o =
     let P : List Write → Type 0 = λ these. StopsIn output first new these in
-    subst P (sym o.split) (stops_behind first now new some o.more (fault.Write output) g o.went)
+    subst P (sym o.split) (stops_after first now new some o.more (fault.Write output) g o.went)
 
 stops_between_on : (first now new : Outputs) (some all : List Write) → Gains first now some
     → GoesOn (StopsBetween now new) some all → StopsBetween first new all
 stops_between_on first now new some all g o =
     let P : List Write → Type 0 = λ these. StopsBetween first new these in
-    subst P (sym o.split) (stops_behind first now new some o.more fault.NoMemory g o.went)
+    subst P (sym o.split) (stops_after first now new some o.more fault.NoMemory g o.went)
 
 stops_in_more : (output : LinkOutput) (first new : Outputs) (some all : List Write) → StopsIn output first new some
     → Begins some all → StopsIn output first new all
@@ -179,9 +179,9 @@ module _ (text : Option FeedText) (faults faults' : ℕ) (plan : Planned) (befor
       (subst P (sym e) gains)
       (subst Q (sym (append_assoc done (item ∷ []) more)) (items_begin plan before done (item ∷ more) parts taken-is has_begun))
 
-  told : (stopped : LinkFault) → Decides parts (item ∷ []) stopped
+  reported : (stopped : LinkFault) → Decides parts (item ∷ []) stopped
       → Decides before ((done ++ item ∷ []) ++ more) stopped
-  told stopped d = decides_more before (done ++ item ∷ []) more stopped
+  reported stopped d = decides_more before (done ++ item ∷ []) more stopped
       (decides_then before parts done (item ∷ []) stopped taken-is d)
 
   halted : (stopped : LinkFault) → Halts plan has_begun parts item now new stopped
@@ -209,7 +209,7 @@ module _ (text : Option FeedText) (faults faults' : ℕ) (plan : Planned) (befor
         (item_begins plan before done item more parts taken-is),
   )
   halted fault.Read h = absurd h.0
-  halted stopped h = (same, (done ++ item ∷ []) ++ more, given, told stopped h.0, unwritten h.1)
+  halted stopped h = (same, (done ++ item ∷ []) ++ more, given, reported stopped h.0, unwritten h.1)
 
 -- ---- one object
 
@@ -219,11 +219,11 @@ pub record Sent (text text' : Option FeedText) (faults faults' room : ℕ) (plan
   pub walked : Walked text text' faults faults' room done
   pub parts : List Part
   pub taken-is : taken before done ≡ Ok parts
-  pub stands : Stands plan parts emit
+  pub stands : EmitStands plan parts emit
   pub gains : Gains first now (written plan emit.has_begun parts)
 
 pub sent_first : (text : Option FeedText) (faults : ℕ) (plan : Planned) (before : List Part) (first now : Outputs)
-    (emit : Emitting) → Stands plan before emit → Gains first now (written plan emit.has_begun before)
+    (emit : Emitting) → EmitStands plan before emit → Gains first now (written plan emit.has_begun before)
     → Sent text text faults faults most_bytes plan before first now emit
 sent_first text faults plan before first now emit s g = record {
   done = [];
@@ -258,7 +258,7 @@ module _ (text text1 : Option FeedText) (faults faults1 room1 : ℕ) (plan : Pla
       done = l.done ++ BlockOf content ∷ [];
       walked = walked;
       parts = l.parts ++ record_parts content;
-      taken-is = taken_behind before l.done (BlockOf content ∷ []) l.parts l.taken-is
+      taken-is = taken_after before l.done (BlockOf content ∷ []) l.parts l.taken-is
           ∙ one_taken l.parts (BlockOf content) (Ok (l.parts ++ record_parts content))
           (block_taken l.parts content is t.0.sound);
       stands = t.0;
@@ -283,7 +283,7 @@ module _ (text text1 : Option FeedText) (faults faults1 room1 : ℕ) (plan : Pla
         end.0,
         record {
           parts = l.parts ++ EndOfFile ∷ [];
-          taken-is = taken_behind before l.done (ObjectEnds ∷ []) l.parts l.taken-is
+          taken-is = taken_after before l.done (ObjectEnds ∷ []) l.parts l.taken-is
               ∙ one_taken l.parts ObjectEnds (Ok (l.parts ++ EndOfFile ∷ [])) (end_taken l.parts t.0.sound);
           stands = t.0;
           between = ends_again l.parts t.0.sound;
@@ -323,7 +323,7 @@ module _ (text text1 : Option FeedText) (faults faults1 room1 : ℕ) (plan : Pla
     h.0,
     l.done ++ Refused stopped ∷ [],
     h.1,
-    taken_behind before l.done (Refused stopped ∷ []) l.parts l.taken-is,
+    taken_after before l.done (Refused stopped ∷ []) l.parts l.taken-is,
     still (Refused stopped ∷ []),
   )
 
@@ -348,7 +348,7 @@ pub record SentAll {F : Type 0} (text : F → Option FeedText) (faults : F → �
 
 module _ {F : Type 0} (text : F → Option FeedText) (faults : F → ℕ) where
   pub all_begin : (initial : List F) (plan : Planned) (before : List Part) (first now : Outputs) (emit : Emitting)
-      → Stands plan before emit → fault_of before EndOfFile ≡ None
+      → EmitStands plan before emit → fault_of before EndOfFile ≡ None
       → Gains first now (written plan emit.has_begun before)
       → SentAll text faults initial initial 0 plan before first now emit
   all_begin initial plan before first now emit s b g = record {
@@ -379,10 +379,10 @@ module _ {F : Type 0} (text : F → Option FeedText) (faults : F → ℕ) where
       sources = l.sources ++ h.2.source ∷ [];
       items = l.items ++ h.1;
       feeds = read_more text faults initial here index l.sources l.feeds inside d x z x-is h.2.source h.2.has h.0;
-      are = are_behind l.sources (h.2.source ∷ []) l.items h.1 l.are (one_object h.2.source h.1 h.2.are);
+      are = are_after l.sources (h.2.source ∷ []) l.items h.1 l.are (one_object h.2.source h.1 h.2.are);
       emitted = record {
         parts = h.3.parts;
-        taken-is = taken_behind before l.items h.1 l.emitted.parts l.emitted.taken-is ∙ h.3.taken-is;
+        taken-is = taken_after before l.items h.1 l.emitted.parts l.emitted.taken-is ∙ h.3.taken-is;
         stands = h.3.stands;
         between = h.3.between;
         gains = h.3.gains;
@@ -421,8 +421,8 @@ module _ {F : Type 0} (text : F → Option FeedText) (faults : F → ℕ) where
     of_items (fault.Write output) own others e = tt
     of_items fault.NoMemory own others e = tt
     of_items stopped own others e =
-        taken_behind before l.items (own ++ others) l.emitted.parts l.emitted.taken-is
-        ∙ fault_behind l.emitted.parts own others stopped e
+        taken_after before l.items (own ++ others) l.emitted.parts l.emitted.taken-is
+        ∙ fault_after l.emitted.parts own others stopped e
 
     module _ (own : List Item) (g : GivesItems (text x) own) (same : faults z ≡ faults x) where
       others : (sources : List (List ℕ)) × GiveAll text initial (l.sources ++ g.source ∷ sources)
@@ -435,7 +435,7 @@ module _ {F : Type 0} (text : F → Option FeedText) (faults : F → ℕ) where
       all_given = record {
         sources = l.sources ++ g.source ∷ others.0;
         given = others.1;
-        are = are_behind l.sources (g.source ∷ others.0) l.items (own ++ others_come.0) l.are
+        are = are_after l.sources (g.source ∷ others.0) l.items (own ++ others_come.0) l.are
             (objects.AreItems.Object g.are others_come.1);
       }
 
@@ -466,7 +466,7 @@ module _ {F : Type 0} (text : F → Option FeedText) (faults : F → ℕ) where
         begun = h.2.are;
         items-are = refl;
       },
-      (h.3.0, taken_behind before l.items h.1 l.emitted.parts l.emitted.taken-is ∙ h.3.1),
+      (h.3.0, taken_after before l.items h.1 l.emitted.parts l.emitted.taken-is ∙ h.3.1),
       stops_between_more first new (items_writes plan l.emitted.parts h.1) (items_writes plan before (l.items ++ h.1))
           h.4 (read_writes h.1),
     )
@@ -513,7 +513,7 @@ module _ {F : Type 0} (text : F → Option FeedText) (faults : F → ℕ) (feeds
     parts_here : h.3.parts ≡ items_parts h.1
     parts_here = parts_are [] h.1 h.3.parts h.3.taken-is
 
-    pub second_ends : (result : Result LinkDone LinkFault) → Ends plan h.3.parts now new emit result
+    pub second_ends : (result : Result LinkDone LinkFault) → EmitEnds plan h.3.parts now new emit result
         → ReadsSecond text faults feeds feeds' plan old new result
     second_ends (Ok done) e = (
       h.0,

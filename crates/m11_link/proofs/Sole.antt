@@ -1,4 +1,4 @@
--- Bytes come to their items in one way: what is read is decided by the bytes that were read.
+-- Bytes yield their items in one way: what is read is decided by the bytes that were read.
 use Rattle.std.proofs.Common.{◌≡◌, ◌∙◌, ℕ, ◌+◌, ◌*◌, ◌-◌, ◌<◌, ◌≤◌, cond, ltb, eqb, List, [], ◌∷◌, ◌++◌, length, take, Ok, Err, refl, sym, ap, subst, append_assoc, append-nil, arith, inl, inr}
 use Rattle.std.proofs.Math.Seq.{take-append-add}
 use Rattle.std.proofs.lemmas.List.{length-append}
@@ -7,7 +7,7 @@ use Rattle.m11_blocks.specs.declared.block_fault.BlockFault.TheVariants as fault
 use Rattle.m11_blocks.specs.Frames.{sum_byte, header, content_limit}
 use Rattle.m11_blocks.specs.Limited.{Between, Inside, Refused, Read, Stop, ◌>>=◌, IsShort, most_bytes}
 use Rattle.m11_blocks.specs.Blocks.{start, second, count_of, count, content_of, summed, first_block}
-use Rattle.m11_blocks.proofs.BlockParts.{behind_start, behind_second, behind_count, behind_content}
+use Rattle.m11_blocks.proofs.BlockParts.{after_start, after_second, after_count, after_content}
 use Rattle.m11_blocks.proofs.BlockFrames.{content_takes}
 use Rattle.m11_blocks.proofs.ReadSteps.{bind_ok, bind_err, chosen, done, rest_is, value_is}
 use Rattle.m11_layout.specs.declared.fault.LinkFault.TheVariants as fault'
@@ -241,24 +241,24 @@ summed_sole xs = record { ok = summed_ok; refused = summed_refused }
           )
         ]
 
-content_then : (n : ℕ) → Sole (λ rest. behind_count (n, rest))
-content_then n = sole_then (content_of n) behind_content (content_sole n) (content_steady n) summed_sole
+content_then : (n : ℕ) → Sole (λ rest. after_count (n, rest))
+content_then n = sole_then (content_of n) after_content (content_sole n) (content_steady n) summed_sole
 
-count_then : Sole (λ rest. behind_second (tt, rest))
-count_then = sole_then count behind_count count_sole count_steady content_then
+count_then : Sole (λ rest. after_second (tt, rest))
+count_then = sole_then count after_count count_sole count_steady content_then
 
-second_then : (x : Unit {0}) → Sole (λ rest. behind_start (x, rest))
-second_then x = sole_then second behind_second second_sole second_steady (λ y. count_then)
+second_then : (x : Unit {0}) → Sole (λ rest. after_start (x, rest))
+second_then x = sole_then second after_second second_sole second_steady (λ y. count_then)
 
 pub block_sole : Sole first_block
 unfolding first_block
-block_sole = sole_then start behind_start start_sole start_steady second_then
+block_sole = sole_then start after_start start_sole start_steady second_then
 
 -- ---- the items of an object
 
-take_behind : (front rest : List ℕ) (room : ℕ) → length front ≤ room
+take_after : (front rest : List ℕ) (room : ℕ) → length front ≤ room
     → take room (front ++ rest) ≡ front ++ take (room - length front) rest
-take_behind front rest room le =
+take_after front rest room le =
     ap (λ (n : ℕ). take n (front ++ rest)) (within_is (length front) room le)
     ∙ take-append-add front rest (room - length front)
   where
@@ -272,7 +272,7 @@ module _ (room : ℕ) (bytes front rest : List ℕ) (is : bytes ≡ front ++ res
   short_front = omega (arith, within, ap length is, length-append front rest)
 
   taken_front : take room bytes ≡ front ++ take (room - length front) rest
-  taken_front = ap (take room) is ∙ take_behind front rest room short_front
+  taken_front = ap (take room) is ∙ take_after front rest room short_front
 
 decided_ok : (room : ℕ) (bytes content rest : List ℕ) → first_block bytes ≡ Ok (content, rest)
     → length bytes ≤ length rest + room → IsShort (first_block (take room bytes)) → ⊥
@@ -392,10 +392,10 @@ object_same room bytes _ others (objects.ObjectItems.IsBad {rest = rest} {inner 
     bad_same room bytes rest inner others e le k
 object_same room bytes _ others (objects.ObjectItems.Passes lt short) k = passes_same room bytes others lt short k
 
-behind_same : (source : List ℕ) (sources : List (List ℕ)) (own items others : List Item)
+after_same : (source : List ℕ) (sources : List (List ℕ)) (own items others : List Item)
     → ObjectItems most_bytes source own → ((these : List Item) → AreItems sources these → items ≡ these)
     → AreItems (source ∷ sources) others → own ++ items ≡ others
-behind_same source sources own items _ o same (objects.AreItems.Object {own = own'} {items = items'} o' h) =
+after_same source sources own items _ o same (objects.AreItems.Object {own = own'} {items = items'} o' h) =
     ap (λ (these : List Item). these ++ items) (object_same most_bytes source own own' o o')
     ∙ ap (λ (these : List Item). own' ++ these) (same items' h)
 
@@ -407,4 +407,4 @@ pub objects_same : (sources : List (List ℕ)) (items others : List Item) → Ar
 objects_same _ _ others objects.AreItems.Nothing k = nothing_same others k
 objects_same _ _ others
     (objects.AreItems.Object {source = source} {sources = sources} {own = own} {items = items} o h) k =
-    behind_same source sources own items others o (λ these h'. objects_same sources items these h h') k
+    after_same source sources own items others o (λ these h'. objects_same sources items these h h') k

@@ -1,4 +1,4 @@
--- What is read of bytes is read of them whatever follows: so the bytes of objects always come to items.
+-- What is read of bytes is read of them whatever follows: so the bytes of objects always yield items.
 use Rattle.std.proofs.Common.{◌≡◌, ◌∙◌, ℕ, zero, suc, ◌+◌, ◌*◌, ◌-◌, ◌<◌, ◌≤◌, false, cond, ltb, eqb, List, [], ◌∷◌, ◌++◌, length, take, drop, Ok, Err, refl, sym, ap, subst, append_assoc, arith, inl, inr}
 use Rattle.std.proofs.Math.Seq.{take-append_seam, drop-append_seam}
 use Rattle.std.proofs.lemmas.Bool.{le-ltb, cases_lt}
@@ -8,7 +8,7 @@ use Rattle.m11_blocks.specs.declared.block_fault.BlockFault.TheVariants as fault
 use Rattle.m11_blocks.specs.Frames.{sum_byte, header, content_limit}
 use Rattle.m11_blocks.specs.Limited.{Between, Inside, Refused, Read, ◌>>=◌, IsShort, most_bytes}
 use Rattle.m11_blocks.specs.Blocks.{start, second, count_of, count, content_of, summed, first_block}
-use Rattle.m11_blocks.proofs.BlockParts.{behind_start, behind_second, behind_count, behind_content}
+use Rattle.m11_blocks.proofs.BlockParts.{after_start, after_second, after_count, after_content}
 use Rattle.m11_blocks.proofs.BlockFrames.{content_takes}
 use Rattle.m11_blocks.proofs.ReadSteps.{bind_ok, bind_err, chosen, done, rest_is, value_is}
 use Rattle.m11_layout.specs.declared.fault.LinkFault.TheVariants as fault'
@@ -257,11 +257,11 @@ module _ (xs : List ℕ) where
 
 -- ---- a block
 
-content_then : (n : ℕ) → Steady (λ rest. behind_count (n, rest))
-content_then n = steady_then (content_of n) behind_content (content_steady n) summed_steady
+content_then : (n : ℕ) → Steady (λ rest. after_count (n, rest))
+content_then n = steady_then (content_of n) after_content (content_steady n) summed_steady
 
-count_then : Steady (λ rest. behind_second (tt, rest))
-count_then = steady_then count behind_count count_steady content_then
+count_then : Steady (λ rest. after_second (tt, rest))
+count_then = steady_then count after_count count_steady content_then
 
 pub start_steady : Steady start
 start_steady = record {
@@ -270,18 +270,18 @@ start_steady = record {
   shorter = λ p x rest e. omega (arith, (start_ok p [] x rest e).1);
 }
 
-second_then : (x : Unit {0}) → Steady (λ rest. behind_start (x, rest))
-second_then x = steady_then second behind_second second_steady (λ y. count_then)
+second_then : (x : Unit {0}) → Steady (λ rest. after_start (x, rest))
+second_then x = steady_then second after_second second_steady (λ y. count_then)
 
 pub block_steady : Steady first_block
 unfolding first_block
-block_steady = steady_then start behind_start start_steady second_then
+block_steady = steady_then start after_start start_steady second_then
 
 -- a block has bytes
 pub block_shorter : (p content rest : List ℕ) → first_block p ≡ Ok (content, rest) → length rest < length p
 unfolding first_block
 block_shorter p content rest e =
-    let x = bind_ok (start p) behind_start (content, rest) e in
+    let x = bind_ok (start p) after_start (content, rest) e in
     omega (arith, (start_ok p [] x.0.0 x.0.1 x.1).1, (second_then x.0.0).shorter x.0.1 content rest x.2)
 
 -- ---- the items of an object
@@ -289,7 +289,7 @@ block_shorter p content rest e =
 abbrev Come : ℕ → List ℕ → Type 0
 Come room bytes = (items : List Item) × ObjectItems room bytes items
 
--- bytes of which those within the limit are too few to tell
+-- bytes of which those within the limit are too few to decide
 past_or : (room : ℕ) (bytes : List ℕ) (item : Item) → IsShort (first_block (take room bytes))
     → (length bytes ≤ room → ObjectItems room bytes (item ∷ [])) → Come room bytes
 past_or room bytes item short whole =

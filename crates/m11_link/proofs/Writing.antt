@@ -8,7 +8,7 @@ use Rattle.m11_layout.specs.declared.fault.LinkFault.{LinkFault}
 use Rattle.m11_layout.specs.declared.fault.LinkFault.TheVariants as fault
 use Rattle.m11_layout.specs.declared.fault.LinkOutput.{LinkOutput}
 use Rattle.m11_layout.specs.declared.fault.LinkOutput.TheVariants.{Tape, Map, Messages}
-use Rattle.m11_link.specs.Writes.{Output, Outputs, outputs, no_output, output_at, Write, to_output, to_tape, to_map, to_messages, gained, gained_by, GainTexts, Gains, StopsIn, StopsBetween, Stops, Writes, Puts}
+use Rattle.m11_link.specs.Outputs.{Output, Outputs, outputs, no_output, output_at, Write, to_output, to_tape, to_map, to_messages, gained, gained_by, GainTexts, Gains, StopsIn, StopsBetween, Stops, Writes, Puts}
 
 -- ---- texts
 
@@ -74,10 +74,10 @@ stops_before a b xs ys fault.TooManyModules h = absurd h
 stops_before a b xs ys fault.TooMuch h = absurd h
 stops_before a b xs ys fault.TextOutside h = absurd h
 
--- writes that stopped behind others that went out
-pub stops_behind : (a b c : Outputs) (xs ys : List Write) (stopped : LinkFault) → Gains a b xs → Stops b c ys stopped
+-- writes that stopped after others that were made
+pub stops_after : (a b c : Outputs) (xs ys : List Write) (stopped : LinkFault) → Gains a b xs → Stops b c ys stopped
     → Stops a c (xs ++ ys) stopped
-stops_behind a b c xs ys (fault.Write failed) g h = record {
+stops_after a b c xs ys (fault.Write failed) g h = record {
   done = xs ++ h.done;
   part = h.part;
   rest = h.rest;
@@ -89,36 +89,36 @@ stops_behind a b c xs ys (fault.Write failed) g h = record {
   failure = rw (g.faults failed) at h.failure;
   others = λ output other. h.others output other ∙ g.faults output;
 }
-stops_behind a b c xs ys fault.NoMemory g h = record {
+stops_after a b c xs ys fault.NoMemory g h = record {
   done = xs ++ h.done;
   more = h.more;
   split = ap (λ (t : List Write). xs ++ t) h.split ∙ sym (append_assoc xs h.done h.more);
   gains = gains_then a b c xs h.done g h.gains;
 }
-stops_behind a b c xs ys fault.Read g h = absurd h
-stops_behind a b c xs ys (fault.Block inner) g h = absurd h
-stops_behind a b c xs ys (fault.Record inner) g h = absurd h
-stops_behind a b c xs ys fault.BadOrder g h = absurd h
-stops_behind a b c xs ys fault.NoText g h = absurd h
-stops_behind a b c xs ys fault.BadDisplacement g h = absurd h
-stops_behind a b c xs ys fault.UnknownSection g h = absurd h
-stops_behind a b c xs ys fault.TooLarge g h = absurd h
-stops_behind a b c xs ys fault.TooManyGlobals g h = absurd h
-stops_behind a b c xs ys fault.TooManySections g h = absurd h
-stops_behind a b c xs ys fault.TooManyModules g h = absurd h
-stops_behind a b c xs ys fault.TooMuch g h = absurd h
-stops_behind a b c xs ys fault.TextOutside g h = absurd h
+stops_after a b c xs ys fault.Read g h = absurd h
+stops_after a b c xs ys (fault.Block inner) g h = absurd h
+stops_after a b c xs ys (fault.Record inner) g h = absurd h
+stops_after a b c xs ys fault.BadOrder g h = absurd h
+stops_after a b c xs ys fault.NoText g h = absurd h
+stops_after a b c xs ys fault.BadDisplacement g h = absurd h
+stops_after a b c xs ys fault.UnknownSection g h = absurd h
+stops_after a b c xs ys fault.TooLarge g h = absurd h
+stops_after a b c xs ys fault.TooManyGlobals g h = absurd h
+stops_after a b c xs ys fault.TooManySections g h = absurd h
+stops_after a b c xs ys fault.TooManyModules g h = absurd h
+stops_after a b c xs ys fault.TooMuch g h = absurd h
+stops_after a b c xs ys fault.TextOutside g h = absurd h
 
 pub writes_then : {A : Type 0} (a b c : Outputs) (xs ys : List Write) (result : Result A LinkFault) → Gains a b xs
     → Writes b c ys result → Writes a c (xs ++ ys) result
 writes_then a b c xs ys (Ok done) g h = gains_then a b c xs ys g h
-writes_then a b c xs ys (Err stopped) g h = stops_behind a b c xs ys stopped g h
+writes_then a b c xs ys (Err stopped) g h = stops_after a b c xs ys stopped g h
 
 -- memory was refused before a write
 pub refused_before : (a : Outputs) (xs : List Write) → Stops a a xs fault.NoMemory
 refused_before a xs = record { done = []; more = xs; split = refl; gains = gains_nothing a }
 
--- the same where a call has answered the fault
+-- the same where a call has returned the fault
 pub stopped_first : {A : Type 0} (a b : Outputs) (xs ys : List Write) (stopped : LinkFault) (result : Result A LinkFault)
     → Stops a b xs stopped → IsErrAnd result (λ f. f ≡ stopped) → Writes a b (xs ++ ys) result
 stopped_first a b xs ys stopped (Ok x) h e = absurd e

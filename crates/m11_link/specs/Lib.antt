@@ -1,7 +1,7 @@
-pub mod Emitting
-pub mod FirstReading
-pub mod MapText
+pub mod Emit
+pub mod FirstPass
+pub mod Front
 pub mod Objects
-pub mod Writes
+pub mod Outputs
 pub mod Written
-pub mod SecondReading
+pub mod SecondPass

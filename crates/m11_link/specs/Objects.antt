@@ -1,4 +1,4 @@
--- What the bytes of objects come to, item by item, and what a link makes of the items: the parts of all records, or the
+-- What the bytes of objects yield, item by item, and what a link makes of the items: the parts of all records, or the
 -- first fault in the order of the bytes. (RT-11 Volume and File Formats Manual, "Object file format". The limit of an
 -- object, and the faults and their order, are this project's own.)
 use Rattle.std.specs.Prelude.{◌≡◌, ◌<◌, ◌≤◌, ℕ, ◌+◌, List, [], ◌∷◌, ◌++◌, length, take, Option, Some, None, Result, Ok, Err, if◌then◌else◌}
@@ -14,7 +14,7 @@ use Rattle.m11_obj.specs.declared.fault.RecordFault.{RecordFault}
 use Rattle.m11_modules.specs.declared.fault.ModuleFault.{ModuleFault}
 use Rattle.m11_modules.specs.Parts.{Part, EndOfFile, parts_of}
 use Rattle.m11_modules.specs.Rules.{first_fault}
-use Rattle.m11_layout.specs.Faults.{of_module}
+use Rattle.m11_layout.specs.Fault.{of_module}
 use Rattle.m11_layout.specs.Sections.{is_too_large}
 use Rattle.m11_layout.specs.declared.fault.LinkFault.{LinkFault}
 use Rattle.m11_layout.specs.declared.fault.LinkFault.TheVariants as fault
@@ -26,12 +26,12 @@ pub data Item : Type 0 where
   BlockOf : List ℕ → Item
   -- the end of an object, before a block
   ObjectEnds : Item
-  -- bytes that are refused; nothing behind them counts
+  -- bytes that are refused; nothing after them counts
   Refused : LinkFault → Item
 
--- the bytes of one object come to these items, so many bytes of it being within the limit
+-- the bytes of one object yield these items, n bytes of it being within the limit
 pub data ObjectItems : ℕ → List ℕ → List Item → Type 0 where
-  -- a block whose bytes are within the limit, and the items of the bytes behind it
+  -- a block whose bytes are within the limit, and the items of the bytes after it
   Begins : {room left : ℕ} {bytes rest content : List ℕ} {items : List Item}
       → first_block bytes ≡ Ok (content, rest) → length bytes + left ≡ length rest + room
       → ObjectItems left rest items → ObjectItems room bytes (BlockOf content ∷ items)
@@ -45,11 +45,11 @@ pub data ObjectItems : ℕ → List ℕ → List Item → Type 0 where
   IsBad : {room : ℕ} {bytes rest : List ℕ} {inner : BlockFault}
       → first_block bytes ≡ Err (limited.Refused inner rest) → length bytes ≤ length rest + room
       → ObjectItems room bytes (Refused (fault.Block inner) ∷ [])
-  -- the bytes within the limit are too few to tell, and there are more
+  -- the bytes within the limit are too few to decide, and there are more
   Passes : {room : ℕ} {bytes : List ℕ} → room < length bytes → IsShort (first_block (take room bytes))
       → ObjectItems room bytes (Refused fault.TooMuch ∷ [])
 
--- the same of a beginning of an object, behind which nothing is known: its whole blocks
+-- the same of a beginning of an object, after which nothing is known: its whole blocks
 pub data BeginningItems : ℕ → List ℕ → List Item → Type 0 where
   Begins : {room left : ℕ} {bytes rest content : List ℕ} {items : List Item}
       → first_block bytes ≡ Ok (content, rest) → length bytes + left ≡ length rest + room
@@ -57,7 +57,7 @@ pub data BeginningItems : ℕ → List ℕ → List Item → Type 0 where
   IsOpen : {room : ℕ} {bytes : List ℕ} → IsShort (first_block bytes) → length bytes ≤ room
       → BeginningItems room bytes []
 
--- objects come to their items one after another
+-- objects yield their items one after another
 pub data AreItems : List (List ℕ) → List Item → Type 0 where
   Nothing : AreItems [] []
   Object : {source : List ℕ} {sources : List (List ℕ)} {own items : List Item}
@@ -80,7 +80,7 @@ parts_by (BlockOf content) = parts_or_fault (content_of content)
 parts_by ObjectEnds = Ok (EndOfFile ∷ [])
 parts_by (Refused refused) = Err refused
 
--- parts behind others, or the first fault of their order and entries
+-- parts after others, or the first fault of their order and entries
 abbrev pub unless_fault : Option ModuleFault → List Part → Result (List Part) LinkFault
 unless_fault None parts = Ok parts
 unless_fault (Some broken) parts = Err (of_module broken)
@@ -91,12 +91,12 @@ taken_parts before parts = unless_fault (first_fault before parts) (before ++ pa
 abbrev pub taken_item : List Part → Item → Result (List Part) LinkFault
 taken_item before item = parts_by item >>= taken_parts before
 
--- the parts of items behind others, or the first fault in their order
+-- the parts of items after others, or the first fault in their order
 abbrev pub taken : List Part → List Item → Result (List Part) LinkFault
 taken before [] = Ok before
 taken before (item ∷ items) = taken_item before item >>= λ parts. taken parts items
 
--- ---- the first reading
+-- ---- the first pass
 
 abbrev pub unless_too_large : ℕ → List Part → Result (List Part) LinkFault
 unless_too_large bottom parts = if is_too_large bottom parts then Err fault.TooLarge else Ok parts
@@ -108,26 +108,26 @@ outcome bottom items = taken [] items >>= unless_too_large bottom
 
 -- ---- feeds
 
--- the object that a feed gives comes to these items
+-- the object that a feed gives yields these items
 pub record GivesItems (text : Option Text) (items : List Item) : Type 0 where
   pub source : List ℕ
   pub has : HasBytes text source
   pub are : ObjectItems most_bytes source items
 
--- the object that it gave a beginning of had come to these
+-- the object that it gave a beginning of had yield these
 pub record BeginsItems (text : Option Text) (items : List Item) : Type 0 where
   pub beginning : List ℕ
   pub has : BeginsWith text beginning
   pub are : BeginningItems most_bytes beginning items
 
--- the objects that feeds give come to these items
+-- the objects that feeds give yield these items
 pub record GiveItems {F : Type 0} (text : F → Option Text) (feeds : List F) (items : List Item) : Type 0 where
   pub sources : List (List ℕ)
   pub given : GiveAll text feeds sources
   pub are : AreItems sources items
 
--- a feed failed behind a beginning of its object, and what had come till then comes to these items
-pub record FailBehind {F : Type 0} (text : F → Option Text) (faults : F → ℕ) (feeds feeds' : List F)
+-- a feed failed after a beginning of its object, and what had come till then yields these items
+pub record FailAfter {F : Type 0} (text : F → Option Text) (faults : F → ℕ) (feeds feeds' : List F)
     (items : List Item) : Type 0 where
   pub sources : List (List ℕ)
   pub beginning : List ℕ

@@ -20,9 +20,9 @@ use Rattle.m11_layout.specs.declared.fault.LinkOutput.{LinkOutput}
 use Rattle.m11_layout.specs.declared.fault.LinkOutput.TheVariants.{Tape, Map, Messages}
 use Rattle.m11_link_text.specs.Findings.{Findings}
 use Rattle.m11_link_text.specs.Lines.{different_line, multiple_line}
-use Rattle.m11_link.specs.MapText.{front_writes}
-use Rattle.m11_link_text.specs.Storing.{modulo, relocated}
-use Rattle.m11_link.specs.Writes.{Write, to_messages, to_tape}
+use Rattle.m11_link.specs.Front.{front_writes}
+use Rattle.m11_link_text.specs.Relocation.{modulo, relocated}
+use Rattle.m11_link.specs.Outputs.{Write, to_messages, to_tape}
 
 -- ---- texts
 
@@ -61,14 +61,14 @@ block_at address (byte ∷ bytes) = to_tape (tape_block address (byte ∷ bytes)
 abbrev pub text_writes : PlacedText → List Write
 text_writes text = block_at text.address text.bytes
 
--- the relocations of a text stand behind it, before any other part
-abbrev pub relocations_behind : List Part → List Relocation
-relocations_behind [] = []
-relocations_behind (Relocations ∷ parts) = relocations_behind parts
-relocations_behind (Relocated relocation ∷ parts) = relocation ∷ relocations_behind parts
-relocations_behind (part ∷ parts) = []
+-- the relocations of a text stand after it, before any other part
+abbrev pub relocations_after : List Part → List Relocation
+relocations_after [] = []
+relocations_after (Relocations ∷ parts) = relocations_after parts
+relocations_after (Relocated relocation ∷ parts) = relocation ∷ relocations_after parts
+relocations_after (part ∷ parts) = []
 
--- it has ended where another part stands behind it: in a whole module each text has
+-- it has ended where another part stands after it: in a whole module each text has
 abbrev pub has_ended : List Part → Bool
 has_ended [] = false
 has_ended (Relocations ∷ parts) = has_ended parts
@@ -76,12 +76,12 @@ has_ended (Relocated relocation ∷ parts) = has_ended parts
 has_ended (part ∷ parts) = true
 
 abbrev pub ended_writes : Findings → PlacedText → List Part → List Write
-ended_writes found text behind =
-    if has_ended behind then text_writes (with_relocations found text (relocations_behind behind)) else []
+ended_writes found text following =
+    if has_ended following then text_writes (with_relocations found text (relocations_after following)) else []
 
 -- ---- messages
 
--- a section has the attributes of its first entry; another entry that says otherwise is told
+-- a section has the attributes of its first entry; another entry that says otherwise is reported
 abbrev pub different_writes : Findings → ℕ → Option ((ℕ × ℕ) × ℕ) → List Write
 different_writes found module_index None = []
 different_writes found module_index (Some section) =
@@ -92,7 +92,7 @@ different_writes found module_index (Some section) =
 unfoldable pub defined_names : List Part → List (ℕ × ℕ)
 defined_names parts = distinct (keys_of (definitions_of parts))
 
--- a definition of a name that was defined before is told
+-- a definition of a name that was defined before is reported
 abbrev pub symbol_writes : Findings → ℕ → List (ℕ × ℕ) → GsdEntry → List Write
 symbol_writes found module_index defined entry =
     if defines entry && is_among defined entry.name
@@ -108,21 +108,21 @@ entry_writes found module_index defined entry = writes_by entry.kind found modul
 
 -- ---- in order
 
--- what a part makes, by the parts before it and behind it
+-- what a part makes, by the parts before it and after it
 unfoldable pub writes_at : Findings → List Part → Part → List Part → List Write
-writes_at found before (Entry entry) behind = entry_writes found (modules_in before) (defined_names before) entry
-writes_at found before (Text address bytes) behind = ended_writes found
-    (placed_text found (modules_in before) (current_section (this_module before)) address bytes) behind
-writes_at found before part behind = []
+writes_at found before (Entry entry) following = entry_writes found (modules_in before) (defined_names before) entry
+writes_at found before (Text address bytes) following = ended_writes found
+    (placed_text found (modules_in before) (current_section (this_module before)) address bytes) following
+writes_at found before part following = []
 
-abbrev pub writes_behind : Findings → List Part → List Part → List Write
-writes_behind found before [] = []
-writes_behind found before (part ∷ parts) =
-    writes_at found before part parts ++ writes_behind found (before ++ part ∷ []) parts
+abbrev pub writes_after : Findings → List Part → List Part → List Write
+writes_after found before [] = []
+writes_after found before (part ∷ parts) =
+    writes_at found before part parts ++ writes_after found (before ++ part ∷ []) parts
 
 -- the parts of one module after another
 unfoldable pub parts_writes : Findings → List Part → List Write
-parts_writes found parts = writes_behind found [] parts
+parts_writes found parts = writes_after found [] parts
 
 -- the whole link: messages on undefined globals and the map, the parts, the transfer block
 abbrev pub link_writes : Findings → List Part → List Write
@@ -138,7 +138,7 @@ is_to_messages output = false
 abbrev pub is_message : Write → Bool
 is_message write = is_to_messages write.output
 
--- no link is told to have more
+-- no link is known to have more
 abbrev pub most_messages : ℕ
 most_messages = 4294967295
 
@@ -146,7 +146,7 @@ abbrev pub one_more : ℕ → Bool → ℕ
 one_more count true = min (count + 1) most_messages
 one_more count false = count
 
--- the count behind more writes: one more for each message
+-- the count after more writes: one more for each message
 abbrev pub counted : ℕ → List Write → ℕ
 counted count [] = count
 counted count (write ∷ writes) = counted (one_more count (is_message write)) writes

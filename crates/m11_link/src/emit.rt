@@ -1,17 +1,17 @@
-//! The second reading of a link: it writes tape, map and messages while blocks come.
+//! The second pass of a link: it writes tape, map and messages while blocks come.
 
 ghost use Rattle.std.specs.Prelude.{◌≡◌, ◌∷◌, ◌++◌, [], ℕ, List, Some, None, Err, IfOk, false};
 ghost use Rattle.m11_obj.specs.Reading.{IsRecord};
 ghost use Rattle.m11_blocks.specs.Tapes.{tape_block};
 ghost use Rattle.m11_modules.specs.Parts.{Part, EndOfFile, record_parts};
-ghost use Rattle.m11_layout.specs.Planning.{Planned};
+ghost use Rattle.m11_layout.specs.Plan.{Planned};
 ghost use Rattle.m11_layout.specs.declared.fault.LinkFault.{LinkFault};
-ghost use Rattle.m11_link.specs.Emitting.{Ends, FailsAgain, Goes, KeepsFault, Stands, TakesBlock, TakesParts, begin_writes, begun_telling, bytes_writes, held_writes, with_bytes, with_held, with_telling};
+ghost use Rattle.m11_link.specs.Emit.{EmitEnds, FailsAgain, Goes, KeepsFault, EmitStands, TakesBlock, TakesParts, begin_writes, begun_reporting, bytes_writes, held_writes, with_bytes, with_held, with_reporting};
 ghost use Rattle.m11_link_text.specs.Findings.{planned};
-ghost use Rattle.m11_link.specs.Writes.{Output, Writes, optional_output, output_of, outputs, outputs_of, to_tape};
+ghost use Rattle.m11_link.specs.Outputs.{Output, Writes, optional_output, output_of, outputs, outputs_of, to_tape};
 
-use crate::held::Location;
-use crate::telling::Teller;
+use crate::held::ModuleSection;
+use crate::reporting::Reporter;
 use m11_base::Sink;
 use m11_layout::{LinkFault, Plan};
 use m11_modules::Rules;
@@ -19,39 +19,39 @@ use m11_obj::{Block, Record, read_record};
 use std::alloc::Global;
 use std::marker::Model;
 
-/// What a link came to.
+/// The outcome of a link.
 #[derive(Clone, Copy, Debug, PartialEq, Eq)]
 pub struct LinkDone {
-    /// The count of messages; of more than 4,294,967,295 that number is told.
+    /// The count of messages; of more than 4,294,967,295 that number is reported.
     pub messages: u32,
 }
 
-/// The second reading. It judges the blocks again, and keeps one text, never more.
+/// The second pass. It judges the blocks again, and keeps one text, never more.
 #[derive(Drop)]
 pub struct Emit {
     rules: Rules,
-    teller: Teller,
+    reporter: Reporter,
     has_begun: bool,
     fault: Option<LinkFault>,
 }
 
 impl Model for Emit {
-    ghost use Rattle.m11_link.specs.Emitting.{Emitting};
+    ghost use Rattle.m11_link.specs.Emit.{Emitting};
 
     ghost Value = { Emitting };
 
-    ghost view = { λ e. record { known = e.rules; telling = e.teller; has_begun = e.has_begun; fault = e.fault } };
+    ghost view = { λ e. record { known = e.rules; reporting = e.reporter; has_begun = e.has_begun; fault = e.fault } };
 }
 
 impl Emit {
     /// No block came so far, and nothing is written.
     pub fn new(alloc: Global, plan: Plan) -> Emit
-        ensures stands { Stands plan [] result }
+        ensures stands { EmitStands plan [] result }
         ensures fresh { result.has_begun ≡ false }
     {
         Emit {
             rules: Rules::new(alloc),
-            teller: Teller::new(alloc, plan),
+            reporter: Reporter::new(alloc, plan),
             has_begun: false,
             fault: None,
         }
@@ -61,8 +61,8 @@ impl Emit {
     ///
     /// The first call of any kind that isn't refused writes the messages on undefined globals and the map before
     /// all else. Faults: `Record` where the block is no record, and then the first fault of its order and its entries:
-    /// it has written nothing. `Write` where an output failed: nothing was written behind it. After a fault each
-    /// call answers it again and writes nothing.
+    /// it has written nothing. `Write` where an output failed: nothing was written after it. After a fault each
+    /// call returns it again and writes nothing.
     pub fn feed<S: Sink, T: Sink, U: Sink>(
         &mut self,
         block: &Block,
@@ -70,7 +70,7 @@ impl Emit {
         map: &mut Option<T>,
         messages: &mut U,
     ) -> Result<(), LinkFault>
-        ensures takes { (plan : Planned) (before : List Part) → Stands plan before self.old → TakesBlock plan before
+        ensures takes { (plan : Planned) (before : List Part) → EmitStands plan before self.old → TakesBlock plan before
             (outputs_of S.Sink T.Sink U.Sink tape.old map.old messages.old)
             (outputs_of S.Sink T.Sink U.Sink tape.new map.new messages.new)
             self.old self.new block.now.items result }
@@ -92,14 +92,14 @@ impl Emit {
         }
     }
 
-    /// Takes the end of an object: `BadOrder` inside a module. After a fault it is answered again.
+    /// Takes the end of an object: `BadOrder` inside a module. After a fault it is returned again.
     pub fn end_file<S: Sink, T: Sink, U: Sink>(
         &mut self,
         tape: &mut S,
         map: &mut Option<T>,
         messages: &mut U,
     ) -> Result<(), LinkFault>
-        ensures takes { (plan : Planned) (before : List Part) → Stands plan before self.old → TakesParts plan before
+        ensures takes { (plan : Planned) (before : List Part) → EmitStands plan before self.old → TakesParts plan before
             (outputs_of S.Sink T.Sink U.Sink tape.old map.old messages.old)
             (outputs_of S.Sink T.Sink U.Sink tape.new map.new messages.new)
             self.old self.new (EndOfFile ∷ []) result }
@@ -120,7 +120,7 @@ impl Emit {
         }
     }
 
-    /// The end of the second reading: the transfer block goes out.
+    /// The end of the second pass: the transfer block is written.
     ///
     /// Faults: the one that came before, and then nothing is written; `BadOrder` inside a module; `Write` and
     /// `NoMemory`.
@@ -130,7 +130,7 @@ impl Emit {
         map: &mut Option<T>,
         messages: &mut U,
     ) -> Result<LinkDone, LinkFault>
-        ensures ends { (plan : Planned) (before : List Part) → Stands plan before self → Ends plan before
+        ensures ends { (plan : Planned) (before : List Part) → EmitStands plan before self → EmitEnds plan before
             (outputs_of S.Sink T.Sink U.Sink tape.old map.old messages.old)
             (outputs_of S.Sink T.Sink U.Sink tape.new map.new messages.new)
             self result }
@@ -144,14 +144,14 @@ impl Emit {
         done
     }
 
-    // The end of the second reading, which is let go afterwards.
+    // The end of the second pass, which is let go afterwards.
     fn finish<S: Sink, T: Sink, U: Sink>(
         &mut self,
         tape: &mut S,
         map: &mut Option<T>,
         messages: &mut U,
     ) -> Result<LinkDone, LinkFault>
-        ensures ends { (plan : Planned) (before : List Part) → Stands plan before self.old → Ends plan before
+        ensures ends { (plan : Planned) (before : List Part) → EmitStands plan before self.old → EmitEnds plan before
             (outputs_of S.Sink T.Sink U.Sink tape.old map.old messages.old)
             (outputs_of S.Sink T.Sink U.Sink tape.new map.new messages.new)
             self.old result }
@@ -176,7 +176,7 @@ impl Emit {
         map: &mut Option<T>,
         messages: &mut U,
     ) -> Result<(), LinkFault>
-        ensures takes { (plan : Planned) (before : List Part) → Stands plan before self.old → TakesBlock plan before
+        ensures takes { (plan : Planned) (before : List Part) → EmitStands plan before self.old → TakesBlock plan before
             (outputs_of S.Sink T.Sink U.Sink tape.old map.old messages.old)
             (outputs_of S.Sink T.Sink U.Sink tape.new map.new messages.new)
             self.old self.new block.now.items result }
@@ -190,19 +190,19 @@ impl Emit {
     }
 
     // Where the next record stands.
-    fn location(&self) -> Location
+    fn location(&self) -> ModuleSection
         ensures { result ≡ record { module_index = self.now.known.modules; section = self.now.known.section } }
     {
-        Location {
+        ModuleSection {
             module_index: self.rules.modules(),
             section: self.rules.section(),
         }
     }
 
-    // Writes what a record makes that stands at this location, and before it what goes out first.
+    // Writes what a record makes that stands at this location, and before it what is written first.
     fn write<S: Sink, T: Sink, U: Sink>(
         &mut self,
-        location: Location,
+        location: ModuleSection,
         record: &Record<'_>,
         tape: &mut S,
         map: &mut Option<T>,
@@ -211,13 +211,13 @@ impl Emit {
         ensures { Goes
             (outputs_of S.Sink T.Sink U.Sink tape.old map.old messages.old)
             (outputs_of S.Sink T.Sink U.Sink tape.new map.new messages.new)
-            (begin_writes self.old ++ bytes_writes location.module_index «record».now (begun_telling self.old)) self.new
-            (with_telling
-            (with_bytes location.module_index location.section «record».now (begun_telling self.old)) self.old)
+            (begin_writes self.old ++ bytes_writes location.module_index «record».now (begun_reporting self.old)) self.new
+            (with_reporting
+            (with_bytes location.module_index location.section «record».now (begun_reporting self.old)) self.old)
             result }
     {
         self.begin(map, messages)?;
-        self.teller.note(location, record, tape, messages)
+        self.reporter.note(location, record, tape, messages)
     }
 
     // Takes the end of an object where no fault came before.
@@ -227,7 +227,7 @@ impl Emit {
         map: &mut Option<T>,
         messages: &mut U,
     ) -> Result<(), LinkFault>
-        ensures takes { (plan : Planned) (before : List Part) → Stands plan before self.old → TakesParts plan before
+        ensures takes { (plan : Planned) (before : List Part) → EmitStands plan before self.old → TakesParts plan before
             (outputs_of S.Sink T.Sink U.Sink tape.old map.old messages.old)
             (outputs_of S.Sink T.Sink U.Sink tape.new map.new messages.new)
             self.old self.new (EndOfFile ∷ []) result }
@@ -237,7 +237,7 @@ impl Emit {
         self.write_end(tape, map, messages)
     }
 
-    // Writes what the end of an object makes, and before it what goes out first. Behind a whole module no text is held.
+    // Writes what the end of an object makes, and before it what is written first. After a whole module no text is held.
     fn write_end<S: Sink, T: Sink, U: Sink>(
         &mut self,
         tape: &mut S,
@@ -247,14 +247,14 @@ impl Emit {
         ensures { Goes
             (outputs_of S.Sink T.Sink U.Sink tape.old map.old messages.old)
             (outputs_of S.Sink T.Sink U.Sink tape.new map.new messages.new)
-            (begin_writes self.old ++ held_writes (begun_telling self.old).held) self.new
-            (with_telling (with_held None (begun_telling self.old)) self.old) result }
+            (begin_writes self.old ++ held_writes (begun_reporting self.old).held) self.new
+            (with_reporting (with_held None (begun_reporting self.old)) self.old) result }
     {
         self.begin(map, messages)?;
-        self.teller.end_text(tape)
+        self.reporter.end_text(tape)
     }
 
-    // Writes the transfer block, and before it what goes out first; answers the count of messages.
+    // Writes the transfer block, and before it what is written first; returns the count of messages.
     fn write_transfer<S: Sink, T: Sink, U: Sink>(
         &mut self,
         tape: &mut S,
@@ -264,18 +264,18 @@ impl Emit {
         ensures writes { Writes
             (outputs_of S.Sink T.Sink U.Sink tape.old map.old messages.old)
             (outputs_of S.Sink T.Sink U.Sink tape.new map.new messages.new)
-            (begin_writes self.old ++ to_tape (tape_block (planned (begun_telling self.old).plan).transfer []) ∷ [])
+            (begin_writes self.old ++ to_tape (tape_block (planned (begun_reporting self.old).plan).transfer []) ∷ [])
             result }
-        ensures count { IfOk result (λ done. done.messages ≡ (begun_telling self.old).messages) }
+        ensures count { IfOk result (λ done. done.messages ≡ (begun_reporting self.old).messages) }
     {
         self.begin(map, messages)?;
-        self.teller.put_transfer(tape)?;
+        self.reporter.put_transfer(tape)?;
         Ok(LinkDone {
-            messages: self.teller.messages(),
+            messages: self.reporter.messages(),
         })
     }
 
-    // The messages on undefined globals and the map, where they didn't go out before.
+    // The messages on undefined globals and the map, where they was not written before.
     fn begin<T: Sink, U: Sink>(
         &mut self,
         map: &mut Option<T>,
@@ -284,12 +284,12 @@ impl Emit {
         ensures { (tape : Output) → Goes
             (outputs tape (optional_output T.Sink map.old) (output_of U.Sink messages.old))
             (outputs tape (optional_output T.Sink map.new) (output_of U.Sink messages.new))
-            (begin_writes self.old) self.new (with_telling (begun_telling self.old) self.old) result }
+            (begin_writes self.old) self.new (with_reporting (begun_reporting self.old) self.old) result }
     {
         if self.has_begun {
             return Ok(());
         }
-        self.teller.begin(map, messages)?;
+        self.reporter.begin(map, messages)?;
         self.has_begun = true;
         Ok(())
     }

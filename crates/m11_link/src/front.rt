@@ -1,9 +1,9 @@
-//! What goes out before the tape: the messages on undefined globals, and the map.
+//! What is written before the tape: the messages on undefined globals, and the map.
 
 ghost use Rattle.std.specs.Prelude.{◌≡◌, [], ◌∷◌, ◌++◌, true, false, not, codes, IfOk};
 ghost use Rattle.m11_link_text.specs.Findings.{planned};
-ghost use Rattle.m11_link.specs.MapText.{front_writes, global_writes, is_empty, last_writes, map_writes, name_write, name_writes, section_writes, undefined_by, undefined_write, undefined_writes, weak_writes, written_if};
-ghost use Rattle.m11_link.specs.Writes.{Output, Writes, optional_output, output_of, outputs, to_map};
+ghost use Rattle.m11_link.specs.Front.{front_writes, global_writes, is_empty, last_writes, map_writes, name_write, name_writes, section_writes, undefined_by, undefined_write, undefined_writes, weak_writes, written_if};
+ghost use Rattle.m11_link.specs.Outputs.{Output, Writes, optional_output, output_of, outputs, to_map};
 ghost use Rattle.m11_link.specs.Written.{counted};
 
 use crate::outputs::{put_map, put_message};
@@ -13,7 +13,7 @@ use m11_link_text::{
     global_line, limit_line, name_line, section_line, transfer_line, undefined_line,
 };
 
-/// The messages on undefined globals, and then the map; answers how many messages there are, so many being there
+/// The messages on undefined globals, and then the map; returns how many messages there are, n being there
 /// before.
 pub(crate) fn put_front<T: Sink, U: Sink>(
     plan: &Plan,
@@ -27,9 +27,9 @@ pub(crate) fn put_front<T: Sink, U: Sink>(
         (front_writes (planned plan.now)) result }
     ensures count { IfOk result (λ n. n ≡ counted count (front_writes (planned plan.now))) }
 {
-    let told = put_undefined(plan, messages, count)?;
+    let reported = put_undefined(plan, messages, count)?;
     put_map_lines(plan, map)?;
-    Ok(told)
+    Ok(reported)
 }
 
 // The name of a reference to a global that is defined nowhere, where the reference is of this strength.
@@ -44,8 +44,8 @@ fn undefined(plan: &Plan, reference: (Name, bool), is_strong: bool) -> Option<Na
     }
 }
 
-// A message for each global with a strong reference that is defined nowhere; answers how many there are, so many
-// being there before.
+// A message for each global with a strong reference that is defined nowhere; returns how many there are, where as many
+// were there before.
 fn put_undefined<U: Sink>(plan: &Plan, messages: &mut U, count: u32) -> Result<u32, LinkFault>
     ensures writes { (tape map : Output) → Writes
         (outputs tape map (output_of U.Sink messages.old))
@@ -54,17 +54,17 @@ fn put_undefined<U: Sink>(plan: &Plan, messages: &mut U, count: u32) -> Result<u
     ensures count { IfOk result
         (λ n. n ≡ counted count (undefined_writes (planned plan.now) plan.now.gathered.references)) }
 {
-    let mut told = count;
+    let mut reported = count;
     'references: for index in 0..plan.reference_count() {
-        match put_if_undefined(plan, plan.reference_at(index), messages, told) {
-            Ok(behind) => told = behind,
+        match put_if_undefined(plan, plan.reference_at(index), messages, reported) {
+            Ok(following) => reported = following,
             Err(fault) => return Err(fault),
         }
     }
-    Ok(told)
+    Ok(reported)
 }
 
-// The message on a reference, where it is strong and its global is defined nowhere; answers the count of messages, so
+// The message on a reference, where it is strong and its global is defined nowhere; returns the count of messages, so
 // many being there before.
 fn put_if_undefined<U: Sink>(
     plan: &Plan,

@@ -2,7 +2,7 @@
 
 ghost use Rattle.std.specs.Prelude.{◌≡◌, ◌≤◌, [], ◌∷◌, length};
 ghost use Rattle.m11_link_text.specs.Findings.{planned};
-ghost use Rattle.m11_link.specs.Writes.{Output, Writes, output_of, outputs};
+ghost use Rattle.m11_link.specs.Outputs.{Output, Writes, output_of, outputs};
 ghost use Rattle.m11_link.specs.Written.{placed_text, text_writes, with_relocation};
 
 use crate::outputs::put_tape;
@@ -16,7 +16,7 @@ use std::marker::Model;
 
 /// Where a record stands: the index of its module, and the section that texts go to.
 #[derive(Clone, Copy, Debug, PartialEq, Eq)]
-pub(crate) struct Location {
+pub(crate) struct ModuleSection {
     pub(crate) module_index: usize,
     pub(crate) section: Name,
 }
@@ -45,7 +45,7 @@ impl Model for HeldText {
 
 impl HeldText {
     /// A text whose address counts from the base of its section in its module.
-    pub(crate) fn new(plan: &Plan, location: Location, address: u16, bytes: &[u8]) -> HeldText
+    pub(crate) fn new(plan: &Plan, location: ModuleSection, address: u16, bytes: &[u8]) -> HeldText
         requires { length bytes.now ≤ 512 }
         ensures { result ≡ placed_text (planned plan.now) location.module_index location.section address bytes.now }
     {

@@ -2,12 +2,12 @@
 
 ghost use Rattle.std.specs.Prelude.{◌≡◌, ℕ, List};
 ghost use Rattle.m11_modules.specs.Parts.{Part};
-ghost use Rattle.m11_layout.specs.Planning.{IsPlanOf, Planned};
+ghost use Rattle.m11_layout.specs.Plan.{IsPlanOf, Planned};
 ghost use Rattle.m11_link_text.specs.Findings.{findings_of, planned};
 ghost use Rattle.m11_link.specs.Written.{link_writes};
 
-/// What a link writes by the plan of a first reading is what it writes by the definitions over all parts: where
-/// sections and contributions lie, what globals are worth, what the map lists.
+/// What a link writes by the plan of a first pass is what it writes by the definitions over all parts: where
+/// sections and contributions lie, the values of globals, what the map lists.
 #[tactic(auto, using(crate::proofs::Agreeing::written_by_definition))]
 pub fn plans_write_by_definition()
     ensures { (bottom : ℕ) (parts others : List Part) (plan : Planned) → IsPlanOf bottom parts plan

@@ -7,8 +7,8 @@ mod front;
 mod held;
 mod laws;
 mod outputs;
+mod reporting;
 mod run;
-mod telling;
 
 pub use emit::{Emit, LinkDone};
 pub use laws::plans_write_by_definition;

@@ -3,7 +3,7 @@
 ghost use Rattle.std.specs.Prelude.{◌≡◌, [], ◌∷◌};
 ghost use Rattle.m11_layout.specs.declared.fault.LinkFault.{LinkFault};
 ghost use Rattle.m11_layout.specs.declared.fault.LinkOutput.TheVariants as which;
-ghost use Rattle.m11_link.specs.Writes.{Output, Puts, Writes, optional_output, output_of, outputs, to_map, to_messages, to_tape};
+ghost use Rattle.m11_link.specs.Outputs.{Output, Puts, Writes, optional_output, output_of, outputs, to_map, to_messages, to_tape};
 
 use m11_base::{Sink, put_all};
 use m11_layout::{LinkFault, LinkOutput};

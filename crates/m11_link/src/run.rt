@@ -2,15 +2,15 @@
 
 ghost use Rattle.std.specs.Prelude.{◌≡◌, None, ℕ, List};
 ghost use Rattle.m11_link.specs.Objects.{AreItems, Item};
-ghost use Rattle.m11_link.specs.FirstReading.{LaysOut, LaysOutObject, ReadsFirst, StandsBetween, of_block};
-ghost use Rattle.m11_layout.specs.Reading.{Stands};
-ghost use Rattle.m11_layout.specs.Planning.{Planned};
+ghost use Rattle.m11_link.specs.FirstPass.{LaysOut, LaysOutObject, ReadsFirst, StandsBetween, of_block};
+ghost use Rattle.m11_layout.specs.Layout.{LayoutStands};
+ghost use Rattle.m11_layout.specs.Plan.{Planned};
 ghost use Rattle.m11_modules.specs.Parts.{Part, EndOfFile};
 ghost use Rattle.m11_modules.specs.Rules.{fault_of};
-ghost use Rattle.m11_link.specs.Emitting.{written};
-ghost use Rattle.m11_link.specs.Emitting as emitting;
-ghost use Rattle.m11_link.specs.SecondReading.{Emits, EmitsObject, ReadsSecond, Runs};
-ghost use Rattle.m11_link.specs.Writes.{Gains, Outputs, outputs_of};
+ghost use Rattle.m11_link.specs.Emit.{written};
+ghost use Rattle.m11_link.specs.Emit as emitting;
+ghost use Rattle.m11_link.specs.SecondPass.{Emits, EmitsObject, ReadsSecond, LinkRuns};
+ghost use Rattle.m11_link.specs.Outputs.{Gains, Outputs, outputs_of};
 
 use crate::emit::{Emit, LinkDone};
 use m11_base::{Feed, Sink};
@@ -20,10 +20,10 @@ use std::alloc::Global;
 
 /// Links objects, each read twice, into an absolute loader tape, a map and messages.
 ///
-/// `first` and `second` give the same objects for two readings, of which only the second one writes. Relocatable
+/// `first` and `second` give the same objects for two passes, of which only the second one writes. Relocatable
 /// sections lie from `bottom` on. Faults, the first in the order of the input: `Read`; `Block`, `TooMuch` and
-/// `Record`; the rules of modules; `TooLarge` behind the last block. Where the first reading is refused nothing was
-/// written. Then `Write`, after which nothing more is written, and the same faults again where the second reading
+/// `Record`; the rules of modules; `TooLarge` after the last block. Where the first pass is refused nothing was
+/// written. Then `Write`, after which nothing more is written, and the same faults again where the second pass
 /// gives other bytes. `NoMemory` wherever memory is refused.
 pub fn link_run<F: Feed, S: Sink, T: Sink, U: Sink>(
     alloc: Global,
@@ -34,7 +34,7 @@ pub fn link_run<F: Feed, S: Sink, T: Sink, U: Sink>(
     map: &mut Option<T>,
     messages: &mut U,
 ) -> Result<LinkDone, LinkFault>
-    ensures { Runs F.text F.faults first.old first.new second.old second.new bottom
+    ensures { LinkRuns F.text F.faults first.old first.new second.old second.new bottom
         (outputs_of S.Sink T.Sink U.Sink tape.old map.old messages.old)
         (outputs_of S.Sink T.Sink U.Sink tape.new map.new messages.new) result }
 {
@@ -44,7 +44,7 @@ pub fn link_run<F: Feed, S: Sink, T: Sink, U: Sink>(
     }
 }
 
-/// Whatever the bytes of objects are, they come to items, and to no others.
+/// Whatever the bytes of objects are, they yield items, and to no others.
 #[tactic(auto, using(crate::proofs::Steady::objects_come, crate::proofs::Sole::objects_same))]
 pub fn objects_come_to_items()
     ensures come { (sources : List (List ℕ)) → (items : List Item) × AreItems sources items }
@@ -63,7 +63,7 @@ fn block_fault(fault: BlockFault) -> LinkFault
     }
 }
 
-// The first reading: the plan of all objects.
+// The first pass: the plan of all objects.
 fn read_first<F: Feed>(alloc: Global, feeds: &mut [F], bottom: u16) -> Result<Plan, LinkFault>
     ensures { ReadsFirst F.text F.faults feeds.old feeds.new bottom result }
 {
@@ -78,7 +78,7 @@ fn read_first<F: Feed>(alloc: Global, feeds: &mut [F], bottom: u16) -> Result<Pl
     }
 }
 
-// The objects of the first reading, one after another.
+// The objects of the first pass, one after another.
 fn lay_out<F: Feed>(feeds: &mut [F], layout: &mut Layout) -> Result<(), LinkFault>
     ensures { (bottom : ℕ) (before : List Part) → StandsBetween bottom before layout.old
         → LaysOut F.text F.faults feeds.old feeds.new bottom before layout.new result }
@@ -92,9 +92,9 @@ fn lay_out<F: Feed>(feeds: &mut [F], layout: &mut Layout) -> Result<(), LinkFaul
     Ok(())
 }
 
-// One object of the first reading.
+// One object of the first pass.
 fn lay_out_object<F: Feed>(feed: &mut F, layout: &mut Layout) -> Result<(), LinkFault>
-    ensures { (bottom : ℕ) (before : List Part) → Stands bottom before layout.old
+    ensures { (bottom : ℕ) (before : List Part) → LayoutStands bottom before layout.old
         → LaysOutObject (F.text feed.old) (F.faults feed.old) (F.faults feed.new) bottom before layout.new result }
 {
     let mut reader = BlockReader::new();
@@ -111,7 +111,7 @@ fn lay_out_object<F: Feed>(feed: &mut F, layout: &mut Layout) -> Result<(), Link
     }
 }
 
-// The second reading: all that the link writes.
+// The second pass: all that the link writes.
 fn read_second<F: Feed, S: Sink, T: Sink, U: Sink>(
     alloc: Global,
     feeds: &mut [F],
@@ -135,7 +135,7 @@ fn read_second<F: Feed, S: Sink, T: Sink, U: Sink>(
     }
 }
 
-// The objects of the second reading, one after another.
+// The objects of the second pass, one after another.
 fn emit_all<F: Feed, S: Sink, T: Sink, U: Sink>(
     feeds: &mut [F],
     emit: &mut Emit,
@@ -143,7 +143,7 @@ fn emit_all<F: Feed, S: Sink, T: Sink, U: Sink>(
     map: &mut Option<T>,
     messages: &mut U,
 ) -> Result<(), LinkFault>
-    ensures { (plan : Planned) (before : List Part) (first : Outputs) → emitting.Stands plan before emit.old
+    ensures { (plan : Planned) (before : List Part) (first : Outputs) → emitting.EmitStands plan before emit.old
         → fault_of before EndOfFile ≡ None
         → Gains first
         (outputs_of S.Sink T.Sink U.Sink tape.old map.old messages.old)
@@ -160,7 +160,7 @@ fn emit_all<F: Feed, S: Sink, T: Sink, U: Sink>(
     Ok(())
 }
 
-// One object of the second reading.
+// One object of the second pass.
 fn emit_object<F: Feed, S: Sink, T: Sink, U: Sink>(
     feed: &mut F,
     emit: &mut Emit,
@@ -168,7 +168,7 @@ fn emit_object<F: Feed, S: Sink, T: Sink, U: Sink>(
     map: &mut Option<T>,
     messages: &mut U,
 ) -> Result<(), LinkFault>
-    ensures { (plan : Planned) (before : List Part) (first : Outputs) → emitting.Stands plan before emit.old
+    ensures { (plan : Planned) (before : List Part) (first : Outputs) → emitting.EmitStands plan before emit.old
         → Gains first
         (outputs_of S.Sink T.Sink U.Sink tape.old map.old messages.old)
         (written plan emit.old.has_begun before)

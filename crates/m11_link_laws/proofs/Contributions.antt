@@ -1,4 +1,4 @@
--- Contributions of modules to a section lie one behind another, and within it.
+-- Contributions of modules to a section lie one after another, and within it.
 use Rattle.std.proofs.Common.{◌≡◌, ℕ, ◌+◌, ◌%◌, ◌<◌, ◌≤◌, max, sum, Bool, true, false, ◌&&◌, ◌||◌, not, cond, nat_eq, nat_lt, if◌then◌else◌, List, [], ◌∷◌, ◌++◌, map, is_some, Option, Some, None, refl, sym, ap, ◌∙◌, subst, arith, true≢false}
 use Rattle.std.specs.List.{cons_option, filter_map, list_any}
 use Rattle.std.specs.Map.{keys_of, lookup}
@@ -12,15 +12,15 @@ use Rattle.std.proofs.lemmas.Map.Made.{is_some-lookup}
 use Rattle.indexmap.specs.IndexSet.{insert_key}
 use Rattle.m11_modules.specs.Names.{is_name}
 use Rattle.m11_modules.specs.Parts.{Part}
-use Rattle.m11_modules.specs.Places.{distinct, distinct_behind, modules_in, section_in, section_names, sections_in}
+use Rattle.m11_modules.specs.Places.{distinct, distinct_after, modules_in, section_in, section_names, sections_in}
 use Rattle.m11_layout.specs.Modules.{module_at, modules_before}
-use Rattle.m11_layout.specs.Sections.{base_entered, contribution_base, ends_too_high, first_attributes, greatest, is_overlaid, is_relocatable, is_too_large, module_base, offset_behind, rounded, section_base, section_size, size_under, sizes_of}
+use Rattle.m11_layout.specs.Sections.{base_entered, contribution_base, ends_too_high, first_attributes, greatest, is_overlaid, is_relocatable, is_too_large, module_base, offset_after, rounded, section_base, section_size, size_under, sizes_of}
 use Rattle.m11_layout.proofs.Finding.{is_name_same, lookup_append, or_true}
 use Rattle.m11_layout.proofs.ModulesOfParts.{modules_are}
-use Rattle.m11_layout.proofs.Offsets.{earlier_sizes_more, entered_at, entered_more, told_where}
+use Rattle.m11_layout.proofs.Offsets.{earlier_sizes_more, entered_at, entered_more, reported_where}
 use Rattle.m11_layout.proofs.Sizing.{sizes_more}
 use Rattle.m11_layout.proofs.Walking.{grown}
-use Rattle.m11_link_laws.specs.Lying.{size_entered}
+use Rattle.m11_link_laws.specs.Places.{size_entered}
 
 abbrev Name : Type 0
 Name = ℕ × ℕ
@@ -33,14 +33,14 @@ sum_more xs ys = ap sum (map-append rounded xs ys) ∙ sum_by-append (λ n. n) (
 
 -- ---- what one part enters
 
-abbrev told_by : Bool → Part → Name → List ℕ
-told_by b part name = filter_map (size_under name) (told_where b part)
+abbrev reported_by : Bool → Part → Name → List ℕ
+reported_by b part name = filter_map (size_under name) (reported_where b part)
 
-told_later : (sooner later : Bool) (part : Part) (name : Name) → (sooner ≡ true → later ≡ true)
-    → rounded_sum (told_by sooner part name) ≤ rounded_sum (told_by later part name)
-told_later true true part name h = omega arith
-told_later true false part name h = absurd (true≢false (sym (h refl)))
-told_later false later part name h = omega arith
+reported_later : (sooner later : Bool) (part : Part) (name : Name) → (sooner ≡ true → later ≡ true)
+    → rounded_sum (reported_by sooner part name) ≤ rounded_sum (reported_by later part name)
+reported_later true true part name h = omega arith
+reported_later true false part name h = absurd (true≢false (sym (h refl)))
+reported_later false later part name h = omega arith
 
 head_size : (first total rest : ℕ) → total ≡ 0 + (first + first % 2) + rest → first ≤ total
 head_size first total rest e = omega arith
@@ -49,36 +49,36 @@ same_some : (a b : ℕ) → Some a ≡ Some b → a ≡ b
 same_some a b e = cc
 
 -- a size that is found is part of the sum
-sizes_found : (name : Name) (told : List (Name × ℕ)) (size : ℕ) → lookup (is_name name) told ≡ Some size
-    → size ≤ rounded_sum (filter_map (size_under name) told)
+sizes_found : (name : Name) (reported : List (Name × ℕ)) (size : ℕ) → lookup (is_name name) reported ≡ Some size
+    → size ≤ rounded_sum (filter_map (size_under name) reported)
 sizes_found name [] size e = absurd cc
-sizes_found name (first ∷ told) size e = by (is_name name first.0) e (sizes_found name told size)
+sizes_found name (first ∷ reported) size e = by (is_name name first.0) e (sizes_found name reported size)
   where
-    by : (b : Bool) → cond b (Some first.1) (lookup (is_name name) told) ≡ Some size
-        → (lookup (is_name name) told ≡ Some size → size ≤ rounded_sum (filter_map (size_under name) told))
-        → size ≤ rounded_sum (cons_option (if b then Some first.1 else None) (filter_map (size_under name) told))
+    by : (b : Bool) → cond b (Some first.1) (lookup (is_name name) reported) ≡ Some size
+        → (lookup (is_name name) reported ≡ Some size → size ≤ rounded_sum (filter_map (size_under name) reported))
+        → size ≤ rounded_sum (cons_option (if b then Some first.1 else None) (filter_map (size_under name) reported))
     by true e h =
-        let rest = filter_map (size_under name) told in
+        let rest = filter_map (size_under name) reported in
         let P : ℕ → Type 0 = λ n. n ≤ rounded_sum (first.1 ∷ rest) in
         subst P (same_some first.1 size e)
         (head_size first.1 (rounded_sum (first.1 ∷ rest)) (rounded_sum rest) (sum_more (first.1 ∷ []) rest))
     by false e h = h e
 
 -- and no greater than the greatest
-greatest_found : (name : Name) (told : List (Name × ℕ)) (size : ℕ) → lookup (is_name name) told ≡ Some size
-    → size ≤ greatest (map rounded (filter_map (size_under name) told))
+greatest_found : (name : Name) (reported : List (Name × ℕ)) (size : ℕ) → lookup (is_name name) reported ≡ Some size
+    → size ≤ greatest (map rounded (filter_map (size_under name) reported))
 greatest_found name [] size e = absurd cc
-greatest_found name (first ∷ told) size e = by (is_name name first.0) e (greatest_found name told size)
+greatest_found name (first ∷ reported) size e = by (is_name name first.0) e (greatest_found name reported size)
   where
     larger : (a b : ℕ) → a ≤ max (a + a % 2) b
     larger a b = omega arith
 
-    by : (b : Bool) → cond b (Some first.1) (lookup (is_name name) told) ≡ Some size
-        → (lookup (is_name name) told ≡ Some size → size ≤ greatest (map rounded (filter_map (size_under name) told)))
+    by : (b : Bool) → cond b (Some first.1) (lookup (is_name name) reported) ≡ Some size
+        → (lookup (is_name name) reported ≡ Some size → size ≤ greatest (map rounded (filter_map (size_under name) reported)))
         → size ≤ greatest (map rounded
-        (cons_option (if b then Some first.1 else None) (filter_map (size_under name) told)))
+        (cons_option (if b then Some first.1 else None) (filter_map (size_under name) reported)))
     by true e h =
-        let rest = greatest (map rounded (filter_map (size_under name) told)) in
+        let rest = greatest (map rounded (filter_map (size_under name) reported)) in
         let P : ℕ → Type 0 = λ n. n ≤ max (rounded first.1) rest in
         subst P (same_some first.1 size e) (larger first.1 rest)
     by false e h = h e
@@ -107,12 +107,12 @@ earlier_sum parts index name = rounded_sum (sizes_of (modules_before parts index
 
 sum_step : (before : List Part) (part : Part) (index : ℕ) (name : Name)
     → earlier_sum (before ++ part ∷ []) index name
-    ≡ earlier_sum before index name + rounded_sum (told_by (nat_lt (modules_in before) index) part name)
+    ≡ earlier_sum before index name + rounded_sum (reported_by (nat_lt (modules_in before) index) part name)
 sum_step before part index name =
     ap rounded_sum (earlier_sizes_more before part index name)
-    ∙ sum_more (sizes_of (modules_before before index) name) (told_by (nat_lt (modules_in before) index) part name)
+    ∙ sum_more (sizes_of (modules_before before index) name) (reported_by (nat_lt (modules_in before) index) part name)
 
--- what a module enters comes behind what earlier ones entered, and before what later ones enter
+-- what a module enters comes after what earlier ones entered, and before what later ones enter
 abbrev Follow : List Part → Type 0
 Follow parts = (sooner later : ℕ) (name : Name) → sooner < later
     → (earlier_sum parts sooner name ≤ earlier_sum parts later name)
@@ -139,13 +139,13 @@ added_new a b c d a' b' size h k e f = omega arith
 
 -- a section that this part enters
 entered_here : (here sooner later : Bool) (part : Part) (name : Name) (size : ℕ) → (here ≡ true → sooner ≡ false)
-    → (here ≡ true → later ≡ true) → lookup (is_name name) (told_where here part) ≡ Some size
-    → rounded_sum (told_by sooner part name) + size ≤ rounded_sum (told_by later part name)
+    → (here ≡ true → later ≡ true) → lookup (is_name name) (reported_where here part) ≡ Some size
+    → rounded_sum (reported_by sooner part name) + size ≤ rounded_sum (reported_by later part name)
 entered_here false sooner later part name size h k e = absurd cc
 entered_here true true later part name size h k e = absurd (true≢false (h refl))
 entered_here true false false part name size h k e = absurd (true≢false (sym (k refl)))
 entered_here true false true part name size h k e =
-    from_nothing size (rounded_sum (told_by true part name))
+    from_nothing size (rounded_sum (reported_by true part name))
     (sizes_found name (filter_map section_in (part ∷ [])) size e)
   where
     from_nothing : (a b : ℕ) → a ≤ b → 0 + a ≤ b
@@ -154,12 +154,12 @@ entered_here true false true part name size h k e =
 -- one that it entered before, or that this part enters
 entered_by : (before : List Part) (part : Part) (sooner later : ℕ) (name : Name) (size : ℕ) (found : Option ℕ)
     → Follow before → sooner < later → entered_at before sooner name ≡ found
-    → option_or found (lookup (is_name name) (told_where (nat_eq (modules_in before) sooner) part)) ≡ Some size
+    → option_or found (lookup (is_name name) (reported_where (nat_eq (modules_in before) sooner) part)) ≡ Some size
     → earlier_sum (before ++ part ∷ []) sooner name + size ≤ earlier_sum (before ++ part ∷ []) later name
 entered_by before part sooner later name size (Some first) h l f e =
     let m = modules_in before in
     added_old _ _ _ _ _ _ size ((h sooner later name l).1 size (f ∙ e))
-    (told_later (nat_lt m sooner) (nat_lt m later) part name (also_later m sooner later l))
+    (reported_later (nat_lt m sooner) (nat_lt m later) part name (also_later m sooner later l))
     (sum_step before part sooner name) (sum_step before part later name)
 entered_by before part sooner later name size None h l f e =
     let m = modules_in before in
@@ -172,7 +172,7 @@ follow_more : (before : List Part) (part : Part) → Follow before → Follow (b
 follow_more before part h sooner later name l =
     let m = modules_in before in (
       added _ _ _ _ _ _ (h sooner later name l).0
-          (told_later (nat_lt m sooner) (nat_lt m later) part name (also_later m sooner later l))
+          (reported_later (nat_lt m sooner) (nat_lt m later) part name (also_later m sooner later l))
           (sum_step before part sooner name) (sum_step before part later name),
       λ size e. entered_by before part sooner later name size (entered_at before sooner name) h l refl
           (sym (entered_more before part sooner name) ∙ e),
@@ -205,18 +205,18 @@ sections_more : (before : List Part) (part : Part) (name : Name)
     ≡ option_or (lookup (is_name name) (sections_in before)) (lookup (is_name name) (filter_map section_in (part ∷ [])))
 unfolding sections_in
 sections_more before part name =
-    ap (λ told. lookup (is_name name) told) (filter_map-append section_in before (part ∷ []))
+    ap (λ reported. lookup (is_name name) reported) (filter_map-append section_in before (part ∷ []))
     ∙ lookup_append (is_name name) (filter_map section_in before) (filter_map section_in (part ∷ []))
 
-told_here : (here : Bool) (part : Part) (name : Name) (size : ℕ)
-    → lookup (is_name name) (told_where here part) ≡ Some size
+reported_here : (here : Bool) (part : Part) (name : Name) (size : ℕ)
+    → lookup (is_name name) (reported_where here part) ≡ Some size
     → lookup (is_name name) (filter_map section_in (part ∷ [])) ≡ Some size
-told_here false part name size e = absurd cc
-told_here true part name size e = e
+reported_here false part name size e = absurd cc
+reported_here true part name size e = e
 
 within_by : (before : List Part) (part : Part) (index : ℕ) (name : Name) (size : ℕ) (found : Option ℕ)
     → Within before → entered_at before index name ≡ found
-    → option_or found (lookup (is_name name) (told_where (nat_eq (modules_in before) index) part)) ≡ Some size
+    → option_or found (lookup (is_name name) (reported_where (nat_eq (modules_in before) index) part)) ≡ Some size
     → (size ≤ greatest (map rounded (sizes_of (before ++ part ∷ []) name)))
     × (is_some (lookup (is_name name) (sections_in (before ++ part ∷ []))) ≡ true)
 within_by before part index name size (Some first) h f e =
@@ -229,13 +229,13 @@ within_by before part index name size (Some first) h f e =
     )
 within_by before part index name size None h f e =
     let old = sizes_of before name in
-    let told = filter_map section_in (part ∷ []) in
-    let t = told_here (nat_eq (modules_in before) index) part name size e in
+    let reported = filter_map section_in (part ∷ []) in
+    let t = reported_here (nat_eq (modules_in before) index) part name size e in
     let P : List ℕ → Type 0 = λ sizes. size ≤ greatest (map rounded sizes) in (
       subst P (sym (sizes_more before part name))
-          (greatest_right old (filter_map (size_under name) told) size (greatest_found name told size t)),
+          (greatest_right old (filter_map (size_under name) reported) size (greatest_found name reported size t)),
       ap is_some (sections_more before part name)
-          ∙ some_right (lookup (is_name name) (sections_in before)) (lookup (is_name name) told) (ap is_some t),
+          ∙ some_right (lookup (is_name name) (sections_in before)) (lookup (is_name name) reported) (ap is_some t),
     )
 
 within_more : (before : List Part) (part : Part) → Within before → Within (before ++ part ∷ [])
@@ -278,21 +278,21 @@ key_new name seen other e = by (list_any (is_name other) seen) refl
         (or_either (is_name name other) false e)
 
 distinct_kept : (name : Name) (seen names : List Name) → list_any (is_name name) seen ≡ true
-    → list_any (is_name name) (distinct_behind seen names) ≡ true
+    → list_any (is_name name) (distinct_after seen names) ≡ true
 distinct_kept name seen [] e = e
 distinct_kept name seen (other ∷ names) e =
     distinct_kept name (insert_key is_name seen other) names (key_kept name seen other e)
 
 distinct_found : (name : Name) (seen names : List Name) → list_any (is_name name) names ≡ true
-    → list_any (is_name name) (distinct_behind seen names) ≡ true
+    → list_any (is_name name) (distinct_after seen names) ≡ true
 distinct_found name seen [] e = absurd (true≢false (sym e))
 distinct_found name seen (other ∷ names) e =
     by (is_name name other) refl e (distinct_found name (insert_key is_name seen other) names)
   where
     by : (b : Bool) → is_name name other ≡ b → (b || list_any (is_name name) names) ≡ true
         → (list_any (is_name name) names ≡ true
-        → list_any (is_name name) (distinct_behind (insert_key is_name seen other) names) ≡ true)
-        → list_any (is_name name) (distinct_behind (insert_key is_name seen other) names) ≡ true
+        → list_any (is_name name) (distinct_after (insert_key is_name seen other) names) ≡ true)
+        → list_any (is_name name) (distinct_after (insert_key is_name seen other) names) ≡ true
     by true f e h = distinct_kept name (insert_key is_name seen other) names (key_new name seen other f)
     by false f e h = h e
 
@@ -318,8 +318,8 @@ none_high test (first ∷ names) name n t =
 
 -- ---- bases, where nothing is too large
 
-behind_all : (index modules : ℕ) → modules < index + (modules + 1)
-behind_all index modules = omega arith
+after_all : (index modules : ℕ) → modules < index + (modules + 1)
+after_all index modules = omega arith
 
 sooner_than : (index modules : ℕ) → index < index + (modules + 1)
 sooner_than index modules = omega arith
@@ -330,7 +330,7 @@ sum_within : (parts : List Part) (index : ℕ) (name : Name) (size : ℕ) → en
 sum_within parts index name size e =
     let last = index + (modules_in parts + 1) in
     let P : List Part → Type 0 = λ these. earlier_sum parts index name + size ≤ rounded_sum (sizes_of these name) in
-    subst P ((modules_are parts).earlier last (behind_all index (modules_in parts)))
+    subst P ((modules_are parts).earlier last (after_all index (modules_in parts)))
     ((follow parts index last name (sooner_than index (modules_in parts))).1 size e)
 
 both_true : (b c : Bool) → b ≡ true → (b && c) ≡ false → c ≡ false
@@ -370,13 +370,13 @@ greatest_by_flags true false a b c e f = absurd (true≢false (sym f))
 greatest_by_flags false o a b c e f = absurd (true≢false (sym e))
 
 -- a base that is an address as it is
-base_told : (bottom : ℕ) (parts : List Part) (index : ℕ) (name : Name) (size offset : ℕ)
+base_reported : (bottom : ℕ) (parts : List Part) (index : ℕ) (name : Name) (size offset : ℕ)
     → entered_at parts index name ≡ Some size
-    → offset_behind (first_attributes parts name) (sizes_of (modules_before parts index) name) ≡ offset
+    → offset_after (first_attributes parts name) (sizes_of (modules_before parts index) name) ≡ offset
     → section_base bottom parts name + offset ≤ 57344
     → module_base bottom parts index name ≡ section_base bottom parts name + offset
 unfolding module_base contribution_base
-base_told bottom parts index name size offset e o h =
+base_reported bottom parts index name size offset e o h =
     (λ j. base_entered (e j) (section_base bottom parts name + o j) % 0o200000)
     ∙ as_it_is (section_base bottom parts name + offset) h
   where
@@ -404,7 +404,7 @@ concatenated_base : (bottom : ℕ) (parts : List Part) (index : ℕ) (name : Nam
     → entered_at parts index name ≡ Some size
     → module_base bottom parts index name ≡ section_base bottom parts name + earlier_sum parts index name
 concatenated_base bottom parts index name size n r o e =
-    base_told bottom parts index name size (earlier_sum parts index name) e
+    base_reported bottom parts index name size (earlier_sum parts index name) e
     (offset_by (is_relocatable (first_attributes parts name)) (is_overlaid (first_attributes parts name))
     (earlier_sum parts index name) r o)
     (room_before (section_base bottom parts name) (earlier_sum parts index name) size
@@ -462,7 +462,7 @@ pub overlaid_together : (bottom : ℕ) (parts : List Part) (name : ℕ × ℕ) (
     → size_entered parts index name ≡ Some size
     → module_base bottom parts index name ≡ section_base bottom parts name
 overlaid_together bottom parts name index size n r o e =
-    base_told bottom parts index name size 0 e
+    base_reported bottom parts index name size 0 e
     (no_offset_by (is_relocatable (first_attributes parts name)) (is_overlaid (first_attributes parts name))
     (earlier_sum parts index name) o)
     (low (section_base bottom parts name) (section_size parts name)

@@ -3,7 +3,7 @@ use Rattle.std.proofs.Common.{◌≡◌, ℕ, ◌+◌, ◌≤◌, Bool, true, fa
 use Rattle.std.proofs.lemmas.List.Folds.{list_any-append}
 use Rattle.indexmap.specs.IndexSet.{insert_key}
 use Rattle.m11_modules.specs.Names.{is_among, is_name}
-use Rattle.m11_modules.specs.Places.{distinct, distinct_behind}
+use Rattle.m11_modules.specs.Places.{distinct, distinct_after}
 use Rattle.m11_layout.proofs.Finding.{Apart, apart_distinct, is_name_itself, is_name_same, or_true}
 
 abbrev Name : Type 0
@@ -110,7 +110,7 @@ moved_or false true c = refl
 moved_or false false c = refl
 
 distinct_among : (seen names : List Name) (other : Name)
-    → is_among (distinct_behind seen names) other ≡ (is_among seen other || is_among names other)
+    → is_among (distinct_after seen names) other ≡ (is_among seen other || is_among names other)
 distinct_among seen [] other = sym (or_false (is_among seen other))
 distinct_among seen (name ∷ names) other =
     distinct_among (insert_key is_name seen name) names other

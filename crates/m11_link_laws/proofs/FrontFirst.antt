@@ -1,4 +1,4 @@
--- What goes out first is whole before what comes behind it.
+-- What is written first is whole before what comes after it.
 use Rattle.std.proofs.Common.{◌≡◌, ℕ, ◌+◌, ◌<◌, Bool, true, false, cond, ◌||◌, filter, codes, List, [], ◌∷◌, ◌++◌, map, length, refl, sym, ap, ap₂, ◌∙◌, subst, arith, true≢false, length-append}
 use Rattle.std.specs.List.{list_any}
 use Rattle.std.proofs.lemmas.List.Elements.{filter-append}
@@ -7,8 +7,8 @@ use Rattle.m11_blocks.specs.Tapes.{tape_block}
 use Rattle.m11_layout.proofs.Finding.{neither}
 use Rattle.m11_link_text.specs.Findings.{Findings}
 use Rattle.m11_link_text.specs.Lines.{limit_line, transfer_line}
-use Rattle.m11_link.specs.MapText.{front_writes, global_write, global_writes, last_writes, map_writes, name_write, name_writes, section_write, section_writes, undefined_names, undefined_write, undefined_writes, weak_writes}
-use Rattle.m11_link.specs.Writes.{Write, to_map, to_tape}
+use Rattle.m11_link.specs.Front.{front_writes, global_write, global_writes, last_writes, map_writes, name_write, name_writes, section_write, section_writes, undefined_names, undefined_write, undefined_writes, weak_writes}
+use Rattle.m11_link.specs.Outputs.{Write, to_map, to_tape}
 use Rattle.m11_link.specs.Written.{is_message, link_writes, parts_writes}
 use Rattle.m11_modules.specs.Parts.{Part}
 use Rattle.m11_link_laws.specs.Order.{BeginsWith, is_block, messages_in, reach_tape, undefined_count}
@@ -36,15 +36,15 @@ module _ {X : Type 0} where
     fewer false x xs ys h = h
 
     -- a beginning that passes the test more often than the front does goes past the front
-    past_front : (front behind done more : List X) → done ++ more ≡ front ++ behind
+    past_front : (front following done more : List X) → done ++ more ≡ front ++ following
         → length (filter test front) < length (filter test done) → (rest : List X) × (done ≡ front ++ rest)
-    past_front [] behind done more e h = (done, refl)
-    past_front (x ∷ front) behind [] more e h = absurd (omega (arith, h))
-    past_front (x ∷ front) behind (y ∷ done) more e h =
-        let same : y ≡ x = same_first y x (done ++ more) (front ++ behind) e in
+    past_front [] following done more e h = (done, refl)
+    past_front (x ∷ front) following [] more e h = absurd (omega (arith, h))
+    past_front (x ∷ front) following (y ∷ done) more e h =
+        let same : y ≡ x = same_first y x (done ++ more) (front ++ following) e in
         let P : X → Type 0 = λ z. length (filter test (x ∷ front)) < length (filter test (z ∷ done)) in
         let h' = fewer (test x) x (filter test front) (filter test done) (subst P same h) in
-        let found = past_front front behind done more (same_rest y x (done ++ more) (front ++ behind) e) h' in
+        let found = past_front front following done more (same_rest y x (done ++ more) (front ++ following) e) h' in
         (found.0, begun y x done front found.0 same found.1)
 
     none_pass : (xs : List X) → list_any test xs ≡ false → filter test xs ≡ []
@@ -76,7 +76,7 @@ module _ {X : Type 0} where
             (sym (same_first y x (done ++ (next ∷ more)) (front ++ last ∷ []) e)) found.1,
       )
 
--- ---- what goes out before the tape
+-- ---- what is written before the tape
 
 none_mapped : {X : Type 0} (test : Write → Bool) (write : X → Write) → ((x : X) → test (write x) ≡ false)
     → (xs : List X) → list_any test (map write xs) ≡ false
@@ -160,10 +160,10 @@ front_messages found =
 
 -- ---- the laws
 
--- the rest behind the front
-behind : (found : Findings) (parts : List Part) (done more : List Write) → done ++ more ≡ link_writes found parts
+-- the rest after the front
+following : (found : Findings) (parts : List Part) (done more : List Write) → done ++ more ≡ link_writes found parts
     → done ++ more ≡ front_writes found ++ (parts_writes found parts ++ to_tape (tape_block found.transfer []) ∷ [])
-behind found parts done more e =
+following found parts done more e =
     e ∙ joined (front_writes found) (parts_writes found parts) (to_tape (tape_block found.transfer []) ∷ [])
   where
     joined : (xs ys zs : List Write) → (xs ++ ys) ++ zs ≡ xs ++ (ys ++ zs)
@@ -174,7 +174,7 @@ pub front_before_tape : (found : Findings) (parts : List Part) (done more : List
     → done ++ more ≡ link_writes found parts → reach_tape done ≡ true → BeginsWith done (front_writes found)
 front_before_tape found parts done more e t =
     let P : ℕ → Type 0 = λ n. n < length (filter is_block done) in
-    past_front is_block (front_writes found) _ done more (behind found parts done more e)
+    past_front is_block (front_writes found) _ done more (following found parts done more e)
     (subst P (sym (ap length (none_pass is_block (front_writes found) (front_no_block found))))
     (some_pass is_block done t))
 
@@ -183,7 +183,7 @@ pub front_before_messages : (found : Findings) (parts : List Part) (done more : 
     → BeginsWith done (front_writes found)
 front_before_messages found parts done more e h =
     let P : ℕ → Type 0 = λ n. n < messages_in done in
-    past_front is_message (front_writes found) _ done more (behind found parts done more e)
+    past_front is_message (front_writes found) _ done more (following found parts done more e)
     (subst P (sym (front_messages found)) h)
 
 pub all_before_transfer : (found : Findings) (parts : List Part) (done : List Write) (next : Write) (more : List Write)

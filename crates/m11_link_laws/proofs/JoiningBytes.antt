@@ -1,4 +1,4 @@
--- The bytes of files one behind another hold the blocks of each in order.
+-- The bytes of files one after another hold the blocks of each in order.
 use Rattle.std.proofs.Common.{◌≡◌, ◌∙◌, ℕ, ◌+◌, ◌*◌, ◌-◌, ◌≤◌, cond, ltb, eqb, List, [], ◌∷◌, ◌++◌, length, take, drop, append_assoc, append-nil, Ok, Err, refl, sym, ap, subst, arith, inl, inr}
 use Rattle.std.specs.List.{AllByRecursion, concat}
 use Rattle.std.proofs.lemmas.List.{map-append}
@@ -8,7 +8,7 @@ use Rattle.m11_blocks.specs.Frames.{content_limit, header, sum_byte}
 use Rattle.m11_blocks.specs.Limited.{Between, Inside, Read, ◌>>=◌, most_bytes}
 use Rattle.m11_blocks.specs.Blocks.{AreRead, content_of, count, count_of, first_block, second, summed}
 use Rattle.m11_blocks.proofs.BlockFrames.{begun, nothing_read, zero_in_front}
-use Rattle.m11_blocks.proofs.BlockParts.{behind_content, behind_count, behind_second, behind_start}
+use Rattle.m11_blocks.proofs.BlockParts.{after_content, after_count, after_second, after_start}
 use Rattle.m11_blocks.proofs.ReadSteps.{bind_err, chosen, done}
 use Rattle.m11_modules.specs.Parts.{Part}
 use Rattle.m11_link.specs.Objects.{AreItems, BlockOf, Item, ObjectEnds, ObjectItems, outcome, taken, taken_item}
@@ -73,21 +73,21 @@ summed_begun content (byte ∷ bytes) e =
       | inr miss ↦ (let bad = miss.1 in cc)
     ]
 
-start_begun : Begun (λ rest. behind_start (tt, rest))
-start_begun = begun_then second behind_second second_begun
-    (λ x. begun_then count behind_count count_begun
-    (λ n. begun_then (content_of n) behind_content (content_begun n) summed_begun))
+start_begun : Begun (λ rest. after_start (tt, rest))
+start_begun = begun_then second after_second second_begun
+    (λ x. begun_then count after_count count_begun
+    (λ n. begun_then (content_of n) after_content (content_begun n) summed_begun))
 
--- ---- bytes behind others
+-- ---- bytes after others
 
 -- bytes that end between blocks are skipped
-skipped : (bytes behind : List ℕ) → first_block bytes ≡ Err Between → first_block (bytes ++ behind) ≡ first_block behind
-skipped [] behind e = refl
-skipped (byte ∷ bytes) behind e =
+skipped : (bytes following : List ℕ) → first_block bytes ≡ Err Between → first_block (bytes ++ following) ≡ first_block following
+skipped [] following e = refl
+skipped (byte ∷ bytes) following e =
     elim (begun byte bytes) [
       | inl nul ↦
-          let P : ℕ → Type 0 = λ first. first_block (first ∷ (bytes ++ behind)) ≡ first_block behind in
-          subst P (sym nul.0) (zero_in_front (bytes ++ behind) ∙ skipped bytes behind (sym nul.1 ∙ e))
+          let P : ℕ → Type 0 = λ first. first_block (first ∷ (bytes ++ following)) ≡ first_block following in
+          subst P (sym nul.0) (zero_in_front (bytes ++ following) ∙ skipped bytes following (sym nul.1 ∙ e))
       | inr other ↦ elim other [
         | inl one ↦ absurd (start_begun bytes (sym one.1 ∙ e))
         | inr refused ↦ absurd (let bad = sym refused ∙ e in cc)
@@ -99,14 +99,14 @@ same_read : (contents : List (List ℕ)) (bytes others : List ℕ) → first_blo
 same_read [] bytes others same h = same ∙ h
 same_read (content ∷ contents) bytes others same h = (h.0, same ∙ h.1, h.2)
 
--- the blocks of bytes, and of others behind them
-read_then : (contents more : List (List ℕ)) (bytes behind : List ℕ) → AreRead contents bytes → AreRead more behind
-    → AreRead (contents ++ more) (bytes ++ behind)
-read_then [] more bytes behind h k = same_read more behind (bytes ++ behind) (skipped bytes behind h) k
-read_then (content ∷ contents) more bytes behind h k = (
-  h.0 ++ behind,
-  block_steady.ok bytes behind content h.0 h.1,
-  read_then contents more h.0 behind h.2 k,
+-- the blocks of bytes, and of others after them
+read_then : (contents more : List (List ℕ)) (bytes following : List ℕ) → AreRead contents bytes → AreRead more following
+    → AreRead (contents ++ more) (bytes ++ following)
+read_then [] more bytes following h k = same_read more following (bytes ++ following) (skipped bytes following h) k
+read_then (content ∷ contents) more bytes following h k = (
+  h.0 ++ following,
+  block_steady.ok bytes following content h.0 h.1,
+  read_then contents more h.0 following h.2 k,
 )
 
 -- ---- blocks as items
@@ -121,7 +121,7 @@ within_items (content ∷ contents) room bytes h le =
     objects.ObjectItems.Begins {left = left} h.1 (omega (arith, shorter, le))
     (within_items contents left h.0 h.2 (omega (arith, shorter, le)))
 
--- what an object comes to where its items have no fault
+-- what an object yields where its items have no fault
 record Found (bytes : List ℕ) (items : List Item) : Type 0 where
   pub contents : List (List ℕ)
   pub read : AreRead contents bytes

@@ -1,4 +1,4 @@
--- The ends of files left out of parts: what is told of the parts by their modules stays.
+-- The ends of files left out of parts: what is reported of the parts by their modules stays.
 use Rattle.std.proofs.Common.{◌≡◌, ◌∙◌, ℕ, ◌+◌, false, List, [], ◌∷◌, ◌++◌, append-nil, length, Option, Some, None, refl, sym, ap}
 use Rattle.std.specs.List.{cons_option, filter_map}
 use Rattle.std.specs.Map.{keys_of}
@@ -7,8 +7,8 @@ use Rattle.m11_modules.specs.declared.stage.Stage.{Stage}
 use Rattle.m11_modules.specs.declared.stage.Stage.TheVariants.{Between, InDirectory, InBody}
 use Rattle.m11_modules.specs.Names.{absolute_name}
 use Rattle.m11_modules.specs.Parts.{Part, Directory, EndOfDirectory, Text, Relocated, EndOfModule, EndOfFile}
-use Rattle.m11_modules.specs.Places.{current_section, distinct, ends_module, global_in, global_names, known_of, length_behind, modules_in, section_behind, section_in, section_names, sections_in, selected_by, stage_behind, stage_from, text_length, this_module}
-use Rattle.m11_modules.proofs.KnownBehind.{this_module_ended, this_module_goes_on}
+use Rattle.m11_modules.specs.Places.{current_section, distinct, ends_module, global_in, global_names, known_of, length_after, modules_in, section_after, section_in, section_names, sections_in, selected_by, stage_after, stage_from, text_length, this_module}
+use Rattle.m11_modules.proofs.KnownAfter.{this_module_ended, this_module_goes_on}
 use Rattle.m11_layout.proofs.Walking.{grown}
 
 -- ---- parts without the ends of files
@@ -29,17 +29,17 @@ end_left before = without_append before (EndOfFile ∷ []) ∙ append-nil (witho
 
 -- ---- part by part
 
--- what a part tells by itself, where an end of a file tells nothing
-pub told_same : {X : Type 0} (tell : Part → Option X) → tell EndOfFile ≡ None → (parts : List Part)
-    → filter_map tell (without_ends parts) ≡ filter_map tell parts
-told_same tell e [] = refl
-told_same tell e (EndOfFile ∷ parts) =
-    told_same tell e parts ∙ ap (λ found. cons_option found (filter_map tell parts)) (sym e)
-told_same tell e (part ∷ parts) = ap (λ found. cons_option (tell part) found) (told_same tell e parts)
+-- what a part says by itself, where an end of a file says nothing
+pub reported_same : {X : Type 0} (report : Part → Option X) → report EndOfFile ≡ None → (parts : List Part)
+    → filter_map report (without_ends parts) ≡ filter_map report parts
+reported_same report e [] = refl
+reported_same report e (EndOfFile ∷ parts) =
+    reported_same report e parts ∙ ap (λ found. cons_option found (filter_map report parts)) (sym e)
+reported_same report e (part ∷ parts) = ap (λ found. cons_option (report part) found) (reported_same report e parts)
 
 pub sections_same : (parts : List Part) → sections_in (without_ends parts) ≡ sections_in parts
 unfolding sections_in
-sections_same parts = told_same section_in refl parts
+sections_same parts = reported_same section_in refl parts
 
 pub section_names_same : (parts : List Part) → section_names (without_ends parts) ≡ section_names parts
 unfolding section_names
@@ -47,7 +47,7 @@ section_names_same parts = ap (λ entered. distinct (keys_of entered)) (sections
 
 global_names_same : (parts : List Part) → global_names (without_ends parts) ≡ global_names parts
 unfolding global_names
-global_names_same parts = ap (λ names. distinct names) (told_same global_in refl parts)
+global_names_same parts = ap (λ names. distinct names) (reported_same global_in refl parts)
 
 pub modules_same : (parts : List Part) → modules_in (without_ends parts) ≡ modules_in parts
 unfolding modules_in
@@ -63,13 +63,13 @@ stage_same stage (EndOfModule ∷ parts) = stage_same Between parts
 stage_same stage (part ∷ parts) = stage_same stage parts
 
 selected_same : (section : ℕ × ℕ) (parts : List Part)
-    → section_behind section (without_ends parts) ≡ section_behind section parts
+    → section_after section (without_ends parts) ≡ section_after section parts
 selected_same section [] = refl
 selected_same section (Relocated relocation ∷ parts) = selected_same (selected_by section relocation.target) parts
 selected_same section (part ∷ parts) = selected_same section parts
 
 length_same : (before : Option ℕ) (parts : List Part)
-    → length_behind before (without_ends parts) ≡ length_behind before parts
+    → length_after before (without_ends parts) ≡ length_after before parts
 length_same before [] = refl
 length_same before (Text address bytes ∷ parts) = length_same (Some (length bytes)) parts
 length_same before (part ∷ parts) = length_same before parts
@@ -126,7 +126,7 @@ unfolding text_length
 text_same parts = ap (λ these. text_length these) (module_same parts) ∙ length_same None (this_module parts)
 
 pub known_same : (parts : List Part) → known_of (without_ends parts) ≡ known_of parts
-unfolding known_of stage_behind
+unfolding known_of stage_after
 known_same parts = rw (
   stage_same Between parts,
   modules_same parts,

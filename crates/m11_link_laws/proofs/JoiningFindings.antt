@@ -7,43 +7,43 @@ use Rattle.std.proofs.Math.Path.{fun_ext}
 use Rattle.m11_modules.specs.Names.{is_name}
 use Rattle.m11_modules.specs.Parts.{Part, Entry, Relocated, EndOfModule, EndOfFile}
 use Rattle.m11_modules.specs.Places.{distinct, global_of, this_module}
-use Rattle.m11_layout.specs.Globals.{definition_by, definition_in, definition_value, definitions_of, global_told, global_value, globals_of, is_strong_to, last_of, last_section, place_value, reference_in, references_of, referred, relocated_reference, weak_in, weak_names}
-use Rattle.m11_layout.specs.Modules.{first_of, indexed, module_at, modules_before, name_at, name_in, name_told, told_behind}
+use Rattle.m11_layout.specs.Globals.{definition_by, definition_in, definition_value, definitions_of, global_reported, global_value, globals_of, is_strong_to, last_of, last_section, place_value, reference_in, references_of, referred, relocated_reference, weak_in, weak_names}
+use Rattle.m11_layout.specs.Modules.{first_of, indexed, module_at, modules_before, name_at, name_in, name_reported, reported_after}
 use Rattle.m11_layout.specs.Sections.{attributes_in, contribution_base, ends_too_high, first_attributes, is_relocatable, is_too_large, module_base, names_before, room_of, section_base, section_size, sections_of, size_under, sizes_of, top, total}
 use Rattle.m11_layout.specs.Transfers.{is_even, transfer_address, transfer_by, transfer_in, transfers_of}
 use Rattle.m11_layout.specs.declared.definition.GlobalPlace.{GlobalPlace}
 use Rattle.m11_layout.specs.declared.definition.GlobalPlace.TheVariants.{Absolute, In}
 use Rattle.m11_link_text.specs.Findings.{findings_of}
 use Rattle.m11_link.specs.Written.{defined_names}
-use Rattle.m11_link_laws.proofs.JoiningEnds.{end_left, entered_same, kept, module_same, modules_same, section_names_same, sections_same, told_same, without_append, without_ends}
+use Rattle.m11_link_laws.proofs.JoiningEnds.{end_left, entered_same, kept, module_same, modules_same, section_names_same, sections_same, reported_same, without_append, without_ends}
 
--- ---- what parts tell behind those before them
+-- ---- what parts say after those before them
 
--- what a part tells behind others, where ends of files tell nothing and are nothing to the parts behind them
-record Telling {X : Type 0} (tell : List Part → Part → Option X) : Type 0 where
-  pub ends : (before : List Part) → tell before EndOfFile ≡ None
-  pub same : (before : List Part) (part : Part) → tell (without_ends before) part ≡ tell before part
+-- what a part says after others, where ends of files say nothing and are nothing to the parts after them
+record Reporting {X : Type 0} (report : List Part → Part → Option X) : Type 0 where
+  pub ends : (before : List Part) → report before EndOfFile ≡ None
+  pub same : (before : List Part) (part : Part) → report (without_ends before) part ≡ report before part
 
-module _ {X : Type 0} (tell : List Part → Part → Option X) (t : Telling tell) where
-  more_told : (before : List Part) (part : Part) (these parts : List Part) → kept part ≡ Some part
-      → told_behind tell (without_ends (before ++ part ∷ [])) these ≡ told_behind tell (before ++ part ∷ []) parts
-      → cons_option (tell (without_ends before) part) (told_behind tell (without_ends before ++ part ∷ []) these)
-      ≡ cons_option (tell before part) (told_behind tell (before ++ part ∷ []) parts)
-  more_told before part these parts is same =
-      ap (λ all. cons_option (tell (without_ends before) part) (told_behind tell all these))
+module _ {X : Type 0} (report : List Part → Part → Option X) (t : Reporting report) where
+  more_reported : (before : List Part) (part : Part) (these parts : List Part) → kept part ≡ Some part
+      → reported_after report (without_ends (before ++ part ∷ [])) these ≡ reported_after report (before ++ part ∷ []) parts
+      → cons_option (report (without_ends before) part) (reported_after report (without_ends before ++ part ∷ []) these)
+      ≡ cons_option (report before part) (reported_after report (before ++ part ∷ []) parts)
+  more_reported before part these parts is same =
+      ap (λ all. cons_option (report (without_ends before) part) (reported_after report all these))
       (sym (without_append before (part ∷ [])
       ∙ ap (λ found. without_ends before ++ cons_option found []) is))
       ∙ ap₂ (λ found all. cons_option found all) (t.same before part) same
 
-  told_behind_same : (before parts : List Part)
-      → told_behind tell (without_ends before) (without_ends parts) ≡ told_behind tell before parts
-  told_behind_same before [] = refl
-  told_behind_same before (EndOfFile ∷ parts) =
-      ap (λ all. told_behind tell all (without_ends parts)) (sym (end_left before))
-      ∙ told_behind_same (before ++ EndOfFile ∷ []) parts
-      ∙ ap (λ found. cons_option found (told_behind tell (before ++ EndOfFile ∷ []) parts)) (sym (t.ends before))
-  told_behind_same before (part ∷ parts) =
-      more_told before part (without_ends parts) parts refl (told_behind_same (before ++ part ∷ []) parts)
+  reported_after_same : (before parts : List Part)
+      → reported_after report (without_ends before) (without_ends parts) ≡ reported_after report before parts
+  reported_after_same before [] = refl
+  reported_after_same before (EndOfFile ∷ parts) =
+      ap (λ all. reported_after report all (without_ends parts)) (sym (end_left before))
+      ∙ reported_after_same (before ++ EndOfFile ∷ []) parts
+      ∙ ap (λ found. cons_option found (reported_after report (before ++ EndOfFile ∷ []) parts)) (sym (t.ends before))
+  reported_after_same before (part ∷ parts) =
+      more_reported before part (without_ends parts) parts refl (reported_after_same (before ++ part ∷ []) parts)
 
 last_same : (parts : List Part) → last_section (this_module (without_ends parts)) ≡ last_section (this_module parts)
 unfolding last_section
@@ -51,26 +51,26 @@ last_same parts = ap (λ entered. last_of (keys_of entered)) (entered_same parts
 
 weak_same : (parts : List Part) → weak_names (this_module (without_ends parts)) ≡ weak_names (this_module parts)
 unfolding weak_names
-weak_same parts = ap (λ these. weak_names these) (module_same parts) ∙ told_same weak_in refl (this_module parts)
+weak_same parts = ap (λ these. weak_names these) (module_same parts) ∙ reported_same weak_in refl (this_module parts)
 
-definition_telling : Telling definition_in
-definition_telling = record { ends = λ before. refl; same = same }
+definition_reporting : Reporting definition_in
+definition_reporting = record { ends = λ before. refl; same = same }
   where
     same : (before : List Part) (part : Part) → definition_in (without_ends before) part ≡ definition_in before part
     same before (Entry entry) =
         ap₂ (λ n section. definition_by entry.kind entry n section) (modules_same before) (last_same before)
     same before part = refl
 
-reference_telling : Telling reference_in
-reference_telling = record { ends = λ before. refl; same = same }
+reference_reporting : Reporting reference_in
+reference_reporting = record { ends = λ before. refl; same = same }
   where
     same : (before : List Part) (part : Part) → reference_in (without_ends before) part ≡ reference_in before part
     same before (Relocated relocation) =
         ap (λ weak. relocated_reference weak (global_of relocation.target)) (weak_same before)
     same before part = refl
 
-transfer_telling : Telling transfer_in
-transfer_telling = record { ends = λ before. refl; same = same }
+transfer_reporting : Reporting transfer_in
+transfer_reporting = record { ends = λ before. refl; same = same }
   where
     same : (before : List Part) (part : Part) → transfer_in (without_ends before) part ≡ transfer_in before part
     same before (Entry entry) = ap (λ n. transfer_by entry.kind entry n) (modules_same before)
@@ -78,15 +78,15 @@ transfer_telling = record { ends = λ before. refl; same = same }
 
 definitions_same : (parts : List Part) → definitions_of (without_ends parts) ≡ definitions_of parts
 unfolding definitions_of
-definitions_same parts = told_behind_same definition_in definition_telling [] parts
+definitions_same parts = reported_after_same definition_in definition_reporting [] parts
 
 references_same : (parts : List Part) → references_of (without_ends parts) ≡ references_of parts
 unfolding references_of
-references_same parts = told_behind_same reference_in reference_telling [] parts
+references_same parts = reported_after_same reference_in reference_reporting [] parts
 
 transfers_same : (parts : List Part) → transfers_of (without_ends parts) ≡ transfers_of parts
 unfolding transfers_of
-transfers_same parts = told_behind_same transfer_in transfer_telling [] parts
+transfers_same parts = reported_after_same transfer_in transfer_reporting [] parts
 
 pub defined_same : (parts : List Part) → defined_names (without_ends parts) ≡ defined_names parts
 unfolding defined_names
@@ -132,14 +132,14 @@ modules_before_same : (parts : List Part) (index : ℕ)
 unfolding modules_before
 modules_before_same parts index = indexed_same (λ n. nat_lt n index) 0 parts
 
-name_told_same : (parts : List Part) → name_told (without_ends parts) ≡ name_told parts
-unfolding name_told
-name_told_same parts = ap (λ names. first_of names) (told_same name_in refl parts)
+name_reported_same : (parts : List Part) → name_reported (without_ends parts) ≡ name_reported parts
+unfolding name_reported
+name_reported_same parts = ap (λ names. first_of names) (reported_same name_in refl parts)
 
 name_same : (parts : List Part) (index : ℕ) → name_at (without_ends parts) index ≡ name_at parts index
 name_same parts index =
     ap₂ (λ n name. if nat_lt index n then unwrap_or name (0, 0) else (0, 0)) (modules_same parts)
-    (ap (λ these. name_told these) (module_at_same parts index) ∙ name_told_same (module_at parts index))
+    (ap (λ these. name_reported these) (module_at_same parts index) ∙ name_reported_same (module_at parts index))
 
 -- ---- sections
 
@@ -147,7 +147,7 @@ attributes_same : (parts : List Part) (name : ℕ × ℕ)
     → first_attributes (without_ends parts) name ≡ first_attributes parts name
 unfolding first_attributes
 attributes_same parts name =
-    ap (λ found. unwrap_or (lookup (is_name name) found) 0) (told_same attributes_in refl parts)
+    ap (λ found. unwrap_or (lookup (is_name name) found) 0) (reported_same attributes_in refl parts)
 
 sizes_same : (parts : List Part) (name : ℕ × ℕ) → sizes_of (without_ends parts) name ≡ sizes_of parts name
 unfolding sizes_of
@@ -182,11 +182,11 @@ unfolding is_too_large
 too_large_same bottom parts =
     ap₂ (λ test names. list_any test names) (too_high_same bottom parts) (section_names_same parts)
 
-told_sections_same : (bottom : ℕ) (parts : List Part)
+reported_sections_same : (bottom : ℕ) (parts : List Part)
     → sections_of bottom (without_ends parts) ≡ sections_of bottom parts
 unfolding sections_of
-told_sections_same bottom parts =
-    ap₂ (λ tell names. map tell names)
+reported_sections_same bottom parts =
+    ap₂ (λ report names. map report names)
     (fun_ext (λ name. rw (base_same bottom parts name, size_same parts name, attributes_same parts name) refl))
     (section_names_same parts)
 
@@ -234,11 +234,11 @@ value_same bottom parts name = λ j.
 globals_same : (bottom : ℕ) (parts : List Part) → globals_of bottom (without_ends parts) ≡ globals_of bottom parts
 unfolding globals_of
 globals_same bottom parts = λ j.
-    filter_map (λ name. option_map (told j name) (lookup (is_name name) (definitions_same parts j)))
+    filter_map (λ name. option_map (reported j name) (lookup (is_name name) (definitions_same parts j)))
     (distinct (keys_of (definitions_same parts j)))
   where
-    told : global_told bottom (without_ends parts) ≡ global_told bottom parts
-    told = λ j name definition. record {
+    reported : global_reported bottom (without_ends parts) ≡ global_reported bottom parts
+    reported = λ j name definition. record {
       name = name;
       value = values_same bottom parts j definition;
       module_name = name_same parts definition.module_index j;
@@ -269,7 +269,7 @@ findings_same bottom parts = λ j. record {
   value = λ name. value_same bottom parts name j;
   attributes = λ name. attributes_same parts name j;
   module_name = λ index. name_same parts index j;
-  sections = told_sections_same bottom parts j;
+  sections = reported_sections_same bottom parts j;
   globals = globals_same bottom parts j;
   references = referred_same parts j;
   transfer = transfer_same bottom parts j;

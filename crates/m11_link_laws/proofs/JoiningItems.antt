@@ -1,4 +1,4 @@
--- Items of files taken one behind another, with the end of each file or with one end behind them all.
+-- Items of files taken one after another, with the end of each file or with one end after them all.
 use Rattle.std.proofs.Common.{◌≡◌, ◌∙◌, ℕ, Bool, true, false, if◌then◌else◌, List, [], ◌∷◌, ◌++◌, map, append-nil, Option, Some, None, Result, Ok, Err, refl, sym, ap, subst}
 use Rattle.std.specs.List.{AllByRecursion}
 use Rattle.std.specs.Option.{option_or}
@@ -12,18 +12,18 @@ use Rattle.m11_modules.specs.declared.fault.ModuleFault.TheVariants.{BadOrder}
 use Rattle.m11_modules.specs.declared.stage.Stage.{Stage}
 use Rattle.m11_modules.specs.declared.stage.Stage.TheVariants.{Between, InDirectory, InBody}
 use Rattle.m11_modules.specs.Parts.{Part, Directory, EndOfDirectory, EndOfModule, EndOfFile, parts_in, parts_of}
-use Rattle.m11_modules.specs.Places.{known_of, stage_behind, stage_from}
+use Rattle.m11_modules.specs.Places.{known_of, stage_after, stage_from}
 use Rattle.m11_modules.specs.Rules.{fault_in_order, fault_known, fault_of, first_fault, may_stand}
 use Rattle.m11_modules.specs.Steps.{first_known_fault}
-use Rattle.m11_modules.proofs.KnownBehind.{faults_known}
+use Rattle.m11_modules.proofs.KnownAfter.{faults_known}
 use Rattle.m11_layout.specs.Sections.{is_too_large}
 use Rattle.m11_layout.specs.declared.fault.LinkFault.TheVariants as fault
 use Rattle.m11_layout.proofs.Walking.{head_none, rest_none}
 use Rattle.m11_link.specs.Objects.{◌>>=◌, BlockOf, Item, ObjectEnds, Refused, parts_by, parts_or_fault, taken, taken_item, taken_parts, outcome, unless_fault, unless_too_large}
 use Rattle.m11_link_text.specs.Findings.{findings_of}
 use Rattle.m11_link.specs.Written.{link_writes}
-use Rattle.m11_link.specs.SecondReading.{items_parts, parts_within}
-use Rattle.m11_link.proofs.ItemsTaken.{Answer, bind_ok, fault_behind, one_taken, taken_behind}
+use Rattle.m11_link.specs.SecondPass.{items_parts, parts_within}
+use Rattle.m11_link.proofs.ItemsTaken.{Answer, bind_ok, fault_after, one_taken, taken_after}
 use Rattle.m11_link.proofs.SecondRead.{parts_are}
 use Rattle.m11_link_laws.specs.Joining.{LinkAlike}
 use Rattle.m11_link_laws.proofs.JoiningEnds.{end_left, known_same, stage_same, without_append, without_ends}
@@ -59,19 +59,19 @@ may_be false fault e = absurd cc
 
 stands : (before : List Part) (part : Part) → fault_of before part ≡ None
     → may_stand part (stage_from Between before) ≡ true
-unfolding fault_known known_of stage_behind
+unfolding fault_known known_of stage_after
 stands before part e = may_be (may_stand part (stage_from Between before)) (fault_in_order (known_of before) part) e
 
-order_behind : (before parts : List Part) → first_fault before parts ≡ None
+order_after : (before parts : List Part) → first_fault before parts ≡ None
     → InOrder (stage_from Between before) parts
 unfolding first_fault
-order_behind before [] e = tt
-order_behind before (part ∷ parts) e =
+order_after before [] e = tt
+order_after before (part ∷ parts) e =
     let head = head_none (fault_of before part) (first_fault (before ++ part ∷ []) parts) e in
     let rest = rest_none (fault_of before part) (first_fault (before ++ part ∷ []) parts) e in
     let P : Stage → Type 0 = λ s. InOrder s parts in (
       stands before part head,
-      subst P (stage_append Between before (part ∷ [])) (order_behind (before ++ part ∷ []) parts rest),
+      subst P (stage_append Between before (part ∷ [])) (order_after (before ++ part ∷ []) parts rest),
     )
 
 -- ---- the order of parts that were taken
@@ -84,14 +84,14 @@ unless_none (Some said) parts these e = absurd cc
 content_order : (before : List Part) (content : Result Content RecordFault) (these : List Part)
     → (parts_or_fault content >>= taken_parts before) ≡ Ok these
     → InOrder (stage_from Between before) (parts_in content)
-content_order before (Ok content) these e = order_behind before (parts_of content)
+content_order before (Ok content) these e = order_after before (parts_of content)
     (unless_none (first_fault before (parts_of content)) (before ++ parts_of content) these e)
 content_order before (Err inner) these e = absurd cc
 
 item_order : (before : List Part) (item : Item) (these : List Part) → taken_item before item ≡ Ok these
     → InOrder (stage_from Between before) (parts_within item)
 item_order before (BlockOf bytes) these e = content_order before (content_of bytes) these e
-item_order before ObjectEnds these e = order_behind before (EndOfFile ∷ [])
+item_order before ObjectEnds these e = order_after before (EndOfFile ∷ [])
     (unless_none (first_fault before (EndOfFile ∷ [])) (before ++ EndOfFile ∷ []) these e)
 item_order before (Refused refused) these e = absurd cc
 
@@ -119,7 +119,7 @@ taken_in_order items parts e =
     let P : List Part → Type 0 = λ these. InOrder Between these in
     subst P (sym (parts_are [] items parts e)) (items_order [] items parts e)
 
--- ---- the same items behind parts that are the same but for the ends of files
+-- ---- the same items after parts that are the same but for the ends of files
 
 -- parts that are the same but for the ends of files, or the same fault
 abbrev pub Same : Answer → Answer → Type 0
@@ -198,7 +198,7 @@ end_between : (stage : Stage) → may_stand EndOfFile stage ≡ true → stage �
 end_between Between h = refl
 end_between stage h = absurd (false≢true h)
 
--- behind whole modules no module is open
+-- after whole modules no module is open
 closes : (contents : List (List ℕ)) → IsWhole contents → (before parts : List Part)
     → stage_from Between before ≡ Between → taken before (blocks contents) ≡ Ok parts
     → stage_from Between parts ≡ Between
@@ -215,7 +215,7 @@ closes contents w before parts s e =
     ∙ end_between (stage_from Between own) (order_at Between own EndOfFile [] order)
 
 end_sound : (before : List Part) → stage_from Between before ≡ Between → first_fault before (EndOfFile ∷ []) ≡ None
-unfolding first_fault fault_known known_of stage_behind
+unfolding first_fault fault_known known_of stage_after
 end_sound before s =
     let P : Stage → Type 0 = λ stage.
     option_or (if may_stand EndOfFile stage then None else Some BadOrder) None ≡ None in
@@ -244,17 +244,17 @@ module _ (contents : List (List ℕ)) (more others : List Item) (before other : 
         let closed = closes contents w before parts s e in
         to_same (taken before (blocks contents ++ ObjectEnds ∷ more)) (taken (parts ++ EndOfFile ∷ []) more)
         (taken other (blocks contents ++ others)) (taken those others)
-        (taken_behind before (blocks contents) (ObjectEnds ∷ more) parts e ∙ end_taken parts more closed)
-        (taken_behind other (blocks contents) others those f)
+        (taken_after before (blocks contents) (ObjectEnds ∷ more) parts e ∙ end_taken parts more closed)
+        (taken_after other (blocks contents) others those f)
         (rest (parts ++ EndOfFile ∷ []) those (stage_append Between parts (EndOfFile ∷ []) ∙ closed)
         (end_left parts ∙ same))
-    file_then (Ok parts) (Err told) e f same = absurd same
+    file_then (Ok parts) (Err reported) e f same = absurd same
     file_then (Err stopped) (Ok those) e f same = absurd same
-    file_then (Err stopped) (Err told) e f same =
+    file_then (Err stopped) (Err reported) e f same =
         to_same (taken before (blocks contents ++ ObjectEnds ∷ more)) (Err stopped)
-        (taken other (blocks contents ++ others)) (Err told)
-        (fault_behind before (blocks contents) (ObjectEnds ∷ more) stopped e)
-        (fault_behind other (blocks contents) others told f) same
+        (taken other (blocks contents ++ others)) (Err reported)
+        (fault_after before (blocks contents) (ObjectEnds ∷ more) stopped e)
+        (fault_after other (blocks contents) others reported f) same
 
 files_taken : (files : List (List (List ℕ))) → AllByRecursion IsWhole files → (before other : List Part)
     → stage_from Between before ≡ Between → without_ends before ≡ without_ends other
@@ -268,7 +268,7 @@ files_taken (contents ∷ files) h before other s same =
     (taken before (blocks contents)) (taken other (blocks contents)) refl refl
     (taken_same (blocks contents) before other same)
 
--- ---- what links of them come to
+-- ---- what links of them yield
 
 module _ (bottom : ℕ) where
   by_size : (large : Bool) (parts others : List Part)

@@ -9,9 +9,9 @@ use Rattle.m11_modules.specs.Parts.{Part, Entry, Text, Relocations, Relocated, E
 use Rattle.m11_modules.specs.Places.{stage_from}
 use Rattle.m11_modules.specs.Rules.{may_stand}
 use Rattle.m11_link_text.specs.Findings.{Findings, findings_of}
-use Rattle.m11_link.specs.MapText.{front_writes}
-use Rattle.m11_link.specs.Writes.{to_tape}
-use Rattle.m11_link.specs.Written.{entry_writes, has_ended, link_writes, parts_writes, placed_text, relocations_behind, text_writes, with_relocations, writes_at, writes_behind}
+use Rattle.m11_link.specs.Front.{front_writes}
+use Rattle.m11_link.specs.Outputs.{to_tape}
+use Rattle.m11_link.specs.Written.{entry_writes, has_ended, link_writes, parts_writes, placed_text, relocations_after, text_writes, with_relocations, writes_at, writes_after}
 use Rattle.m11_link_laws.proofs.JoiningEnds.{current_same, end_left, kept, modules_same, without_append, without_ends}
 use Rattle.m11_link_laws.proofs.JoiningFindings.{defined_same, findings_same}
 
@@ -27,7 +27,7 @@ text_in_body : (stage : Stage) (address : ℕ) (bytes : List ℕ) → may_stand 
 text_in_body InBody address bytes h = refl
 text_in_body stage address bytes h = absurd (false≢true h)
 
--- ---- texts, behind which no file ends in their module
+-- ---- texts, after which no file ends in their module
 
 ended_same : (parts : List Part) → InOrder InBody parts → has_ended (without_ends parts) ≡ has_ended parts
 ended_same [] h = refl
@@ -36,13 +36,13 @@ ended_same (Relocated relocation ∷ parts) h = ended_same parts h.1
 ended_same (EndOfFile ∷ parts) h = absurd (false≢true h.0)
 ended_same (part ∷ parts) h = refl
 
-behind_same : (parts : List Part) → InOrder InBody parts
-    → relocations_behind (without_ends parts) ≡ relocations_behind parts
-behind_same [] h = refl
-behind_same (Relocations ∷ parts) h = behind_same parts h.1
-behind_same (Relocated relocation ∷ parts) h = ap (λ these. relocation ∷ these) (behind_same parts h.1)
-behind_same (EndOfFile ∷ parts) h = absurd (false≢true h.0)
-behind_same (part ∷ parts) h = refl
+after_same : (parts : List Part) → InOrder InBody parts
+    → relocations_after (without_ends parts) ≡ relocations_after parts
+after_same [] h = refl
+after_same (Relocations ∷ parts) h = after_same parts h.1
+after_same (Relocated relocation ∷ parts) h = ap (λ these. relocation ∷ these) (after_same parts h.1)
+after_same (EndOfFile ∷ parts) h = absurd (false≢true h.0)
+after_same (part ∷ parts) h = refl
 
 -- ---- part by part
 
@@ -54,7 +54,7 @@ module _ (found : Findings) where
   text_same before parts address bytes h = λ j.
       if ended_same parts h j
       then text_writes (with_relocations found
-      (placed_text found (modules_same before j) (current_same before j) address bytes) (behind_same parts h j))
+      (placed_text found (modules_same before j) (current_same before j) address bytes) (after_same parts h j))
       else []
 
   at_same : (stage : Stage) (before : List Part) (part : Part) (parts : List Part) → InOrder stage (part ∷ parts)
@@ -68,37 +68,37 @@ module _ (found : Findings) where
   at_same stage before part parts h = refl
 
   end_writes : (before parts : List Part)
-      → writes_behind found (before ++ EndOfFile ∷ []) parts ≡ writes_behind found before (EndOfFile ∷ parts)
+      → writes_after found (before ++ EndOfFile ∷ []) parts ≡ writes_after found before (EndOfFile ∷ parts)
   unfolding writes_at
   end_writes before parts = refl
 
   more_written : (stage : Stage) (before : List Part) (part : Part) (parts : List Part) → kept part ≡ Some part
       → InOrder stage (part ∷ parts)
-      → writes_behind found (without_ends (before ++ part ∷ [])) (without_ends parts)
-      ≡ writes_behind found (before ++ part ∷ []) parts
-      → writes_behind found (without_ends before) (part ∷ without_ends parts)
-      ≡ writes_behind found before (part ∷ parts)
+      → writes_after found (without_ends (before ++ part ∷ [])) (without_ends parts)
+      ≡ writes_after found (before ++ part ∷ []) parts
+      → writes_after found (without_ends before) (part ∷ without_ends parts)
+      ≡ writes_after found before (part ∷ parts)
   more_written stage before part parts is h same =
       ap (λ all. writes_at found (without_ends before) part (without_ends parts)
-      ++ writes_behind found all (without_ends parts))
+      ++ writes_after found all (without_ends parts))
       (sym (without_append before (part ∷ []) ∙ ap (λ these. without_ends before ++ cons_option these []) is))
       ∙ ap₂ (λ xs ys. xs ++ ys) (at_same stage before part parts h) same
 
-  behind_written : (stage : Stage) (before parts : List Part) → InOrder stage parts
-      → writes_behind found (without_ends before) (without_ends parts) ≡ writes_behind found before parts
-  behind_written stage before [] h = refl
-  behind_written stage before (EndOfFile ∷ parts) h =
-      ap (λ all. writes_behind found all (without_ends parts)) (sym (end_left before))
-      ∙ behind_written stage (before ++ EndOfFile ∷ []) parts h.1
+  after_written : (stage : Stage) (before parts : List Part) → InOrder stage parts
+      → writes_after found (without_ends before) (without_ends parts) ≡ writes_after found before parts
+  after_written stage before [] h = refl
+  after_written stage before (EndOfFile ∷ parts) h =
+      ap (λ all. writes_after found all (without_ends parts)) (sym (end_left before))
+      ∙ after_written stage (before ++ EndOfFile ∷ []) parts h.1
       ∙ end_writes before parts
-  behind_written stage before (part ∷ parts) h =
+  after_written stage before (part ∷ parts) h =
       more_written stage before part parts refl h
-      (behind_written (stage_from stage (part ∷ [])) (before ++ part ∷ []) parts h.1)
+      (after_written (stage_from stage (part ∷ [])) (before ++ part ∷ []) parts h.1)
 
   parts_written : (parts : List Part) → InOrder Between parts
       → parts_writes found (without_ends parts) ≡ parts_writes found parts
   unfolding parts_writes
-  parts_written parts h = behind_written Between [] parts h
+  parts_written parts h = after_written Between [] parts h
 
 link_written : (found : Findings) (parts : List Part) → InOrder Between parts
     → link_writes found (without_ends parts) ≡ link_writes found parts

@@ -19,7 +19,7 @@ use Rattle.m11_modules.specs.Names.{is_among, is_name}
 use Rattle.m11_modules.specs.Parts.{Part, Directory, Entry, EndOfDirectory, Text, Relocations, Relocated, EndOfModule, EndOfFile}
 use Rattle.m11_modules.specs.Places.{Known}
 use Rattle.m11_modules.specs.Rules.{InLimits, begin_fault, entering_fault, entry_fault, fault_known, first_there, global_fault, is_past, may_stand, most_globals, most_modules, most_sections, place_fault, relocation_by}
-use Rattle.m11_modules.specs.Steps.{known_behind, with_entry, with_global, with_section, with_target}
+use Rattle.m11_modules.specs.Steps.{known_after, with_entry, with_global, with_section, with_target}
 use Rattle.m11_layout.proofs.Finding.{Apart, apart_inserted, is_name_itself, is_name_same}
 use Rattle.m11_layout.proofs.Walking.{rest_none}
 use Rattle.m11_link_laws.proofs.FewerNames.{Within, among_inserted}
@@ -169,8 +169,8 @@ none_within : (names : List (ℕ × ℕ)) → Within [] names
 none_within names name a = absurd (true≢false (sym a))
 
 pub bounded_step : (known : Known) (part : Part) → fault_known known part ≡ None → Bounded known
-    → Bounded (known_behind known part)
-unfolding known_behind fault_known
+    → Bounded (known_after known part)
+unfolding known_after fault_known
 bounded_step known Directory e b = record {
   modules = directory_begins known.stage known.modules e b.modules;
   sections = b.sections;

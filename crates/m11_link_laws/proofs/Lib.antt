@@ -17,7 +17,7 @@ pub mod MovingBytes
 pub mod FrontFirst
 pub mod FewerNames
 pub mod KnownBounded
-pub mod NamesTold
+pub mod NamesReported
 pub mod TablesBounded
 pub mod SectionsInModules
 pub mod PlansBounded

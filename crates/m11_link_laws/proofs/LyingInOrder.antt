@@ -1,4 +1,4 @@
--- Relocatable sections lie one behind another, from the bottom to the top.
+-- Relocatable sections lie one after another, from the bottom to the top.
 use Rattle.std.proofs.Common.{◌≡◌, ℕ, ◌+◌, ◌≤◌, sum_by, Bool, true, false, ◌||◌, cond, if◌then◌else◌, List, [], ◌∷◌, ◌++◌, map, append-nil, refl, sym, ap, ◌∙◌, subst, arith}
 use Rattle.std.specs.List.{filter, list_any}
 use Rattle.std.proofs.Math.Seq.{append_snoc}
@@ -8,7 +8,7 @@ use Rattle.m11_modules.specs.Parts.{Part}
 use Rattle.m11_modules.specs.Places.{section_names}
 use Rattle.m11_layout.specs.Sections.{names_before, section_base, section_size, top}
 use Rattle.m11_layout.proofs.Finding.{Apart, apart_distinct, is_name_itself, is_name_same, neither, turned}
-use Rattle.m11_link_laws.specs.Lying.{LieInOrder, Nothing, Section, Span, lies_from_bottom, relocatable_names, span_of}
+use Rattle.m11_link_laws.specs.Places.{LieInOrder, Nothing, Section, Span, lies_from_bottom, relocatable_names, span_of}
 
 abbrev Name : Type 0
 Name = ℕ × ℕ
@@ -83,17 +83,17 @@ module _ (lies : Name → Bool) (size : Name → ℕ) (bottom : ℕ) (all : List
   mapped true name names = refl
   mapped false name names = refl
 
-  lie_behind : (done rest : List Name) → done ++ rest ≡ all → Apart is_name all
+  lie_after : (done rest : List Name) → done ++ rest ≡ all → Apart is_name all
       → LieInOrder (end done) (map span (filter lies rest)) (end all)
-  lie_behind done [] e d =
+  lie_after done [] e d =
       let P : List Name → Type 0 = λ names. LieInOrder (end done) [] (end names) in
       subst P (sym (append-nil done) ∙ e) Nothing
-  lie_behind done (name ∷ rest) e d =
+  lie_after done (name ∷ rest) e d =
       let A : List Name → Type 0 = λ names. Apart is_name names in
       let a : list_any (is_name name) done ≡ false = apart_before done name rest (subst A (sym e) d) in
       let B : List Name → Type 0 = λ names. names_before name names ≡ done in
       let b : names_before name all ≡ done = subst B e (before_it done name rest a) in
-      let more = lie_behind (done ++ name ∷ []) rest (append_snoc done name rest ∙ e) d in
+      let more = lie_after (done ++ name ∷ []) rest (append_snoc done name rest ∙ e) d in
       let P : List Span → Type 0 = λ spans. LieInOrder (end done) spans (end all) in
       let Q : ℕ → Type 0 = λ n. LieInOrder n (map span (filter lies rest)) (end all) in
       subst P (sym (mapped (lies name) name (filter lies rest)))
@@ -109,7 +109,7 @@ sections_lie bottom parts =
     let all = section_names parts in
     let P : ℕ → Type 0 = λ n. LieInOrder n (map (span_of bottom parts) (relocatable_names parts)) (top bottom parts) in
     subst P (nothing_more bottom)
-    (lie_behind (lies_from_bottom parts) (section_size parts) bottom all [] all refl (apart_distinct _))
+    (lie_after (lies_from_bottom parts) (section_size parts) bottom all [] all refl (apart_distinct _))
 
 -- ---- two of them
 
@@ -130,17 +130,17 @@ module _ (span : Name → Span) where
       no_lower bottom (span name).size (span other).base
       (lies_later (bottom + (span name).size) between other after last t.1)
 
-  pub lies_behind : (bottom : ℕ) (before : List Name) (name : Name) (between : List Name) (other : Name)
+  pub lies_after : (bottom : ℕ) (before : List Name) (name : Name) (between : List Name) (other : Name)
       (after : List Name) (last : ℕ)
       → LieInOrder bottom (map span (before ++ (name ∷ (between ++ (other ∷ after))))) last
       → (span name).base + (span name).size ≤ (span other).base
-  lies_behind bottom [] name between other after last h =
+  lies_after bottom [] name between other after last h =
       let t = taken_apart bottom (span name) (map span (between ++ (other ∷ after))) last h in
       let P : ℕ → Type 0 = λ n. n + (span name).size ≤ (span other).base in
       subst P t.0 (lies_later (bottom + (span name).size) between other after last t.1)
-  lies_behind bottom (first ∷ before) name between other after last h =
+  lies_after bottom (first ∷ before) name between other after last h =
       let t = taken_apart bottom (span first) (map span (before ++ (name ∷ (between ++ (other ∷ after))))) last h in
-      lies_behind (bottom + (span first).size) before name between other after last t.1
+      lies_after (bottom + (span first).size) before name between other after last t.1
 
 pub sections_lie_apart : (bottom : ℕ) (parts : List Part) (before between after : List (ℕ × ℕ)) (name other : ℕ × ℕ)
     → relocatable_names parts ≡ before ++ (name ∷ (between ++ (other ∷ after)))
@@ -148,5 +148,5 @@ pub sections_lie_apart : (bottom : ℕ) (parts : List Part) (before between afte
 sections_lie_apart bottom parts before between after name other e =
     let P : List (ℕ × ℕ) → Type 0 =
     λ names. LieInOrder bottom (map (span_of bottom parts) names) (top bottom parts) in
-    lies_behind (span_of bottom parts) bottom before name between other after (top bottom parts)
+    lies_after (span_of bottom parts) bottom before name between other after (top bottom parts)
     (subst P e (sections_lie bottom parts))

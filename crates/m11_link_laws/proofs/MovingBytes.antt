@@ -8,7 +8,7 @@ use Rattle.m11_obj.specs.declared.relocations.Target.TheVariants as target
 use Rattle.m11_modules.specs.Parts.{Part}
 use Rattle.m11_modules.specs.Rules.{lies_within, width_of}
 use Rattle.m11_link_text.specs.Findings.{Findings, findings_of}
-use Rattle.m11_link_text.specs.Storing.{modulo, replaced, stored_bytes, value_bytes, value_of}
+use Rattle.m11_link_text.specs.Relocation.{modulo, replaced, stored_bytes, value_bytes, value_of}
 use Rattle.m11_link.specs.Written.{PlacedText, placed_text, with_relocation, with_relocations}
 use Rattle.m11_link_laws.specs.Moving.{byte_stays, bytes_moved, covers, moves, relocation_moved, relocations_moved, target_stays}
 use Rattle.m11_link_laws.proofs.MovingLaws.{text_content}

@@ -6,9 +6,9 @@ use Rattle.std.specs.Option.{option_map, unwrap_or}
 use Rattle.m11_modules.specs.Names.{is_name}
 use Rattle.m11_modules.specs.Parts.{Part}
 use Rattle.m11_modules.specs.Places.{distinct, section_names, sections_in}
-use Rattle.m11_layout.specs.Globals.{definition_value, definitions_of, first_definition, global_defined, global_told, global_value, globals_of, place_value}
+use Rattle.m11_layout.specs.Globals.{definition_value, definitions_of, first_definition, global_defined, global_reported, global_value, globals_of, place_value}
 use Rattle.m11_layout.specs.Modules.{module_at, modules_before}
-use Rattle.m11_layout.specs.Sections.{base_entered, contribution_base, first_attributes, module_base, names_before, offset_behind, room_of, section_base, section_told, sections_of, sizes_of, top}
+use Rattle.m11_layout.specs.Sections.{base_entered, contribution_base, first_attributes, module_base, names_before, offset_after, room_of, section_base, section_reported, sections_of, sizes_of, top}
 use Rattle.m11_layout.specs.Transfers.{is_even, transfer_address, transfer_value, transfers_of}
 use Rattle.m11_layout.specs.declared.definition.Definition.{Definition}
 use Rattle.m11_layout.specs.declared.definition.GlobalPlace.{GlobalPlace}
@@ -42,23 +42,23 @@ pub top_is : (bottom distance : ℕ) (parts : List Part) → top (bottom + dista
 unfolding top
 top_is bottom distance parts = last_term bottom distance (sum_by (room_of parts) (section_names parts))
 
-told_is : (bottom distance : ℕ) (parts : List Part) (name : ℕ × ℕ)
-    → section_told (bottom + distance) parts name ≡ section_moved distance (section_told bottom parts name)
-told_is bottom distance parts name =
-    ap (λ base. let told : PlannedSection = record (section_told bottom parts name) { base = base } in told)
+reported_is : (bottom distance : ℕ) (parts : List Part) (name : ℕ × ℕ)
+    → section_reported (bottom + distance) parts name ≡ section_moved distance (section_reported bottom parts name)
+reported_is bottom distance parts name =
+    ap (λ base. let reported : PlannedSection = record (section_reported bottom parts name) { base = base } in reported)
     (section_is bottom distance parts name)
 
-all_told : (bottom distance : ℕ) (parts : List Part) (names : List (ℕ × ℕ))
-    → map (section_told (bottom + distance) parts) names
-    ≡ map (section_moved distance) (map (section_told bottom parts) names)
-all_told bottom distance parts [] = refl
-all_told bottom distance parts (name ∷ names) =
-    ap₂ (λ first rest. first ∷ rest) (told_is bottom distance parts name) (all_told bottom distance parts names)
+all_reported : (bottom distance : ℕ) (parts : List Part) (names : List (ℕ × ℕ))
+    → map (section_reported (bottom + distance) parts) names
+    ≡ map (section_moved distance) (map (section_reported bottom parts) names)
+all_reported bottom distance parts [] = refl
+all_reported bottom distance parts (name ∷ names) =
+    ap₂ (λ first rest. first ∷ rest) (reported_is bottom distance parts name) (all_reported bottom distance parts names)
 
 pub sections_are : (bottom distance : ℕ) (parts : List Part)
     → sections_of (bottom + distance) parts ≡ map (section_moved distance) (sections_of bottom parts)
 unfolding sections_of
-sections_are bottom distance parts = all_told bottom distance parts (section_names parts)
+sections_are bottom distance parts = all_reported bottom distance parts (section_names parts)
 
 -- ---- contributions
 
@@ -74,7 +74,7 @@ pub base_is : (bottom distance : ℕ) (parts : List Part) (index : ℕ) (name : 
 unfolding module_base contribution_base
 base_is bottom distance parts index name =
     let entered = lookup (is_name name) (sections_in (module_at parts index)) in
-    let offset = offset_behind (first_attributes parts name) (sizes_of (modules_before parts index) name) in
+    let offset = offset_after (first_attributes parts name) (sizes_of (modules_before parts index) name) in
     ap (λ base. base_entered entered (base + offset) % 65536) (section_is bottom distance parts name)
     ∙ entered_by entered (section_moves parts name) distance (section_base bottom parts name) offset
 
@@ -116,30 +116,30 @@ unfolding global_value global_moves
 symbol_is bottom distance parts name = symbol_by bottom distance parts (first_definition parts name)
 
 global_by : (bottom distance : ℕ) (parts : List Part) (name : ℕ × ℕ) (found : Option Definition)
-    → option_map (global_told (bottom + distance) parts name) found
-    ≡ option_map (λ global. let told : PlannedGlobal = record global {
+    → option_map (global_reported (bottom + distance) parts name) found
+    ≡ option_map (λ global. let reported : PlannedGlobal = record global {
       value = moved distance (definition_moves parts found) global.value;
-    } in told) (option_map (global_told bottom parts name) found)
+    } in reported) (option_map (global_reported bottom parts name) found)
 global_by bottom distance parts name None = refl
 global_by bottom distance parts name (Some definition) =
-    ap (λ value. Some (let told : PlannedGlobal =
-    record (global_told bottom parts name definition) { value = value } in told))
+    ap (λ value. Some (let reported : PlannedGlobal =
+    record (global_reported bottom parts name definition) { value = value } in reported))
     (place_is bottom distance parts definition.module_index definition.place)
 
 -- its entry in the list has its name
 named_by : (bottom distance : ℕ) (parts : List Part) (name : ℕ × ℕ) (found : Option Definition)
-    → option_map (λ global. let told : PlannedGlobal = record global {
+    → option_map (λ global. let reported : PlannedGlobal = record global {
       value = moved distance (global_moves parts name) global.value;
-    } in told) (option_map (global_told bottom parts name) found)
-    ≡ option_map (global_moved distance parts) (option_map (global_told bottom parts name) found)
+    } in reported) (option_map (global_reported bottom parts name) found)
+    ≡ option_map (global_moved distance parts) (option_map (global_reported bottom parts name) found)
 named_by bottom distance parts name None = refl
 named_by bottom distance parts name (Some definition) = refl
 
 global_before : (bottom distance : ℕ) (parts : List Part) (name : ℕ × ℕ)
     → global_defined (bottom + distance) parts name
-    ≡ option_map (λ global. let told : PlannedGlobal = record global {
+    ≡ option_map (λ global. let reported : PlannedGlobal = record global {
       value = moved distance (global_moves parts name) global.value;
-    } in told) (global_defined bottom parts name)
+    } in reported) (global_defined bottom parts name)
 unfolding global_moves
 global_before bottom distance parts name = global_by bottom distance parts name (first_definition parts name)
 
@@ -150,10 +150,10 @@ global_is bottom distance parts name =
     global_before bottom distance parts name
     ∙ named_by bottom distance parts name (first_definition parts name)
 
-mapped_behind : {X Y : Type 0} (f : X → Y) (one : Option X) (more : List X)
+mapped_after : {X Y : Type 0} (f : X → Y) (one : Option X) (more : List X)
     → cons_option (option_map f one) (map f more) ≡ map f (cons_option one more)
-mapped_behind f None more = refl
-mapped_behind f (Some x) more = refl
+mapped_after f None more = refl
+mapped_after f (Some x) more = refl
 
 all_globals : (bottom distance : ℕ) (parts : List Part) (names : List (ℕ × ℕ))
     → filter_map (global_defined (bottom + distance) parts) names
@@ -162,7 +162,7 @@ all_globals bottom distance parts [] = refl
 all_globals bottom distance parts (name ∷ names) =
     ap₂ (λ first rest. cons_option first rest) (global_is bottom distance parts name)
     (all_globals bottom distance parts names)
-    ∙ mapped_behind (global_moved distance parts) (global_defined bottom parts name)
+    ∙ mapped_after (global_moved distance parts) (global_defined bottom parts name)
     (filter_map (global_defined bottom parts) names)
 
 pub globals_are : (bottom distance : ℕ) (parts : List Part)
@@ -211,7 +211,7 @@ find_mapped {X} {Y} p f (x ∷ xs) = by (p (f x)) (f x) x _ _ (find_mapped p f x
     by true y x more rest e h = ap (λ z. Some z) (sym h)
     by false y x more rest e h = e
 
--- the address is what the entry that counts is worth
+-- the address is the value of the entry that counts
 pub address_is : (bottom : ℕ) (parts : List Part)
     → transfer_address bottom parts
     ≡ unwrap_or (option_map (transfer_value bottom parts) (counting_transfer bottom parts)) 1

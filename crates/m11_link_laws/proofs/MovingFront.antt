@@ -4,7 +4,7 @@ use Rattle.std.specs.List.{cons_option}
 use Rattle.std.specs.Option.{option_map}
 use Rattle.m11_modules.specs.Parts.{Part}
 use Rattle.m11_link_text.specs.Findings.{Agree, Findings, findings_of}
-use Rattle.m11_link.specs.MapText.{is_strength, undefined_by, undefined_names, undefined_write, undefined_writes}
+use Rattle.m11_link.specs.Front.{is_strength, undefined_by, undefined_names, undefined_write, undefined_writes}
 use Rattle.m11_link.specs.Written.{link_writes}
 use Rattle.m11_link.proofs.Agreeing.{link_same}
 use Rattle.m11_link_laws.specs.Moving.{Moved, findings_moved, global_moves, moved}

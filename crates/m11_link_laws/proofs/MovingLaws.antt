@@ -1,4 +1,4 @@
--- Links of the same parts at two bottoms: what the definitions of moves come to for the findings of both.
+-- Links of the same parts at two bottoms: what the definitions of moves yield for the findings of both.
 use Rattle.std.proofs.Common.{◌≡◌, ℕ, ◌+◌, Bool, true, false, ◌&&◌, if◌then◌else◌, List, [], ◌∷◌, ◌++◌, map, Option, Some, None, refl, ap, ap₂, ◌∙◌}
 use Rattle.m11_obj.specs.declared.gsd.GsdEntry.{GsdEntry}
 use Rattle.m11_obj.specs.declared.gsd.GsdKind.{GsdKind}
@@ -9,9 +9,9 @@ use Rattle.m11_modules.specs.Parts.{Part, Directory, Entry, EndOfDirectory, Text
 use Rattle.m11_modules.specs.Places.{current_section, modules_in, this_module}
 use Rattle.m11_layout.specs.Sections.{attributes_by}
 use Rattle.m11_link_text.specs.Findings.{Findings, findings_of}
-use Rattle.m11_link_text.specs.Storing.{stored_bytes, symbol, value_of}
-use Rattle.m11_link.specs.Written.{PlacedText, defined_names, different_writes, ended_writes, has_ended, parts_writes, placed_text, relocations_behind, text_writes, with_relocations, writes_at, writes_behind, writes_by}
-use Rattle.m11_link_laws.specs.Moving.{Moved, all_stay, bytes_moved, ended_moved, global_moves, is_displaced, moved, moved_behind, moves, number_moved, part_moved, relocations_moved, stores_limits, target_moves, text_moved, value_moved}
+use Rattle.m11_link_text.specs.Relocation.{stored_bytes, symbol, value_of}
+use Rattle.m11_link.specs.Written.{PlacedText, defined_names, different_writes, ended_writes, has_ended, parts_writes, placed_text, relocations_after, text_writes, with_relocations, writes_at, writes_after, writes_by}
+use Rattle.m11_link_laws.specs.Moving.{Moved, all_stay, bytes_moved, ended_moved, global_moves, is_displaced, moved, moved_after, moves, number_moved, part_moved, relocations_moved, stores_limits, target_moves, text_moved, value_moved}
 use Rattle.m11_link_laws.proofs.MovingFindings.{findings_moved, symbol_is}
 use Rattle.m11_link_laws.proofs.MovingStored.{bytes_far, low_bytes, placed_far, relocations_far, relocations_stay, value_far}
 
@@ -34,39 +34,39 @@ module _ (distance : ℕ) (parts : List Part) (near far : Findings) (m : Moved d
   entry_is kind.ProgramSection index defined entry = different_is index (attributes_by kind.ProgramSection entry)
   entry_is kind.Identification index defined entry = refl
 
-  ended_is : (index : ℕ) (section : ℕ × ℕ) (address : ℕ) (bytes : List ℕ) (behind : List Part)
-      → ended_writes far (placed_text far index section address bytes) behind
+  ended_is : (index : ℕ) (section : ℕ × ℕ) (address : ℕ) (bytes : List ℕ) (following : List Part)
+      → ended_writes far (placed_text far index section address bytes) following
       ≡ ended_moved distance parts near (moves parts index section)
-      (placed_text near index section address bytes) behind
-  ended_is index section address bytes behind =
-      ap (λ text. ended_writes far text behind)
+      (placed_text near index section address bytes) following
+  ended_is index section address bytes following =
+      ap (λ text. ended_writes far text following)
       (placed_far distance parts near far m.base symbols m.bottom m.top index section address bytes)
-      ∙ ap (λ text. if has_ended behind then text_writes text else [])
+      ∙ ap (λ text. if has_ended following then text_writes text else [])
       (relocations_far distance parts near far m.base symbols m.bottom m.top (moves parts index section)
-      (placed_text near index section address bytes) (relocations_behind behind))
+      (placed_text near index section address bytes) (relocations_after following))
 
-  part_is : (before : List Part) (part : Part) (behind : List Part)
-      → writes_at far before part behind ≡ part_moved distance parts near before part behind
+  part_is : (before : List Part) (part : Part) (following : List Part)
+      → writes_at far before part following ≡ part_moved distance parts near before part following
   unfolding writes_at part_moved
-  part_is before (Entry entry) behind = entry_is entry.kind (modules_in before) (defined_names before) entry
-  part_is before (Text address bytes) behind =
-      ended_is (modules_in before) (current_section (this_module before)) address bytes behind
-  part_is before Directory behind = refl
-  part_is before EndOfDirectory behind = refl
-  part_is before Relocations behind = refl
-  part_is before (Relocated relocation) behind = refl
-  part_is before EndOfModule behind = refl
-  part_is before EndOfFile behind = refl
+  part_is before (Entry entry) following = entry_is entry.kind (modules_in before) (defined_names before) entry
+  part_is before (Text address bytes) following =
+      ended_is (modules_in before) (current_section (this_module before)) address bytes following
+  part_is before Directory following = refl
+  part_is before EndOfDirectory following = refl
+  part_is before Relocations following = refl
+  part_is before (Relocated relocation) following = refl
+  part_is before EndOfModule following = refl
+  part_is before EndOfFile following = refl
 
-  behind_is : (before others : List Part)
-      → writes_behind far before others ≡ moved_behind distance parts near before others
-  behind_is before [] = refl
-  behind_is before (part ∷ others) =
-      ap₂ (λ first rest. first ++ rest) (part_is before part others) (behind_is (before ++ part ∷ []) others)
+  after_is : (before others : List Part)
+      → writes_after far before others ≡ moved_after distance parts near before others
+  after_is before [] = refl
+  after_is before (part ∷ others) =
+      ap₂ (λ first rest. first ++ rest) (part_is before part others) (after_is (before ++ part ∷ []) others)
 
-  parts_are : (others : List Part) → parts_writes far others ≡ moved_behind distance parts near [] others
+  parts_are : (others : List Part) → parts_writes far others ≡ moved_after distance parts near [] others
   unfolding parts_writes
-  parts_are others = behind_is [] others
+  parts_are others = after_is [] others
 
 -- ---- the findings of both links
 
@@ -78,7 +78,7 @@ symbols_are bottom distance parts name = symbol_is bottom distance parts name
 
 pub parts_move : (bottom distance : ℕ) (parts others : List Part)
     → parts_writes (findings_of (bottom + distance) parts) others
-    ≡ moved_behind distance parts (findings_of bottom parts) [] others
+    ≡ moved_after distance parts (findings_of bottom parts) [] others
 parts_move bottom distance parts others =
     parts_are distance parts (findings_of bottom parts) (findings_of (bottom + distance) parts)
     (findings_moved bottom distance parts) (symbols_are bottom distance parts) others

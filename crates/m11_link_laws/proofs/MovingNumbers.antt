@@ -1,6 +1,6 @@
--- Sums and differences modulo 200000 and 400, behind which a distance is added.
+-- Sums and differences modulo 200000 and 400, after which a distance is added.
 use Rattle.std.proofs.Common.{◌≡◌, ℕ, ◌+◌, ◌-◌, ◌%◌, Bool, true, false, refl, arith}
-use Rattle.m11_link_text.specs.Storing.{behind, less, modulo}
+use Rattle.m11_link_text.specs.Relocation.{following, less, modulo}
 use Rattle.m11_link_laws.specs.Moving.{farther, moved, number_moved}
 
 far_sum : (distance first second : ℕ)
@@ -39,8 +39,8 @@ location_far : (distance value location : ℕ)
 location_far distance value location = omega arith
 
 pub displacement_moved : (distance value location : ℕ) (b c : Bool)
-    → less (moved distance b value) (behind (moved distance c location))
-    ≡ number_moved 65536 distance b c (less value (behind location))
+    → less (moved distance b value) (following (moved distance c location))
+    ≡ number_moved 65536 distance b c (less value (following location))
 displacement_moved distance value location true true = both_far distance value location
 displacement_moved distance value location true false = value_far distance value location
 displacement_moved distance value location false true = location_far distance value location

@@ -12,9 +12,9 @@ use Rattle.m11_modules.specs.Rules.{lies_within}
 use Rattle.m11_layout.specs.declared.fault.LinkOutput.{LinkOutput}
 use Rattle.m11_layout.specs.declared.fault.LinkOutput.TheVariants.{Tape}
 use Rattle.m11_link_text.specs.Findings.{Findings, findings_of}
-use Rattle.m11_link_text.specs.Storing.{modulo, replaced, stored_bytes, value_bytes}
-use Rattle.m11_link.specs.Written.{PlacedText, block_at, has_ended, parts_writes, placed_text, relocations_behind, text_writes, with_relocation, with_relocations, writes_at, writes_behind}
-use Rattle.m11_link_laws.specs.Moving.{bytes_moved, moved_behind, moves, part_moved, relocation_moved, relocations_moved, shape_of, text_moved}
+use Rattle.m11_link_text.specs.Relocation.{modulo, replaced, stored_bytes, value_bytes}
+use Rattle.m11_link.specs.Written.{PlacedText, block_at, has_ended, parts_writes, placed_text, relocations_after, text_writes, with_relocation, with_relocations, writes_at, writes_after}
+use Rattle.m11_link_laws.specs.Moving.{bytes_moved, moved_after, moves, part_moved, relocation_moved, relocations_moved, shape_of, text_moved}
 use Rattle.m11_link_laws.proofs.MovingLaws.{parts_move}
 
 -- ---- blocks
@@ -126,36 +126,36 @@ module _ (distance : ℕ) (parts : List Part) (near : Findings) where
       (relocations_length does_move text text.bytes relocations refl)
   ended_shape false does_move text relocations = refl
 
-  part_shape : (before : List Part) (part : Part) (behind : List Part)
-      → map shape_of (part_moved distance parts near before part behind)
-      ≡ map shape_of (writes_at near before part behind)
+  part_shape : (before : List Part) (part : Part) (following : List Part)
+      → map shape_of (part_moved distance parts near before part following)
+      ≡ map shape_of (writes_at near before part following)
   unfolding part_moved writes_at
-  part_shape before (Text address bytes) behind =
+  part_shape before (Text address bytes) following =
       let index = modules_in before in
       let section = current_section (this_module before) in
-      ended_shape (has_ended behind) (moves parts index section) (placed_text near index section address bytes)
-      (relocations_behind behind)
-  part_shape before (Entry entry) behind = refl
-  part_shape before Directory behind = refl
-  part_shape before EndOfDirectory behind = refl
-  part_shape before Relocations behind = refl
-  part_shape before (Relocated relocation) behind = refl
-  part_shape before EndOfModule behind = refl
-  part_shape before EndOfFile behind = refl
+      ended_shape (has_ended following) (moves parts index section) (placed_text near index section address bytes)
+      (relocations_after following)
+  part_shape before (Entry entry) following = refl
+  part_shape before Directory following = refl
+  part_shape before EndOfDirectory following = refl
+  part_shape before Relocations following = refl
+  part_shape before (Relocated relocation) following = refl
+  part_shape before EndOfModule following = refl
+  part_shape before EndOfFile following = refl
 
-  behind_shape : (before others : List Part)
-      → map shape_of (moved_behind distance parts near before others)
-      ≡ map shape_of (writes_behind near before others)
-  behind_shape before [] = refl
-  behind_shape before (part ∷ others) =
+  after_shape : (before others : List Part)
+      → map shape_of (moved_after distance parts near before others)
+      ≡ map shape_of (writes_after near before others)
+  after_shape before [] = refl
+  after_shape before (part ∷ others) =
       map-append shape_of (part_moved distance parts near before part others)
-      (moved_behind distance parts near (before ++ part ∷ []) others)
-      ∙ ap₂ (λ first rest. first ++ rest) (part_shape before part others) (behind_shape (before ++ part ∷ []) others)
+      (moved_after distance parts near (before ++ part ∷ []) others)
+      ∙ ap₂ (λ first rest. first ++ rest) (part_shape before part others) (after_shape (before ++ part ∷ []) others)
       ∙ sym (map-append shape_of (writes_at near before part others)
-      (writes_behind near (before ++ part ∷ []) others))
+      (writes_after near (before ++ part ∷ []) others))
 
 shapes_are : (near : Findings) (others : List Part)
-    → map shape_of (writes_behind near [] others) ≡ map shape_of (parts_writes near others)
+    → map shape_of (writes_after near [] others) ≡ map shape_of (parts_writes near others)
 unfolding parts_writes
 shapes_are near others = refl
 
@@ -164,5 +164,5 @@ pub shapes_stay : (bottom distance : ℕ) (parts others : List Part)
     ≡ map shape_of (parts_writes (findings_of bottom parts) others)
 shapes_stay bottom distance parts others =
     ap (λ writes. map shape_of writes) (parts_move bottom distance parts others)
-    ∙ behind_shape distance parts (findings_of bottom parts) [] others
+    ∙ after_shape distance parts (findings_of bottom parts) [] others
     ∙ shapes_are (findings_of bottom parts) others

@@ -7,7 +7,7 @@ use Rattle.m11_obj.specs.declared.relocations.Target.TheVariants as target
 use Rattle.m11_modules.specs.Parts.{Part}
 use Rattle.m11_modules.specs.Rules.{lies_within}
 use Rattle.m11_link_text.specs.Findings.{Findings}
-use Rattle.m11_link_text.specs.Storing.{behind, less, modulo, replaced, stored_bytes, symbol, value_bytes, value_of}
+use Rattle.m11_link_text.specs.Relocation.{following, less, modulo, replaced, stored_bytes, symbol, value_bytes, value_of}
 use Rattle.m11_link.specs.Written.{PlacedText, placed_text, with_relocation, with_relocations}
 use Rattle.m11_link_laws.specs.Moving.{all_stay, bytes_moved, global_moves, is_alike, is_displaced, moved, moves, number_moved, relocation_moved, relocations_moved, stores_limits, target_moves, target_stays, text_moved, value_moved}
 use Rattle.m11_link_laws.proofs.MovingNumbers.{displacement_moved, low_moved, plain_moved, sum_moved}
@@ -17,16 +17,16 @@ module _ (distance : ℕ) (parts : List Part) (near far : Findings)
     → far.base index name ≡ moved distance (moves parts index name) (near.base index name))
     (symbols : (name : ℕ × ℕ) → symbol far name ≡ moved distance (global_moves parts name) (symbol near name))
     (bottom : far.bottom ≡ near.bottom + distance) (top : far.top ≡ near.top + distance) where
-  -- ---- addresses of what is named, and a constant behind them
+  -- ---- addresses of what is named, and a constant after them
 
   added : (constant here there : ℕ) (b : Bool) → there ≡ moved distance b here
       → modulo (there + constant) ≡ moved distance b (modulo (here + constant))
   added constant here there b e = ap (λ n. modulo (n + constant)) e ∙ sum_moved distance here constant b
 
   displaced : (location here there : ℕ) (b c : Bool) → there ≡ moved distance b here
-      → less there (behind (moved distance c location)) ≡ number_moved 65536 distance b c (less here (behind location))
+      → less there (following (moved distance c location)) ≡ number_moved 65536 distance b c (less here (following location))
   displaced location here there b c e =
-      ap (λ n. less n (behind (moved distance c location))) e ∙ displacement_moved distance here location b c
+      ap (λ n. less n (following (moved distance c location))) e ∙ displacement_moved distance here location b c
 
   plain : (here there : ℕ) (b : Bool) → there ≡ moved distance b here → there ≡ number_moved 65536 distance b false here
   plain here there b e = e ∙ plain_moved distance here b

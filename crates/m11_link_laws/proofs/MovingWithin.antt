@@ -1,4 +1,4 @@
--- Where the farther link isn't too large, no base is told modulo anything.
+-- Where the farther link isn't too large, no base is given modulo anything.
 use Rattle.std.proofs.Common.{◌≡◌, ℕ, ◌+◌, ◌%◌, ◌≤◌, sum, Bool, true, false, ◌&&◌, ◌||◌, not, nat_eq, nat_lt, if◌then◌else◌, List, [], ◌∷◌, ◌++◌, map, is_some, Option, Some, None, refl, sym, ap, ap₂, ◌∙◌, subst, true≢false, arith}
 use Rattle.std.specs.List.{filter_map, list_any}
 use Rattle.std.specs.Map.{keys_of, lookup}
@@ -12,11 +12,11 @@ use Rattle.std.proofs.lemmas.Map.Made.{is_some-lookup}
 use Rattle.indexmap.specs.IndexSet.{insert_key}
 use Rattle.m11_modules.specs.Names.{is_name}
 use Rattle.m11_modules.specs.Parts.{Part}
-use Rattle.m11_modules.specs.Places.{distinct, distinct_behind, modules_in, section_in, section_names, sections_in}
+use Rattle.m11_modules.specs.Places.{distinct, distinct_after, modules_in, section_in, section_names, sections_in}
 use Rattle.m11_layout.specs.Modules.{module_at, modules_before}
 use Rattle.m11_layout.specs.Sections.{base_entered, contribution_base, ends_too_high, first_attributes, greatest, is_overlaid, is_relocatable, is_too_large, module_base, rounded, section_base, section_size, size_under, sizes_of}
 use Rattle.m11_layout.proofs.Finding.{is_name_same, lookup_append}
-use Rattle.m11_layout.proofs.Offsets.{earlier_sizes_more, entered_at, entered_more, told_where}
+use Rattle.m11_layout.proofs.Offsets.{earlier_sizes_more, entered_at, entered_more, reported_where}
 use Rattle.m11_layout.proofs.Sizing.{sizes_more}
 use Rattle.m11_layout.proofs.Walking.{grown}
 use Rattle.m11_link_laws.specs.Moving.{farther, moves, section_moves}
@@ -58,21 +58,21 @@ inserted_comes name seen other e = by (list_any (is_name other) seen) refl
         (or_left (is_name name other) false e)
 
 distinct_keeps : (name : Name) (seen names : List Name) → list_any (is_name name) seen ≡ true
-    → list_any (is_name name) (distinct_behind seen names) ≡ true
+    → list_any (is_name name) (distinct_after seen names) ≡ true
 distinct_keeps name seen [] e = e
 distinct_keeps name seen (other ∷ names) e =
     distinct_keeps name (insert_key is_name seen other) names (inserted_keeps name seen other e)
 
 distinct_comes : (name : Name) (seen names : List Name) → list_any (is_name name) names ≡ true
-    → list_any (is_name name) (distinct_behind seen names) ≡ true
+    → list_any (is_name name) (distinct_after seen names) ≡ true
 distinct_comes name seen [] e = absurd (true≢false (sym e))
 distinct_comes name seen (other ∷ names) e =
     by (is_name name other) refl e (λ h. distinct_comes name (insert_key is_name seen other) names h)
   where
     by : (b : Bool) → is_name name other ≡ b → (b || list_any (is_name name) names) ≡ true
         → (list_any (is_name name) names ≡ true
-        → list_any (is_name name) (distinct_behind (insert_key is_name seen other) names) ≡ true)
-        → list_any (is_name name) (distinct_behind (insert_key is_name seen other) names) ≡ true
+        → list_any (is_name name) (distinct_after (insert_key is_name seen other) names) ≡ true)
+        → list_any (is_name name) (distinct_after (insert_key is_name seen other) names) ≡ true
     by true f e rest = distinct_keeps name (insert_key is_name seen other) names (inserted_comes name seen other f)
     by false f e rest = rest e
 
@@ -85,10 +85,10 @@ none_right : (first rest : Option ℕ) → option_or first rest ≡ None → res
 none_right None rest e = e
 none_right (Some x) rest e = search
 
-told_none : (b : Bool) (part : Part) (name : Name) → lookup (is_name name) (filter_map section_in (part ∷ [])) ≡ None
-    → lookup (is_name name) (told_where b part) ≡ None
-told_none true part name e = e
-told_none false part name e = refl
+reported_none : (b : Bool) (part : Part) (name : Name) → lookup (is_name name) (filter_map section_in (part ∷ [])) ≡ None
+    → lookup (is_name name) (reported_where b part) ≡ None
+reported_none true part name e = e
+reported_none false part name e = refl
 
 abbrev Unentered : List Part → Type 0
 Unentered parts = (index : ℕ) (name : Name) → lookup (is_name name) (filter_map section_in parts) ≡ None
@@ -97,14 +97,14 @@ Unentered parts = (index : ℕ) (name : Name) → lookup (is_name name) (filter_
 unentered_more : (before : List Part) (part : Part) → Unentered before → Unentered (before ++ part ∷ [])
 unentered_more before part h index name e =
     let both = sym (lookup_append (is_name name) (filter_map section_in before) (filter_map section_in (part ∷ [])))
-    ∙ ap (λ told. lookup (is_name name) told) (sym (filter_map-append section_in before (part ∷ []))) ∙ e in
+    ∙ ap (λ reported. lookup (is_name name) reported) (sym (filter_map-append section_in before (part ∷ []))) ∙ e in
     let first = none_left (lookup (is_name name) (filter_map section_in before))
     (lookup (is_name name) (filter_map section_in (part ∷ []))) both in
     let last = none_right (lookup (is_name name) (filter_map section_in before))
     (lookup (is_name name) (filter_map section_in (part ∷ []))) both in
     entered_more before part index name
     ∙ ap₂ (λ one other. option_or one other) (h index name first)
-    (told_none (nat_eq (modules_in before) index) part name last)
+    (reported_none (nat_eq (modules_in before) index) part name last)
 
 unentered_none : Unentered []
 unfolding module_at sections_in
@@ -151,7 +151,7 @@ sum_rounded : (xs ys : List ℕ) → rounded_sum (xs ++ ys) ≡ rounded_sum xs +
 sum_rounded xs ys = ap sum (map-append rounded xs ys) ∙ sum_by-append (λ n. n) (map rounded xs) (map rounded ys)
 
 part_of_sum : (b : Bool) (part : Part) (name : Name)
-    → rounded_sum (filter_map (size_under name) (told_where b part))
+    → rounded_sum (filter_map (size_under name) (reported_where b part))
     ≤ rounded_sum (filter_map (size_under name) (filter_map section_in (part ∷ [])))
 part_of_sum true part name = omega arith
 part_of_sum false part name = omega arith
@@ -166,7 +166,7 @@ both_less a b c d a' b' h k e f = omega arith
 earlier_more : (before : List Part) (part : Part) → Earlier before → Earlier (before ++ part ∷ [])
 earlier_more before part h index name =
     let first = sizes_of (modules_before before index) name in
-    let more = filter_map (size_under name) (told_where (nat_lt (modules_in before) index) part) in
+    let more = filter_map (size_under name) (reported_where (nat_lt (modules_in before) index) part) in
     let all = sizes_of before name in
     let last = filter_map (size_under name) (filter_map section_in (part ∷ [])) in
     both_less (rounded_sum first) (rounded_sum all) (rounded_sum more) (rounded_sum last) _ _ (h index name)

@@ -15,19 +15,19 @@ use Rattle.m11_modules.specs.declared.stage.Stage.{Stage}
 use Rattle.m11_modules.specs.declared.stage.Stage.TheVariants.{Between, InDirectory, InBody}
 use Rattle.m11_modules.specs.Names.{is_among}
 use Rattle.m11_modules.specs.Parts.{Part, Directory, Entry, EndOfDirectory, Text, Relocations, Relocated, EndOfModule, EndOfFile}
-use Rattle.m11_modules.specs.Places.{current_section, known_of, modules_in, stage_behind, stage_from, this_module}
+use Rattle.m11_modules.specs.Places.{current_section, known_of, modules_in, stage_after, stage_from, this_module}
 use Rattle.m11_modules.specs.Rules.{defines, fault_known, fault_of, first_fault, lies_within, may_stand}
-use Rattle.m11_layout.specs.Modules.{told_behind}
+use Rattle.m11_layout.specs.Modules.{reported_after}
 use Rattle.m11_layout.specs.Sections.{attributes_by}
 use Rattle.m11_layout.specs.declared.fault.LinkOutput.TheVariants.{Tape}
 use Rattle.m11_layout.proofs.Finding.{neither}
 use Rattle.m11_layout.proofs.Walking.{head_none, rest_none}
 use Rattle.m11_link_text.specs.Findings.{Findings}
-use Rattle.m11_link.specs.MapText.{front_writes, global_write, global_writes, last_writes, map_writes, name_write, name_writes, section_write, section_writes, undefined_names, undefined_write, undefined_writes, weak_writes}
-use Rattle.m11_link_text.specs.Storing.{modulo, relocated, replaced, stored_bytes}
-use Rattle.m11_link.specs.Writes.{Write, gained, gained_by, to_tape}
-use Rattle.m11_link.specs.Written.{PlacedText, block_at, defined_names, different_writes, ended_writes, entry_writes, has_ended, link_writes, parts_writes, placed_text, relocations_behind, text_writes, with_relocation, with_relocations, writes_at, writes_behind, writes_by}
-use Rattle.m11_link_laws.specs.PlainTexts.{block_of, data_block, only_selects, stores, text_in, texts_of}
+use Rattle.m11_link.specs.Front.{front_writes, global_write, global_writes, last_writes, map_writes, name_write, name_writes, section_write, section_writes, undefined_names, undefined_write, undefined_writes, weak_writes}
+use Rattle.m11_link_text.specs.Relocation.{modulo, relocated, replaced, stored_bytes}
+use Rattle.m11_link.specs.Outputs.{Write, gained, gained_by, to_tape}
+use Rattle.m11_link.specs.Written.{PlacedText, block_at, defined_names, different_writes, ended_writes, entry_writes, has_ended, link_writes, parts_writes, placed_text, relocations_after, text_writes, with_relocation, with_relocations, writes_at, writes_after, writes_by}
+use Rattle.m11_link_laws.specs.Texts.{block_of, data_block, only_selects, stores, text_in, texts_of}
 
 -- ---- what goes to the tape
 
@@ -93,7 +93,7 @@ front_elsewhere : (found : Findings) → Elsewhere (front_writes found)
 unfolding front_writes
 front_elsewhere found = both _ _ (undefined_elsewhere found) (map_elsewhere found)
 
--- ---- entries tell messages only
+-- ---- entries report messages only
 
 unless : (b : Bool) (write : Write) → gained_by Tape write.output write.bytes ≡ []
     → Elsewhere (if b then [] else write ∷ [])
@@ -165,12 +165,12 @@ same_text found text relocation e = ap (λ bytes. let t : PlacedText = record te
     (same_bytes found text.module_index text.base text.address relocation text.bytes e)
 
 unchanged : (found : Findings) (text : PlacedText) (parts : List Part) → list_any stores parts ≡ false
-    → with_relocations found text (relocations_behind parts) ≡ text
+    → with_relocations found text (relocations_after parts) ≡ text
 unchanged found text [] e = refl
 unchanged found text (Relocations ∷ parts) e = unchanged found text parts e
 unchanged found text (Relocated relocation ∷ parts) e =
     let n = neither (not (only_selects relocation.target)) (list_any stores parts) e in
-    ap (λ t. with_relocations found t (relocations_behind parts)) (same_text found text relocation n.0)
+    ap (λ t. with_relocations found t (relocations_after parts)) (same_text found text relocation n.0)
     ∙ unchanged found text parts n.1
 unchanged found text (part ∷ parts) e = refl
 
@@ -210,10 +210,10 @@ stage_moves stage EndOfDirectory parts = refl
 stage_moves stage EndOfModule parts = refl
 stage_moves stage part parts = refl
 
--- the stage behind one more part
+-- the stage after one more part
 one_more : (before : List Part) (part : Part) (parts : List Part)
-    → stage_from (stage_behind (before ++ part ∷ [])) parts ≡ stage_from (stage_behind before) (part ∷ parts)
-unfolding stage_behind
+    → stage_from (stage_after (before ++ part ∷ [])) parts ≡ stage_from (stage_after before) (part ∷ parts)
+unfolding stage_after
 one_more before part parts =
     ap (λ stage. stage_from stage parts) (stage_append Between before part)
     ∙ stage_moves (stage_from Between before) part parts
@@ -229,7 +229,7 @@ text_gained : (found : Findings) (text : PlacedText) (parts : List Part) → lis
     → has_ended parts ≡ true
     → gained Tape (ended_writes found text parts) ≡ data_block text.address text.bytes
 text_gained found text parts n e =
-    ap (λ b. gained Tape (if b then text_writes (with_relocations found text (relocations_behind parts)) else [])) e
+    ap (λ b. gained Tape (if b then text_writes (with_relocations found text (relocations_after parts)) else [])) e
     ∙ ap (λ t. gained Tape (text_writes t)) (unchanged found text parts n)
     ∙ block_gained text.address text.bytes
 
@@ -239,44 +239,44 @@ skipped xs ys bytes e f = tape_more xs ys ∙ ap₂ (λ some more. some ++ more)
 
 -- a text stands in the body of a module
 text_in_body : (before : List Part) (address : ℕ) (bytes : List ℕ) → fault_of before (Text address bytes) ≡ None
-    → stage_behind before ≡ InBody
+    → stage_after before ≡ InBody
 unfolding fault_known known_of
-text_in_body before address bytes e = in_body (stage_behind before) address bytes _ e
+text_in_body before address bytes e = in_body (stage_after before) address bytes _ e
 
-closed : (parts : List Part) → fault_of parts EndOfFile ≡ None → stage_behind parts ≡ Between
+closed : (parts : List Part) → fault_of parts EndOfFile ≡ None → stage_after parts ≡ Between
 unfolding fault_known known_of
-closed parts e = at_end (stage_behind parts) _ e
+closed parts e = at_end (stage_after parts) _ e
 
-behind : (found : Findings) (before parts : List Part) → first_fault before parts ≡ None
-    → stage_from (stage_behind before) parts ≡ Between → list_any stores parts ≡ false
-    → gained Tape (writes_behind found before parts) ≡ flat_map block_of (told_behind (text_in found) before parts)
+following : (found : Findings) (before parts : List Part) → first_fault before parts ≡ None
+    → stage_from (stage_after before) parts ≡ Between → list_any stores parts ≡ false
+    → gained Tape (writes_after found before parts) ≡ flat_map block_of (reported_after (text_in found) before parts)
 unfolding writes_at first_fault gained
-behind found before [] h s n = refl
-behind found before (Text address bytes ∷ parts) h s n =
+following found before [] h s n = refl
+following found before (Text address bytes ∷ parts) h s n =
     let all = before ++ Text address bytes ∷ [] in
     let head = head_none (fault_of before (Text address bytes)) (first_fault all parts) h in
     let rest = rest_none (fault_of before (Text address bytes)) (first_fault all parts) h in
     let text = placed_text found (modules_in before) (current_section (this_module before)) address bytes in
     let e = ended parts
     (ap (λ stage. stage_from stage parts) (sym (text_in_body before address bytes head)) ∙ s) in
-    tape_more (ended_writes found text parts) (writes_behind found all parts)
+    tape_more (ended_writes found text parts) (writes_after found all parts)
     ∙ ap₂ (λ some more. some ++ more) (text_gained found text parts n e)
-    (behind found all parts rest (one_more before (Text address bytes) parts ∙ s) n)
-behind found before (Entry entry ∷ parts) h s n =
+    (following found all parts rest (one_more before (Text address bytes) parts ∙ s) n)
+following found before (Entry entry ∷ parts) h s n =
     let all = before ++ Entry entry ∷ [] in
     let rest = rest_none (fault_of before (Entry entry)) (first_fault all parts) h in
-    skipped (entry_writes found (modules_in before) (defined_names before) entry) (writes_behind found all parts) _
+    skipped (entry_writes found (modules_in before) (defined_names before) entry) (writes_after found all parts) _
     (entry_elsewhere entry.kind found (modules_in before) (defined_names before) entry)
-    (behind found all parts rest (one_more before (Entry entry) parts ∙ s) n)
-behind found before (Relocated relocation ∷ parts) h s n =
+    (following found all parts rest (one_more before (Entry entry) parts ∙ s) n)
+following found before (Relocated relocation ∷ parts) h s n =
     let all = before ++ Relocated relocation ∷ [] in
     let rest = rest_none (fault_of before (Relocated relocation)) (first_fault all parts) h in
     let m = neither (not (only_selects relocation.target)) (list_any stores parts) n in
-    behind found all parts rest (one_more before (Relocated relocation) parts ∙ s) m.1
-behind found before (part ∷ parts) h s n =
+    following found all parts rest (one_more before (Relocated relocation) parts ∙ s) m.1
+following found before (part ∷ parts) h s n =
     let all = before ++ part ∷ [] in
     let rest = rest_none (fault_of before part) (first_fault all parts) h in
-    behind found all parts rest (one_more before part parts ∙ s) n
+    following found all parts rest (one_more before part parts ∙ s) n
 
 last_gained : (bytes : List ℕ) → gained Tape (to_tape bytes ∷ []) ≡ bytes
 unfolding gained
@@ -285,11 +285,11 @@ last_gained bytes = append-nil bytes
 pub tape_of_texts : (found : Findings) (parts : List Part) → first_fault [] parts ≡ None
     → fault_of parts EndOfFile ≡ None → list_any stores parts ≡ false
     → gained Tape (link_writes found parts) ≡ flat_map block_of (texts_of found parts) ++ tape_block found.transfer []
-unfolding texts_of parts_writes stage_behind
+unfolding texts_of parts_writes stage_after
 tape_of_texts found parts h e n =
     let last = to_tape (tape_block found.transfer []) ∷ [] in
     tape_more (front_writes found ++ parts_writes found parts) last
     ∙ ap₂ (λ some more. some ++ more)
     (skipped (front_writes found) (parts_writes found parts) _ (front_elsewhere found)
-    (behind found [] parts h (closed parts e) n))
+    (following found [] parts h (closed parts e) n))
     (last_gained (tape_block found.transfer []))

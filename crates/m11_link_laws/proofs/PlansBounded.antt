@@ -5,7 +5,7 @@ use Rattle.m11_modules.specs.Names.{is_name}
 use Rattle.m11_modules.specs.Parts.{Part}
 use Rattle.m11_modules.specs.Places.{section_names}
 use Rattle.m11_modules.specs.Rules.{first_fault}
-use Rattle.m11_layout.specs.Planning.{Bases, IsPlan, Planned, address_limit, bases_onto, placed}
+use Rattle.m11_layout.specs.Plan.{Bases, IsPlan, Planned, address_limit, bases_onto, placed}
 use Rattle.m11_layout.specs.Sections.{is_relocatable}
 use Rattle.m11_layout.specs.declared.definition.Total.{Total}
 use Rattle.m11_link_laws.proofs.TablesBounded.{one_entry, sections_kept}
@@ -42,14 +42,14 @@ placed_few bases next section found e =
     next (next + section.1.size) found e
 
 placed_then : (here : Option Bases) (before : ℕ) (sections : List ((ℕ × ℕ) × Total)) (found : Bases)
-    → ((behind : Bases) → here ≡ Some behind → length behind.bases ≤ before + 1)
-    → ((behind : Bases) → bases_onto behind.bases behind.top sections ≡ Some found
-    → length found.bases ≤ length behind.bases + length sections)
-    → option_and_then (λ behind. bases_onto behind.bases behind.top sections) here ≡ Some found
+    → ((following : Bases) → here ≡ Some following → length following.bases ≤ before + 1)
+    → ((following : Bases) → bases_onto following.bases following.top sections ≡ Some found
+    → length found.bases ≤ length following.bases + length sections)
+    → option_and_then (λ following. bases_onto following.bases following.top sections) here ≡ Some found
     → length found.bases ≤ before + (length sections + 1)
 placed_then None before sections found h k e = absurd (none_found found e)
-placed_then (Some behind) before sections found h k e =
-    let one = h behind refl in let rest = k behind e in omega (arith, one, rest)
+placed_then (Some following) before sections found h k e =
+    let one = h following refl in let rest = k following e in omega (arith, one, rest)
 
 one_longer : (m n : ℕ) → m + (n + 1) ≡ m + suc n
 one_longer m n = omega arith
@@ -66,7 +66,7 @@ all_placed bases next (section ∷ sections) found e =
     let P : ℕ → Type 0 = λ n. length found.bases ≤ n in
     subst P (one_longer (length bases) (length sections))
     (placed_then (placed bases next section) (length bases) sections found (placed_few bases next section)
-    (λ behind. all_placed behind.bases behind.top sections found) e)
+    (λ following. all_placed following.bases following.top sections found) e)
 
 pub bases_kept : (bottom : ℕ) (parts : List Part) (plan : Planned) → first_fault [] parts ≡ None
     → IsPlan bottom parts plan → length plan.bases ≤ length (section_names parts)

@@ -10,15 +10,15 @@ use Rattle.m11_modules.specs.declared.stage.Stage.{Stage}
 use Rattle.m11_modules.specs.declared.stage.Stage.TheVariants.{Between, InDirectory, InBody}
 use Rattle.m11_modules.specs.Grammar.{FileEnds, Item, RecordOf, items_parts}
 use Rattle.m11_modules.specs.Parts.{Part, Directory, Entry, EndOfDirectory, Text, Relocations, Relocated, EndOfModule, EndOfFile, parts_of}
-use Rattle.m11_modules.specs.Places.{Known, global_of, known_of, modules_in, section_names, sections_in, stage_behind, this_module}
+use Rattle.m11_modules.specs.Places.{Known, global_of, known_of, modules_in, section_names, sections_in, stage_after, this_module}
 use Rattle.m11_modules.specs.Rules.{InLimits, fault_of, first_fault, most_modules, most_sections}
-use Rattle.m11_modules.specs.Steps.{known_behind, with_entry, with_optional_global}
-use Rattle.m11_modules.proofs.KnownBehind.{known_behind_part}
+use Rattle.m11_modules.specs.Steps.{known_after, with_entry, with_optional_global}
+use Rattle.m11_modules.proofs.KnownAfter.{known_after_part}
 use Rattle.m11_layout.proofs.Walking.{head_none, rest_none}
-use Rattle.m11_link_laws.specs.Growing.{gathered_of}
+use Rattle.m11_link_laws.specs.Tables.{gathered_of}
 use Rattle.m11_link_laws.proofs.TablesBounded.{in_all, no_less, tables_of, entered_few}
 
--- ---- entries stand behind the beginning of a directory record
+-- ---- entries stand after the beginning of a directory record
 
 -- these parts, from this stage on, have no entry between modules
 abbrev Filled : Stage → List Part → Type 0
@@ -35,25 +35,25 @@ in_directory e = cc
 in_body : InBody ≡ Between → ⊥
 in_body e = cc
 
-entries_filled : (entries : List GsdEntry) (behind : List Part) (stage : Stage) → stage ≢ Between → Filled stage behind
-    → Filled stage (map (λ entry. Entry entry) entries ++ behind)
-entries_filled [] behind stage n f = f
-entries_filled (entry ∷ entries) behind stage n f = (n, entries_filled entries behind stage n f)
+entries_filled : (entries : List GsdEntry) (following : List Part) (stage : Stage) → stage ≢ Between → Filled stage following
+    → Filled stage (map (λ entry. Entry entry) entries ++ following)
+entries_filled [] following stage n f = f
+entries_filled (entry ∷ entries) following stage n f = (n, entries_filled entries following stage n f)
 
-relocations_filled : (relocations : List Relocation) (behind : List Part) (stage : Stage) → Filled stage behind
-    → Filled stage (map (λ relocation. Relocated relocation) relocations ++ behind)
-relocations_filled [] behind stage f = f
-relocations_filled (relocation ∷ relocations) behind stage f = relocations_filled relocations behind stage f
+relocations_filled : (relocations : List Relocation) (following : List Part) (stage : Stage) → Filled stage following
+    → Filled stage (map (λ relocation. Relocated relocation) relocations ++ following)
+relocations_filled [] following stage f = f
+relocations_filled (relocation ∷ relocations) following stage f = relocations_filled relocations following stage f
 
-record_filled : (content : records.Content) (behind : List Part) (stage : Stage)
-    → ((later : Stage) → Filled later behind) → Filled stage (parts_of content ++ behind)
-record_filled (records.Gsd entries) behind stage f =
-    entries_filled entries behind InDirectory in_directory (f InDirectory)
-record_filled records.EndOfGsd behind stage f = f InBody
-record_filled (records.Text address bytes) behind stage f = f stage
-record_filled (records.Relocations relocations) behind stage f = relocations_filled relocations behind stage (f stage)
-record_filled records.InternalSymbols behind stage f = f stage
-record_filled records.EndOfModule behind stage f = f Between
+record_filled : (content : records.Content) (following : List Part) (stage : Stage)
+    → ((later : Stage) → Filled later following) → Filled stage (parts_of content ++ following)
+record_filled (records.Gsd entries) following stage f =
+    entries_filled entries following InDirectory in_directory (f InDirectory)
+record_filled records.EndOfGsd following stage f = f InBody
+record_filled (records.Text address bytes) following stage f = f stage
+record_filled (records.Relocations relocations) following stage f = relocations_filled relocations following stage (f stage)
+record_filled records.InternalSymbols following stage f = f stage
+record_filled records.EndOfModule following stage f = f Between
 
 items_filled : (items : List Item) (stage : Stage) → Filled stage (items_parts items)
 items_filled [] stage = tt
@@ -80,10 +80,10 @@ global_alone : (global : Option (ℕ × ℕ)) (known : Known) → ((with_optiona
 global_alone None known = (refl, refl)
 global_alone (Some name) known = (refl, refl)
 
--- one more part, and those behind it from there on
+-- one more part, and those after it from there on
 entering_step : (known : Known) (part : Part) (parts : List Part) → Filled known.stage (part ∷ parts) → Entering known
-    → Entering (known_behind known part) × Filled (known_behind known part).stage parts
-unfolding known_behind
+    → Entering (known_after known part) × Filled (known_after known part).stage parts
+unfolding known_after
 entering_step known Directory parts f h = ((λ e. absurd (in_directory e)), f)
 entering_step known (Entry entry) parts f h =
     let same = entry_stage entry.kind entry known in
@@ -99,18 +99,18 @@ entering_step known (Relocated relocation) parts f h =
 entering_step known EndOfModule parts f h = ((λ e. refl), f)
 entering_step known EndOfFile parts f h = (h, f)
 
-entering_behind : (before parts : List Part) → first_fault before parts ≡ None
+entering_after : (before parts : List Part) → first_fault before parts ≡ None
     → Filled (known_of before).stage parts → Entering (known_of before) → Entering (known_of (before ++ parts))
 unfolding first_fault
-entering_behind before [] n f h =
+entering_after before [] n f h =
     let P : List Part → Type 0 = λ all. Entering (known_of all) in subst P (sym (append-nil before)) h
-entering_behind before (part ∷ parts) n f h =
+entering_after before (part ∷ parts) n f h =
     let head = head_none (fault_of before part) (first_fault (before ++ part ∷ []) parts) n in
     let rest = rest_none (fault_of before part) (first_fault (before ++ part ∷ []) parts) n in
     let P : List Part → Type 0 = λ all. Entering (known_of all) in
     let Q : Known → Type 0 = λ known. Entering known × Filled known.stage parts in
-    let step = subst Q (sym (known_behind_part before part head)) (entering_step (known_of before) part parts f h) in
-    subst P (append_snoc before part parts) (entering_behind (before ++ part ∷ []) parts rest step.1 step.0)
+    let step = subst Q (sym (known_after_part before part head)) (entering_step (known_of before) part parts f h) in
+    subst P (append_snoc before part parts) (entering_after (before ++ part ∷ []) parts rest step.1 step.0)
 
 entering_none : Entering (known_of [])
 unfolding known_of this_module sections_in
@@ -119,7 +119,7 @@ entering_none e = refl
 records_enter : (items : List Item) → first_fault [] (items_parts items) ≡ None
     → Entering (known_of (items_parts items))
 records_enter items n =
-    entering_behind [] (items_parts items) n (items_filled items (known_of []).stage) entering_none
+    entering_after [] (items_parts items) n (items_filled items (known_of []).stage) entering_none
 
 -- ---- so the sections of all modules are no more than the limits allow
 
@@ -150,6 +150,6 @@ records_contribute bottom items n =
     let t = tables_of bottom parts n in
     no_less (length (gathered_of bottom parts).contributions) (length (sections_in parts))
     (most_modules * most_sections) t.contributions
-    (within_limits (stage_behind parts) (modules_in parts) (length (section_names parts))
+    (within_limits (stage_after parts) (modules_in parts) (length (section_names parts))
     (length (sections_in (this_module parts))) (length (sections_in parts)) t.known.modules t.known.sections t.entered
     (entered_few parts t.known) (λ e. ap length (records_enter items n e)))

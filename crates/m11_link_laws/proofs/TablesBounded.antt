@@ -11,10 +11,10 @@ use Rattle.m11_obj.specs.declared.gsd.GsdKind.{GsdKind}
 use Rattle.m11_obj.specs.declared.gsd.GsdKind.TheVariants.{ModuleName, ControlSection, InternalSymbol, TransferAddress, GlobalSymbol, ProgramSection, Identification}
 use Rattle.m11_modules.specs.Names.{is_among, is_name}
 use Rattle.m11_modules.specs.Parts.{Part, Directory, Entry, EndOfDirectory, Text, Relocations, Relocated, EndOfModule, EndOfFile}
-use Rattle.m11_modules.specs.Places.{Known, distinct, ends_module, global_in, global_names, global_of, known_of, modules_in, section_by, section_in, section_names, sections_in, stage_behind, this_module}
+use Rattle.m11_modules.specs.Places.{Known, distinct, ends_module, global_in, global_names, global_of, known_of, modules_in, section_by, section_in, section_names, sections_in, stage_after, this_module}
 use Rattle.m11_modules.specs.Rules.{defines, fault_of, first_fault, has_bits, most_modules, most_sections}
-use Rattle.m11_modules.proofs.KnownBehind.{known_behind_part, this_module_goes_on}
-use Rattle.m11_layout.specs.Gathering.{Gathered, gathered_behind, is_contribution, nothing_gathered, with_definition, with_entry, with_reference, with_relocated, with_weak}
+use Rattle.m11_modules.proofs.KnownAfter.{known_after_part, this_module_goes_on}
+use Rattle.m11_layout.specs.Tables.{Gathered, gathered_after, is_contribution, nothing_gathered, with_definition, with_entry, with_reference, with_relocated, with_weak}
 use Rattle.m11_layout.specs.Globals.{definitions_of, references_of}
 use Rattle.m11_layout.proofs.Finding.{Apart, apart_inserted, is_name_itself, is_name_same}
 use Rattle.m11_layout.proofs.Keeping.{relocated_keeps, symbol_keeps}
@@ -22,10 +22,10 @@ use Rattle.m11_layout.proofs.ModulesOfParts.{modules_more, one_ended}
 use Rattle.m11_layout.proofs.PlansOfParts.{gathered_means}
 use Rattle.m11_layout.proofs.Walking.{walked}
 use Rattle.m11_link.specs.Written.{defined_names}
-use Rattle.m11_link_laws.specs.Growing.{ContributionsKept, GlobalsKept, ModulesKept, SectionsKept, gathered_of}
+use Rattle.m11_link_laws.specs.Tables.{ContributionsKept, GlobalsKept, ModulesKept, SectionsKept, gathered_of}
 use Rattle.m11_link_laws.proofs.FewerNames.{Within, distinct_no_more, no_more, among_distinct}
 use Rattle.m11_link_laws.proofs.KnownBounded.{Bounded, bounded_step, modules_within}
-use Rattle.m11_link_laws.proofs.NamesTold.{definitions_within, references_within, weak_within}
+use Rattle.m11_link_laws.proofs.NamesReported.{definitions_within, references_within, weak_within}
 
 -- ---- contributions: one more at most for each entry of a section
 
@@ -39,8 +39,8 @@ module _ {K V : Type 0} (eq : K → K → Bool) where
       by true h = omega arith
       by false h = omega (arith, h)
 
-abbrev contributions_told : Gathered → List ((ℕ × (ℕ × ℕ)) × ℕ)
-contributions_told g = g.contributions
+abbrev contributions_reported : Gathered → List ((ℕ × (ℕ × ℕ)) × ℕ)
+contributions_reported g = g.contributions
 
 -- a part that leaves them alone
 left_alone : (old new : List ((ℕ × (ℕ × ℕ)) × ℕ)) (entered : List ((ℕ × ℕ) × ℕ)) → new ≡ old
@@ -64,13 +64,13 @@ entry_contributes bottom InternalSymbol entry g = left_alone g.contributions _ [
 entry_contributes bottom TransferAddress entry g = left_alone g.contributions _ [] refl
 entry_contributes bottom GlobalSymbol entry g =
     left_alone g.contributions _ []
-    (symbol_keeps contributions_told g (λ definitions references weak. refl) entry)
+    (symbol_keeps contributions_reported g (λ definitions references weak. refl) entry)
 entry_contributes bottom Identification entry g = left_alone g.contributions _ [] refl
 
 contributes : (bottom : ℕ) (g : Gathered) (part : Part)
-    → length (gathered_behind bottom g part).contributions
+    → length (gathered_after bottom g part).contributions
     ≤ length g.contributions + length (filter_map section_in (part ∷ []))
-unfolding gathered_behind
+unfolding gathered_after
 contributes bottom g Directory = left_alone g.contributions _ [] refl
 contributes bottom g (Entry entry) = entry_contributes bottom entry.kind entry g
 contributes bottom g EndOfDirectory = left_alone g.contributions _ [] refl
@@ -78,7 +78,7 @@ contributes bottom g (Text address bytes) = left_alone g.contributions _ [] refl
 contributes bottom g Relocations = left_alone g.contributions _ [] refl
 contributes bottom g (Relocated relocation) =
     left_alone g.contributions _ []
-    (relocated_keeps contributions_told g (λ definitions references weak. refl) (global_of relocation.target))
+    (relocated_keeps contributions_reported g (λ definitions references weak. refl) (global_of relocation.target))
 contributes bottom g EndOfModule = left_alone g.contributions _ [] refl
 contributes bottom g EndOfFile = left_alone g.contributions _ [] refl
 
@@ -217,8 +217,8 @@ relocated_once : (global : Option (ℕ × ℕ)) (g : Gathered) → Once g → On
 relocated_once None g d = d
 relocated_once (Some name) g d = d
 
-once_step : (bottom : ℕ) (g : Gathered) (part : Part) → Once g → Once (gathered_behind bottom g part)
-unfolding gathered_behind
+once_step : (bottom : ℕ) (g : Gathered) (part : Part) → Once g → Once (gathered_after bottom g part)
+unfolding gathered_after
 once_step bottom g Directory d = d
 once_step bottom g (Entry entry) d = entry_once bottom entry.kind entry g d
 once_step bottom g EndOfDirectory d = d
@@ -241,11 +241,11 @@ one_part : (old new sections sections' more : ℕ) → new ≤ old + more → se
 one_part old new sections sections' more n s h = omega (arith, n, s, h)
 
 tables_step : (bottom : ℕ) (before : List Part) (g : Gathered) (part : Part) → fault_of before part ≡ None
-    → Tables before g → Tables (before ++ part ∷ []) (gathered_behind bottom g part)
+    → Tables before g → Tables (before ++ part ∷ []) (gathered_after bottom g part)
 tables_step bottom before g part n t =
     let P : Known → Type 0 = λ known. Bounded known in
     record {
-      known = subst P (sym (known_behind_part before part n)) (bounded_step (known_of before) part n t.known);
+      known = subst P (sym (known_after_part before part n)) (bounded_step (known_of before) part n t.known);
       weak = once_step bottom g part t.weak;
       contributions = one_part (length g.contributions) _ (length (sections_in before)) _
           (length (filter_map section_in (part ∷ []))) (contributes bottom g part) (count_more before part)
@@ -257,7 +257,7 @@ none_at_most : (n : ℕ) → 0 ≤ n
 none_at_most n = omega arith
 
 tables_none : Tables [] nothing_gathered
-unfolding known_of stage_behind modules_in section_names sections_in global_names distinct this_module
+unfolding known_of stage_after modules_in section_names sections_in global_names distinct this_module
 tables_none = record {
   known = record {
     modules = none_at_most 32;
@@ -282,7 +282,7 @@ modules_kept bottom parts n =
     let t = tables_of bottom parts n in
     record {
       gathered = (gathered_means bottom parts n).names.count;
-      most = modules_within (stage_behind parts) (modules_in parts) t.known.modules;
+      most = modules_within (stage_after parts) (modules_in parts) t.known.modules;
     }
 
 keys_counted : {X : Type 0} (es : List ((ℕ × ℕ) × X)) (names : List (ℕ × ℕ)) → keys_of es ≡ names

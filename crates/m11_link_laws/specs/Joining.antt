@@ -1,4 +1,4 @@
--- Files of whole modules, and what two links of files have to have in common to come to the same. (This project's own,
+-- Files of whole modules, and what two links of files have to have in common to yield the same. (This project's own,
 -- in the words of Objects.antt and Written.antt of the linker.)
 use Rattle.std.specs.Prelude.{◌≡◌, ℕ, List, [], Result, Ok, Err}
 use Rattle.m11_blocks.specs.Limited.{most_bytes}
@@ -13,7 +13,7 @@ abbrev pub AreModules : List ℕ → Type 0
 AreModules source = (items : List Item) × ObjectItems most_bytes source items
     × (parts : List Part) × (taken [] items ≡ Ok parts)
 
--- two links come to the same: the same writes in the same order, or the same fault
+-- two links yield the same: the same writes in the same order, or the same fault
 abbrev pub LinkAlike : ℕ → Result (List Part) LinkFault → Result (List Part) LinkFault → Type 0
 LinkAlike bottom (Ok parts) (Ok others) =
     link_writes (findings_of bottom parts) parts ≡ link_writes (findings_of bottom others) others

@@ -1,6 +1,6 @@
-pub mod Lying
-pub mod PlainTexts
+pub mod Places
+pub mod Texts
 pub mod Joining
 pub mod Moving
 pub mod Order
-pub mod Growing
+pub mod Tables

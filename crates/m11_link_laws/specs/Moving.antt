@@ -1,7 +1,7 @@
 -- What moves where the bottom of a link moves: all that counts from the contribution of a module to a relocatable
 -- section, by the distance; nothing else. (RT-11 Volume and File Formats Manual, "Object file format", GSD and RLD
 -- blocks. What moves how far is this project's own: it names what Sections.antt, Globals.antt and Transfers.antt of the
--- layout and Storing.antt of the linker come to.)
+-- layout and Storing.antt of the linker yield.)
 use Rattle.std.specs.Prelude.{◌≡◌, ℕ, ◌+◌, ◌-◌, ◌%◌, Bool, true, false, ◌&&◌, ◌||◌, not, nat_le, nat_lt, List, [], ◌∷◌, ◌++◌, length, map, option_map, is_some, Option, Some, None, if◌then◌else◌}
 use Rattle.std.specs.List.{find, list_all}
 use Rattle.std.specs.Map.{lookup}
@@ -25,9 +25,9 @@ use Rattle.m11_layout.specs.declared.fault.LinkOutput.{LinkOutput}
 use Rattle.m11_layout.specs.declared.planned.PlannedGlobal.{PlannedGlobal}
 use Rattle.m11_layout.specs.declared.planned.PlannedSection.{PlannedSection}
 use Rattle.m11_link_text.specs.Findings.{Findings}
-use Rattle.m11_link_text.specs.Storing.{modulo, replaced, value_bytes, value_of}
-use Rattle.m11_link.specs.Writes.{Write}
-use Rattle.m11_link.specs.Written.{PlacedText, has_ended, placed_text, relocations_behind, text_writes, writes_at}
+use Rattle.m11_link_text.specs.Relocation.{modulo, replaced, value_bytes, value_of}
+use Rattle.m11_link.specs.Outputs.{Write}
+use Rattle.m11_link.specs.Written.{PlacedText, has_ended, placed_text, relocations_after, text_writes, writes_at}
 
 -- ---- what moves
 
@@ -40,7 +40,7 @@ abbrev pub moves : List Part → ℕ → ℕ × ℕ → Bool
 moves parts index name =
     is_some (lookup (is_name name) (sections_in (module_at parts index))) && section_moves parts name
 
--- a global, with the contribution that its first definition stands behind
+-- a global, with the contribution that its first definition stands after
 abbrev pub place_moves : List Part → ℕ → GlobalPlace → Bool
 place_moves parts index (Absolute value) = false
 place_moves parts index (In section value) = moves parts index section
@@ -86,7 +86,7 @@ is_displaced other = false
 
 -- ---- how far
 
--- the base of a section, which is told as it is
+-- the base of a section, which is reported as it is
 abbrev pub farther : ℕ → Bool → ℕ → ℕ
 farther distance does_move base = if does_move then base + distance else base
 
@@ -102,7 +102,7 @@ number_moved modulus distance true false number = (number + distance) % modulus
 number_moved modulus distance false true number = (number + (modulus - distance % modulus)) % modulus
 number_moved modulus distance false false number = number
 
--- ---- what is told of the link
+-- ---- what is reported of the link
 
 abbrev pub section_moved : ℕ → PlannedSection → PlannedSection
 section_moved distance section = record section {
@@ -130,7 +130,7 @@ pub record Moved (distance : ℕ) (parts : List Part) (near far : Findings) : Ty
   pub bottom : far.bottom ≡ near.bottom + distance
   pub top : far.top ≡ near.top + distance
 
--- the same as one answer, for an even distance
+-- the same as one result, for an even distance
 abbrev pub findings_moved : ℕ → List Part → Findings → Findings
 findings_moved distance parts near = record {
   base = λ index name. moved distance (moves parts index name) (near.base index name);
@@ -153,7 +153,7 @@ text_moved distance does_move text = record text {
   address = moved distance does_move text.address;
 }
 
--- the value of a target at a location, behind this base, that moves with its text or not
+-- the value of a target at a location, after this base, that moves with its text or not
 abbrev pub value_moved : ℕ → List Part → Findings → ℕ → ℕ → ℕ → Bool → Target → ℕ
 value_moved distance parts near index own location does_move named =
     number_moved 0o200000 distance (target_moves parts index does_move named) (is_displaced named && does_move)
@@ -190,23 +190,23 @@ relocations_moved distance parts near does_move text (relocation ∷ relocations
 
 -- a text that has ended is a block at the moved address
 abbrev pub ended_moved : ℕ → List Part → Findings → Bool → PlacedText → List Part → List Write
-ended_moved distance parts near does_move text behind =
-    if has_ended behind
+ended_moved distance parts near does_move text following =
+    if has_ended following
     then text_writes (text_moved distance does_move
-    (relocations_moved distance parts near does_move text (relocations_behind behind))) else []
+    (relocations_moved distance parts near does_move text (relocations_after following))) else []
 
 -- a part in its place; messages stay
 unfoldable pub part_moved : ℕ → List Part → Findings → List Part → Part → List Part → List Write
-part_moved distance parts near before (Text address bytes) behind =
+part_moved distance parts near before (Text address bytes) following =
     let index = modules_in before in
     let section = current_section (this_module before) in
-    ended_moved distance parts near (moves parts index section) (placed_text near index section address bytes) behind
-part_moved distance parts near before other behind = writes_at near before other behind
+    ended_moved distance parts near (moves parts index section) (placed_text near index section address bytes) following
+part_moved distance parts near before other following = writes_at near before other following
 
-abbrev pub moved_behind : ℕ → List Part → Findings → List Part → List Part → List Write
-moved_behind distance parts near before [] = []
-moved_behind distance parts near before (part ∷ others) =
-    part_moved distance parts near before part others ++ moved_behind distance parts near (before ++ part ∷ []) others
+abbrev pub moved_after : ℕ → List Part → Findings → List Part → List Part → List Write
+moved_after distance parts near before [] = []
+moved_after distance parts near before (part ∷ others) =
+    part_moved distance parts near before part others ++ moved_after distance parts near (before ++ part ∷ []) others
 
 -- the output of a write, and how many bytes it has
 abbrev pub shape_of : Write → LinkOutput × ℕ

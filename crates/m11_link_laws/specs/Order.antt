@@ -1,11 +1,11 @@
--- How far the writes of a link have gone, of which each goes out whole before the next one. (This project's own.)
+-- How far the writes of a link have gone, of which each is written whole before the next one. (This project's own.)
 use Rattle.std.specs.Prelude.{◌≡◌, ℕ, Bool, true, false, List, ◌++◌, length}
 use Rattle.std.specs.List.{filter, list_any}
 use Rattle.m11_layout.specs.declared.fault.LinkOutput.{LinkOutput}
 use Rattle.m11_layout.specs.declared.fault.LinkOutput.TheVariants.{Tape}
 use Rattle.m11_link_text.specs.Findings.{Findings}
-use Rattle.m11_link.specs.MapText.{undefined_writes}
-use Rattle.m11_link.specs.Writes.{Write}
+use Rattle.m11_link.specs.Front.{undefined_writes}
+use Rattle.m11_link.specs.Outputs.{Write}
 use Rattle.m11_link.specs.Written.{is_message}
 
 abbrev pub is_to_tape : LinkOutput → Bool
@@ -23,7 +23,7 @@ reach_tape writes = list_any is_block writes
 abbrev pub messages_in : List Write → ℕ
 messages_in writes = length (filter is_message writes)
 
--- how many messages tell of undefined globals
+-- how many messages report undefined globals
 abbrev pub undefined_count : Findings → ℕ
 undefined_count found = length (undefined_writes found found.references)
 

@@ -1,4 +1,4 @@
-//! Files of objects one behind another, and the one file of their bytes.
+//! Files of objects one after another, and the one file of their bytes.
 
 ghost use Rattle.std.specs.List.{AllByRecursion, concat};
 ghost use Rattle.std.specs.Prelude.{◌∷◌, ◌≤◌, length, List, ℕ, []};
@@ -7,7 +7,7 @@ ghost use Rattle.m11_link.specs.Objects.{AreItems, Item, outcome};
 ghost use Rattle.m11_link_laws.specs.Joining.{AreModules, LinkAlike};
 
 /// Where each file by itself is a list of whole modules, and their bytes joined are no more than one file may have, a
-/// link of the files comes to what a link of the joined file does: the same writes in the same order, or the same
+/// link of the files yields what a link of the joined file does: the same writes in the same order, or the same
 /// fault.
 #[tactic(auto, using(crate::proofs::JoiningBytes::joined_alike))]
 pub fn joined_objects_link_alike()

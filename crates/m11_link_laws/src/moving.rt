@@ -9,13 +9,13 @@ ghost use Rattle.m11_modules.specs.Parts.{Part};
 ghost use Rattle.m11_layout.specs.Sections.{is_too_large, module_base, section_base};
 ghost use Rattle.m11_layout.specs.Transfers.{transfer_address, transfer_value};
 ghost use Rattle.m11_link_text.specs.Findings.{findings_of};
-ghost use Rattle.m11_link.specs.MapText.{undefined_writes};
-ghost use Rattle.m11_link_text.specs.Storing.{stored_bytes, value_of};
+ghost use Rattle.m11_link.specs.Front.{undefined_writes};
+ghost use Rattle.m11_link_text.specs.Relocation.{stored_bytes, value_of};
 ghost use Rattle.m11_link.specs.Written.{link_writes, parts_writes, placed_text, with_relocations};
-ghost use Rattle.m11_link_laws.specs.Moving.{Moved, all_stay, byte_stays, bytes_moved, counting_transfer, farther, findings_moved, is_displaced, moved, moved_behind, moves, number_moved, relocations_moved, section_moves, shape_of, stores_limits, target_moves, text_moved, value_moved};
+ghost use Rattle.m11_link_laws.specs.Moving.{Moved, all_stay, byte_stays, bytes_moved, counting_transfer, farther, findings_moved, is_displaced, moved, moved_after, moves, number_moved, relocations_moved, section_moves, shape_of, stores_limits, target_moves, text_moved, value_moved};
 
 /// Relocatable sections move by the distance, and with them the contributions of modules to them, the globals that
-/// stand behind such a contribution, both limits, and the transfer address where the entry that counts names such a
+/// stand after such a contribution, both limits, and the transfer address where the entry that counts names such a
 /// contribution. Absolute sections, absolute globals and the transfer address 1 of a link without a start stay. Sizes,
 /// attributes, names and references stay too: no bottom stands in their definitions. The transfer address is that of
 /// the entry that counts, and an even distance leaves the same entry the first even one.
@@ -104,13 +104,13 @@ pub fn what_moves_together_stays()
 pub fn moving_the_bottom_moves_blocks()
     ensures parts { (bottom distance : ℕ) (parts others : List Part)
         → parts_writes (findings_of (bottom + distance) parts) others
-        ≡ moved_behind distance parts (findings_of bottom parts) [] others }
+        ≡ moved_after distance parts (findings_of bottom parts) [] others }
     ensures shapes { (bottom distance : ℕ) (parts others : List Part)
         → map shape_of (parts_writes (findings_of (bottom + distance) parts) others)
         ≡ map shape_of (parts_writes (findings_of bottom parts) others) }
 {}
 
-/// The whole link from the other bottom on, an even distance farther, is the link by the moved findings: its map tells
+/// The whole link from the other bottom on, an even distance farther, is the link by the moved findings: its map reports
 /// them, and its transfer block starts there. The messages on undefined globals stay at any distance.
 #[tactic(auto, using(crate::proofs::MovingFront::link_moves, crate::proofs::MovingFront::messages_stay))]
 pub fn moving_the_bottom_moves_the_link()

@@ -3,14 +3,14 @@
 ghost use Rattle.std.specs.Prelude.{◌≡◌, ◌<◌, true, List, ◌∷◌, ◌++◌};
 ghost use Rattle.m11_modules.specs.Parts.{Part};
 ghost use Rattle.m11_link_text.specs.Findings.{Findings};
-ghost use Rattle.m11_link.specs.MapText.{front_writes};
-ghost use Rattle.m11_link.specs.Writes.{Write};
+ghost use Rattle.m11_link.specs.Front.{front_writes};
+ghost use Rattle.m11_link.specs.Outputs.{Write};
 ghost use Rattle.m11_link.specs.Written.{link_writes, parts_writes};
 ghost use Rattle.m11_link_laws.specs.Order.{BeginsWith, messages_in, reach_tape, undefined_count};
 
 /// However far the writes of a link have gone: once one of them was to the tape, all messages on undefined globals and
-/// the whole map went out before it, and so they did once there was a message on anything else. While a write is left,
-/// nothing but what comes before the transfer block went out.
+/// the whole map was written before it, and so they were once there was a message on anything else. While a write is left,
+/// nothing but what comes before the transfer block was written.
 #[tactic(auto, using(crate::proofs::FrontFirst::front_before_tape, crate::proofs::FrontFirst::front_before_messages, crate::proofs::FrontFirst::all_before_transfer))]
 pub fn map_is_whole_before_the_tape()
     ensures tape { (found : Findings) (parts : List Part) (done more : List Write)

@@ -5,8 +5,8 @@ ghost use Rattle.m11_modules.specs.Grammar.{Item, items_parts};
 ghost use Rattle.m11_modules.specs.Parts.{Part};
 ghost use Rattle.m11_modules.specs.Places.{section_names};
 ghost use Rattle.m11_modules.specs.Rules.{first_fault, most_modules, most_sections};
-ghost use Rattle.m11_layout.specs.Planning.{IsPlan, Planned};
-ghost use Rattle.m11_link_laws.specs.Growing.{ContributionsKept, GlobalsKept, ModulesKept, SectionsKept, gathered_of};
+ghost use Rattle.m11_layout.specs.Plan.{IsPlan, Planned};
+ghost use Rattle.m11_link_laws.specs.Tables.{ContributionsKept, GlobalsKept, ModulesKept, SectionsKept, gathered_of};
 
 /// The tables that a link keeps of objects without a fault grow with the names of modules, sections and globals, and
 /// each of them has a greatest size. How many texts and relocations the objects have counts for nothing. In whole

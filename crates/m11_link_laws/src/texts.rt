@@ -7,12 +7,12 @@ ghost use Rattle.m11_modules.specs.Parts.{Part, EndOfFile};
 ghost use Rattle.m11_modules.specs.Rules.{fault_of, first_fault};
 ghost use Rattle.m11_layout.specs.declared.fault.LinkOutput.TheVariants.{Tape};
 ghost use Rattle.m11_link_text.specs.Findings.{Findings};
-ghost use Rattle.m11_link.specs.Writes.{gained};
+ghost use Rattle.m11_link.specs.Outputs.{gained};
 ghost use Rattle.m11_link.specs.Written.{link_writes};
-ghost use Rattle.m11_link_laws.specs.PlainTexts.{block_of, stores, texts_of};
+ghost use Rattle.m11_link_laws.specs.Texts.{block_of, stores, texts_of};
 
 /// Where no relocation stores, the tape of whole modules has, text by text in their order, a block of the text's own
-/// bytes at the base of the section that it counts from plus its address, and behind them the transfer block. A text
+/// bytes at the base of the section that it counts from plus its address, and after them the transfer block. A text
 /// without data is no block.
 #[tactic(auto, using(crate::proofs::PlainTextsWritten::tape_of_texts))]
 pub fn unrelocated_texts_are_the_tape()

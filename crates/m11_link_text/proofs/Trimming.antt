@@ -29,7 +29,7 @@ shorter all bytes rest last e le =
     let l = subst Q (one_more rest last) (subst P e le) in
     omega (arith, l)
 
--- what a text comes to behind a last byte that was taken off
+-- what a text yields after a last byte that was taken off
 pub after_blank : (all bytes rest : List ℕ) (last : ℕ) → bytes ≡ rest ++ last ∷ [] → (last ≡ 32)
     → without_last_blanks bytes ≡ without_last_blanks all → without_last_blanks rest ≡ without_last_blanks all
 after_blank all bytes rest last e is i =

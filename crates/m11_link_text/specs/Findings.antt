@@ -1,11 +1,11 @@
 -- What the definitions of tape, map and messages need of all parts of a link: where sections and contributions lie,
--- what globals are worth, and what the map lists. (This project's own: a name for what Sections.antt, Globals.antt and
+-- the values of globals, and what the map lists. (This project's own: a name for what Sections.antt, Globals.antt and
 -- Transfers.antt of the layout say.)
 use Rattle.std.specs.Prelude.{◌≡◌, ℕ, Bool, List, Option}
 use Rattle.m11_modules.specs.Parts.{Part}
 use Rattle.m11_layout.specs.Globals.{global_value, globals_of, referred}
 use Rattle.m11_layout.specs.Modules.{name_at}
-use Rattle.m11_layout.specs.Planning.{Planned, planned_base, planned_value, planned_transfer, planned_attributes, planned_module, planned_sections, planned_globals}
+use Rattle.m11_layout.specs.Plan.{Planned, planned_base, planned_value, planned_transfer, planned_attributes, planned_module, planned_sections, planned_globals}
 use Rattle.m11_layout.specs.Sections.{first_attributes, module_base, sections_of, top}
 use Rattle.m11_layout.specs.Transfers.{transfer_address}
 use Rattle.m11_layout.specs.declared.planned.PlannedGlobal.{PlannedGlobal}
@@ -57,7 +57,7 @@ planned plan = record {
   top = plan.top;
 }
 
--- two agree in all that they tell
+-- two agree in all that they say
 pub record Agree (some others : Findings) : Type 0 where
   pub base : (module_index : ℕ) (name : ℕ × ℕ) → some.base module_index name ≡ others.base module_index name
   pub value : (name : ℕ × ℕ) → some.value name ≡ others.value name

@@ -1,3 +1,3 @@
 pub mod Findings
 pub mod Lines
-pub mod Storing
+pub mod Relocation

@@ -15,7 +15,7 @@ line_of text = without_last_blanks text ++ 10 ∷ []
 abbrev pub undefined_line : ℕ × ℕ → List ℕ
 undefined_line name = line_of (codes "UNDEFINED GLOBAL " ++ name_text name)
 
--- a definition behind the first one
+-- a definition after the first one
 abbrev pub multiple_line : ℕ × ℕ → ℕ × ℕ → List ℕ
 multiple_line name module_name =
     line_of ((codes "MULTIPLE DEFINITION " ++ name_text name) ++ (codes " IN MODULE " ++ name_text module_name))
@@ -29,16 +29,16 @@ different_line section module_name =
 
 -- octal 20 RO, 200 D, 100 GBL, 40 REL, 4 OVR, 1 SAV
 abbrev pub access_text : ℕ → List ℕ
-access_text attributes = if has_bits 16 attributes then codes "RO," else codes "RW,"
+access_text attributes = if has_bits 0o20 attributes then codes "RO," else codes "RW,"
 
 abbrev pub content_text : ℕ → List ℕ
-content_text attributes = if has_bits 128 attributes then codes "D," else codes "I,"
+content_text attributes = if has_bits 0o200 attributes then codes "D," else codes "I,"
 
 abbrev pub scope_text : ℕ → List ℕ
-scope_text attributes = if has_bits 64 attributes then codes "GBL," else codes "LCL,"
+scope_text attributes = if has_bits 0o100 attributes then codes "GBL," else codes "LCL,"
 
 abbrev pub relocation_text : ℕ → List ℕ
-relocation_text attributes = if has_bits 32 attributes then codes "REL," else codes "ABS,"
+relocation_text attributes = if has_bits 0o40 attributes then codes "REL," else codes "ABS,"
 
 abbrev pub allocation_text : ℕ → List ℕ
 allocation_text attributes = if has_bits 4 attributes then codes "OVR" else codes "CON"
@@ -70,6 +70,6 @@ name_line name = line_of (name_text name)
 abbrev pub transfer_line : ℕ → List ℕ
 transfer_line address = line_of (codes "TRANSFER " ++ octal_text address)
 
--- the first address of relocatable sections, and the first one behind them
+-- the first address of relocatable sections, and the first one after them
 abbrev pub limit_line : ℕ → ℕ → List ℕ
 limit_line bottom top = line_of (((codes "LIMIT " ++ octal_text bottom) ++ 32 ∷ []) ++ octal_text top)

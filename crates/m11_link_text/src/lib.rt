@@ -5,8 +5,8 @@
 
 mod lines;
 mod map_lines;
-mod storing;
+mod relocation;
 
 pub use lines::{Line, different_line, multiple_line, undefined_line};
 pub use map_lines::{global_line, limit_line, name_line, section_line, transfer_line};
-pub use storing::relocate;
+pub use relocation::relocate;

@@ -95,7 +95,7 @@ fn put_attributes(line: &mut Line, attributes: SectionFlags)
     put(line, saved(attributes));
 }
 
-// A name and two words, with a blank behind each but the last.
+// A name and two words, with a blank after each but the last.
 fn columns(name: Name, first: u16, second: u16) -> Line
     ensures text { result.items ≡ spec.columns name first second }
     ensures room { array_vec_len result ≤ 21 }
@@ -151,7 +151,7 @@ pub fn transfer_line(address: u16) -> Line
     ended(line)
 }
 
-/// The first address of relocatable sections, and the first one behind them.
+/// The first address of relocatable sections, and the first one after them.
 pub fn limit_line(bottom: u16, top: u16) -> Line
     ensures { result.items ≡ spec.limit_line bottom top }
 {

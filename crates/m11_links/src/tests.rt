@@ -1,5 +1,5 @@
 //! What the tests of whole links share: objects by the contents of their blocks, links of them, and what is looked at
-//! behind a link.
+//! after a link.
 
 use m11_base::{Feed, MemoryFeed, MemorySink, WriterSink};
 use m11_link::{LinkDone, LinkFault, link_run};
@@ -17,7 +17,7 @@ mod records;
 mod stored;
 mod streaming;
 
-// The content of a block, in pieces that stand one behind another.
+// The content of a block, in pieces that stand one after another.
 pub(crate) type Content<'a> = &'a [&'a [u8]];
 
 // A file of blocks.
@@ -58,11 +58,11 @@ pub(crate) struct Wanted<'a> {
     pub(crate) sections: &'a [&'a str],
     pub(crate) globals: &'a [&'a str],
     pub(crate) undefined: &'a [&'a str],
-    // No line tells of weak names where there are none.
+    // No line reports weak names where there are none.
     pub(crate) weak: &'a [&'a str],
     pub(crate) transfer: &'a str,
     pub(crate) limit: &'a str,
-    pub(crate) told: &'a [&'a str],
+    pub(crate) reported: &'a [&'a str],
 }
 
 impl<'a> Wanted<'a> {
@@ -76,12 +76,12 @@ impl<'a> Wanted<'a> {
             weak: &[],
             transfer: "TRANSFER 000001",
             limit: "LIMIT 001000 001000",
-            told: &[],
+            reported: &[],
         }
     }
 }
 
-// A module that reads F into R0, with a byte behind it, and one that defines F as a word with the address of a word 7.
+// A module that reads F into R0, with a byte after it, and one that defines F as a word with the address of a word 7.
 pub(crate) const READS_F: Object<'static> = &[
     &[
         DIRECTORY,
@@ -171,7 +171,7 @@ pub(crate) const READS_F_LINKED: Wanted<'static> = Wanted {
     weak: &[],
     transfer: "TRANSFER 000001",
     limit: "LIMIT 001000 001014",
-    told: &[],
+    reported: &[],
 };
 
 // How a link ended, and what its outputs hold.
@@ -186,18 +186,18 @@ pub(crate) struct Linked {
 impl Linked {
     // Whether the tape is these blocks.
     pub(crate) fn has_tape(&self, blocks: &[&[u8]]) -> bool {
-        rest_behind(self.tape.as_slice(), blocks).is_some_and(<[u8]>::is_empty)
+        rest_after(self.tape.as_slice(), blocks).is_some_and(<[u8]>::is_empty)
     }
 
     // Whether the map is the wanted one.
     pub(crate) fn has_map(&self, wanted: Wanted<'_>) -> bool {
-        rest_behind_map(self.map.as_slice(), wanted).is_some_and(<[u8]>::is_empty)
+        rest_after_map(self.map.as_slice(), wanted).is_some_and(<[u8]>::is_empty)
     }
 
-    // Whether these messages were told, and as many counted.
-    pub(crate) fn tells(&self, lines: &[&str]) -> bool {
+    // Whether these messages were reported, and as many counted.
+    pub(crate) fn reports(&self, lines: &[&str]) -> bool {
         self.has_count(lines.len())
-            && rest_behind_lines(self.messages.as_slice(), lines).is_some_and(<[u8]>::is_empty)
+            && rest_after_lines(self.messages.as_slice(), lines).is_some_and(<[u8]>::is_empty)
     }
 
     fn has_count(&self, count: usize) -> bool {
@@ -221,8 +221,8 @@ impl Linked {
     }
 }
 
-// What stands behind these pieces, where a text begins with them.
-fn rest_behind<'a>(text: &'a [u8], pieces: &[&[u8]]) -> Option<&'a [u8]> {
+// What stands after these pieces, where a text begins with them.
+fn rest_after<'a>(text: &'a [u8], pieces: &[&[u8]]) -> Option<&'a [u8]> {
     let mut rest = text;
     for piece in pieces {
         rest = rest.strip_prefix(*piece)?;
@@ -230,37 +230,37 @@ fn rest_behind<'a>(text: &'a [u8], pieces: &[&[u8]]) -> Option<&'a [u8]> {
     Some(rest)
 }
 
-// What stands behind these lines, where a text begins with them.
-fn rest_behind_lines<'a>(text: &'a [u8], lines: &[&str]) -> Option<&'a [u8]> {
+// What stands after these lines, where a text begins with them.
+fn rest_after_lines<'a>(text: &'a [u8], lines: &[&str]) -> Option<&'a [u8]> {
     let mut rest = text;
     for line in lines {
-        rest = rest_behind(rest, &[line.as_bytes(), b"\n"])?;
+        rest = rest_after(rest, &[line.as_bytes(), b"\n"])?;
     }
     Some(rest)
 }
 
-// What stands behind a heading and its lines, where a text begins with them.
-fn rest_behind_list<'a>(text: &'a [u8], heading: &str, lines: &[&str]) -> Option<&'a [u8]> {
-    let rest = rest_behind(text, &[heading.as_bytes(), b"\n"])?;
-    rest_behind_lines(rest, lines)
+// What stands after a heading and its lines, where a text begins with them.
+fn rest_after_list<'a>(text: &'a [u8], heading: &str, lines: &[&str]) -> Option<&'a [u8]> {
+    let rest = rest_after(text, &[heading.as_bytes(), b"\n"])?;
+    rest_after_lines(rest, lines)
 }
 
-// What stands behind the names of a map, where a text begins with them.
-fn rest_behind_names<'a>(text: &'a [u8], wanted: Wanted<'_>) -> Option<&'a [u8]> {
-    let rest = rest_behind_list(text, "UNDEFINED", wanted.undefined)?;
+// What stands after the names of a map, where a text begins with them.
+fn rest_after_names<'a>(text: &'a [u8], wanted: Wanted<'_>) -> Option<&'a [u8]> {
+    let rest = rest_after_list(text, "UNDEFINED", wanted.undefined)?;
     if wanted.weak.is_empty() {
         Some(rest)
     } else {
-        rest_behind_list(rest, "WEAK", wanted.weak)
+        rest_after_list(rest, "WEAK", wanted.weak)
     }
 }
 
-// What stands behind a map, where a text begins with it.
-fn rest_behind_map<'a>(text: &'a [u8], wanted: Wanted<'_>) -> Option<&'a [u8]> {
-    let rest = rest_behind_list(text, "SECTIONS", wanted.sections)?;
-    let rest = rest_behind_list(rest, "GLOBALS", wanted.globals)?;
-    let rest = rest_behind_names(rest, wanted)?;
-    rest_behind_lines(rest, &[wanted.transfer, wanted.limit])
+// What stands after a map, where a text begins with it.
+fn rest_after_map<'a>(text: &'a [u8], wanted: Wanted<'_>) -> Option<&'a [u8]> {
+    let rest = rest_after_list(text, "SECTIONS", wanted.sections)?;
+    let rest = rest_after_list(rest, "GLOBALS", wanted.globals)?;
+    let rest = rest_after_names(rest, wanted)?;
+    rest_after_lines(rest, &[wanted.transfer, wanted.limit])
 }
 
 // Adds a block to a file: 001 000, the length of header and content, the content, and the sum byte, with which all
@@ -317,7 +317,7 @@ fn feeds_of(alloc: Global, files: &[Vec<u8>]) -> Result<Vec<MemoryFeed<'_>>, All
     Ok(feeds)
 }
 
-// Links what two readings of feeds give, into texts.
+// Links what two passes of feeds give, into texts.
 fn link_into<F: Feed>(
     alloc: Global,
     first: &mut [F],
@@ -338,7 +338,7 @@ fn link_into<F: Feed>(
     )
 }
 
-// Links what two readings of feeds give.
+// Links what two passes of feeds give.
 fn linked_feeds<F: Feed>(alloc: Global, first: &mut [F], second: &mut [F], bottom: u16) -> Linked {
     let mut tape = Vec::new(alloc);
     let mut map = Vec::new(alloc);
@@ -360,7 +360,7 @@ fn linked_feeds<F: Feed>(alloc: Global, first: &mut [F], second: &mut [F], botto
     }
 }
 
-// Links files, of which the second reading may give others.
+// Links files, of which the second pass may give others.
 pub(crate) fn linked_twice(
     alloc: Global,
     first: &[Vec<u8>],
@@ -377,7 +377,7 @@ pub(crate) fn left(rt: &impl Abort, linked: &Linked, wanted: Wanted<'_>) -> Resu
     linked.outcome?;
     assert!(rt; linked.has_tape(wanted.tape), "the tape");
     assert!(rt; linked.has_map(wanted), "the map");
-    assert!(rt; linked.tells(wanted.told), "the messages");
+    assert!(rt; linked.reports(wanted.reported), "the messages");
     Ok(())
 }
 

@@ -10,7 +10,7 @@ use Rattle.m11_modules.specs.declared.stage.Stage.TheVariants.{Between, InDirect
 use Rattle.m11_modules.specs.Grammar.{BodyRecord, TextRecord, RelocationRecord, Module, directory_parts, body_parts, module_parts, file_parts, files_parts, Item, RecordOf, FileEnds, items_parts}
 use Rattle.m11_modules.specs.Laws.{AreFiles, AreInOrder}
 use Rattle.m11_modules.specs.Parts.{Part, Directory, Entry, EndOfDirectory, Text, Relocations, Relocated, EndOfModule, EndOfFile}
-use Rattle.m11_modules.specs.Places.{stage_from, stage_behind}
+use Rattle.m11_modules.specs.Places.{stage_from, stage_after}
 use Rattle.m11_modules.specs.Rules.{may_stand}
 
 -- parts that stand where they may, from one stage to another
@@ -31,17 +31,17 @@ stage_step stage EndOfFile parts = refl
 
 -- ---- each part stands where it may
 
-leads_there : (stage last : Stage) (before : List Part) (part : Part) (behind : List Part)
-    → Leads stage (before ++ part ∷ behind) last → may_stand part (stage_from stage before) ≡ true
-leads_there stage last [] part behind h = h.0
-leads_there stage last (first ∷ before) part behind h =
+leads_there : (stage last : Stage) (before : List Part) (part : Part) (following : List Part)
+    → Leads stage (before ++ part ∷ following) last → may_stand part (stage_from stage before) ≡ true
+leads_there stage last [] part following h = h.0
+leads_there stage last (first ∷ before) part following h =
     let P : Stage → Type 0 = λ s. may_stand part s ≡ true in
-    subst P (stage_step stage first before) (leads_there (stage_from stage (first ∷ [])) last before part behind h.1)
+    subst P (stage_step stage first before) (leads_there (stage_from stage (first ∷ [])) last before part following h.1)
 
 in_order : (parts : List Part) → Leads Between parts Between → AreInOrder parts
-unfolding stage_behind
-in_order parts h before part behind e =
-    let P : List Part → Type 0 = λ all. Leads Between all Between in leads_there Between Between before part behind (subst P e h)
+unfolding stage_after
+in_order parts h before part following e =
+    let P : List Part → Type 0 = λ all. Leads Between all Between in leads_there Between Between before part following (subst P e h)
 
 leads_to : (stage last : Stage) (parts : List Part) → Leads stage parts last → stage_from stage parts ≡ last
 leads_to stage last [] h = h
@@ -50,21 +50,21 @@ leads_to stage last (part ∷ parts) h =
     subst P (stage_step stage part parts) (leads_to (stage_from stage (part ∷ [])) last parts h.1)
 
 abbrev IsOrderedFrom : Stage → List Part → Type 0
-IsOrderedFrom stage parts = (before : List Part) (part : Part) (behind : List Part) → parts ≡ before ++ part ∷ behind
+IsOrderedFrom stage parts = (before : List Part) (part : Part) (following : List Part) → parts ≡ before ++ part ∷ following
     → may_stand part (stage_from stage before) ≡ true
 
-behind_first : (stage : Stage) (first : Part) (parts : List Part) → IsOrderedFrom stage (first ∷ parts)
+after_first : (stage : Stage) (first : Part) (parts : List Part) → IsOrderedFrom stage (first ∷ parts)
     → IsOrderedFrom (stage_from stage (first ∷ [])) parts
-behind_first stage first parts h before part behind e =
+after_first stage first parts h before part following e =
     let P : Stage → Type 0 = λ s. may_stand part s ≡ true in
     let Q : List Part → Type 0 = λ all. first ∷ parts ≡ first ∷ all in
-    subst P (sym (stage_step stage first before)) (h (first ∷ before) part behind (subst Q e refl))
+    subst P (sym (stage_step stage first before)) (h (first ∷ before) part following (subst Q e refl))
 
 ordered_leads : (stage : Stage) (parts : List Part) → IsOrderedFrom stage parts → Leads stage parts (stage_from stage parts)
 ordered_leads stage [] h = refl
 ordered_leads stage (part ∷ parts) h =
     let P : Stage → Type 0 = λ s. Leads (stage_from stage (part ∷ [])) parts s in
-    (h [] part parts refl, subst P (stage_step stage part parts) (ordered_leads (stage_from stage (part ∷ [])) parts (behind_first stage part parts h)))
+    (h [] part parts refl, subst P (stage_step stage part parts) (ordered_leads (stage_from stage (part ∷ [])) parts (after_first stage part parts h)))
 
 -- ---- files are in order
 
@@ -103,7 +103,7 @@ body_leads last (RelocationRecord relocations ∷ body) rest h =
     subst P (sym (append_assoc (body_parts (RelocationRecord relocations)) (flat_map body_parts body) rest))
     (refl, relocations_lead InBody last relocations (flat_map body_parts body ++ rest) (body_leads last body rest h))
 
--- a module and what stands behind it
+-- a module and what stands after it
 module_then : (directory : List (List GsdEntry)) (body : List BodyRecord) (rest : List Part)
     → (flat_map directory_parts directory ++ EndOfDirectory ∷ flat_map body_parts body ++ EndOfModule ∷ []) ++ rest
     ≡ flat_map directory_parts directory ++ EndOfDirectory ∷ (flat_map body_parts body ++ EndOfModule ∷ rest)
@@ -124,7 +124,7 @@ modules_lead last (m ∷ modules) rest h =
     subst P (sym (append_assoc (module_parts m) (flat_map module_parts modules) rest))
     (module_leads last m (flat_map module_parts modules ++ rest) (modules_lead last modules rest h))
 
--- a file and what stands behind it
+-- a file and what stands after it
 file_then : (modules : List Module) (rest : List Part) → file_parts modules ++ rest ≡ flat_map module_parts modules ++ EndOfFile ∷ rest
 file_then modules rest = append_assoc (flat_map module_parts modules) (EndOfFile ∷ []) rest
 
@@ -138,8 +138,8 @@ files_lead (modules ∷ files) =
 pub files_in_order : (files : List (List Module)) → AreInOrder (files_parts files)
 files_in_order files = in_order (files_parts files) (files_lead files)
 
-pub files_closed : (files : List (List Module)) → stage_behind (files_parts files) ≡ Between
-unfolding stage_behind
+pub files_closed : (files : List (List Module)) → stage_after (files_parts files) ≡ Between
+unfolding stage_after
 files_closed files = leads_to Between Between (files_parts files) (files_lead files)
 
 -- ---- what is in order is files
@@ -161,7 +161,7 @@ WhereTrue X false = Unit {0}
 refuted : {X : Type 0} → false ≡ true → X
 refuted {X} e = subst (WhereTrue X) e tt
 
--- from each stage on: modules and the end of a file, and files behind it
+-- from each stage on: modules and the end of a file, and files after it
 abbrev files_from : List Module → List (List Module) → List Part
 files_from modules files = flat_map module_parts modules ++ EndOfFile ∷ files_parts files
 
@@ -288,6 +288,6 @@ found : (parts : List Part) → FoundFiles parts → AreFiles parts
 found parts f = (f.modules ∷ f.files, rw (f.is, file_then f.modules (files_parts f.files)))
 
 pub ordered_files : (items : List Item) → AreInOrder (items_parts (items ++ FileEnds ∷ [])) → AreFiles (items_parts (items ++ FileEnds ∷ []))
-unfolding stage_behind
+unfolding stage_after
 ordered_files items h =
     found (all_parts items) (between (stage_from Between (all_parts items)) items (ordered_leads Between (all_parts items) h))

@@ -1,4 +1,4 @@
 pub mod Indexing
 pub mod Taking
-pub mod KnownBehind
+pub mod KnownAfter
 pub mod GrammarOrder

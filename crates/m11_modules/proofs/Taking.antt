@@ -1,4 +1,4 @@
--- Parts that are taken one behind another.
+-- Parts that are taken one after another.
 use Rattle.std.proofs.Common.{◌≡◌, ℕ, ◌+◌, ◌≤◌, List, [], ◌∷◌, length, map, drop, slice_get, Option, Some, None, Result, Ok, Err, refl, sym, subst}
 use Rattle.std.proofs.lemmas.List.{drop_all}
 use Rattle.std.specs.Option.{option_or}
@@ -8,20 +8,20 @@ use Rattle.m11_obj.specs.declared.relocations.Relocation.{Relocation}
 use Rattle.m11_modules.specs.Parts.{Part, Relocated}
 use Rattle.m11_modules.specs.Places.{Known}
 use Rattle.m11_modules.specs.Rules.{answered, fault_known, relocation_fault}
-use Rattle.m11_modules.specs.Steps.{Takes, TakesOne, known_behind, known_behind_all, first_known_fault}
+use Rattle.m11_modules.specs.Steps.{RulesTake, TakesOne, known_after, known_after_all, first_known_fault}
 use Rattle.m11_modules.proofs.Indexing.{drop_at}
 
 abbrev pub Answer : Type 0
 Answer = Result (Unit {0}) ModuleFault
 
-pub none_taken : (known : Known) (done : Unit {0}) → Takes known known [] (Ok done)
-unfolding Takes
+pub none_taken : (known : Known) (done : Unit {0}) → RulesTake known known [] (Ok done)
+unfolding RulesTake
 none_taken known done = (refl, refl)
 
 -- a part that has a fault ends the taking
 pub refused_first : (old new other : Known) (part : Part) (parts : List Part) (fault : ModuleFault)
-    → TakesOne old other part (Err fault) → Takes old new (part ∷ parts) (Err fault)
-unfolding Takes TakesOne
+    → TakesOne old other part (Err fault) → RulesTake old new (part ∷ parts) (Err fault)
+unfolding RulesTake TakesOne
 refused_first old new other part parts NoMemory h = tt
 refused_first old new other part parts BadOrder h = rw h
 refused_first old new other part parts NoText h = rw h
@@ -34,19 +34,19 @@ refused_first old new other part parts TooManyModules h = rw h
 
 -- a part is taken, and then the others
 then_fault : (old middle : Known) (part : Part) (parts : List Part) (fault : Option ModuleFault)
-    → fault_known old part ≡ None → middle ≡ known_behind old part → first_known_fault middle parts ≡ fault
+    → fault_known old part ≡ None → middle ≡ known_after old part → first_known_fault middle parts ≡ fault
     → first_known_fault old (part ∷ parts) ≡ fault
 then_fault old middle part parts fault none e h =
     let P : Known → Type 0 = λ k. first_known_fault k parts ≡ fault in
-    let g : option_or None (first_known_fault (known_behind old part) parts) ≡ fault = subst P e h in
-    let Q : Option ModuleFault → Type 0 = λ o. option_or o (first_known_fault (known_behind old part) parts) ≡ fault in
+    let g : option_or None (first_known_fault (known_after old part) parts) ≡ fault = subst P e h in
+    let Q : Option ModuleFault → Type 0 = λ o. option_or o (first_known_fault (known_after old part) parts) ≡ fault in
     subst Q (sym none) g
 
 pub taken_then : (old middle new : Known) (part : Part) (parts : List Part) (done : Unit {0}) (answer : Answer)
-    → TakesOne old middle part (Ok done) → Takes middle new parts answer → Takes old new (part ∷ parts) answer
-unfolding Takes TakesOne
+    → TakesOne old middle part (Ok done) → RulesTake middle new parts answer → RulesTake old new (part ∷ parts) answer
+unfolding RulesTake TakesOne
 taken_then old middle new part parts done (Ok x) h k =
-    let P : Known → Type 0 = λ m. new ≡ known_behind_all m parts in
+    let P : Known → Type 0 = λ m. new ≡ known_after_all m parts in
     (then_fault old middle part parts None h.0 h.1 k.0, subst P h.1 k.1)
 taken_then old middle new part parts done (Err NoMemory) h k = tt
 taken_then old middle new part parts done (Err BadOrder) h k = then_fault old middle part parts (Some BadOrder) h.0 h.1 k
@@ -59,14 +59,14 @@ taken_then old middle new part parts done (Err TooManySections) h k = then_fault
 taken_then old middle new part parts done (Err TooManyModules) h k = then_fault old middle part parts (Some TooManyModules) h.0 h.1 k
 
 -- one part alone
-pub taken_one : (old new : Known) (part : Part) (answer : Answer) → TakesOne old new part answer → Takes old new (part ∷ []) answer
+pub taken_one : (old new : Known) (part : Part) (answer : Answer) → TakesOne old new part answer → RulesTake old new (part ∷ []) answer
 taken_one old new part (Ok done) h = taken_then old new new part [] done (Ok done) h (none_taken new done)
 taken_one old new part (Err fault) h = refused_first old new new part [] fault h
 
 -- ---- loops: what is left of the parts leads to all of them
 
 abbrev pub GoesOn : Known → Known → List Part → List Part → Type 0
-GoesOn old now rest all = (new : Known) (answer : Answer) → Takes now new rest answer → Takes old new all answer
+GoesOn old now rest all = (new : Known) (answer : Answer) → RulesTake now new rest answer → RulesTake old new all answer
 
 pub begins : (old : Known) (all : List Part) → GoesOn old old all all
 begins old all new answer h = h
@@ -76,10 +76,10 @@ pub goes_on : (old now later : Known) (part : Part) (rest all : List Part) (done
 goes_on old now later part rest all done i h new answer k = i new answer (taken_then now later new part rest done answer h k)
 
 pub stops : (old now new other : Known) (part : Part) (rest all : List Part) (fault : ModuleFault)
-    → GoesOn old now (part ∷ rest) all → TakesOne now other part (Err fault) → Takes old new all (Err fault)
+    → GoesOn old now (part ∷ rest) all → TakesOne now other part (Err fault) → RulesTake old new all (Err fault)
 stops old now new other part rest all fault i h = i new (Err fault) (refused_first now new other part rest fault h)
 
-pub ends : (old now : Known) (all : List Part) (done : Unit {0}) → GoesOn old now [] all → Takes old now all (Ok done)
+pub ends : (old now : Known) (all : List Part) (done : Unit {0}) → GoesOn old now [] all → RulesTake old now all (Ok done)
 ends old now all done i = i now (Ok done) (none_taken now done)
 
 -- ---- refusals
@@ -88,7 +88,7 @@ answered_some : (fault : Option ModuleFault) (said : ModuleFault) → answered f
 answered_some None said e = search
 answered_some (Some fault) said e = search
 
--- what a check answered is the fault of the part
+-- what a check returned is the fault of the part
 pub refused : (old new : Known) (part : Part) (fault : ModuleFault) → answered (fault_known old part) ≡ Err fault
     → TakesOne old new part (Err fault)
 unfolding TakesOne
@@ -119,22 +119,22 @@ relocation_refused {seen} old new relocation fault is e =
 
 module _ {X : Type 0} (make : X → Part) where
   -- items that are left, one of which is taken
-  pub walk_taken : (old now later : Known) (items rest behind : List X) (item : X) (done : Unit {0}) → rest ≡ item ∷ behind
+  pub walk_taken : (old now later : Known) (items rest following : List X) (item : X) (done : Unit {0}) → rest ≡ item ∷ following
       → GoesOn old now (map make rest) (map make items) → TakesOne now later (make item) (Ok done)
-      → GoesOn old later (map make behind) (map make items)
-  walk_taken old now later items rest behind item done e i h =
+      → GoesOn old later (map make following) (map make items)
+  walk_taken old now later items rest following item done e i h =
       let P : List X → Type 0 = λ left. GoesOn old now (map make left) (map make items) in
-      goes_on old now later (make item) (map make behind) (map make items) done (subst P e i) h
+      goes_on old now later (make item) (map make following) (map make items) done (subst P e i) h
 
-  pub walk_refused : (old now new other : Known) (items rest behind : List X) (item : X) (fault : ModuleFault) → rest ≡ item ∷ behind
+  pub walk_refused : (old now new other : Known) (items rest following : List X) (item : X) (fault : ModuleFault) → rest ≡ item ∷ following
       → GoesOn old now (map make rest) (map make items) → TakesOne now other (make item) (Err fault)
-      → Takes old new (map make items) (Err fault)
-  walk_refused old now new other items rest behind item fault e i h =
+      → RulesTake old new (map make items) (Err fault)
+  walk_refused old now new other items rest following item fault e i h =
       let P : List X → Type 0 = λ left. GoesOn old now (map make left) (map make items) in
-      stops old now new other (make item) (map make behind) (map make items) fault (subst P e i) h
+      stops old now new other (make item) (map make following) (map make items) fault (subst P e i) h
 
   pub walk_ended : (old now : Known) (items rest : List X) (done : Unit {0}) → rest ≡ []
-      → GoesOn old now (map make rest) (map make items) → Takes old now (map make items) (Ok done)
+      → GoesOn old now (map make rest) (map make items) → RulesTake old now (map make items) (Ok done)
   walk_ended old now items rest done e i =
       let P : List X → Type 0 = λ left. GoesOn old now (map make left) (map make items) in
       ends old now (map make items) done (subst P e i)
@@ -148,10 +148,10 @@ module _ {X : Type 0} (make : X → Part) where
 
   pub item_refused : (old now new other : Known) (items : List X) (index : ℕ) (item : X) (fault : ModuleFault) → slice_get items index ≡ Some item
       → GoesOn old now (map make (drop index items)) (map make items) → TakesOne now other (make item) (Err fault)
-      → Takes old new (map make items) (Err fault)
+      → RulesTake old new (map make items) (Err fault)
   item_refused old now new other items index item fault e i h =
       walk_refused old now new other items (drop index items) (drop (index + 1) items) item fault (drop_at items index item e) i h
 
   pub items_taken : (old now : Known) (items : List X) (index : ℕ) (done : Unit {0}) → length items ≤ index
-      → GoesOn old now (map make (drop index items)) (map make items) → Takes old now (map make items) (Ok done)
+      → GoesOn old now (map make (drop index items)) (map make items) → RulesTake old now (map make items) (Ok done)
   items_taken old now items index done le i = walk_ended old now items (drop index items) done (drop_all index items le) i

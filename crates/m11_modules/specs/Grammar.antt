@@ -7,12 +7,12 @@ use Rattle.m11_obj.specs.declared.relocations.Relocation.{Relocation}
 use Rattle.m11_obj.specs.Records as records
 use Rattle.m11_modules.specs.Parts.{Part, parts_of, Directory, Entry, EndOfDirectory, Text, Relocations, Relocated, EndOfModule, EndOfFile}
 
--- a record behind the directory
+-- a record after the directory
 pub data BodyRecord : Type 0 where
   TextRecord : ℕ → List ℕ → BodyRecord
   RelocationRecord : List Relocation → BodyRecord
 
--- the entries of each directory record, and the records behind them
+-- the entries of each directory record, and the records after them
 pub record Module : Type 0 where
   pub directory : List (List GsdEntry)
   pub body : List BodyRecord
@@ -30,7 +30,7 @@ module_parts m = flat_map directory_parts m.directory ++ EndOfDirectory ∷ flat
 abbrev pub file_parts : List Module → List Part
 file_parts modules = flat_map module_parts modules ++ EndOfFile ∷ []
 
--- files one behind another, each a list of modules
+-- files one after another, each a list of modules
 abbrev pub files_parts : List (List Module) → List Part
 files_parts files = flat_map file_parts files
 

@@ -12,4 +12,4 @@ is_among names name = list_any (is_name name) names
 
 -- the section that each module knows, entered or not: octal 127401, 007624
 abbrev pub absolute_name : ℕ × ℕ
-absolute_name = (44801, 3988)
+absolute_name = (0o127401, 0o7624)

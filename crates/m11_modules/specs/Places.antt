@@ -22,7 +22,7 @@ abbrev pub ends_module : Part → Bool
 ends_module EndOfModule = true
 ends_module part = false
 
--- the parts behind the last end of a module
+-- the parts after the last end of a module
 unfoldable pub this_module : List Part → List Part
 this_module [] = []
 this_module (part ∷ parts) = if list_any ends_module (part ∷ parts) then this_module parts else part ∷ parts
@@ -41,8 +41,8 @@ stage_from stage (EndOfDirectory ∷ parts) = stage_from InBody parts
 stage_from stage (EndOfModule ∷ parts) = stage_from Between parts
 stage_from stage (part ∷ parts) = stage_from stage parts
 
-unfoldable pub stage_behind : List Part → Stage
-stage_behind parts = stage_from Between parts
+unfoldable pub stage_after : List Part → Stage
+stage_after parts = stage_from Between parts
 
 -- ---- sections
 
@@ -70,35 +70,35 @@ abbrev pub selected_by : ℕ × ℕ → Target → ℕ × ℕ
 selected_by section (target.LocationCounterDefinition name constant) = name
 selected_by section other = section
 
-abbrev pub section_behind : ℕ × ℕ → List Part → ℕ × ℕ
-section_behind section [] = section
-section_behind section (Relocated relocation ∷ parts) = section_behind (selected_by section relocation.target) parts
-section_behind section (part ∷ parts) = section_behind section parts
+abbrev pub section_after : ℕ × ℕ → List Part → ℕ × ℕ
+section_after section [] = section
+section_after section (Relocated relocation ∷ parts) = section_after (selected_by section relocation.target) parts
+section_after section (part ∷ parts) = section_after section parts
 
 -- the section that was selected last in a module; before any, texts go to `. ABS.`
 unfoldable pub current_section : List Part → ℕ × ℕ
-current_section parts = section_behind absolute_name parts
+current_section parts = section_after absolute_name parts
 
 -- ---- texts
 
-abbrev pub length_behind : Option ℕ → List Part → Option ℕ
-length_behind before [] = before
-length_behind before (Text address bytes ∷ parts) = length_behind (Some (length bytes)) parts
-length_behind before (part ∷ parts) = length_behind before parts
+abbrev pub length_after : Option ℕ → List Part → Option ℕ
+length_after before [] = before
+length_after before (Text address bytes ∷ parts) = length_after (Some (length bytes)) parts
+length_after before (part ∷ parts) = length_after before parts
 
 -- how many bytes the last text of a module has, if there is one
 unfoldable pub text_length : List Part → Option ℕ
-text_length parts = length_behind None parts
+text_length parts = length_after None parts
 
 -- ---- names
 
 -- names in order of first appearance, each once
-abbrev pub distinct_behind : List (ℕ × ℕ) → List (ℕ × ℕ) → List (ℕ × ℕ)
-distinct_behind seen [] = seen
-distinct_behind seen (name ∷ names) = distinct_behind (insert_key is_name seen name) names
+abbrev pub distinct_after : List (ℕ × ℕ) → List (ℕ × ℕ) → List (ℕ × ℕ)
+distinct_after seen [] = seen
+distinct_after seen (name ∷ names) = distinct_after (insert_key is_name seen name) names
 
 unfoldable pub distinct : List (ℕ × ℕ) → List (ℕ × ℕ)
-distinct names = distinct_behind [] names
+distinct names = distinct_after [] names
 
 -- the global symbol that a relocation stores
 abbrev pub global_of : Target → Option (ℕ × ℕ)
@@ -142,7 +142,7 @@ pub record Known : Type 0 where
 
 unfoldable pub known_of : List Part → Known
 known_of parts = record {
-  stage = stage_behind parts;
+  stage = stage_after parts;
   modules = modules_in parts;
   sections = section_names parts;
   globals = global_names parts;

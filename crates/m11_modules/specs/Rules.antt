@@ -73,7 +73,7 @@ abbrev pub defines : GsdEntry → Bool
 defines entry = has_bits 8 entry.flags
 
 abbrev pub defines_relocatable : GsdEntry → Bool
-defines_relocatable entry = defines entry && has_bits 32 entry.flags
+defines_relocatable entry = defines entry && has_bits 0o40 entry.flags
 
 -- a section is entered once in a module
 abbrev pub entering_fault : List ((ℕ × ℕ) × ℕ) → List (ℕ × ℕ) → ℕ × ℕ → Option ModuleFault
@@ -88,7 +88,7 @@ section_fault entered name = first_there ((is_none (size_known entered name), Un
 abbrev pub global_fault : List (ℕ × ℕ) → ℕ × ℕ → Option ModuleFault
 global_fault globals name = first_there ((is_past most_globals globals name, TooManyGlobals) ∷ [])
 
--- a relocatable symbol is defined behind an entry of a section
+-- a relocatable symbol is defined after an entry of a section
 abbrev pub symbol_fault : GsdEntry → List ((ℕ × ℕ) × ℕ) → List (ℕ × ℕ) → Option ModuleFault
 symbol_fault entry entered globals = option_or
     (first_there ((defines_relocatable entry && nat_eq (length entered) 0, BadOrder) ∷ []))
@@ -102,7 +102,7 @@ entry_fault TransferAddress entry entered sections globals = section_fault enter
 entry_fault GlobalSymbol entry entered sections globals = symbol_fault entry entered globals
 entry_fault kind entry entered sections globals = None
 
--- a text of so many bytes from an address on, in a section of this size
+-- a text of n bytes from an address on, in a section of this size
 abbrev pub text_fault : ℕ → ℕ → ℕ → Option ModuleFault
 text_fault size address count = first_there ((nat_lt size (address + count), TextOutside) ∷ [])
 
@@ -117,7 +117,7 @@ abbrev pub lies_within : Relocation → ℕ → Bool
 lies_within relocation count = nat_le 4 relocation.displacement
     && nat_le (relocation.displacement + width_of relocation.is_byte relocation.target) (4 + count)
 
--- the faults of a place: there has to be a text, of so many bytes, and the place has to lie within
+-- the faults of a place: there has to be a text, of n bytes, and the place has to lie within
 abbrev pub place_fault : Relocation → Option ℕ → Option ModuleFault
 place_fault relocation None = Some NoText
 place_fault relocation (Some count) = first_there ((not (lies_within relocation count), BadDisplacement) ∷ [])
@@ -159,16 +159,16 @@ fault_in_order known part = None
 unfoldable pub fault_known : Known → Part → Option ModuleFault
 fault_known known part = if may_stand part known.stage then fault_in_order known part else Some BadOrder
 
--- what is wrong with a part behind the parts before it, if anything is
+-- what is wrong with a part after the parts before it, if anything is
 abbrev pub fault_of : List Part → Part → Option ModuleFault
 fault_of before part = fault_known (known_of before) part
 
--- the first fault of parts, in their order, behind the parts before them
+-- the first fault of parts, in their order, after the parts before them
 unfoldable pub first_fault : List Part → List Part → Option ModuleFault
 first_fault before [] = None
 first_fault before (part ∷ parts) = option_or (fault_of before part) (first_fault (before ++ part ∷ []) parts)
 
--- the answer of a check
+-- the result of a check
 abbrev pub answered : Option ModuleFault → Result (Unit {0}) ModuleFault
 answered None = Ok tt
 answered (Some fault) = Err fault

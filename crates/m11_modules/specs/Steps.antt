@@ -1,4 +1,4 @@
--- What is known behind a part, from what was known before it. (This project's own: how the rules are kept while records
+-- What is known after a part, from what was known before it. (This project's own: how the rules are kept while records
 -- come. That it is what Places.antt says of all parts is proved.)
 use Rattle.std.specs.Prelude.{◌≡◌, ℕ, ◌+◌, List, [], ◌∷◌, length, ⊤, Option, Some, None, Result, Ok, Err}
 use Rattle.std.specs.Option.{option_or}
@@ -49,39 +49,39 @@ with_end known = record known {
   text = None;
 }
 
-unfoldable pub known_behind : Known → Part → Known
-known_behind known Directory = record known { stage = InDirectory }
-known_behind known (Entry entry) = with_entry entry.kind entry known
-known_behind known EndOfDirectory = record known { stage = InBody }
-known_behind known (Text address bytes) = record known { text = Some (length bytes) }
-known_behind known Relocations = known
-known_behind known (Relocated relocation) = with_target relocation.target known
-known_behind known EndOfModule = with_end known
-known_behind known EndOfFile = known
+unfoldable pub known_after : Known → Part → Known
+known_after known Directory = record known { stage = InDirectory }
+known_after known (Entry entry) = with_entry entry.kind entry known
+known_after known EndOfDirectory = record known { stage = InBody }
+known_after known (Text address bytes) = record known { text = Some (length bytes) }
+known_after known Relocations = known
+known_after known (Relocated relocation) = with_target relocation.target known
+known_after known EndOfModule = with_end known
+known_after known EndOfFile = known
 
-abbrev pub known_behind_all : Known → List Part → Known
-known_behind_all known [] = known
-known_behind_all known (part ∷ parts) = known_behind_all (known_behind known part) parts
+abbrev pub known_after_all : Known → List Part → Known
+known_after_all known [] = known
+known_after_all known (part ∷ parts) = known_after_all (known_after known part) parts
 
 abbrev pub first_known_fault : Known → List Part → Option ModuleFault
 first_known_fault known [] = None
 first_known_fault known (part ∷ parts) =
-    option_or (fault_known known part) (first_known_fault (known_behind known part) parts)
+    option_or (fault_known known part) (first_known_fault (known_after known part) parts)
 
--- what a part tells was kept, or memory was refused
+-- what a part says was kept, or memory was refused
 abbrev pub Notes : {A : Type 0} → Known → Known → Result A ModuleFault → Type 0
 Notes new noted (Ok done) = new ≡ noted
 Notes new noted (Err NoMemory) = ⊤
 Notes new noted (Err fault) = ⊥
 
--- a part was taken, or its fault was answered
+-- a part was taken, or its fault was returned
 unfoldable pub TakesOne : Known → Known → Part → Result (Unit {0}) ModuleFault → Type 0
-TakesOne old new part (Ok done) = (fault_known old part ≡ None) × (new ≡ known_behind old part)
+TakesOne old new part (Ok done) = (fault_known old part ≡ None) × (new ≡ known_after old part)
 TakesOne old new part (Err NoMemory) = ⊤
 TakesOne old new part (Err fault) = fault_known old part ≡ Some fault
 
--- parts were taken, or their first fault was answered
-unfoldable pub Takes : Known → Known → List Part → Result (Unit {0}) ModuleFault → Type 0
-Takes old new parts (Ok done) = (first_known_fault old parts ≡ None) × (new ≡ known_behind_all old parts)
-Takes old new parts (Err NoMemory) = ⊤
-Takes old new parts (Err fault) = first_known_fault old parts ≡ Some fault
+-- parts were taken, or their first fault was returned
+unfoldable pub RulesTake : Known → Known → List Part → Result (Unit {0}) ModuleFault → Type 0
+RulesTake old new parts (Ok done) = (first_known_fault old parts ≡ None) × (new ≡ known_after_all old parts)
+RulesTake old new parts (Err NoMemory) = ⊤
+RulesTake old new parts (Err fault) = first_known_fault old parts ≡ Some fault

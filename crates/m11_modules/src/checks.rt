@@ -21,7 +21,7 @@ const MOST_SECTIONS: usize = 256;
 // The most names of globals, over all modules.
 const MOST_GLOBALS: usize = 8192;
 
-/// A record that may begin a module: it is behind no directory, and there is room for its module.
+/// A record that may begin a module: it is after no directory, and there is room for its module.
 pub(crate) fn check_begin(stage: Stage, modules: usize) -> Result<(), ModuleFault>
     ensures { result ≡ answered (opening_fault stage modules) }
 {
@@ -107,7 +107,7 @@ fn check_entering(
     }
 }
 
-// A global symbol: a relocatable one is defined behind a section's entry.
+// A global symbol: a relocatable one is defined after a section's entry.
 fn check_symbol(
     entry: &GsdEntry,
     entered: &IndexMap<Name, u16>,
@@ -159,7 +159,7 @@ fn width_of(relocation: &Relocation) -> usize
     }
 }
 
-/// Whether all bytes that a relocation stores lie within a text of so many bytes. The first has the displacement 4.
+/// Whether all bytes that a relocation stores lie within a text of n bytes. The first has the displacement 4.
 pub fn lies_within(relocation: &Relocation, count: usize) -> bool
     ensures { result ≡ lies_within relocation.now count }
 {

@@ -3,17 +3,17 @@
 ghost use Rattle.std.specs.Prelude.{◌≡◌, List, [], ◌∷◌, ◌++◌};
 ghost use Rattle.m11_modules.specs.Grammar.{FileEnds, Item, Module, files_parts, items_parts};
 ghost use Rattle.m11_modules.specs.Laws.{AreFiles, AreInOrder};
-ghost use Rattle.m11_modules.specs.Places.{stage_behind};
+ghost use Rattle.m11_modules.specs.Places.{stage_after};
 ghost use Rattle.m11_modules.specs.declared.stage.Stage.TheVariants.{Between};
 
-/// In files, each of which is a list of modules, each part stands where it may, and behind them no module is open.
+/// In files, each of which is a list of modules, each part stands where it may, and after them no module is open.
 #[tactic(auto, using(crate::proofs::GrammarOrder::files_in_order, crate::proofs::GrammarOrder::files_closed))]
 pub fn files_are_in_order()
     ensures order { (files : List (List Module)) → AreInOrder (files_parts files) }
-    ensures behind { (files : List (List Module)) → stage_behind (files_parts files) ≡ Between }
+    ensures following { (files : List (List Module)) → stage_after (files_parts files) ≡ Between }
 {}
 
-/// Records and ends of files, the last of which stands behind all records, are files, each of which is a list of
+/// Records and ends of files, the last of which stands after all records, are files, each of which is a list of
 /// modules, where each of their parts stands where it may.
 #[tactic(auto, using(crate::proofs::GrammarOrder::ordered_files))]
 pub fn ordered_records_are_files()

@@ -2,10 +2,10 @@
 
 ghost use Rattle.std.specs.Prelude.{◌≡◌, ◌≤◌, ◌∷◌, [], ℕ, List, Result, Ok, Err, map, length};
 ghost use Rattle.m11_obj.specs.Reading.{record_entries, record_relocations};
-ghost use Rattle.m11_modules.specs.Laws.{TakesBehind};
+ghost use Rattle.m11_modules.specs.Laws.{TakesAfter};
 ghost use Rattle.m11_modules.specs.Parts.{Part, Directory, Entry, EndOfDirectory, Text, Relocations, Relocated, EndOfModule, EndOfFile, record_parts};
 ghost use Rattle.m11_modules.specs.Places.{known_of};
-ghost use Rattle.m11_modules.specs.Steps.{Notes, Takes, TakesOne, with_section, with_global, with_entry, with_target};
+ghost use Rattle.m11_modules.specs.Steps.{Notes, RulesTake, TakesOne, with_section, with_global, with_entry, with_target};
 
 use crate::checks::{check_begin, check_entry, check_relocation, check_text, size_of};
 use crate::fault::ModuleFault;
@@ -50,7 +50,7 @@ impl Model for Rules {
 
 impl Rules {
     /// No record came so far.
-    #[tactic(auto, unfolding(crate::specs::Places::known_of, crate::specs::Places::stage_behind, crate::specs::Places::modules_in, crate::specs::Places::section_names, crate::specs::Places::global_names, crate::specs::Places::distinct, crate::specs::Places::sections_in, crate::specs::Places::this_module, crate::specs::Places::current_section, crate::specs::Places::text_length))]
+    #[tactic(auto, unfolding(crate::specs::Places::known_of, crate::specs::Places::stage_after, crate::specs::Places::modules_in, crate::specs::Places::section_names, crate::specs::Places::global_names, crate::specs::Places::distinct, crate::specs::Places::sections_in, crate::specs::Places::this_module, crate::specs::Places::current_section, crate::specs::Places::text_length))]
     pub fn new(alloc: Global) -> Rules
         ensures { result ≡ known_of [] }
     {
@@ -84,19 +84,19 @@ impl Rules {
     /// Faults, the first in the order of the record's parts; in one entry or relocation in this order: `BadOrder`,
     /// `NoText`, `BadDisplacement`, `UnknownSection`, `TextOutside`, then a limit. `NoMemory` where memory is refused.
     /// After a fault the rules are of no more use.
-    #[tactic(auto, using(crate::proofs::KnownBehind::taken_behind))]
+    #[tactic(auto, using(crate::proofs::KnownAfter::taken_after))]
     pub fn record(&mut self, record: &Record<'_>) -> Result<(), ModuleFault>
         ensures { (before : List Part) → self.old ≡ known_of before
-            → TakesBehind before self.new (record_parts «record».now) result }
+            → TakesAfter before self.new (record_parts «record».now) result }
     {
         self.take_record(record)
     }
 
     /// Takes the end of a file: `BadOrder` inside a module.
-    #[tactic(auto, using(crate::proofs::KnownBehind::taken_behind, crate::proofs::Taking::taken_one))]
+    #[tactic(auto, using(crate::proofs::KnownAfter::taken_after, crate::proofs::Taking::taken_one))]
     pub fn end_of_file(&mut self) -> Result<(), ModuleFault>
         ensures { (before : List Part) → self.old ≡ known_of before
-            → TakesBehind before self.new (EndOfFile ∷ []) result }
+            → TakesAfter before self.new (EndOfFile ∷ []) result }
     {
         self.take_end_of_file()
     }
@@ -104,7 +104,7 @@ impl Rules {
     // Takes one record, by what is known before it.
     #[tactic(auto, using(crate::proofs::Taking::taken_one, crate::proofs::Taking::none_taken))]
     fn take_record(&mut self, record: &Record<'_>) -> Result<(), ModuleFault>
-        ensures { Takes self.old self.new (record_parts «record».now) result }
+        ensures { RulesTake self.old self.new (record_parts «record».now) result }
     {
         match record.kind() {
             RecordKind::Gsd => self.directory(record),
@@ -117,7 +117,7 @@ impl Rules {
     }
 
     // Takes the end of a file.
-    #[tactic(auto, unfolding(crate::specs::Steps::TakesOne, crate::specs::Steps::known_behind, crate::specs::Rules::fault_known))]
+    #[tactic(auto, unfolding(crate::specs::Steps::TakesOne, crate::specs::Steps::known_after, crate::specs::Rules::fault_known))]
     fn take_end_of_file(&mut self) -> Result<(), ModuleFault>
         ensures { TakesOne self.old self.new EndOfFile result }
     {
@@ -128,7 +128,7 @@ impl Rules {
     }
 
     // A directory record begins.
-    #[tactic(auto, unfolding(crate::specs::Steps::TakesOne, crate::specs::Steps::known_behind, crate::specs::Rules::fault_known))]
+    #[tactic(auto, unfolding(crate::specs::Steps::TakesOne, crate::specs::Steps::known_after, crate::specs::Rules::fault_known))]
     fn begin_directory(&mut self) -> Result<(), ModuleFault>
         ensures { TakesOne self.old self.new Directory result }
     {
@@ -138,7 +138,7 @@ impl Rules {
     }
 
     // The end of the directory.
-    #[tactic(auto, unfolding(crate::specs::Steps::TakesOne, crate::specs::Steps::known_behind, crate::specs::Rules::fault_known))]
+    #[tactic(auto, unfolding(crate::specs::Steps::TakesOne, crate::specs::Steps::known_after, crate::specs::Rules::fault_known))]
     fn end_of_directory(&mut self) -> Result<(), ModuleFault>
         ensures { TakesOne self.old self.new EndOfDirectory result }
     {
@@ -148,7 +148,7 @@ impl Rules {
     }
 
     // A text.
-    #[tactic(auto, unfolding(crate::specs::Steps::TakesOne, crate::specs::Steps::known_behind, crate::specs::Rules::fault_known))]
+    #[tactic(auto, unfolding(crate::specs::Steps::TakesOne, crate::specs::Steps::known_after, crate::specs::Rules::fault_known))]
     fn text(&mut self, address: u16, bytes: &[u8]) -> Result<(), ModuleFault>
         ensures { TakesOne self.old self.new (Text address bytes.now) result }
     {
@@ -162,7 +162,7 @@ impl Rules {
     }
 
     // The end of a module.
-    #[tactic(auto, unfolding(crate::specs::Steps::TakesOne, crate::specs::Steps::known_behind, crate::specs::Rules::fault_known))]
+    #[tactic(auto, unfolding(crate::specs::Steps::TakesOne, crate::specs::Steps::known_after, crate::specs::Rules::fault_known))]
     fn end_of_module(&mut self) -> Result<(), ModuleFault>
         ensures { TakesOne self.old self.new EndOfModule result }
     {
@@ -180,7 +180,7 @@ impl Rules {
     // A directory record and its entries.
     #[tactic(auto, using(crate::proofs::Taking::taken_then, crate::proofs::Taking::refused_first))]
     fn directory(&mut self, record: &Record<'_>) -> Result<(), ModuleFault>
-        ensures { Takes self.old self.new
+        ensures { RulesTake self.old self.new
             (Directory ∷ map (λ entry. Entry entry) (record_entries «record».now)) result }
     {
         match self.begin_directory() {
@@ -191,7 +191,7 @@ impl Rules {
 
     // The entries of a directory record.
     fn entries(&mut self, record: &Record<'_>) -> Result<(), ModuleFault>
-        ensures { Takes self.old self.new (map (λ entry. Entry entry) (record_entries «record».now)) result }
+        ensures { RulesTake self.old self.new (map (λ entry. Entry entry) (record_entries «record».now)) result }
     {
         'entries: for index in 0..record.entry_count() {
             match self.entry(&record.entry(index)) {
@@ -203,7 +203,7 @@ impl Rules {
     }
 
     // An entry.
-    #[tactic(auto, unfolding(crate::specs::Steps::TakesOne, crate::specs::Steps::known_behind, crate::specs::Rules::fault_known))]
+    #[tactic(auto, unfolding(crate::specs::Steps::TakesOne, crate::specs::Steps::known_after, crate::specs::Rules::fault_known))]
     fn entry(&mut self, entry: &GsdEntry) -> Result<(), ModuleFault>
         ensures { TakesOne self.old self.new (Entry entry.now) result }
     {
@@ -211,7 +211,7 @@ impl Rules {
         self.note_entry(entry)
     }
 
-    // Keeps what an entry tells.
+    // Keeps what an entry says.
     fn note_entry(&mut self, entry: &GsdEntry) -> Result<(), ModuleFault>
         ensures { Notes self.new (with_entry entry.now.kind entry.now self.old) result }
     {
@@ -241,7 +241,7 @@ impl Rules {
     }
 
     // A relocation.
-    #[tactic(auto, unfolding(crate::specs::Steps::TakesOne, crate::specs::Steps::known_behind, crate::specs::Rules::fault_known))]
+    #[tactic(auto, unfolding(crate::specs::Steps::TakesOne, crate::specs::Steps::known_after, crate::specs::Rules::fault_known))]
     fn relocation(&mut self, relocation: Relocation) -> Result<(), ModuleFault>
         ensures { TakesOne self.old self.new (Relocated relocation) result }
     {
@@ -271,7 +271,7 @@ impl Rules {
     // A relocation record and its relocations.
     #[tactic(auto, using(crate::proofs::Taking::taken_then, crate::proofs::Taking::refused_first))]
     fn relocations(&mut self, record: &Record<'_>) -> Result<(), ModuleFault>
-        ensures { Takes self.old self.new
+        ensures { RulesTake self.old self.new
             (Relocations ∷ map (λ relocation. Relocated relocation) (record_relocations «record».now)) result }
     {
         match self.begin_relocations() {
@@ -281,7 +281,7 @@ impl Rules {
     }
 
     // A relocation record begins.
-    #[tactic(auto, unfolding(crate::specs::Steps::TakesOne, crate::specs::Steps::known_behind, crate::specs::Rules::fault_known))]
+    #[tactic(auto, unfolding(crate::specs::Steps::TakesOne, crate::specs::Steps::known_after, crate::specs::Rules::fault_known))]
     fn begin_relocations(&mut self) -> Result<(), ModuleFault>
         ensures { TakesOne self.old self.new Relocations result }
     {
@@ -293,7 +293,7 @@ impl Rules {
 
     // The relocations of a record.
     fn each_relocation(&mut self, record: &Record<'_>) -> Result<(), ModuleFault>
-        ensures { Takes self.old self.new (map (λ relocation. Relocated relocation) (record_relocations «record».now)) result }
+        ensures { RulesTake self.old self.new (map (λ relocation. Relocated relocation) (record_relocations «record».now)) result }
     {
         'relocations: for relocation in record.each_relocation() {
             match self.relocation(relocation) {

@@ -7,6 +7,6 @@ pub(crate) enum Stage {
     Between,
     /// In the directory of a module.
     InDirectory,
-    /// Behind the directory of a module.
+    /// After the directory of a module.
     InBody,
 }

@@ -10,7 +10,7 @@ use Rattle.m11_obj.specs.declared.gsd.GsdEntry.{GsdEntry}
 use Rattle.m11_obj.specs.declared.records.RecordKind.{RecordKind}
 use Rattle.m11_obj.specs.declared.records.RecordKind.TheVariants as kind
 use Rattle.m11_obj.specs.Records.{Content, Gsd, EndOfGsd, Text, Relocations, InternalSymbols, EndOfModule}
-use Rattle.m11_obj.specs.Reading.{◌>>=◌, first_byte, first_word, first_name_word, first_name, kind_of, first_entry, items_within, entries_of, relocations_of, type_of, first_type, content_behind, content_of, kind_in}
+use Rattle.m11_obj.specs.Reading.{◌>>=◌, first_byte, first_word, first_name_word, first_name, entry_kind, first_entry, items_within, entries_of, relocations_of, record_kind_of, first_type, content_after, content_of, kind_in}
 
 -- ---- steps that did not fail
 
@@ -29,38 +29,38 @@ done x = Ok x
 pub ok_is : {A : Type 0} (x y : A) → done x ≡ done y → x ≡ y
 ok_is x y e = cc
 
--- the rest is what stands behind so many bytes
+-- the rest is what stands after n bytes
 pub record Takes (count : ℕ) (bytes rest : List ℕ) : Type 0 where
   pub enough : count ≤ length bytes
-  pub behind : rest ≡ drop count bytes
+  pub following : rest ≡ drop count bytes
 
 -- what was read is made of these parts
 takes_same : {A : Type 0} (count : ℕ) (bytes : List ℕ) (made x : A × List ℕ) → done made ≡ done x
     → Takes count bytes made.1 → Takes count bytes x.1
 takes_same {A} count bytes made x e takes =
     let same : made ≡ x = ok_is made x e in
-    let behind : x.1 ≡ drop count bytes = sym (ap (λ (p : A × List ℕ). p.1) same) ∙ takes.behind in
-    record { enough = takes.enough; behind = behind }
+    let following : x.1 ≡ drop count bytes = sym (ap (λ (p : A × List ℕ). p.1) same) ∙ takes.following in
+    record { enough = takes.enough; following = following }
 
 Takes-then : (m n : ℕ) (a b c : List ℕ) → Takes m a b → Takes n b c → Takes (m + n) a c
 Takes-then m n a b c first second =
-    let long : n ≤ length (drop m a) = subst (λ (x : List ℕ). n ≤ length x) first.behind second.enough in
+    let long : n ≤ length (drop m a) = subst (λ (x : List ℕ). n ≤ length x) first.following second.enough in
     record {
       enough = omega (arith, length-drop m a, first.enough);
-      behind = second.behind ∙ ap (drop n) first.behind ∙ drop-drop n m a;
+      following = second.following ∙ ap (drop n) first.following ∙ drop-drop n m a;
     }
 
 pub byte_takes : (bytes : List ℕ) (x : ℕ × List ℕ) → first_byte bytes ≡ Ok x → Takes 1 bytes x.1
 byte_takes [] x e = absurd cc
 byte_takes (byte ∷ rest) x e =
-    record { enough = omega arith; behind = sym (ap (λ (p : ℕ × List ℕ). p.1) (ok_is (byte, rest) x e)) }
+    record { enough = omega arith; following = sym (ap (λ (p : ℕ × List ℕ). p.1) (ok_is (byte, rest) x e)) }
 
 pub word_takes : (bytes : List ℕ) (x : ℕ × List ℕ) → first_word bytes ≡ Ok x → Takes 2 bytes x.1
 unfolding first_word
 word_takes [] x e = absurd cc
 word_takes (low ∷ []) x e = absurd cc
 word_takes (low ∷ high ∷ rest) x e =
-    record { enough = omega arith; behind = sym (ap (λ (p : ℕ × List ℕ). p.1) (ok_is (low + 256 * high, rest) x e)) }
+    record { enough = omega arith; following = sym (ap (λ (p : ℕ × List ℕ). p.1) (ok_is (low + 256 * high, rest) x e)) }
 
 name_word_takes : (bytes : List ℕ) (x : ℕ × List ℕ) → first_name_word bytes ≡ Ok x → Takes 2 bytes x.1
 unfolding first_name_word
@@ -89,18 +89,18 @@ unfolding first_entry
 entry_takes bytes x e =
     let name =
     bind_ok (first_name bytes)
-    (λ name. first_byte name.1 >>= λ flags. first_byte flags.1 >>= λ code. kind_of code.0 >>=
+    (λ name. first_byte name.1 >>= λ flags. first_byte flags.1 >>= λ code. entry_kind code.0 >>=
     λ kind. first_word code.1 >>= λ value. Ok (entry_of name.0 flags.0 kind value.0, value.1)) x e in
     let flags =
     bind_ok (first_byte name.0.1)
-    (λ flags. first_byte flags.1 >>= λ code. kind_of code.0 >>= λ kind. first_word code.1 >>= λ value. Ok
+    (λ flags. first_byte flags.1 >>= λ code. entry_kind code.0 >>= λ kind. first_word code.1 >>= λ value. Ok
     (entry_of name.0.0 flags.0 kind value.0, value.1)) x name.2 in
     let code =
     bind_ok (first_byte flags.0.1)
-    (λ code. kind_of code.0 >>= λ kind. first_word code.1 >>= λ value. Ok
+    (λ code. entry_kind code.0 >>= λ kind. first_word code.1 >>= λ value. Ok
     (entry_of name.0.0 flags.0.0 kind value.0, value.1)) x flags.2 in
     let kind =
-    bind_ok (kind_of code.0.0)
+    bind_ok (entry_kind code.0.0)
     (λ kind. first_word code.0.1 >>= λ value. Ok (entry_of name.0.0 flags.0.0 kind value.0, value.1)) x
     code.2 in
     let value =
@@ -137,7 +137,7 @@ entries_length (suc n) [] entries le e = let none = ok_is [] entries e in omega 
 entries_length (suc n) (byte ∷ bytes) entries le e =
     let o = others_of n byte bytes entries e in
     let t = entry_takes (byte ∷ bytes) o.0 o.2 in
-    let shorter : length o.0.1 ≡ length (byte ∷ bytes) - 8 = ap length t.behind ∙ length-drop 8 (byte ∷ bytes) in
+    let shorter : length o.0.1 ≡ length (byte ∷ bytes) - 8 = ap length t.following ∙ length-drop 8 (byte ∷ bytes) in
     let others = entries_length n o.0.1 o.1 (omega (arith, t.enough)) o.3 in
     omega (arith, t.enough, ap length o.4)
 
@@ -155,7 +155,7 @@ entry_place (suc n) (suc i) (byte ∷ bytes) entries d e lt =
     let t = entry_takes (byte ∷ bytes) o.0 o.2 in
     let found = entry_place n i o.0.1 o.1 d o.3 (omega (arith, ap length o.4)) in
     let place : drop (8 * i) o.0.1 ≡ drop (8 * suc i) (byte ∷ bytes) =
-    ap (drop (8 * i)) t.behind ∙ drop-drop (8 * i) 8 (byte ∷ bytes)
+    ap (drop (8 * i)) t.following ∙ drop-drop (8 * i) 8 (byte ∷ bytes)
     ∙ ap (λ (k : ℕ). drop k (byte ∷ bytes)) (omega arith) in
     (found.0, ap first_entry (sym place) ∙ found.1 ∙ ap (λ (es : List GsdEntry). Ok (get_or es (suc i) d, found.0)) o.4)
 
@@ -168,15 +168,15 @@ ok_value (Err fault) e = absurd cc
 type_takes : (bytes : List ℕ) (x : RecordKind × List ℕ) → first_type bytes ≡ Ok x → Takes 2 bytes x.1
 unfolding first_type
 type_takes bytes x e =
-    let a = bind_ok (first_word bytes) (λ code. type_of code.0 >>= λ type. Ok (type, code.1)) x e in
-    let b = bind_ok (type_of a.0.0) (λ type. Ok (type, a.0.1)) x a.2 in
+    let a = bind_ok (first_word bytes) (λ code. record_kind_of code.0 >>= λ type. Ok (type, code.1)) x e in
+    let b = bind_ok (record_kind_of a.0.0) (λ type. Ok (type, a.0.1)) x a.2 in
     let made : RecordKind × List ℕ = (b.0, a.0.1) in
     takes_same 2 bytes made x b.2 (word_takes bytes a.0 a.1)
 
--- a record's type is the one that its type word tells
-kind_is : (type : RecordKind) (bytes : List ℕ) (content : Content) → content_behind type bytes ≡ Ok content
+-- a record's type is the one that its type word says
+kind_is : (type : RecordKind) (bytes : List ℕ) (content : Content) → content_after type bytes ≡ Ok content
     → kind_in content ≡ type
-unfolding content_behind
+unfolding content_after
 kind_is kind.Gsd bytes content e =
     let a = bind_ok (entries_of bytes) (λ entries. Ok (Gsd entries)) content e in
     sym (ap kind_in (ok_is (Gsd a.0) content a.2))
@@ -196,13 +196,13 @@ pub record Parts (bytes : List ℕ) (content : Content) : Type 0 where
   pub rest : List ℕ
   pub typed : first_type bytes ≡ Ok (type, rest)
   pub takes : Takes 2 bytes rest
-  pub says : content_behind type rest ≡ Ok content
+  pub says : content_after type rest ≡ Ok content
   pub same : kind_in content ≡ type
 
 pub parts_of : (bytes : List ℕ) (content : Content) → content_of bytes ≡ Ok content → Parts bytes content
 unfolding content_of
 parts_of bytes content e =
-    let a = bind_ok (first_type bytes) (λ type. content_behind type.0 type.1) content e in
+    let a = bind_ok (first_type bytes) (λ type. content_after type.0 type.1) content e in
     record {
       type = a.0.0;
       rest = a.0.1;

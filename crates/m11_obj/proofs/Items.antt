@@ -1,4 +1,4 @@
--- Items that stand one behind another, up to the end of the bytes.
+-- Items that stand one after another, up to the end of the bytes.
 use Rattle.std.proofs.Common.{◌≡◌, ℕ, zero, suc, ◌<◌, ◌≤◌, List, [], ◌∷◌, length, Result, Ok, Err, refl, ap, ◌∙◌, arith}
 use Rattle.m11_obj.specs.declared.fault.RecordFault.{RecordFault}
 use Rattle.m11_obj.specs.Reading.{◌>>=◌, items_within, items_of, checked}
@@ -13,7 +13,7 @@ pub record Shrinks {A : Type 0} (first : List ℕ → Result (A × List ℕ) Rec
   pub shorter : (bytes : List ℕ) (x : A × List ℕ) → first bytes ≡ Ok x → length x.1 < length bytes
 
 module _ {A : Type 0} (first : List ℕ → Result (A × List ℕ) RecordFault) where
-  -- a number of items that is large enough tells nothing
+  -- a number of items that is large enough says nothing
   within_enough : (m n : ℕ) (bytes : List ℕ) → Shrinks first → length bytes ≤ m → length bytes ≤ n
       → items_within first m bytes ≡ items_within first n bytes
   unfolding items_within
@@ -29,7 +29,7 @@ module _ {A : Type 0} (first : List ℕ → Result (A × List ℕ) RecordFault) 
       ap (λ (r : Result (List A) RecordFault). r >>= λ others. Ok (x.0 ∷ others))
       (within_enough m n x.1 shrinks (omega arith) (omega arith)))
 
-  -- one item, and those behind it
+  -- one item, and those after it
   pub items_step : (bytes : List ℕ) (x : A × List ℕ) → Shrinks first → first bytes ≡ Ok x
       → items_of first bytes ≡ (items_of first x.1 >>= λ others. Ok (x.0 ∷ others))
   unfolding items_of items_within
@@ -55,7 +55,7 @@ module _ {A : Type 0} (first : List ℕ → Result (A × List ℕ) RecordFault) 
   checked_more (Ok others) item = refl
   checked_more (Err fault) item = refl
 
-  -- whether there are items is told by those behind the first
+  -- whether there are items is decided by those after the first
   pub checked_step : (bytes : List ℕ) (x : A × List ℕ) → Shrinks first → first bytes ≡ Ok x
       → checked (items_of first bytes) ≡ checked (items_of first x.1)
   checked_step bytes x shrinks is =

@@ -9,7 +9,7 @@ use Rattle.m11_obj.specs.declared.gsd.GsdKind.TheVariants.{ModuleName, ControlSe
 use Rattle.m11_obj.specs.declared.gsd.GsdEntry.{GsdEntry}
 use Rattle.m11_blocks.specs.Frames.{word_bytes}
 use Rattle.m11_obj.specs.Gsd.{kind_code, name_bytes, entry_bytes, entries_bytes, EntryFits, EntriesFit}
-use Rattle.m11_obj.specs.Reading.{first_word, first_name_word, first_name, kind_of, first_entry, items_within, items_of, entries_of}
+use Rattle.m11_obj.specs.Reading.{first_word, first_name_word, first_name, entry_kind, first_entry, items_within, items_of, entries_of}
 
 -- ---- words and names
 
@@ -38,8 +38,8 @@ name_again name rest is =
 
 -- ---- entries
 
-kind_again : (kind : GsdKind) → kind_of (kind_code kind) ≡ Ok kind
-unfolding kind_of
+kind_again : (kind : GsdKind) → entry_kind (kind_code kind) ≡ Ok kind
+unfolding entry_kind
 kind_again ModuleName = refl
 kind_again ControlSection = refl
 kind_again InternalSymbol = refl
@@ -52,11 +52,11 @@ pub entry_again : (entry : GsdEntry) (rest : List ℕ) → EntryFits entry
     → first_entry (entry_bytes entry ++ rest) ≡ Ok (entry, rest)
 unfolding first_entry
 entry_again entry rest fits =
-    let behind : List ℕ = entry.flags ∷ kind_code entry.kind ∷ (word_bytes entry.value ++ rest) in
-    let split : entry_bytes entry ++ rest ≡ name_bytes entry.name ++ behind =
+    let following : List ℕ = entry.flags ∷ kind_code entry.kind ∷ (word_bytes entry.value ++ rest) in
+    let split : entry_bytes entry ++ rest ≡ name_bytes entry.name ++ following =
     append_assoc (name_bytes entry.name) (entry.flags ∷ kind_code entry.kind ∷ word_bytes entry.value) rest in
     ap first_entry split
-    ∙ rw (name_again entry.name behind fits.name, kind_again entry.kind, word_again entry.value rest fits.value)
+    ∙ rw (name_again entry.name following fits.name, kind_again entry.kind, word_again entry.value rest fits.value)
     refl
 
 -- the bytes of entries are at least as many as the entries

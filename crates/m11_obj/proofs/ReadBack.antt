@@ -15,7 +15,7 @@ use Rattle.m11_obj.specs.declared.relocations.Relocation.{Relocation}
 use Rattle.m11_blocks.specs.Frames.{word_bytes}
 use Rattle.m11_obj.specs.Gsd.{kind_code, name_bytes, entry_bytes, EntryFits}
 use Rattle.m11_obj.specs.Relocations.{command, target_name, target_constant, optional_name, optional_word, byte_form, relocation_bytes, FormExists, RelocationFits}
-use Rattle.m11_obj.specs.Reading.{◌>>=◌, first_byte, first_word, first_name_word, first_name, kind_of, first_entry, items_within, Form, Nothing, Constant, Name, NameAndConstant, is_without_byte_form, row_of, form_of, first_target, first_relocation}
+use Rattle.m11_obj.specs.Reading.{◌>>=◌, first_byte, first_word, first_name_word, first_name, entry_kind, first_entry, items_within, Form, Nothing, Constant, Name, NameAndConstant, is_without_byte_form, row_of, form_of, first_target, first_relocation}
 use Rattle.m11_obj.proofs.FieldsOf.{done, ok_is, bind_ok, guard_ok, entry_of}
 use Rattle.m11_obj.proofs.Items.{Shrinks}
 use Rattle.m11_obj.proofs.Steps.{relocation_of}
@@ -24,16 +24,16 @@ use Rattle.m11_obj.proofs.Steps.{relocation_of}
 abbrev pub Bytes : List ℕ → Type 0
 Bytes bytes = AllByRecursion (λ byte. byte < 256) bytes
 
--- the bytes begin with what is written, and the rest stands behind it
+-- the bytes begin with what is written, and the rest stands after it
 pub record Begins (bytes written rest : List ℕ) : Type 0 where
   pub is : bytes ≡ written ++ rest
-  pub behind : Bytes rest
+  pub following : Bytes rest
 
 begins_then : (bytes first middle second rest : List ℕ) → Begins bytes first middle → Begins middle second rest
     → Begins bytes (first ++ second) rest
 begins_then bytes first middle second rest one two = record {
   is = one.is ∙ ap (λ (xs : List ℕ). first ++ xs) two.is ∙ sym (append_assoc first second rest);
-  behind = two.behind;
+  following = two.following;
 }
 
 -- ---- words and names
@@ -59,7 +59,7 @@ byte_reads : (bytes : List ℕ) (x : ℕ × List ℕ) → Bytes bytes → first_
 byte_reads [] x are e = absurd cc
 byte_reads (byte ∷ rest) x are e =
     let made : ℕ × List ℕ = (byte, rest) in
-    let here : ByteReads (byte ∷ rest) made = record { begins = record { is = refl; behind = are.1 }; fits = are.0 } in
+    let here : ByteReads (byte ∷ rest) made = record { begins = record { is = refl; following = are.1 }; fits = are.0 } in
     subst (λ (p : ℕ × List ℕ). ByteReads (byte ∷ rest) p) (ok_is made x e) here
 
 word_made : (low high : ℕ) (rest : List ℕ) → low < 256 → high < 256 → Bytes rest
@@ -71,7 +71,7 @@ word_made low high rest l h are =
       begins = record {
         is = ap (λ (n : ℕ). n ∷ high ∷ rest) (sym first)
             ∙ ap (λ (n : ℕ). ((low + 256 * high) % 256) ∷ n ∷ rest) (sym second);
-        behind = are;
+        following = are;
       };
       fits = omega arith;
     }
@@ -107,7 +107,7 @@ name_reads bytes x are e =
     (λ first. first_name_word first.1 >>= λ second. Ok ((first.0, second.0), second.1)) x e in
     let b = bind_ok (first_name_word a.0.1) (λ second. Ok ((a.0.0, second.0), second.1)) x a.2 in
     let first = name_word_reads bytes a.0 are a.1 in
-    let second = name_word_reads a.0.1 b.0 first.begins.behind b.1 in
+    let second = name_word_reads a.0.1 b.0 first.begins.following b.1 in
     let made : (ℕ × ℕ) × List ℕ = ((a.0.0, b.0.0), b.0.1) in
     let here : NameReads bytes made = record {
       begins = begins_then bytes (word_bytes a.0.0) a.0.1 (word_bytes b.0.0) b.0.1 first.begins second.begins;
@@ -117,8 +117,8 @@ name_reads bytes x are e =
 
 -- ---- entries
 
-kind_is_code : (code : ℕ) (kind : GsdKind) → kind_of code ≡ Ok kind → code ≡ kind_code kind
-unfolding kind_of
+kind_is_code : (code : ℕ) (kind : GsdKind) → entry_kind code ≡ Ok kind → code ≡ kind_code kind
+unfolding entry_kind
 kind_is_code zero kind e = ap kind_code (ok_is ModuleName kind e)
 kind_is_code (suc zero) kind e = ap kind_code (ok_is ControlSection kind e)
 kind_is_code (suc (suc zero)) kind e = ap kind_code (ok_is InternalSymbol kind e)
@@ -134,7 +134,7 @@ EntryReads bytes x = Reads entry_bytes EntryFits bytes x
 
 entry_made : (bytes : List ℕ) (name : (ℕ × ℕ) × List ℕ) (flags code value : ℕ × List ℕ) (kind : GsdKind)
     (x : GsdEntry × List ℕ) → NameReads bytes name → ByteReads name.1 flags → ByteReads flags.1 code
-    → WordReads code.1 value → kind_of code.0 ≡ Ok kind
+    → WordReads code.1 value → entry_kind code.0 ≡ Ok kind
     → done (entry_of name.0 flags.0 kind value.0, value.1) ≡ done x → EntryReads bytes x
 entry_made bytes name flags code value kind x n f c v is e =
     let last = begins_then flags.1 (code.0 ∷ []) code.1 (word_bytes value.0) value.1 c.begins v.begins in
@@ -154,26 +154,26 @@ unfolding first_entry
 entry_reads bytes x are e =
     let name =
     bind_ok (first_name bytes)
-    (λ name. first_byte name.1 >>= λ flags. first_byte flags.1 >>= λ code. kind_of code.0 >>=
+    (λ name. first_byte name.1 >>= λ flags. first_byte flags.1 >>= λ code. entry_kind code.0 >>=
     λ kind. first_word code.1 >>= λ value. Ok (entry_of name.0 flags.0 kind value.0, value.1)) x e in
     let flags =
     bind_ok (first_byte name.0.1)
-    (λ flags. first_byte flags.1 >>= λ code. kind_of code.0 >>= λ kind. first_word code.1 >>= λ value. Ok
+    (λ flags. first_byte flags.1 >>= λ code. entry_kind code.0 >>= λ kind. first_word code.1 >>= λ value. Ok
     (entry_of name.0.0 flags.0 kind value.0, value.1)) x name.2 in
     let code =
     bind_ok (first_byte flags.0.1)
-    (λ code. kind_of code.0 >>= λ kind. first_word code.1 >>= λ value. Ok
+    (λ code. entry_kind code.0 >>= λ kind. first_word code.1 >>= λ value. Ok
     (entry_of name.0.0 flags.0.0 kind value.0, value.1)) x flags.2 in
     let kind =
-    bind_ok (kind_of code.0.0)
+    bind_ok (entry_kind code.0.0)
     (λ kind. first_word code.0.1 >>= λ value. Ok (entry_of name.0.0 flags.0.0 kind value.0, value.1)) x
     code.2 in
     let value =
     bind_ok (first_word code.0.1) (λ value. Ok (entry_of name.0.0 flags.0.0 kind.0 value.0, value.1)) x kind.2 in
     let n = name_reads bytes name.0 are name.1 in
-    let f = byte_reads name.0.1 flags.0 n.begins.behind flags.1 in
-    let c = byte_reads flags.0.1 code.0 f.begins.behind code.1 in
-    let v = word_reads code.0.1 value.0 c.begins.behind value.1 in
+    let f = byte_reads name.0.1 flags.0 n.begins.following flags.1 in
+    let c = byte_reads flags.0.1 code.0 f.begins.following code.1 in
+    let v = word_reads code.0.1 value.0 c.begins.following value.1 in
     entry_made bytes name.0 flags.0 code.0 value.0 kind.0 x n f c v kind.1 value.2
 
 -- ---- relocations
@@ -185,62 +185,62 @@ record TargetIs (code : ℕ) (target : Target) (name : Option (ℕ × ℕ)) (con
   constant_is : target_constant target ≡ constant
 
 -- a row is that of the command
-abbrev Tells : ℕ → Form → Type 0
-Tells code (Nothing target) = TargetIs code target None None
-Tells code (Constant target) = (constant : ℕ) → TargetIs code (target constant) None (Some constant)
-Tells code (Name target) = (name : ℕ × ℕ) → TargetIs code (target name) (Some name) None
-Tells code (NameAndConstant target) =
+abbrev Reports : ℕ → Form → Type 0
+Reports code (Nothing target) = TargetIs code target None None
+Reports code (Constant target) = (constant : ℕ) → TargetIs code (target constant) None (Some constant)
+Reports code (Name target) = (name : ℕ × ℕ) → TargetIs code (target name) (Some name) None
+Reports code (NameAndConstant target) =
     (name : ℕ × ℕ) (constant : ℕ) → TargetIs code (target name constant) (Some name) (Some constant)
 
-row_tells : (code : ℕ) (form : Form) → row_of code ≡ Ok form → Tells code form
+row_reports : (code : ℕ) (form : Form) → row_of code ≡ Ok form → Reports code form
 unfolding row_of
-row_tells zero form e = absurd cc
-row_tells (suc zero) form e =
-    subst (λ (f : Form). Tells 1 f) (ok_is (Constant (λ constant. Internal constant)) form e)
+row_reports zero form e = absurd cc
+row_reports (suc zero) form e =
+    subst (λ (f : Form). Reports 1 f) (ok_is (Constant (λ constant. Internal constant)) form e)
     (λ constant. record { command_is = refl; name_is = refl; constant_is = refl })
-row_tells (suc (suc zero)) form e =
-    subst (λ (f : Form). Tells 2 f) (ok_is (Name (λ name. Global name)) form e)
+row_reports (suc (suc zero)) form e =
+    subst (λ (f : Form). Reports 2 f) (ok_is (Name (λ name. Global name)) form e)
     (λ name. record { command_is = refl; name_is = refl; constant_is = refl })
-row_tells (suc (suc (suc zero))) form e =
-    subst (λ (f : Form). Tells 3 f) (ok_is (Constant (λ constant. InternalDisplaced constant)) form e)
+row_reports (suc (suc (suc zero))) form e =
+    subst (λ (f : Form). Reports 3 f) (ok_is (Constant (λ constant. InternalDisplaced constant)) form e)
     (λ constant. record { command_is = refl; name_is = refl; constant_is = refl })
-row_tells (suc (suc (suc (suc zero)))) form e =
-    subst (λ (f : Form). Tells 4 f) (ok_is (Name (λ name. GlobalDisplaced name)) form e)
+row_reports (suc (suc (suc (suc zero)))) form e =
+    subst (λ (f : Form). Reports 4 f) (ok_is (Name (λ name. GlobalDisplaced name)) form e)
     (λ name. record { command_is = refl; name_is = refl; constant_is = refl })
-row_tells (suc (suc (suc (suc (suc zero))))) form e =
-    subst (λ (f : Form). Tells 5 f) (ok_is (NameAndConstant (λ name constant. GlobalAdditive name constant)) form e)
+row_reports (suc (suc (suc (suc (suc zero))))) form e =
+    subst (λ (f : Form). Reports 5 f) (ok_is (NameAndConstant (λ name constant. GlobalAdditive name constant)) form e)
     (λ name constant. record { command_is = refl; name_is = refl; constant_is = refl })
-row_tells (suc (suc (suc (suc (suc (suc zero)))))) form e =
-    subst (λ (f : Form). Tells 6 f)
+row_reports (suc (suc (suc (suc (suc (suc zero)))))) form e =
+    subst (λ (f : Form). Reports 6 f)
     (ok_is (NameAndConstant (λ name constant. GlobalAdditiveDisplaced name constant)) form e)
     (λ name constant. record { command_is = refl; name_is = refl; constant_is = refl })
-row_tells (suc (suc (suc (suc (suc (suc (suc zero))))))) form e =
-    subst (λ (f : Form). Tells 7 f)
+row_reports (suc (suc (suc (suc (suc (suc (suc zero))))))) form e =
+    subst (λ (f : Form). Reports 7 f)
     (ok_is (NameAndConstant (λ name constant. LocationCounterDefinition name constant)) form e)
     (λ name constant. record { command_is = refl; name_is = refl; constant_is = refl })
-row_tells (suc (suc (suc (suc (suc (suc (suc (suc zero)))))))) form e =
-    subst (λ (f : Form). Tells 8 f) (ok_is (Constant (λ constant. LocationCounterModification constant)) form e)
+row_reports (suc (suc (suc (suc (suc (suc (suc (suc zero)))))))) form e =
+    subst (λ (f : Form). Reports 8 f) (ok_is (Constant (λ constant. LocationCounterModification constant)) form e)
     (λ constant. record { command_is = refl; name_is = refl; constant_is = refl })
-row_tells (suc (suc (suc (suc (suc (suc (suc (suc (suc zero))))))))) form e =
-    subst (λ (f : Form). Tells 9 f) (ok_is (Nothing ProgramLimits) form e)
+row_reports (suc (suc (suc (suc (suc (suc (suc (suc (suc zero))))))))) form e =
+    subst (λ (f : Form). Reports 9 f) (ok_is (Nothing ProgramLimits) form e)
     (record { command_is = refl; name_is = refl; constant_is = refl })
-row_tells (suc (suc (suc (suc (suc (suc (suc (suc (suc (suc zero)))))))))) form e =
-    subst (λ (f : Form). Tells 10 f) (ok_is (Name (λ name. Section name)) form e)
+row_reports (suc (suc (suc (suc (suc (suc (suc (suc (suc (suc zero)))))))))) form e =
+    subst (λ (f : Form). Reports 10 f) (ok_is (Name (λ name. Section name)) form e)
     (λ name. record { command_is = refl; name_is = refl; constant_is = refl })
-row_tells (suc (suc (suc (suc (suc (suc (suc (suc (suc (suc (suc zero))))))))))) form e = absurd cc
-row_tells (suc (suc (suc (suc (suc (suc (suc (suc (suc (suc (suc (suc zero)))))))))))) form e =
-    subst (λ (f : Form). Tells 12 f) (ok_is (Name (λ name. SectionDisplaced name)) form e)
+row_reports (suc (suc (suc (suc (suc (suc (suc (suc (suc (suc (suc zero))))))))))) form e = absurd cc
+row_reports (suc (suc (suc (suc (suc (suc (suc (suc (suc (suc (suc (suc zero)))))))))))) form e =
+    subst (λ (f : Form). Reports 12 f) (ok_is (Name (λ name. SectionDisplaced name)) form e)
     (λ name. record { command_is = refl; name_is = refl; constant_is = refl })
-row_tells (suc (suc (suc (suc (suc (suc (suc (suc (suc (suc (suc (suc (suc zero))))))))))))) form e =
-    subst (λ (f : Form). Tells 13 f) (ok_is (NameAndConstant (λ name constant. SectionAdditive name constant)) form e)
+row_reports (suc (suc (suc (suc (suc (suc (suc (suc (suc (suc (suc (suc (suc zero))))))))))))) form e =
+    subst (λ (f : Form). Reports 13 f) (ok_is (NameAndConstant (λ name constant. SectionAdditive name constant)) form e)
     (λ name constant. record { command_is = refl; name_is = refl; constant_is = refl })
-row_tells (suc (suc (suc (suc (suc (suc (suc (suc (suc (suc (suc (suc (suc (suc zero)))))))))))))) form e =
-    subst (λ (f : Form). Tells 14 f)
+row_reports (suc (suc (suc (suc (suc (suc (suc (suc (suc (suc (suc (suc (suc (suc zero)))))))))))))) form e =
+    subst (λ (f : Form). Reports 14 f)
     (ok_is (NameAndConstant (λ name constant. SectionAdditiveDisplaced name constant)) form e)
     (λ name constant. record { command_is = refl; name_is = refl; constant_is = refl })
-row_tells (suc (suc (suc (suc (suc (suc (suc (suc (suc (suc (suc (suc (suc (suc (suc zero))))))))))))))) form e =
+row_reports (suc (suc (suc (suc (suc (suc (suc (suc (suc (suc (suc (suc (suc (suc (suc zero))))))))))))))) form e =
     absurd cc
-row_tells (suc (suc (suc (suc (suc (suc (suc (suc (suc (suc (suc (suc (suc (suc (suc (suc code)))))))))))))))) form e =
+row_reports (suc (suc (suc (suc (suc (suc (suc (suc (suc (suc (suc (suc (suc (suc (suc (suc code)))))))))))))))) form e =
     absurd cc
 
 form_parts : (b : Bool) (row : Result Form RecordFault) (form : Form) → cond b (Err UnknownRelocation) row ≡ Ok form
@@ -265,7 +265,7 @@ form_exists true (SectionDisplaced name) e = tt
 form_exists true (SectionAdditive name constant) e = tt
 form_exists true (SectionAdditiveDisplaced name constant) e = tt
 
--- what stands behind the displacement
+-- what stands after the displacement
 record TargetStands (code : ℕ) (bytes : List ℕ) (x : Target × List ℕ) : Type 0 where
   begins : Begins bytes (optional_name (target_name x.0) ++ optional_word (target_constant x.0)) x.1
   command_is : command x.0 ≡ code
@@ -276,44 +276,44 @@ stands : (code : ℕ) (bytes : List ℕ) (target : Target) (rest : List ℕ) (x 
     (constant : Option ℕ) → TargetIs code target name constant
     → Begins bytes (optional_name name ++ optional_word constant) rest → IfSome name IsName
     → IfSome constant (λ word. word < 2 ^ 16) → done (target, rest) ≡ done x → TargetStands code bytes x
-stands code bytes target rest x name constant tells begins is_name fits e =
+stands code bytes target rest x name constant reports begins is_name fits e =
     let made : Target × List ℕ = (target, rest) in
     let N : Option (ℕ × ℕ) → Type 0 =
     λ n. Begins bytes (optional_name n ++ optional_word (target_constant target)) rest in
     let C : Option ℕ → Type 0 = λ c. Begins bytes (optional_name name ++ optional_word c) rest in
     let here : TargetStands code bytes made = record {
-      begins = subst N (sym tells.name_is) (subst C (sym tells.constant_is) begins);
-      command_is = tells.command_is;
-      name = subst (λ (n : Option (ℕ × ℕ)). IfSome n IsName) (sym tells.name_is) is_name;
-      constant = subst (λ (c : Option ℕ). IfSome c (λ word. word < 2 ^ 16)) (sym tells.constant_is) fits;
+      begins = subst N (sym reports.name_is) (subst C (sym reports.constant_is) begins);
+      command_is = reports.command_is;
+      name = subst (λ (n : Option (ℕ × ℕ)). IfSome n IsName) (sym reports.name_is) is_name;
+      constant = subst (λ (c : Option ℕ). IfSome c (λ word. word < 2 ^ 16)) (sym reports.constant_is) fits;
     } in
     subst (λ (p : Target × List ℕ). TargetStands code bytes p) (ok_is made x e) here
 
-target_stands : (form : Form) (code : ℕ) (bytes : List ℕ) (x : Target × List ℕ) → Tells code form → Bytes bytes
+target_stands : (form : Form) (code : ℕ) (bytes : List ℕ) (x : Target × List ℕ) → Reports code form → Bytes bytes
     → first_target form bytes ≡ Ok x → TargetStands code bytes x
 unfolding first_target
-target_stands (Nothing target) code bytes x tells are e =
-    stands code bytes target bytes x None None tells (record { is = refl; behind = are }) tt tt e
-target_stands (Constant target) code bytes x tells are e =
+target_stands (Nothing target) code bytes x reports are e =
+    stands code bytes target bytes x None None reports (record { is = refl; following = are }) tt tt e
+target_stands (Constant target) code bytes x reports are e =
     let constant = bind_ok (first_word bytes) (λ constant. Ok (target constant.0, constant.1)) x e in
     let word = word_reads bytes constant.0 are constant.1 in
-    stands code bytes (target constant.0.0) constant.0.1 x None (Some constant.0.0) (tells constant.0.0) word.begins tt
+    stands code bytes (target constant.0.0) constant.0.1 x None (Some constant.0.0) (reports constant.0.0) word.begins tt
     word.fits constant.2
-target_stands (Name target) code bytes x tells are e =
+target_stands (Name target) code bytes x reports are e =
     let name = bind_ok (first_name bytes) (λ name. Ok (target name.0, name.1)) x e in
     let n = name_reads bytes name.0 are name.1 in
-    stands code bytes (target name.0.0) name.0.1 x (Some name.0.0) None (tells name.0.0) n.begins n.fits tt name.2
-target_stands (NameAndConstant target) code bytes x tells are e =
+    stands code bytes (target name.0.0) name.0.1 x (Some name.0.0) None (reports name.0.0) n.begins n.fits tt name.2
+target_stands (NameAndConstant target) code bytes x reports are e =
     let name =
     bind_ok (first_name bytes)
     (λ name. first_word name.1 >>= λ constant. Ok (target name.0 constant.0, constant.1)) x e in
     let constant = bind_ok (first_word name.0.1) (λ constant. Ok (target name.0.0 constant.0, constant.1)) x name.2 in
     let n = name_reads bytes name.0 are name.1 in
-    let word = word_reads name.0.1 constant.0 n.begins.behind constant.1 in
+    let word = word_reads name.0.1 constant.0 n.begins.following constant.1 in
     let both =
     begins_then bytes (name_bytes name.0.0) name.0.1 (word_bytes constant.0.0) constant.0.1 n.begins word.begins in
     stands code bytes (target name.0.0 constant.0.0) constant.0.1 x (Some name.0.0) (Some constant.0.0)
-    (tells name.0.0 constant.0.0) both n.fits word.fits constant.2
+    (reports name.0.0 constant.0.0) both n.fits word.fits constant.2
 
 -- a command byte is its command and its bit
 code_parts : (code : ℕ) (b : Bool) → code < 256 → nat_le 128 code ≡ b → code ≡ code % 128 + byte_form b
@@ -330,16 +330,16 @@ relocation_made : (bytes : List ℕ) (code displacement : ℕ × List ℕ) (targ
     → done (relocation_of code.0 displacement.0 target.0, target.1) ≡ done x → RelocationReads bytes x
 relocation_made bytes code displacement target x c d t has_form e =
     let is_byte : Bool = nat_le 128 code.0 in
-    let behind : List ℕ = optional_name (target_name target.0) ++ optional_word (target_constant target.0) in
-    let others = begins_then code.1 (displacement.0 ∷ []) displacement.1 behind target.1 d.begins t.begins in
-    let whole = begins_then bytes (code.0 ∷ []) code.1 (displacement.0 ∷ behind) target.1 c.begins others in
+    let following : List ℕ = optional_name (target_name target.0) ++ optional_word (target_constant target.0) in
+    let others = begins_then code.1 (displacement.0 ∷ []) displacement.1 following target.1 d.begins t.begins in
+    let whole = begins_then bytes (code.0 ∷ []) code.1 (displacement.0 ∷ following) target.1 c.begins others in
     let command_byte : code.0 ≡ command target.0 + byte_form is_byte =
     code_parts code.0 is_byte c.fits refl ∙ ap (λ (n : ℕ). n + byte_form is_byte) (sym t.command_is) in
     let exists : (is_byte && is_without_byte_form (command target.0)) ≡ false =
     ap (λ (n : ℕ). is_byte && is_without_byte_form n) t.command_is ∙ has_form in
     let made : Relocation × List ℕ = (relocation_of code.0 displacement.0 target.0, target.1) in
     let here : RelocationReads bytes made = record {
-      begins = subst (λ (k : ℕ). Begins bytes (k ∷ displacement.0 ∷ behind) target.1) command_byte whole;
+      begins = subst (λ (k : ℕ). Begins bytes (k ∷ displacement.0 ∷ following) target.1) command_byte whole;
       fits = record {
         form = form_exists is_byte target.0 exists;
         displacement = d.fits;
@@ -370,16 +370,16 @@ relocation_reads bytes x are e =
     bind_ok (first_target form.0 displacement.0.1)
     (λ target. Ok (relocation_of code.0.0 displacement.0.0 target.0, target.1)) x displacement.2 in
     let c = byte_reads bytes code.0 are code.1 in
-    let d = byte_reads code.0.1 displacement.0 c.begins.behind displacement.1 in
+    let d = byte_reads code.0.1 displacement.0 c.begins.following displacement.1 in
     let parts =
     form_parts (nat_le 128 code.0.0 && is_without_byte_form (code.0.0 % 128)) (row_of (code.0.0 % 128)) form.0
     form.1 in
     let t =
-    target_stands form.0 (code.0.0 % 128) displacement.0.1 target.0 (row_tells (code.0.0 % 128) form.0 parts.0)
-    d.begins.behind target.1 in
+    target_stands form.0 (code.0.0 % 128) displacement.0.1 target.0 (row_reports (code.0.0 % 128) form.0 parts.0)
+    d.begins.following target.1 in
     relocation_made bytes code.0 displacement.0 target.0 x c d t parts.1 target.2
 
--- ---- items one behind another
+-- ---- items one after another
 
 module _ {A : Type 0} (first : List ℕ → Result (A × List ℕ) RecordFault) (write : A → List ℕ) (P : A → Type 0) where
   -- each item stands as it is written
@@ -406,7 +406,7 @@ module _ {A : Type 0} (first : List ℕ → Result (A × List ℕ) RecordFault) 
       let b = bind_ok (items_within first n a.0.1) (λ others. Ok (a.0.0 ∷ others)) items a.2 in
       let here = each.at (byte ∷ bytes) a.0 are a.1 in
       let less = shrinks.shorter (byte ∷ bytes) a.0 a.1 in
-      let others = items_read n a.0.1 b.0 each shrinks here.begins.behind (omega arith) b.1 in
+      let others = items_read n a.0.1 b.0 each shrinks here.begins.following (omega arith) b.1 in
       let whole : AllRead (byte ∷ bytes) (a.0.0 ∷ b.0) = record {
         is = here.begins.is ∙ ap (λ (xs : List ℕ). write a.0.0 ++ xs) others.is;
         fits = (here.fits, others.fits);

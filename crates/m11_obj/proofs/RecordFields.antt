@@ -9,7 +9,7 @@ use Rattle.m11_obj.specs.declared.gsd.GsdEntry.{GsdEntry}
 use Rattle.m11_obj.specs.declared.records.RecordKind.{RecordKind}
 use Rattle.m11_obj.specs.declared.records.RecordKind.TheVariants as kind
 use Rattle.m11_obj.specs.Records.{Content, Gsd, EndOfGsd, Text, Relocations, InternalSymbols, EndOfModule}
-use Rattle.m11_obj.specs.Reading.{◌>>=◌, first_word, first_entry, items_of, entries_of, first_type, content_behind, content_of, IsRecord, kind_in, record_kind, entries_in, record_entries, text_in, record_text}
+use Rattle.m11_obj.specs.Reading.{◌>>=◌, first_word, first_entry, items_of, entries_of, first_type, content_after, content_of, IsRecord, kind_in, record_kind, entries_in, record_entries, text_in, record_text}
 use Rattle.m11_obj.proofs.FieldsOf.{bind_ok, ok_value, parts_of, entries_length, entry_place, word_takes}
 
 -- ---- the type
@@ -54,14 +54,14 @@ text_found bytes e = text_by_kind (content_of bytes) e
 
 gsd_parts : (bytes : List ℕ) (entries : List GsdEntry) → content_of bytes ≡ Ok (Gsd entries)
     → (2 ≤ length bytes) × (entries_of (drop 2 bytes) ≡ Ok entries)
-unfolding content_behind
+unfolding content_after
 gsd_parts bytes entries e =
     let p = parts_of bytes (Gsd entries) e in
-    let says : content_behind kind.Gsd p.rest ≡ Ok (Gsd entries) =
-    subst (λ (k : RecordKind). content_behind k p.rest ≡ Ok (Gsd entries)) (sym p.same) p.says in
+    let says : content_after kind.Gsd p.rest ≡ Ok (Gsd entries) =
+    subst (λ (k : RecordKind). content_after k p.rest ≡ Ok (Gsd entries)) (sym p.same) p.says in
     let a = bind_ok (entries_of p.rest) (λ es. Ok (Gsd es)) (Gsd entries) says in
     let same : a.0 ≡ entries = (let both : done (Gsd a.0) ≡ done (Gsd entries) = a.2 in cc) in
-    (p.takes.enough, ap entries_of (sym p.takes.behind) ∙ a.1 ∙ ap (λ (es : List GsdEntry). done es) same)
+    (p.takes.enough, ap entries_of (sym p.takes.following) ∙ a.1 ∙ ap (λ (es : List GsdEntry). done es) same)
 
 gsd_length : (bytes : List ℕ) (entries : List GsdEntry) → content_of bytes ≡ Ok (Gsd entries)
     → length bytes ≡ 2 + 8 * length entries
@@ -134,28 +134,28 @@ text_same x y e =
 
 text_parts : (bytes : List ℕ) (address : ℕ) (text : List ℕ) → content_of bytes ≡ Ok (Text address text)
     → (4 ≤ length bytes) × (first_word (drop 2 bytes) ≡ Ok (address, text)) × (text ≡ drop 4 bytes)
-unfolding content_behind
+unfolding content_after
 text_parts bytes address text e =
     let p = parts_of bytes (Text address text) e in
-    let says : content_behind kind.Text p.rest ≡ Ok (Text address text) =
-    subst (λ (k : RecordKind). content_behind k p.rest ≡ Ok (Text address text)) (sym p.same) p.says in
+    let says : content_after kind.Text p.rest ≡ Ok (Text address text) =
+    subst (λ (k : RecordKind). content_after k p.rest ≡ Ok (Text address text)) (sym p.same) p.says in
     let a = bind_ok (first_word p.rest) (λ word. Ok (Text word.0 word.1)) (Text address text) says in
     let found : first_word (drop 2 bytes) ≡ Ok (address, text) =
-    ap first_word (sym p.takes.behind) ∙ a.1 ∙ text_same a.0 (address, text) a.2 in
+    ap first_word (sym p.takes.following) ∙ a.1 ∙ text_same a.0 (address, text) a.2 in
     let t = word_takes (drop 2 bytes) (address, text) found in
-    (omega (arith, t.enough, p.takes.enough, length-drop 2 bytes), found, t.behind ∙ drop-drop 2 2 bytes)
+    (omega (arith, t.enough, p.takes.enough, length-drop 2 bytes), found, t.following ∙ drop-drop 2 2 bytes)
 
 -- a text record: where its load address and its bytes stand
 pub record IsTextOf (bytes : List ℕ) (text : ℕ × List ℕ) : Type 0 where
   pub enough : 4 ≤ length bytes
   pub address : first_word (drop 2 bytes) ≡ Ok text
-  pub behind : text.1 ≡ drop 4 bytes
+  pub following : text.1 ≡ drop 4 bytes
 
 text_by_content : (bytes : List ℕ) (r : Result Content RecordFault) → content_of bytes ≡ r → IsSome (text_in r)
     → (text : ℕ × List ℕ) × (text_in r ≡ Some text) × IsTextOf bytes text
 text_by_content bytes (Ok (Text address text)) is some =
     let p = text_parts bytes address text is in
-    ((address, text), refl, record { enough = p.0; address = p.1; behind = p.2 })
+    ((address, text), refl, record { enough = p.0; address = p.1; following = p.2 })
 text_by_content bytes (Ok (Gsd entries)) is some = absurd cc
 text_by_content bytes (Ok EndOfGsd) is some = absurd cc
 text_by_content bytes (Ok (Relocations relocations)) is some = absurd cc
@@ -211,7 +211,7 @@ pub text_within : (bytes back : List ℕ) (text : ℕ × List ℕ) → back ≡ 
     → length text.1 ≤ length bytes
 text_within bytes back text is read = omega (
   arith,
-  ap length (word_takes back text read).behind,
+  ap length (word_takes back text read).following,
   length-drop 2 back,
   ap length is,
   length-drop 2 bytes,

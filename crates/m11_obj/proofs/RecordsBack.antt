@@ -12,7 +12,7 @@ use Rattle.m11_blocks.specs.Frames.{word_bytes, content_limit}
 use Rattle.m11_obj.specs.Gsd.{entry_bytes, EntryFits}
 use Rattle.m11_obj.specs.Relocations.{relocation_bytes, relocations_bytes, RelocationFits}
 use Rattle.m11_obj.specs.Records.{Content, Gsd, EndOfGsd, Text, Relocations, InternalSymbols, EndOfModule, record_data, Fits, HasFields, IsRecordOf}
-use Rattle.m11_obj.specs.Reading.{◌>>=◌, first_word, first_entry, items_of, entries_of, first_relocation, relocations_of, type_of, first_type, content_behind, content_of, SaysWhatStands, checked}
+use Rattle.m11_obj.specs.Reading.{◌>>=◌, first_word, first_entry, items_of, entries_of, first_relocation, relocations_of, record_kind_of, first_type, content_after, content_of, SaysWhatStands, checked}
 use Rattle.m11_obj.proofs.FieldsOf.{done, ok_is, bind_ok, entries_length}
 use Rattle.m11_obj.proofs.Steps.{entry_shrinks, relocation_shrinks}
 use Rattle.m11_obj.proofs.RecordsAgain.{means}
@@ -28,8 +28,8 @@ type_code kind.Relocations = 4
 type_code kind.InternalSymbols = 5
 type_code kind.EndOfModule = 6
 
-type_is_code : (code : ℕ) (type : RecordKind) → type_of code ≡ Ok type → code ≡ type_code type
-unfolding type_of
+type_is_code : (code : ℕ) (type : RecordKind) → record_kind_of code ≡ Ok type → code ≡ type_code type
+unfolding record_kind_of
 type_is_code zero type e = absurd cc
 type_is_code (suc zero) type e = ap type_code (ok_is kind.Gsd type e)
 type_is_code (suc (suc zero)) type e = ap type_code (ok_is kind.EndOfGsd type e)
@@ -47,15 +47,15 @@ TypeBegins bytes x = Begins bytes (word_bytes (type_code x.0)) x.1
 type_begins : (bytes : List ℕ) (x : RecordKind × List ℕ) → Bytes bytes → first_type bytes ≡ Ok x → TypeBegins bytes x
 unfolding first_type
 type_begins bytes x are e =
-    let a = bind_ok (first_word bytes) (λ code. type_of code.0 >>= λ type. Ok (type, code.1)) x e in
-    let b = bind_ok (type_of a.0.0) (λ type. Ok (type, a.0.1)) x a.2 in
+    let a = bind_ok (first_word bytes) (λ code. record_kind_of code.0 >>= λ type. Ok (type, code.1)) x e in
+    let b = bind_ok (record_kind_of a.0.0) (λ type. Ok (type, a.0.1)) x a.2 in
     let word = word_reads bytes a.0 are a.1 in
     let made : RecordKind × List ℕ = (b.0, a.0.1) in
     let here : TypeBegins bytes made =
     subst (λ (code : ℕ). Begins bytes (word_bytes code) a.0.1) (type_is_code a.0.0 b.0 b.1) word.begins in
     subst (λ (p : RecordKind × List ℕ). TypeBegins bytes p) (ok_is made x b.2) here
 
--- ---- what stands behind the type
+-- ---- what stands after the type
 
 entries_each : EachReads first_entry entry_bytes EntryFits
 entries_each = record { at = entry_reads }
@@ -82,7 +82,7 @@ relocations_read bytes relocations are e =
     items_read first_relocation relocation_bytes RelocationFits (length bytes) bytes relocations relocations_each
     relocation_shrinks are (omega arith) e
 
--- a record with fields, and nothing behind them
+-- a record with fields, and nothing after them
 whole : (content : Content) (bytes written : List ℕ) → Fits content → bytes ≡ written → written ≡ record_data content
     → IsRecordOf content bytes
 whole content bytes written fits is same = record {
@@ -93,11 +93,11 @@ whole content bytes written fits is same = record {
 }
 
 gsd_stands : (bytes rest : List ℕ) (content : Content) → Begins bytes (word_bytes 1) rest
-    → length bytes ≤ content_limit → content_behind kind.Gsd rest ≡ Ok content → IsRecordOf content bytes
-unfolding content_behind
+    → length bytes ≤ content_limit → content_after kind.Gsd rest ≡ Ok content → IsRecordOf content bytes
+unfolding content_after
 gsd_stands bytes rest content begins le e =
     let a = bind_ok (entries_of rest) (λ entries. Ok (Gsd entries)) content e in
-    let read = entries_read rest a.0 begins.behind a.1 in
+    let read = entries_read rest a.0 begins.following a.1 in
     let long = entries_long rest a.0 a.1 in
     let count : length bytes ≡ 2 + length rest = omega (arith, ap length begins.is) in
     let here : IsRecordOf (Gsd a.0) bytes =
@@ -106,24 +106,24 @@ gsd_stands bytes rest content begins le e =
     subst (λ (c : Content). IsRecordOf c bytes) (ok_is (Gsd a.0) content a.2) here
 
 text_stands : (bytes rest : List ℕ) (content : Content) → Begins bytes (word_bytes 3) rest
-    → length bytes ≤ content_limit → content_behind kind.Text rest ≡ Ok content → IsRecordOf content bytes
-unfolding content_behind
+    → length bytes ≤ content_limit → content_after kind.Text rest ≡ Ok content → IsRecordOf content bytes
+unfolding content_after
 text_stands bytes rest content begins le e =
     let a = bind_ok (first_word rest) (λ address. Ok (Text address.0 address.1)) content e in
-    let word = word_reads rest a.0 begins.behind a.1 in
+    let word = word_reads rest a.0 begins.following a.1 in
     let count : length bytes ≡ 2 + length rest = omega (arith, ap length begins.is) in
-    let behind : length rest ≡ 2 + length a.0.1 = omega (arith, ap length word.begins.is) in
+    let following : length rest ≡ 2 + length a.0.1 = omega (arith, ap length word.begins.is) in
     let here : IsRecordOf (Text a.0.0 a.0.1) bytes =
     whole (Text a.0.0 a.0.1) bytes (word_bytes 3 ++ rest) (word.fits, omega arith) begins.is
     (ap (λ (xs : List ℕ). word_bytes 3 ++ xs) word.begins.is) in
     subst (λ (c : Content). IsRecordOf c bytes) (ok_is (Text a.0.0 a.0.1) content a.2) here
 
 relocations_stand : (bytes rest : List ℕ) (content : Content) → Begins bytes (word_bytes 4) rest
-    → length bytes ≤ content_limit → content_behind kind.Relocations rest ≡ Ok content → IsRecordOf content bytes
-unfolding content_behind
+    → length bytes ≤ content_limit → content_after kind.Relocations rest ≡ Ok content → IsRecordOf content bytes
+unfolding content_after
 relocations_stand bytes rest content begins le e =
     let a = bind_ok (relocations_of rest) (λ relocations. Ok (Relocations relocations)) content e in
-    let read = relocations_read rest a.0 begins.behind a.1 in
+    let read = relocations_read rest a.0 begins.following a.1 in
     let count : length bytes ≡ 2 + length rest = omega (arith, ap length begins.is) in
     let long : length rest ≡ length (relocations_bytes a.0) = ap length read.is in
     let here : IsRecordOf (Relocations a.0) bytes =
@@ -141,8 +141,8 @@ bare made content bytes rest fits none is e =
 
 stands : (type : RecordKind) (bytes rest : List ℕ) (content : Content)
     → Begins bytes (word_bytes (type_code type)) rest → length bytes ≤ content_limit
-    → content_behind type rest ≡ Ok content → IsRecordOf content bytes
-unfolding content_behind
+    → content_after type rest ≡ Ok content → IsRecordOf content bytes
+unfolding content_after
 stands kind.Gsd bytes rest content begins le e = gsd_stands bytes rest content begins le e
 stands kind.EndOfGsd bytes rest content begins le e = bare EndOfGsd content bytes rest tt (λ no. no) begins.is e
 stands kind.Text bytes rest content begins le e = text_stands bytes rest content begins le e
@@ -159,12 +159,12 @@ pub read_stands : (bytes : List ℕ) (content : Content) → All (λ byte. byte 
 unfolding content_of
 read_stands bytes content all le e =
     let are = recursion_from_All (λ byte. byte < 256) bytes all in
-    let a = bind_ok (first_type bytes) (λ type. content_behind type.0 type.1) content e in
+    let a = bind_ok (first_type bytes) (λ type. content_after type.0 type.1) content e in
     stands a.0.0 bytes a.0.1 content (type_begins bytes a.0 are a.1) le a.2
 
 ignored_read : (content : Content) (ignored : List ℕ) → (HasFields content → ignored ≡ []) → Fits content
     → content_of (record_data content ++ ignored) ≡ Ok content
-unfolding first_word type_of first_type content_behind content_of
+unfolding first_word record_kind_of first_type content_after content_of
 ignored_read EndOfGsd ignored nothing fits = refl
 ignored_read InternalSymbols ignored nothing fits = refl
 ignored_read EndOfModule ignored nothing fits = refl
@@ -184,7 +184,7 @@ pub standing_is_read : (content : Content) (bytes : List ℕ) → IsRecordOf con
 standing_is_read content bytes is =
     ap content_of is.written ∙ ignored_read content is.ignored is.nothing is.fits
 
--- ---- what the check of a record tells
+-- ---- what the check of a record reports
 
 pub no_fault : (content : Content) (block bytes : List ℕ) (fault : RecordFault) → bytes ≡ block
     → Err fault ≡ checked (content_of bytes) → IsRecordOf content block → ⊥

@@ -1,4 +1,4 @@
--- Directory entries and relocations, one behind another: each takes some of the bytes.
+-- Directory entries and relocations, one after another: each takes some of the bytes.
 use Rattle.std.proofs.Common.{◌≡◌, ℕ, ◌+◌, ◌%◌, ◌<◌, ◌≤◌, List, length, Result, Ok, Err, ap, ◌∙◌, arith, length-drop}
 use Rattle.std.specs.Prelude.{nat_le}
 use Rattle.m11_obj.specs.declared.fault.RecordFault.{RecordFault}
@@ -11,7 +11,7 @@ use Rattle.m11_obj.proofs.Items.{Shrinks, checked_step, items_stop, items_none}
 
 takes_length : (count : ℕ) (bytes rest : List ℕ) → Takes count bytes rest → length rest + count ≡ length bytes
 takes_length count bytes rest takes =
-    omega (arith, takes.enough, ap length takes.behind ∙ length-drop count bytes)
+    omega (arith, takes.enough, ap length takes.following ∙ length-drop count bytes)
 
 ok_length : {A : Type 0} (x y : A × List ℕ) → done x ≡ done y → length x.1 ≡ length y.1
 ok_length {A} x y e = ap (λ (p : A × List ℕ). length p.1) (ok_is x y e)

@@ -1,4 +1,4 @@
--- The walk over relocations: the first of those that are left, and those behind it.
+-- The walk over relocations: the first of those that are left, and those after it.
 use Rattle.std.proofs.Common.{◌≡◌, ◌≢◌, ℕ, zero, suc, ◌+◌, ◌-◌, ◌*◌, ◌≤◌, List, [], ◌∷◌, length, drop, Some, None, Result, Ok, Err, refl, sym, ap, subst, ◌∙◌, arith, length-drop}
 use Rattle.std.specs.Prelude.{is_ok, slice_get}
 use Rattle.std.specs.Result.{result_unwrap_or}
@@ -7,12 +7,12 @@ use Rattle.m11_obj.specs.declared.relocations.Relocation.{Relocation}
 use Rattle.m11_obj.specs.declared.records.RecordKind.{RecordKind}
 use Rattle.m11_obj.specs.declared.records.RecordKind.TheVariants as kind
 use Rattle.m11_obj.specs.Records.{Content, Gsd, EndOfGsd, Text, Relocations, InternalSymbols, EndOfModule}
-use Rattle.m11_obj.specs.Reading.{◌>>=◌, items_within, items_of, first_relocation, relocations_of, content_behind, content_of, kind_in, record_kind, relocations_in, record_relocations, AreRelocations, relocations_left}
+use Rattle.m11_obj.specs.Reading.{◌>>=◌, items_within, items_of, first_relocation, relocations_of, content_after, content_of, kind_in, record_kind, relocations_in, record_relocations, AreRelocations, relocations_left}
 use Rattle.m11_obj.proofs.FieldsOf.{done, ok_is, bind_ok, parts_of}
 use Rattle.m11_obj.proofs.Items.{items_step, items_stop, items_none}
 use Rattle.m11_obj.proofs.Steps.{relocation_length, relocation_shrinks}
 
--- what is left before and behind the first relocation
+-- what is left before and after the first relocation
 pub record Walks (bytes : List ℕ) (relocation : Relocation) (rest : List ℕ) : Type 0 where
   pub are : AreRelocations rest
   pub left : relocations_left bytes ≡ relocation ∷ relocations_left rest
@@ -20,12 +20,12 @@ pub record Walks (bytes : List ℕ) (relocation : Relocation) (rest : List ℕ) 
 walks_by : (bytes : List ℕ) (relocation : Relocation) (rest : List ℕ) (r : Result (List Relocation) RecordFault)
     → AreRelocations bytes → relocations_of rest ≡ r
     → relocations_of bytes ≡ (r >>= λ others. Ok (relocation ∷ others)) → Walks bytes relocation rest
-walks_by bytes relocation rest (Ok others) are behind is = record {
-  are = ap (λ (q : Result (List Relocation) RecordFault). is_ok q) behind;
+walks_by bytes relocation rest (Ok others) are following is = record {
+  are = ap (λ (q : Result (List Relocation) RecordFault). is_ok q) following;
   left = ap (λ (q : Result (List Relocation) RecordFault). result_unwrap_or q []) is
-      ∙ ap (λ (q : Result (List Relocation) RecordFault). relocation ∷ result_unwrap_or q []) (sym behind);
+      ∙ ap (λ (q : Result (List Relocation) RecordFault). relocation ∷ result_unwrap_or q []) (sym following);
 }
-walks_by bytes relocation rest (Err fault) are behind is =
+walks_by bytes relocation rest (Err fault) are following is =
     let no = sym are ∙ ap (λ (q : Result (List Relocation) RecordFault). is_ok q) is in absurd cc
 
 pub walks : (bytes : List ℕ) (relocation : Relocation) (rest : List ℕ) → AreRelocations bytes
@@ -59,7 +59,7 @@ none_left =
 
 -- ---- by number
 
--- those left are those of the bytes, so many behind the first
+-- those left are those of the bytes, n after the first
 pub record Passed (bytes rest : List ℕ) (count : ℕ) : Type 0 where
   pub are : AreRelocations rest
   pub same : (k : ℕ) → slice_get (relocations_left rest) k ≡ slice_get (relocations_left bytes) (k + count)
@@ -68,21 +68,21 @@ pub passed_none : (bytes : List ℕ) → AreRelocations bytes → Passed bytes b
 passed_none bytes are =
     record { are = are; same = λ k. ap (λ (n : ℕ). slice_get (relocations_left bytes) n) (omega arith) }
 
-pub passed_more : (bytes rest behind : List ℕ) (relocation : Relocation) (count : ℕ) → Passed bytes rest count
-    → first_relocation rest ≡ Ok (relocation, behind) → Passed bytes behind (count + 1)
-passed_more bytes rest behind relocation count passed first =
-    let step = walks rest relocation behind passed.are first in record {
+pub passed_more : (bytes rest following : List ℕ) (relocation : Relocation) (count : ℕ) → Passed bytes rest count
+    → first_relocation rest ≡ Ok (relocation, following) → Passed bytes following (count + 1)
+passed_more bytes rest following relocation count passed first =
+    let step = walks rest relocation following passed.are first in record {
       are = step.are;
       same = λ k.
-          let here : slice_get (relocations_left rest) (suc k) ≡ slice_get (relocations_left behind) k =
+          let here : slice_get (relocations_left rest) (suc k) ≡ slice_get (relocations_left following) k =
           ap (λ (xs : List Relocation). slice_get xs (suc k)) step.left in
           sym here ∙ passed.same (suc k) ∙ ap (λ (n : ℕ). slice_get (relocations_left bytes) n) (omega arith);
     }
 
-pub passed_found : (bytes rest behind : List ℕ) (relocation : Relocation) (index : ℕ) → Passed bytes rest index
-    → first_relocation rest ≡ Ok (relocation, behind) → Some relocation ≡ slice_get (relocations_left bytes) index
-passed_found bytes rest behind relocation index passed first =
-    let step = walks rest relocation behind passed.are first in
+pub passed_found : (bytes rest following : List ℕ) (relocation : Relocation) (index : ℕ) → Passed bytes rest index
+    → first_relocation rest ≡ Ok (relocation, following) → Some relocation ≡ slice_get (relocations_left bytes) index
+passed_found bytes rest following relocation index passed first =
+    let step = walks rest relocation following passed.are first in
     let here : slice_get (relocations_left rest) 0 ≡ Some relocation =
     ap (λ (xs : List Relocation). slice_get xs 0) step.left in
     sym here ∙ passed.same 0 ∙ ap (λ (n : ℕ). slice_get (relocations_left bytes) n) (omega arith)
@@ -124,15 +124,15 @@ pub record HasRelocations (bytes : List ℕ) : Type 0 where
 
 relocation_parts : (bytes : List ℕ) (relocations : List Relocation) → content_of bytes ≡ Ok (Relocations relocations)
     → HasRelocations bytes
-unfolding content_behind
+unfolding content_after
 relocation_parts bytes relocations e =
     let p = parts_of bytes (Relocations relocations) e in
-    let says : content_behind kind.Relocations p.rest ≡ Ok (Relocations relocations) =
-    subst (λ (k : RecordKind). content_behind k p.rest ≡ Ok (Relocations relocations)) (sym p.same) p.says in
+    let says : content_after kind.Relocations p.rest ≡ Ok (Relocations relocations) =
+    subst (λ (k : RecordKind). content_after k p.rest ≡ Ok (Relocations relocations)) (sym p.same) p.says in
     let a = bind_ok (relocations_of p.rest) (λ rs. Ok (Relocations rs)) (Relocations relocations) says in
     let same : a.0 ≡ relocations = (let both : done (Relocations a.0) ≡ done (Relocations relocations) = a.2 in cc) in
     let found : relocations_of (drop 2 bytes) ≡ Ok relocations =
-    ap relocations_of (sym p.takes.behind) ∙ a.1 ∙ ap (λ (rs : List Relocation). done rs) same in
+    ap relocations_of (sym p.takes.following) ∙ a.1 ∙ ap (λ (rs : List Relocation). done rs) same in
     record {
       enough = p.takes.enough;
       few = omega (

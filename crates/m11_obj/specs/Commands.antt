@@ -1,5 +1,5 @@
 -- The commands of a relocation directory, by what follows them. (RT-11 Volume and File Formats Manual,
--- "Object file format", RLD block.) What each tells is in the rows of the definition of reading.
+-- "Object file format", RLD block.) What each reports is in the rows of the definition of reading.
 use Rattle.std.specs.Prelude.{ℕ}
 use Rattle.m11_obj.specs.declared.relocations.Target.{Target}
 use Rattle.m11_obj.specs.declared.relocations.Target.TheVariants as target

@@ -46,7 +46,7 @@ first_name bytes = do
   second ← first_name_word first.1
   Ok ((first.0, second.0), second.1)
 
--- ---- items one behind another
+-- ---- items one after another
 
 -- items up to the end of the bytes, of which there are no more than the number
 unfoldable pub items_within : {A : Type 0} → (List ℕ → Result (A × List ℕ) RecordFault) → ℕ → List ℕ
@@ -71,15 +71,15 @@ kinds =
     Ok ModuleName ∷ Ok ControlSection ∷ Ok InternalSymbol ∷ Ok TransferAddress ∷ Ok GlobalSymbol
     ∷ Ok ProgramSection ∷ Ok Identification ∷ Err MappedArray ∷ []
 
-unfoldable pub kind_of : ℕ → Result GsdKind RecordFault
-kind_of code = unwrap_or (slice_get kinds code) (Err UnknownType)
+unfoldable pub entry_kind : ℕ → Result GsdKind RecordFault
+entry_kind code = unwrap_or (slice_get kinds code) (Err UnknownType)
 
 unfoldable pub first_entry : List ℕ → Result (GsdEntry × List ℕ) RecordFault
 first_entry bytes = do
   name ← first_name bytes
   flags ← first_byte name.1
   code ← first_byte flags.1
-  kind ← kind_of code.0
+  kind ← entry_kind code.0
   value ← first_word code.1
   Ok (record { name = name.0; flags = flags.0; kind = kind; value = value.0 }, value.1)
 
@@ -88,7 +88,7 @@ entries_of bytes = items_of first_entry bytes
 
 -- ---- entries of a relocation directory
 
--- what a command is followed by, and the target that it then tells
+-- what a command is followed by, and the target that it then has
 pub data Form : Type 0 where
   Nothing : Target → Form
   Constant : (ℕ → Target) → Form
@@ -118,7 +118,7 @@ forms =
 
 -- commands 7, 10 and 11 have no byte form
 abbrev pub is_without_byte_form : ℕ → Bool
-is_without_byte_form code = nat_le 7 code && nat_le code 9
+is_without_byte_form code = nat_le 0o7 code && nat_le code 0o11
 
 unfoldable pub row_of : ℕ → Result Form RecordFault
 row_of code = unwrap_or (slice_get forms code) (Err UnknownRelocation)
@@ -144,10 +144,10 @@ first_target (NameAndConstant target) bytes = do
 unfoldable pub first_relocation : List ℕ → Result (Relocation × List ℕ) RecordFault
 first_relocation bytes = do
   code ← first_byte bytes
-  form ← form_of (nat_le 128 code.0) (code.0 % 128)
+  form ← form_of (nat_le 0o200 code.0) (code.0 % 0o200)
   displacement ← first_byte code.1
   target ← first_target form displacement.1
-  Ok (record { is_byte = nat_le 128 code.0; displacement = displacement.0; target = target.0 }, target.1)
+  Ok (record { is_byte = nat_le 0o200 code.0; displacement = displacement.0; target = target.0 }, target.1)
 
 unfoldable pub relocations_of : List ℕ → Result (List Relocation) RecordFault
 relocations_of bytes = items_of first_relocation bytes
@@ -160,34 +160,34 @@ types =
     Err UnknownType ∷ Ok kind.Gsd ∷ Ok kind.EndOfGsd ∷ Ok kind.Text ∷ Ok kind.Relocations
     ∷ Ok kind.InternalSymbols ∷ Ok kind.EndOfModule ∷ Err Library ∷ Err Library ∷ []
 
-unfoldable pub type_of : ℕ → Result RecordKind RecordFault
-type_of code = unwrap_or (slice_get types code) (Err UnknownType)
+unfoldable pub record_kind_of : ℕ → Result RecordKind RecordFault
+record_kind_of code = unwrap_or (slice_get types code) (Err UnknownType)
 
--- what stands after the type word; nothing is asked of it behind types 2, 5 and 6
-unfoldable pub content_behind : RecordKind → List ℕ → Result Content RecordFault
-content_behind kind.Gsd bytes = do
+-- what stands after the type word; nothing is asked of it after types 2, 5 and 6
+unfoldable pub content_after : RecordKind → List ℕ → Result Content RecordFault
+content_after kind.Gsd bytes = do
   entries ← entries_of bytes
   Ok (Gsd entries)
-content_behind kind.EndOfGsd bytes = Ok EndOfGsd
-content_behind kind.Text bytes = do
+content_after kind.EndOfGsd bytes = Ok EndOfGsd
+content_after kind.Text bytes = do
   address ← first_word bytes
   Ok (Text address.0 address.1)
-content_behind kind.Relocations bytes = do
+content_after kind.Relocations bytes = do
   relocations ← relocations_of bytes
   Ok (Relocations relocations)
-content_behind kind.InternalSymbols bytes = Ok InternalSymbols
-content_behind kind.EndOfModule bytes = Ok EndOfModule
+content_after kind.InternalSymbols bytes = Ok InternalSymbols
+content_after kind.EndOfModule bytes = Ok EndOfModule
 
 unfoldable pub first_type : List ℕ → Result (RecordKind × List ℕ) RecordFault
 first_type bytes = do
   code ← first_word bytes
-  type ← type_of code.0
+  type ← record_kind_of code.0
   Ok (type, code.1)
 
 unfoldable pub content_of : List ℕ → Result Content RecordFault
 content_of bytes = do
   type ← first_type bytes
-  content_behind type.0 type.1
+  content_after type.0 type.1
 
 -- the bytes are those of some record
 abbrev pub IsRecord : List ℕ → Type 0
@@ -255,7 +255,7 @@ relocations_left bytes = result_unwrap_or (relocations_of bytes) []
 abbrev pub checked : {A : Type 0} → Result A RecordFault → Result (Unit {0}) RecordFault
 checked read = read >>= λ x. Ok tt
 
--- what a call that reads from the front of bytes answered, seen by view, is what stands there
+-- what a call that reads from the front of bytes returned, seen by view, is what stands there
 abbrev pub Gives : {X Y : Type 0} → (X → Y) → Result X RecordFault → Result Y RecordFault → Type 0
 Gives view (Ok x) read = read ≡ Ok (view x)
 Gives view (Err fault) read = read ≡ Err fault

@@ -35,7 +35,7 @@ Fits (Relocations relocations) =
 Fits InternalSymbols = Unit {0}
 Fits EndOfModule = Unit {0}
 
--- records with fields; behind the type word of the others nothing is written, and what stands there is
+-- records with fields; after the type word of the others nothing is written, and what stands there is
 -- ignored
 abbrev pub HasFields : Content → Type 0
 HasFields (Gsd entries) = Unit {0}

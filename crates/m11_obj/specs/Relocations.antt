@@ -11,21 +11,21 @@ use Rattle.m11_obj.specs.Gsd.{name_bytes}
 
 -- the command of a target, which stands in octal in the manual
 abbrev pub command : Target → ℕ
-command (Internal constant) = 1
-command (Global name) = 2
-command (InternalDisplaced constant) = 3
-command (GlobalDisplaced name) = 4
-command (GlobalAdditive name constant) = 5
-command (GlobalAdditiveDisplaced name constant) = 6
-command (LocationCounterDefinition name constant) = 7
-command (LocationCounterModification constant) = 8
-command ProgramLimits = 9
-command (Section name) = 10
-command (SectionDisplaced name) = 12
-command (SectionAdditive name constant) = 13
-command (SectionAdditiveDisplaced name constant) = 14
+command (Internal constant) = 0o1
+command (Global name) = 0o2
+command (InternalDisplaced constant) = 0o3
+command (GlobalDisplaced name) = 0o4
+command (GlobalAdditive name constant) = 0o5
+command (GlobalAdditiveDisplaced name constant) = 0o6
+command (LocationCounterDefinition name constant) = 0o7
+command (LocationCounterModification constant) = 0o10
+command ProgramLimits = 0o11
+command (Section name) = 0o12
+command (SectionDisplaced name) = 0o14
+command (SectionAdditive name constant) = 0o15
+command (SectionAdditiveDisplaced name constant) = 0o16
 
--- the name that a command tells, and its constant
+-- the name that a command has, and its constant
 abbrev pub target_name : Target → Option (ℕ × ℕ)
 target_name (Internal constant) = None
 target_name (Global name) = Some name
@@ -66,7 +66,7 @@ optional_word (Some word) = word_bytes word
 
 -- the bit of a command byte that asks for the low byte of the value: octal 200
 abbrev pub byte_form : Bool → ℕ
-byte_form is_byte = if is_byte then 128 else 0
+byte_form is_byte = if is_byte then 0o200 else 0
 
 -- the command byte, the displacement byte, the name if there is one, the constant if there is one
 abbrev pub relocation_bytes : Relocation → List ℕ

@@ -11,7 +11,7 @@ use byteorder::{ByteOrder, LittleEndian};
 use m11_base::Name;
 use m11_blocks::Block;
 
-/// What an entry tells.
+/// What an entry says.
 #[derive(Clone, Copy, Debug, PartialEq, Eq)]
 pub enum GsdKind {
     /// 0: the module's name.
@@ -47,7 +47,7 @@ impl GsdKind {
     }
 }
 
-/// One entry: a name, the flags byte as a whole, what it tells, and a value.
+/// One entry: a name, the flags byte as a whole, what it says, and a value.
 #[derive(Clone, Copy, Debug, PartialEq, Eq)]
 pub struct GsdEntry {
     pub name: Name,

@@ -4,15 +4,14 @@
 #![tactic(auto)]
 
 mod commands;
-mod directory;
 mod fault;
 mod flags;
 mod gsd;
 mod reading;
 mod records;
+mod relocation_walk;
 mod relocations;
 
-pub use directory::Relocations;
 pub use fault::RecordFault;
 pub use flags::{SectionFlags, SymbolFlags};
 pub use gsd::{GsdEntry, GsdKind};
@@ -21,4 +20,5 @@ pub use m11_blocks::{
     tape_block, tape_transfer, tapes_are_read,
 };
 pub use records::{Record, RecordKind, read_record, record_bytes};
+pub use relocation_walk::Relocations;
 pub use relocations::{Relocation, Target};

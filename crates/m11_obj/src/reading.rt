@@ -1,10 +1,10 @@
-//! Reading fields from the front of bytes: each call answers the field and the bytes behind it, or the
+//! Reading fields from the front of bytes: each call returns the field and the bytes after it, or the
 //! first fault. (RT-11 Volume and File Formats Manual, "Object file format".)
 
 ghost use Rattle.std.specs.Prelude.{◌≡◌, ◌≤◌, length, Ok, OnOk};
 ghost use Rattle.m11_obj.specs.Commands.{form_in};
 ghost use Rattle.m11_blocks.specs.Frames.{content_limit};
-ghost use Rattle.m11_obj.specs.Reading.{Gives, checked, first_byte, first_word, first_name, kind_of, first_entry, entries_of, first_target, first_relocation, relocations_of, type_of, first_type, content_behind, content_of, SaysWhatStands};
+ghost use Rattle.m11_obj.specs.Reading.{Gives, checked, first_byte, first_word, first_name, entry_kind, first_entry, entries_of, first_target, first_relocation, relocations_of, record_kind_of, first_type, content_after, content_of, SaysWhatStands};
 
 use crate::commands::{Command, command_of};
 use crate::fault::RecordFault;
@@ -50,9 +50,9 @@ fn first_name(bytes: &[u8]) -> Result<(Name, &[u8]), RecordFault>
     }
 }
 
-#[tactic(auto, unfolding(crate::specs::Reading::kind_of))]
-fn kind_of(code: u8) -> Result<GsdKind, RecordFault>
-    ensures { result ≡ kind_of code }
+#[tactic(auto, unfolding(crate::specs::Reading::entry_kind))]
+fn entry_kind(code: u8) -> Result<GsdKind, RecordFault>
+    ensures { result ≡ entry_kind code }
 {
     match code {
         0 => Ok(GsdKind::ModuleName),
@@ -78,7 +78,7 @@ pub(crate) fn first_entry(bytes: &[u8]) -> Result<(GsdEntry, &[u8]), RecordFault
     };
     let (flags, rest) = first_byte(rest)?;
     let (code, rest) = first_byte(rest)?;
-    let kind = kind_of(code)?;
+    let kind = entry_kind(code)?;
     let (value, rest) = first_word(rest)?;
     Ok((
         GsdEntry {
@@ -140,9 +140,9 @@ pub(crate) fn first_relocation(bytes: &[u8]) -> Result<(Relocation, &[u8]), Reco
     }
 }
 
-#[tactic(auto, unfolding(crate::specs::Reading::type_of))]
-fn type_of(code: u16) -> Result<RecordKind, RecordFault>
-    ensures { result ≡ type_of code }
+#[tactic(auto, unfolding(crate::specs::Reading::record_kind_of))]
+fn record_kind_of(code: u16) -> Result<RecordKind, RecordFault>
+    ensures { result ≡ record_kind_of code }
 {
     match code {
         0o1 => Ok(RecordKind::Gsd),
@@ -162,7 +162,7 @@ pub(crate) fn first_type(bytes: &[u8]) -> Result<(RecordKind, &[u8]), RecordFaul
     ensures { Gives (λ x. (x.0, x.1.now)) result (first_type bytes.now) }
 {
     let (code, rest) = first_word(bytes)?;
-    let kind = type_of(code)?;
+    let kind = record_kind_of(code)?;
     Ok((kind, rest))
 }
 
@@ -173,7 +173,7 @@ fn check_entries(bytes: &[u8]) -> Result<(), RecordFault>
     let mut rest = bytes;
     while !rest.is_empty() {
         rest = match first_entry(rest) {
-            Ok((_, behind)) => behind,
+            Ok((_, following)) => following,
             Err(fault) => return Err(fault),
         };
     }
@@ -187,17 +187,17 @@ fn check_relocations(bytes: &[u8]) -> Result<(), RecordFault>
     let mut rest = bytes;
     while !rest.is_empty() {
         rest = match first_relocation(rest) {
-            Ok((_, behind)) => behind,
+            Ok((_, following)) => following,
             Err(fault) => return Err(fault),
         };
     }
     Ok(())
 }
 
-// Whether the bytes are what stands behind a type word.
-#[tactic(auto, unfolding(crate::specs::Reading::content_behind))]
-fn check_behind(kind: RecordKind, bytes: &[u8]) -> Result<(), RecordFault>
-    ensures { result ≡ checked (content_behind kind bytes.now) }
+// Whether the bytes are what stands after a type word.
+#[tactic(auto, unfolding(crate::specs::Reading::content_after))]
+fn check_after(kind: RecordKind, bytes: &[u8]) -> Result<(), RecordFault>
+    ensures { result ≡ checked (content_after kind bytes.now) }
 {
     match kind {
         RecordKind::Gsd => check_entries(bytes),
@@ -218,5 +218,5 @@ pub(crate) fn check_record(bytes: &[u8]) -> Result<(), RecordFault>
     ensures says { OnOk result (SaysWhatStands bytes.now) }
 {
     let (kind, rest) = first_type(bytes)?;
-    check_behind(kind, rest)
+    check_after(kind, rest)
 }

@@ -8,10 +8,10 @@ ghost use Rattle.m11_obj.specs.Reading.{content_of, IsRecord, SaysWhatStands, Ar
 ghost use Rattle.m11_obj.specs.Records.{Content, IsRecordOf};
 ghost use Rattle.m11_obj.specs.Relocations.{relocations_bytes, relocation_limit, FormExists};
 
-use crate::directory;
 use crate::fault::RecordFault;
 use crate::gsd::{GsdEntry, put_entry, put_word};
 use crate::reading::{check_record, first_entry, first_type, first_word};
+use crate::relocation_walk;
 use crate::relocations::{Relocation, put_relocation};
 use m11_blocks::Block;
 use std::alloc::{AllocError, Global};
@@ -244,15 +244,15 @@ impl Record<'_> {
     pub fn relocation(&self, index: usize) -> Option<Relocation>
         ensures { result ≡ slice_get (record_relocations self.now) index }
     {
-        directory::relocation_at(relocation_bytes(self.content), index)
+        relocation_walk::relocation_at(relocation_bytes(self.content), index)
     }
 
     /// A walk over the relocations, in order, as they are at the indices from 0 on: at most 255.
-    pub fn each_relocation(&self) -> directory::Relocations<'_>
+    pub fn each_relocation(&self) -> relocation_walk::Relocations<'_>
         ensures all { result ≡ record_relocations self.now }
         ensures few { length result ≤ relocation_limit }
     {
-        directory::walk(relocation_bytes(self.content))
+        relocation_walk::walk(relocation_bytes(self.content))
     }
 }
 
@@ -269,7 +269,7 @@ pub fn record_bytes(alloc: Global, record: &Record<'_>) -> Result<Vec<u8>, Alloc
 
 /// The record that stands in a block's content, to which it refers. It takes no memory.
 ///
-/// Faults, of which the first in the order of the bytes is answered: `UnknownType` at a type of record
+/// Faults, of which the first in the order of the bytes is returned: `UnknownType` at a type of record
 /// or of entry that there is not, `Library` at record types 7 and 10, `MappedArray` at entry type 7,
 /// `Complex` at commands 17 and 217, `UnknownRelocation` at a command that there is not or that has no
 /// byte form, `BadName` at a word of a name from 175000 up, and `BadLength` where the bytes end before

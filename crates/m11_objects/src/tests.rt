@@ -14,7 +14,7 @@ mod zeros;
 use std::fmt::{Debug, Display};
 use std::process::Abort;
 
-// What a row of a table came to is what it should.
+// What a row of a table yielded is what it should.
 pub(crate) fn same<T: PartialEq + Debug>(rt: &impl Abort, row: &impl Display, got: &T, wanted: &T) {
     assert_eq!(rt; got, wanted, "{row}");
 }

@@ -1,4 +1,4 @@
-//! What the tests of whole programs share: tapes of words, runs of them, and what is looked at behind a run.
+//! What the tests of whole programs share: tapes of words, runs of them, and what is looked at after a run.
 
 use m11_base::{
     DeviceFault, Feed, FuseFeed, FuseSink, MemoryFeed, MemorySink, Register, WriterSink,
@@ -17,7 +17,7 @@ mod messages;
 mod simulations;
 mod steps;
 
-// Words that stand in memory one behind another, from an address on.
+// Words that stand in memory one after another, from an address on.
 pub(crate) type Part<'a> = (u16, &'a [u16]);
 
 // Vector 4 leads to a HALT at 002000.
@@ -31,7 +31,7 @@ pub(crate) const POLLS: [Part<'static>; 1] = [(
     ],
 )];
 
-// What is looked at behind a run.
+// What is looked at after a run.
 #[derive(Clone, Copy, Debug)]
 pub(crate) enum Fact {
     // What a register holds.
@@ -71,7 +71,7 @@ pub(crate) const SOUND: Program<'static> = Program {
     writes: u64::MAX,
 };
 
-// A program by its name, how it stops after so many steps, and what it leaves.
+// A program by its name, how it stops after n steps, and what it leaves.
 #[derive(Clone, Copy)]
 pub(crate) struct Row<'a> {
     pub(crate) name: &'a str,
@@ -157,11 +157,11 @@ pub(crate) fn machine_of(
 
 // The word at an address, where memory has both its bytes.
 pub(crate) fn word_at(machine: &Machine, address: u16) -> Option<u16> {
-    let behind = address.checked_add(1)?;
-    if !machine.has_byte(address) || !machine.has_byte(behind) {
+    let following = address.checked_add(1)?;
+    if !machine.has_byte(address) || !machine.has_byte(following) {
         return None;
     }
-    Some(u16::from_le_bytes([machine.byte(address), machine.byte(behind)]))
+    Some(u16::from_le_bytes([machine.byte(address), machine.byte(following)]))
 }
 
 // A machine that has run, with what its console took and sent.
@@ -203,7 +203,7 @@ fn steps_of(rt: &(impl Abort + AllocGlobal), program: Program<'_>) -> Result<u32
     Ok(count_steps(rt.alloc(), program, &mut machine))
 }
 
-// What was left behind a run has all of these.
+// What was left after a run has all of these.
 fn has_all(rt: &impl Abort, name: &str, after: &After<'_>, facts: &[Fact]) {
     for fact in facts {
         assert!(rt; after.has(*fact), "{name}: {fact:?}");

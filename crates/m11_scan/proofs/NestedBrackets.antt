@@ -6,7 +6,7 @@ use Rattle.m11_scan.specs.declared.texts.Enclosed.{Enclosed}
 use Rattle.m11_scan.specs.Texts.{bracketed, inside, longer}
 use Rattle.m11_scan.specs.Grammar.{IsNested, Empty, Plain, Bracketed}
 
--- so many characters more before it
+-- n characters more before it
 longer_by : ℕ → Enclosed → Enclosed
 longer_by zero enclosed = enclosed
 longer_by (suc count) enclosed = longer (longer_by count enclosed)

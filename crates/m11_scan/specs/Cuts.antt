@@ -17,7 +17,7 @@ abbrev pub alone : Form → List ℕ → Option Form
 alone form [] = Some form
 alone form (byte ∷ more) = None
 
--- a form, where at most so many characters more stand there
+-- a form, where at most n characters more stand there
 abbrev pub at_most : ℕ → Form → List ℕ → Option Form
 at_most count form more = if nat_le (length more) count then Some form else None
 

@@ -17,7 +17,7 @@ delimited delimiter text = record {
 abbrev pub longer : Enclosed → Enclosed
 longer enclosed = record { length = suc enclosed.length; is_closed = enclosed.is_closed }
 
--- the text up to the `>` that closes one bracket more than so many
+-- the text up to the `>` that closes one bracket more than n
 abbrev pub inside : ℕ → List ℕ → Enclosed
 inside depth [] = record { length = 0; is_closed = false }
 inside zero (byte ∷ text) =

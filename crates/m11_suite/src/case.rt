@@ -19,7 +19,7 @@ pub(crate) struct Command {
     /// Standard output.
     pub(crate) printed: Vec<u8>,
     /// Standard error.
-    pub(crate) told: Vec<u8>,
+    pub(crate) reported: Vec<u8>,
     /// The files that it creates, each with all its bytes, and no other.
     pub(crate) outputs: Vec<MemoryFile>,
 }
@@ -31,7 +31,7 @@ enum Place {
     File,
     Input,
     Printed,
-    Told,
+    Reported,
     Output,
 }
 
@@ -92,7 +92,7 @@ impl Reading {
             Place::File => add_to_last(&mut command.files, bytes)?,
             Place::Input => command.input.extend_from_slice(bytes)?,
             Place::Printed => command.printed.extend_from_slice(bytes)?,
-            Place::Told => command.told.extend_from_slice(bytes)?,
+            Place::Reported => command.reported.extend_from_slice(bytes)?,
             Place::Output => add_to_last(&mut command.outputs, bytes)?,
         }
         Ok(())
@@ -122,7 +122,7 @@ impl Reading {
             }
             "stdin" => Place::Input,
             "stdout" => Place::Printed,
-            "stderr" => Place::Told,
+            "stderr" => Place::Reported,
             _ => return Err(LineFault::UnknownPart),
         };
         Ok(())
@@ -142,7 +142,7 @@ fn command_of(alloc: Global, texts: &str) -> Result<Command, LineFault> {
         input: Vec::new(alloc),
         status: 0,
         printed: Vec::new(alloc),
-        told: Vec::new(alloc),
+        reported: Vec::new(alloc),
         outputs: Vec::new(alloc),
     })
 }

@@ -11,7 +11,7 @@ use std::fmt;
 pub(crate) struct Answer<'a> {
     pub(crate) status: u8,
     pub(crate) printed: &'a [u8],
-    pub(crate) told: &'a [u8],
+    pub(crate) reported: &'a [u8],
     pub(crate) outputs: &'a [MemoryFile],
 }
 
@@ -25,7 +25,7 @@ pub(crate) enum Difference<'a> {
     /// A file that was not created.
     Missing(&'a str),
     /// A file that was created, and of which the case says nothing.
-    Untold(&'a str),
+    Unreported(&'a str),
 }
 
 impl fmt::Display for Difference<'_> {
@@ -34,7 +34,7 @@ impl fmt::Display for Difference<'_> {
             Difference::Status(found) => write!(f, "the status is {found}"),
             Difference::Bytes(name, place) => write!(f, "{name} differs from byte {place} on"),
             Difference::Missing(path) => write!(f, "{path} was not created"),
-            Difference::Untold(path) => write!(f, "{path} was created"),
+            Difference::Unreported(path) => write!(f, "{path} was created"),
         }
     }
 }
@@ -49,11 +49,11 @@ pub(crate) fn first_difference<'a>(
         return Some(Difference::Status(found.status));
     }
     let printed = bytes_differ("stdout", found.printed, wanted.printed.as_slice());
-    let told = bytes_differ("stderr", found.told, wanted.told.as_slice());
+    let reported = bytes_differ("stderr", found.reported, wanted.reported.as_slice());
     printed
-        .or(told)
+        .or(reported)
         .or(missing(wanted.outputs.as_slice(), found.outputs))
-        .or(untold(wanted.outputs.as_slice(), found.outputs))
+        .or(unreported(wanted.outputs.as_slice(), found.outputs))
 }
 
 // The first file that must be created and was not, or has other bytes.
@@ -74,11 +74,11 @@ fn missing<'a>(wanted: &'a [MemoryFile], found: &'a [MemoryFile]) -> Option<Diff
 }
 
 // The first file that was created and must not be.
-fn untold<'a>(wanted: &[MemoryFile], found: &'a [MemoryFile]) -> Option<Difference<'a>> {
+fn unreported<'a>(wanted: &[MemoryFile], found: &'a [MemoryFile]) -> Option<Difference<'a>> {
     for file in found {
         let path = file.path.as_str();
         if file_of(wanted, path).is_none() {
-            return Some(Difference::Untold(path));
+            return Some(Difference::Unreported(path));
         }
     }
     None

@@ -1,4 +1,4 @@
-//! Runs the suite: reads an index of cases, runs the commands of each case over files in memory, and tells of each case
+//! Runs the suite: reads an index of cases, runs the commands of each case over files in memory, and reports each case
 //! that differs what differs first. The count of cases that hold comes last.
 #![tactic(auto)]
 
@@ -30,7 +30,7 @@ fn main(rt: HostRuntime) -> Result<ExitCode> {
     })
 }
 
-// Runs the cases of an index, which lie beside it, and tells whether all hold.
+// Runs the cases of an index, which lie beside it, and reports whether all hold.
 fn run_index(rt: &(impl Files + AllocGlobal + Print), index: &str) -> Result<bool> {
     let names = fs::read_to_string(rt, index).context(format_args!("reading {index}"))?;
     let holds = run_cases(rt, folder_of(index), names.as_str());
@@ -38,7 +38,7 @@ fn run_index(rt: &(impl Files + AllocGlobal + Print), index: &str) -> Result<boo
     holds
 }
 
-// Runs the cases of these lines, each of which is the name of a case, nothing, or a comment after a `#`. Tells how many
+// Runs the cases of these lines, each of which is the name of a case, nothing, or a comment after a `#`. Reports how many
 // of them hold, and whether all do.
 fn run_cases(rt: &(impl Files + AllocGlobal + Print), folder: &str, names: &str) -> Result<bool> {
     let mut all: u64 = 0;
@@ -57,10 +57,10 @@ fn run_cases(rt: &(impl Files + AllocGlobal + Print), folder: &str, names: &str)
     Ok(holding == all)
 }
 
-// Runs a case, and tells what differs in it, if anything does.
+// Runs a case, and reports what differs in it, if anything does.
 fn holds(rt: &(impl Files + AllocGlobal + Print), folder: &str, name: &str) -> Result<bool> {
     let text = text_of(rt, folder, name)?;
-    let what = told(rt.alloc(), text.as_str());
+    let what = reported(rt.alloc(), text.as_str());
     drop(text);
     match what? {
         None => Ok(true),
@@ -87,8 +87,8 @@ fn folder_of(index: &str) -> &str {
     }
 }
 
-// What is to be told of a case, if anything differs in it.
-fn told(alloc: Global, text: &str) -> Result<Option<String>, AllocError> {
+// What is to be reported of a case, if anything differs in it.
+fn reported(alloc: Global, text: &str) -> Result<Option<String>, AllocError> {
     match read_case(alloc, text) {
         Ok(commands) => run_case(alloc, commands),
         Err(fault) => Ok(Some(format!(in alloc; "{fault}")?)),

@@ -6,7 +6,7 @@ use m11_base::{MemoryFeed, MemorySink};
 use m11_cli::{MadeFile, MemoryFile, MemoryFiles, command};
 use std::alloc::{AllocError, Global};
 
-/// Runs the commands of a case over its files. Tells of the first that leaves another answer than it must what differs,
+/// Runs the commands of a case over its files. Says of the first that leaves another result than it must what differs,
 /// and nothing where all leave theirs.
 pub(crate) fn run_case(
     alloc: Global,
@@ -14,13 +14,13 @@ pub(crate) fn run_case(
 ) -> Result<Option<String>, AllocError> {
     let mut commands = commands;
     let mut files = Vec::new(alloc);
-    let told = run_commands(alloc, &mut files, commands.as_mut_slice());
+    let reported = run_commands(alloc, &mut files, commands.as_mut_slice());
     drop(files);
     drop(commands);
-    told
+    reported
 }
 
-// Runs commands over the files so far, up to the first that leaves another answer than it must.
+// Runs commands over the files so far, up to the first that leaves another result than it must.
 fn run_commands(
     alloc: Global,
     files: &mut Vec<MemoryFile>,
@@ -30,15 +30,15 @@ fn run_commands(
     for given in commands {
         number = number.saturating_add(1);
         put_all_files(files, &mut given.files)?;
-        let told = run_command(alloc, files, given, number)?;
-        if told.is_some() {
-            return Ok(told);
+        let reported = run_command(alloc, files, given, number)?;
+        if reported.is_some() {
+            return Ok(reported);
         }
     }
     Ok(None)
 }
 
-// Runs the command of a number, tells what differs in what it leaves, and else puts what it created among the files.
+// Runs the command of a number, reports what differs in what it leaves, and else puts what it created among the files.
 fn run_command(
     alloc: Global,
     files: &mut Vec<MemoryFile>,
@@ -46,12 +46,12 @@ fn run_command(
     number: u64,
 ) -> Result<Option<String>, AllocError> {
     let mut left = left_by(alloc, files.as_slice(), given)?;
-    let told = match difference_of(alloc, given, &left, number) {
+    let reported = match difference_of(alloc, given, &left, number) {
         Ok(None) => kept(files, &mut left.outputs),
-        told => told,
+        reported => reported,
     };
     drop(left);
-    told
+    reported
 }
 
 // What a command left, as its own.
@@ -59,7 +59,7 @@ fn run_command(
 struct Left {
     status: u8,
     printed: MemorySink,
-    told: MemorySink,
+    reported: MemorySink,
     outputs: Vec<MemoryFile>,
 }
 
@@ -69,7 +69,7 @@ fn left_by(alloc: Global, files: &[MemoryFile], given: &Command) -> Result<Left,
     let mut left = Left {
         status: 0,
         printed: MemorySink::new(alloc),
-        told: MemorySink::new(alloc),
+        reported: MemorySink::new(alloc),
         outputs: Vec::new(alloc),
     };
     let mut opened = MemoryFiles::new(alloc, files);
@@ -79,7 +79,7 @@ fn left_by(alloc: Global, files: &[MemoryFile], given: &Command) -> Result<Left,
         &mut opened,
         &mut input,
         &mut left.printed,
-        &mut left.told,
+        &mut left.reported,
         words,
     );
     match put_outputs(alloc, &mut left.outputs, opened.into_made()) {
@@ -91,7 +91,7 @@ fn left_by(alloc: Global, files: &[MemoryFile], given: &Command) -> Result<Left,
     }
 }
 
-// The first difference of what a command left, told with the command's number.
+// The first difference of what a command left, reported with the command's number.
 fn difference_of(
     alloc: Global,
     given: &Command,
@@ -101,7 +101,7 @@ fn difference_of(
     let answer = Answer {
         status: left.status,
         printed: left.printed.bytes(),
-        told: left.told.bytes(),
+        reported: left.reported.bytes(),
         outputs: left.outputs.as_slice(),
     };
     match first_difference(given, &answer) {
@@ -110,7 +110,7 @@ fn difference_of(
     }
 }
 
-// Puts what a command created among the files, of which nothing is to be told.
+// Puts what a command created among the files, of which nothing is to be reported.
 fn kept(
     files: &mut Vec<MemoryFile>,
     outputs: &mut Vec<MemoryFile>,

@@ -1,4 +1,4 @@
--- What is wrong with a bottom or a start is one of three faults, which are what the words come to.
+-- What is wrong with a bottom or a start is one of three faults, which are what the words yield.
 use Rattle.std.proofs.Common.{◌≡◌, ◌∙◌, ap, sym, subst, refl, Bool, true, false, ℕ, List, [], Option, Some, None, Result, Ok, Err, ◌⊎◌, inl, inr, codes, option_map}
 use Rattle.std.specs.Prelude.{if◌then◌else◌, nat_lt, ◌==◌, ◌%◌, ⊤, IsErrAnd}
 use Rattle.std.specs.Borrow.{Bor}
@@ -66,7 +66,7 @@ of_start : (o : Option Text) (fault : UsageFault) → start_of o ≡ Err fault �
 of_start None fault e = cc
 of_start (Some text) fault e = of_octal (octal_of text) fault (of_start_at (address_of text) fault e)
 
--- the fault of an address that was entered is what the entries come to
+-- the fault of an address that was entered is what the entries yield
 refused : (entered : Option (Text × List Row)) (fault : UsageFault) → HasAddressFault entered fault
     → IsAddressFault fault → EntriesGive entered (Err fault)
 refused entered (Help error) has is = absurd is
@@ -91,7 +91,7 @@ bottom_gives entered rows fault is (inr e) =
     refused entered fault (subst (λ o. HasAddressFault o fault) (sym is) (inl (refl, e)))
     (of_bottom (first_of (codes "bottom") rows) fault e)
 
--- what the entries come to, where the parser takes the words, is what the words come to
+-- what the entries yield, where the parser takes the words, is what the words yield
 pub planned : (words : List Text) (entered : Option (Text × List Row)) (r : Result Task UsageFault)
     → fault_of application words ≡ [] → entered ≡ subcommand_of application words → EntriesGive entered r → Plans words r
 planned words entered (Ok task) free is given = (free, subst (λ o. IsTask o task) is given)

@@ -53,7 +53,7 @@ entered_command c m a words app local parsed matches simple required =
     let rows = (matches (ap is_simple app ∙ simple)).1 ∙ ap (λ (x : App). subcommand_of x words) app in
     (some.0.0, some.2, entered_name (built a) _ some.0 (sym rows ∙ some.1))
 
--- what an answer that is some excludes
+-- what a result that is some excludes
 pub excluded : {X : Type 0} (o : Option X) → IsSome o → ((x : X) → o ≡ Some x → ⊥) → ⊥
 excluded None some none = cc
 excluded (Some x) some none = none x refl

@@ -5,7 +5,7 @@ use Rattle.std.specs.Prelude.{IfErr, IsErrAnd}
 use Rattle.std.specs.Borrow.{Bor}
 use Rattle.std.specs.List.{slice_index_or}
 use Rattle.m11_base.specs.Feed.{Text}
-use Rattle.m11_files.specs.Files.{Files, AreFiles, Has, HasAll, Holds, Lacks, creating, is_made}
+use Rattle.m11_files.specs.Opens.{Files, AreFiles, Has, HasAll, Holds, Lacks, creating, is_made}
 use Rattle.m11_tasks.specs.Opened.{LacksFirst, LacksOne, Names, Stops, texts}
 use Rattle.m11_tasks.specs.declared.opened.OpenFault.{OpenFault}
 use Rattle.m11_tasks.specs.declared.opened.OpenFault.TheVariants.{NotOpened, NoMemory}
@@ -66,7 +66,7 @@ all_inputs {I} text files paths i inputs all h =
 lacking : (files : Option Files) (paths : List (Bor (List ℕ))) (i : ℕ) (d : Bor (List ℕ)) (fault : OpenFault)
     → i < length paths → HasAll files (texts (take i paths)) → LacksOne files (slice_index_or paths i d).now fault
     → LacksFirst files (texts paths) fault
-lacking files paths i d (NotOpened told) lt before h =
+lacking files paths i d (NotOpened reported) lt before h =
     let P : List ℕ → Type 0 = λ p. Lacks files p in (
       texts (take i paths),
       texts (drop (suc i) paths),
@@ -107,20 +107,20 @@ creates_more first more (Some files) =
 -- a stop at an input
 pub stops_at_input : (old new : Option Files) (inputs outputs : List (List ℕ)) (fault : OpenFault) → new ≡ old
     → LacksFirst old inputs fault → Stops old new inputs outputs fault
-stops_at_input old new inputs outputs (NotOpened told) same h = inl (h, same)
+stops_at_input old new inputs outputs (NotOpened reported) same h = inl (h, same)
 stops_at_input old new inputs outputs NoMemory same h = inl same
 
 -- the only input does not open
 pub stops_at_one : (old new : Option Files) (path : List ℕ) (outputs : List (List ℕ)) (fault : OpenFault) → new ≡ old
     → LacksOne old path fault → Stops old new (path ∷ []) outputs fault
-stops_at_one old new path outputs (NotOpened told) same h =
+stops_at_one old new path outputs (NotOpened reported) same h =
     let P : List ℕ → Type 0 = λ p. Lacks old p in
     inl (([], [], ap (λ p. p ∷ []) (sym h.0), tt, subst P (sym h.0) h.1), same)
 stops_at_one old new path outputs NoMemory same h = inl same
 
 at_first : (old new : Option Files) (inputs rest : List (List ℕ)) (path : List ℕ) (fault : OpenFault)
     → HasAll old inputs → new ≡ old → Names (path ∷ []) fault → Stops old new inputs (path ∷ rest) fault
-at_first old new inputs rest path (NotOpened told) there same h = inr (
+at_first old new inputs rest path (NotOpened reported) there same h = inr (
   there,
   [],
   rest,
@@ -139,7 +139,7 @@ stops_at_first text old middle new inputs rest opened path fault are same-middle
 at_second : (old new : Option Files) (inputs rest : List (List ℕ)) (path : List ℕ) (fault : OpenFault)
     → HasAll old inputs → new ≡ creating (path ∷ []) old → Names rest fault
     → Stops old new inputs (path ∷ rest) fault
-at_second old new inputs rest path (NotOpened told) there made h =
+at_second old new inputs rest path (NotOpened reported) there made h =
     inr (there, path ∷ [], [], ap (λ last. path ∷ last) h, made)
 at_second old new inputs rest path NoMemory there made h = inr (there, path ∷ [], rest, refl, made)
 

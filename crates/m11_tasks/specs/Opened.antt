@@ -2,7 +2,7 @@
 use Rattle.std.specs.Prelude.{◌≡◌, ◌++◌, ◌⊎◌, List, [], ◌∷◌, ℕ, map, Option, Some, None, Result, Ok, Err, ⊤}
 use Rattle.std.specs.Borrow.{Bor}
 use Rattle.m11_base.specs.Devices.{Rises}
-use Rattle.m11_files.specs.Files.{Files, HasAll, IsFirstLacking, Lacks, creating}
+use Rattle.m11_files.specs.Opens.{Files, HasAll, IsFirstLacking, Lacks, creating}
 use Rattle.m11_tasks.specs.declared.opened.OpenFault.{OpenFault}
 use Rattle.m11_tasks.specs.declared.opened.OpenFault.TheVariants.{NotOpened, NoMemory}
 use Rattle.m11_files.specs.declared.opens.OpenRefusal.{OpenRefusal}
@@ -35,7 +35,7 @@ link_outputs task = task.tape.now ∷ optional task.map
 abbrev pub sim_inputs : SimTask → List (List ℕ)
 sim_inputs task = task.tape.now ∷ []
 
--- all of the inputs are there, and then outputs were created, so many of the first ones
+-- all of the inputs are there, and then outputs were created, n of the first ones
 abbrev pub CreatesSome : Option Files → Option Files → List (List ℕ) → List (List ℕ) → Type 0
 CreatesSome old new inputs outputs = HasAll old inputs × (before : List (List ℕ)) × (more : List (List ℕ))
     × (outputs ≡ before ++ more) × (new ≡ creating before old)
@@ -65,17 +65,17 @@ CountsOpening old new (Err fault) = Counts old new fault
 
 -- one path that is read
 abbrev pub LacksOne : Option Files → List ℕ → OpenFault → Type 0
-LacksOne files path (NotOpened told) = (told.now ≡ path) × Lacks files path
+LacksOne files path (NotOpened reported) = (reported.now ≡ path) × Lacks files path
 LacksOne files path NoMemory = ⊤
 
 -- several
 abbrev pub LacksFirst : Option Files → List (List ℕ) → OpenFault → Type 0
-LacksFirst files paths (NotOpened told) = IsFirstLacking files paths told.now
+LacksFirst files paths (NotOpened reported) = IsFirstLacking files paths reported.now
 LacksFirst files paths NoMemory = ⊤
 
 -- the one path that is written, if there is one
 abbrev pub Names : List (List ℕ) → OpenFault → Type 0
-Names paths (NotOpened told) = paths ≡ told.now ∷ []
+Names paths (NotOpened reported) = paths ≡ reported.now ∷ []
 Names paths NoMemory = ⊤
 
 -- what a refusal is, of a path

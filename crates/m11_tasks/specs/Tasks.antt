@@ -59,7 +59,7 @@ pub record IsLinkTask (rows : List Row) (task : LinkTask) : Type 0 where
   pub objects : map (λ path. path.now) task.objects.items ≡ unwrap_or (all_of (codes "objects") rows) []
 
 -- the decimal number that is given, where it lies within bounds, else another one. (Words with a
--- number outside the bounds come to no task: the parser refuses them.)
+-- number outside the bounds yield no task: the parser refuses them.)
 abbrev pub number_or : ℕ → ℕ → ℕ → Option Text → ℕ
 number_or other least most None = other
 number_or other least most (Some text) =
@@ -110,7 +110,7 @@ abbrev pub IsCommandName : Option Text → Type 0
 IsCommandName None = ⊥
 IsCommandName (Some name) = IsOneOf name (codes "asm" ∷ codes "link" ∷ codes "sim" ∷ [])
 
--- what the entries of a command come to: its task, or the fault of its address; memory may run out
+-- what the entries of a command yield: its task, or the fault of its address; memory may run out
 abbrev pub EntriesGive : Option (Text × List Row) → Result Task UsageFault → Type 0
 EntriesGive entered (Ok task) = IsTask entered task
 EntriesGive entered (Err (Help error)) = ⊥
@@ -125,7 +125,7 @@ abbrev pub IsAddressRefused : List Text → UsageFault → Type 0
 IsAddressRefused words fault =
     (fault_of application words ≡ []) × HasAddressFault (subcommand_of application words) fault
 
--- what the words come to: a task where they are not refused, else one of the refusals that they
+-- what the words yield: a task where they are not refused, else one of the refusals that they
 -- have, those of the parser first; memory may run out at any words
 abbrev pub Plans : List Text → Result Task UsageFault → Type 0
 Plans words (Ok task) =

@@ -26,11 +26,11 @@ usage_name NoMemory = codes "NoMemory"
 
 -- the fault keeps the parser's error: help that was asked for, or another refusal of the words; of
 -- memory that ran out there is nothing to keep, and the faults of addresses are none of the parser
-abbrev pub Keeps : Error → UsageFault → Type 0
-Keeps e (Help error) = (error ≡ e) × (kind_of e ≡ kind.DisplayHelp)
-Keeps e (Words error) =
+abbrev pub UsageKeeps : Error → UsageFault → Type 0
+UsageKeeps e (Help error) = (error ≡ e) × (kind_of e ≡ kind.DisplayHelp)
+UsageKeeps e (Words error) =
     (error ≡ e) × (kind_of e ≢ kind.DisplayHelp) × (kind_of e ≢ kind.OutOfMemory)
-Keeps e BadOctal = ⊥
-Keeps e OddAddress = ⊥
-Keeps e BadAddress = ⊥
-Keeps e NoMemory = kind_of e ≡ kind.OutOfMemory
+UsageKeeps e BadOctal = ⊥
+UsageKeeps e OddAddress = ⊥
+UsageKeeps e BadAddress = ⊥
+UsageKeeps e NoMemory = kind_of e ≡ kind.OutOfMemory

@@ -1,4 +1,4 @@
-//! What the parser of command lines is told: one function an argument and a command.
+//! What the parser of command lines is given: one function an argument and a command.
 
 ghost use Rattle.std.specs.Prelude.{IfOk};
 ghost use Rattle.clap.specs.Words.{App, Rule, new_app, with_rule, with_subcommand};

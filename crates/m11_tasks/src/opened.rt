@@ -1,7 +1,7 @@
 //! The files of a task, opened.
 
 ghost use Rattle.std.specs.Prelude.{◌≡◌, ◌∷◌, IfErr, IfOk, OnErr, []};
-ghost use Rattle.m11_files.specs.Files.{AreFiles, Holds, IsEmptied, IsEmptiedSome, creating};
+ghost use Rattle.m11_files.specs.Opens.{AreFiles, Holds, IsEmptied, IsEmptiedSome, creating};
 ghost use Rattle.m11_tasks.specs.Opened.{CountsOpening, LacksFirst, LacksOne, Names, Stops, asm_inputs, asm_outputs, fault_at, link_inputs, link_outputs, optional, sim_inputs, texts};
 ghost use Rattle.m11_tasks.specs.declared.opened.OpenFault.TheVariants.{NoMemory};
 

@@ -1,7 +1,7 @@
 //! What can be wrong with a command line.
 
 ghost use Rattle.std.specs.Prelude.{◌≡◌};
-ghost use Rattle.m11_tasks.specs.Usage.{Keeps, usage_name, usage_number};
+ghost use Rattle.m11_tasks.specs.Usage.{UsageKeeps, usage_name, usage_number};
 ghost use Rattle.m11_tasks.specs.declared.usage.UsageFault.TheVariants.{BadOctal, NoMemory};
 
 use clap::error::ErrorKind;
@@ -63,7 +63,7 @@ impl UsageFault {
 }
 
 impl From<clap::Error> for UsageFault {
-    ghost from_gives = { Keeps };
+    ghost from_gives = { UsageKeeps };
 
     fn from(error: clap::Error) -> UsageFault {
         match error.kind() {

@@ -115,7 +115,7 @@ fn lines_and_bytes_of_sources_have_their_limits(rt: HostRuntime) -> Result<(), F
     are_limits(&rt, &LIMITS)
 }
 
-// An object that takes ten bytes and then fails has those, and no message is told.
+// An object that takes ten bytes and then fails has those, and no message is reported.
 fn keeps_its_beginning(
     rt: &impl Abort,
     outcome: Result<AsmDone, AsmFault>,
@@ -144,7 +144,7 @@ fn an_object_that_fails_keeps_its_beginning(rt: HostRuntime) -> Result<(), Fail>
     Ok(())
 }
 
-// How a run ends where the devices fail after so many calls.
+// How a run ends where the devices fail after n calls.
 fn ends_with_fuses(alloc: Global, reads: u64, puts: u64, lines: u64) -> Result<AsmDone, AsmFault> {
     let source: &[u8] = b".WORD 1\n.END\n";
     let mut first = [FuseFeed::new(MemoryFeed::new(source), reads)];
@@ -172,8 +172,10 @@ fn each_read_and_write_may_fail_in_turn(rt: HostRuntime) {
         let put = ends_with_fuses(alloc, 99, calls, 9);
         assert!(rt; put.is_ok() == (calls > 4));
         assert!(rt; put.is_ok() || matches!(put, Err(AsmFault::Write(AsmOutput::Object))));
-        let told = ends_with_fuses(alloc, 99, 9, calls);
-        assert!(rt; told.is_ok() == (calls > 0));
-        assert!(rt; told.is_ok() || matches!(told, Err(AsmFault::Write(AsmOutput::Messages))));
+        let reported = ends_with_fuses(alloc, 99, 9, calls);
+        assert!(rt; reported.is_ok() == (calls > 0));
+        assert!(rt;
+            reported.is_ok() || matches!(reported, Err(AsmFault::Write(AsmOutput::Messages)))
+        );
     }
 }

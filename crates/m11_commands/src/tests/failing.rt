@@ -19,43 +19,43 @@ const COPIES_A_BYTE: [u8; 30] = [
     0o000, 0o000, 0o002, 0o367,
 ];
 
-// A run, so many calls of whose devices pass: reads of the console's input, writes of its output, writes of messages;
-// its status, and what is printed and told.
+// A run, n calls of whose devices pass: reads of the console's input, writes of its output, writes of messages;
+// its status, and what is printed and reported.
 struct Run {
     reads: u64,
     writes: u64,
-    tells: u64,
+    reports: u64,
     status: u8,
     printed: &'static str,
-    told: &'static str,
+    reported: &'static str,
 }
 
 static RUNS: [Run; 3] = [
     Run {
         reads: 0,
         writes: u64::MAX,
-        tells: u64::MAX,
+        reports: u64::MAX,
         status: 3,
         printed: "",
-        told: "INPUT FAULT AFTER 1 STEPS\n\
+        reported: "INPUT FAULT AFTER 1 STEPS\n\
             R0 000000 R1 000000 R2 000000 R3 000000 R4 000000 R5 000000 SP 000000 PC 001004 PSW 000000\n",
     },
     Run {
         reads: u64::MAX,
         writes: 0,
-        tells: u64::MAX,
+        reports: u64::MAX,
         status: 3,
         printed: "",
-        told: "OUTPUT FAULT AFTER 4 STEPS\n\
+        reported: "OUTPUT FAULT AFTER 4 STEPS\n\
             R0 000101 R1 000000 R2 000000 R3 000000 R4 000000 R5 000000 SP 000000 PC 001016 PSW 000000\n",
     },
     Run {
         reads: u64::MAX,
         writes: u64::MAX,
-        tells: 0,
+        reports: 0,
         status: 3,
         printed: "A",
-        told: "",
+        reported: "",
     },
 ];
 
@@ -68,7 +68,7 @@ fn stored(alloc: Global) -> Result<Vec<MemoryFile>, AllocError> {
     Ok(vec![in alloc; file]?)
 }
 
-// Each run leaves its status, and what is printed and told.
+// Each run leaves its status, and what is printed and reported.
 fn check_runs(rt: &(impl Abort + AllocGlobal), runs: &[Run]) -> Result<(), Fail> {
     let stored = stored(rt.alloc())?;
     for run in runs {
@@ -80,18 +80,18 @@ fn check_runs(rt: &(impl Abort + AllocGlobal), runs: &[Run]) -> Result<(), Fail>
 // One run does.
 fn check(rt: &(impl Abort + AllocGlobal), stored: &[MemoryFile], run: &Run) {
     let mut printed = Vec::new(rt.alloc());
-    let mut told = Vec::new(rt.alloc());
+    let mut reported = Vec::new(rt.alloc());
     let status = command(
         rt.alloc(),
         &mut MemoryFiles::new(rt.alloc(), stored),
         &mut FuseFeed::new(MemoryFeed::new(b"AB"), run.reads),
         &mut FuseSink::new(WriterSink::new(&mut printed), run.writes, usize::MAX),
-        &mut FuseSink::new(WriterSink::new(&mut told), run.tells, usize::MAX),
+        &mut FuseSink::new(WriterSink::new(&mut reported), run.reports, usize::MAX),
         ["m11", "sim", "COPY.TAP"].as_slice(),
     );
     assert_eq!(rt; status, run.status);
     assert!(rt; printed.as_slice() == run.printed.as_bytes());
-    assert!(rt; told.as_slice() == run.told.as_bytes());
+    assert!(rt; reported.as_slice() == run.reported.as_bytes());
 }
 
 #[test]

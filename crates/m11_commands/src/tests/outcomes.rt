@@ -321,7 +321,7 @@ fn each_outcome_has_its_status_and_line(rt: HostRuntime) -> Result<(), Fail> {
     check_outcomes(&rt, &OUTCOMES)
 }
 
-// What the system doesn't give is told, and leaves a status.
+// What the system doesn't give is reported, and leaves a status.
 fn check_words(rt: &(impl Abort + AllocGlobal), fault: WordsFault, expected: u8, line: &str) {
     let mut err = MemorySink::new(rt.alloc());
     assert_eq!(rt;

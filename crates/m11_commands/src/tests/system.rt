@@ -9,7 +9,7 @@ use std::fs;
 use std::test::Fail;
 
 // The words of a command whose inputs and outputs are not all ordinary files, the status that it leaves, and what is
-// told. `SOURCES` is a folder: it opens, and its first read fails. `NOWHERE` is none.
+// reported. `SOURCES` is a folder: it opens, and its first read fails. `NOWHERE` is none.
 static COMMANDS: [(&[&str], u8, &str); 9] = [
     (
         &["m11", "asm", "-o", "OUT.OBJ", "ONE.MAC"],
@@ -72,8 +72,8 @@ static LEFT: [(&str, usize); 6] = [
     ("NONE.TAP", 0),
 ];
 
-// The status of a command over the files of the system; `None` where it tells anything but `told`, or prints.
-fn done(rt: &HostRuntime, words: &[&str], told: &str) -> Option<u8> {
+// The status of a command over the files of the system; `None` where it reports anything but `reported`, or prints.
+fn done(rt: &HostRuntime, words: &[&str], reported: &str) -> Option<u8> {
     let mut out = MemorySink::new(rt.alloc());
     let mut err = MemorySink::new(rt.alloc());
     let status = command(
@@ -84,21 +84,21 @@ fn done(rt: &HostRuntime, words: &[&str], told: &str) -> Option<u8> {
         &mut err,
         words,
     );
-    let is_told = out.bytes().is_empty() && err.bytes() == told.as_bytes();
-    is_told.then_some(status)
+    let is_reported = out.bytes().is_empty() && err.bytes() == reported.as_bytes();
+    is_reported.then_some(status)
 }
 
-// Each command leaves its status, and tells its line.
+// Each command leaves its status, and reports its line.
 fn check_commands(rt: &HostRuntime, rows: &[(&[&str], u8, &str)]) -> Result<(), Fail> {
-    for (words, status, told) in rows {
-        if done(rt, words, told) != Some(*status) {
-            return Err(Fail::new(told));
+    for (words, status, reported) in rows {
+        if done(rt, words, reported) != Some(*status) {
+            return Err(Fail::new(reported));
         }
     }
     Ok(())
 }
 
-// Each file has so many bytes, and is removed.
+// Each file has n bytes, and is removed.
 fn remove(rt: &HostRuntime, rows: &[(&str, usize)]) -> Result<(), Fail> {
     for (path, length) in rows {
         if fs::read(rt, *path)?.len() != *length {
@@ -124,13 +124,13 @@ fn commands_read_and_write_the_files_of_the_system(rt: HostRuntime) -> Result<()
 }
 
 #[test]
-fn a_full_device_is_told_as_the_object(rt: HostRuntime) -> Result<(), Fail> {
+fn a_full_device_is_reported_as_the_object(rt: HostRuntime) -> Result<(), Fail> {
     // Not each system has a device that is always full.
     if fs::open(&rt, "/dev/full").is_ok() {
         fs::write(&rt, "FULL.MAC", ".END\n")?;
         let words = ["m11", "asm", "-o", "/dev/full", "FULL.MAC"];
-        let told = "?M11 ASM 2 Write OBJECT\n";
-        assert_eq!(rt; done(&rt, words.as_slice(), told), Some(3));
+        let reported = "?M11 ASM 2 Write OBJECT\n";
+        assert_eq!(rt; done(&rt, words.as_slice(), reported), Some(3));
         fs::remove_file(&rt, "FULL.MAC")?;
     }
     Ok(())
@@ -173,7 +173,7 @@ fn filled(buf: &mut [u8], word: &[u8]) -> Result<usize, FillError>
 }
 
 #[test]
-fn a_word_that_is_no_text_is_told_by_its_number(rt: HostRuntime) -> Result<(), Fail> {
+fn a_word_that_is_no_text_is_reported_by_its_number(rt: HostRuntime) -> Result<(), Fail> {
     let good = words(&(Words { last: b"-h" }, rt.alloc()))?;
     assert_eq!(rt; good.len(), 3);
     assert_eq!(rt; good[1].len(), 300);

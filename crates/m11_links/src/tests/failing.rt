@@ -13,7 +13,7 @@ use std::test::Fail;
 // A feed of one of the readings, or an output.
 #[derive(Clone, Copy, Debug, PartialEq, Eq)]
 enum Device {
-    // Of the first reading and then the second one, two each.
+    // Of the first pass and then the second one, two each.
     Feed(usize),
     Output(LinkOutput),
 }
@@ -28,7 +28,7 @@ impl Device {
     }
 }
 
-// A device that fails after so many calls, while all others pass.
+// A device that fails after n calls, while all others pass.
 #[derive(Clone, Copy)]
 struct Broken {
     device: Device,
@@ -62,7 +62,7 @@ impl Broken {
     }
 }
 
-// Links two files with a broken device into texts, by outputs that take so many bytes a call at most.
+// Links two files with a broken device into texts, by outputs that take n bytes a call at most.
 fn link_broken(
     alloc: Global,
     files: [&[u8]; 2],
@@ -179,7 +179,7 @@ const WITH_MESSAGES: Wanted<'static> = Wanted {
     weak: &[],
     transfer: "TRANSFER 000001",
     limit: "LIMIT 001000 001004",
-    told: &[
+    reported: &[
         "UNDEFINED GLOBAL Q",
         "MULTIPLE DEFINITION X      IN MODULE B",
     ],

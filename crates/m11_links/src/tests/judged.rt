@@ -1,4 +1,4 @@
-//! What the rules of modules answer to records, fed one after another.
+//! What the rules of modules result to records, fed one after another.
 
 use super::records::Given::{
     Bytes, Directory, EndOfDirectory, EndOfModule, InternalSymbols, Relocation, Text,
@@ -14,7 +14,7 @@ use std::alloc::Global;
 use std::process::Abort;
 use std::test::Fail;
 
-// What a row shows, its records, and what the rules answer.
+// What a row shows, its records, and what the rules return.
 type Row<'a> = (&'a str, &'a [Given<'a>], Result<(), LinkFault>);
 
 // Takes a record.
@@ -45,7 +45,7 @@ fn take_file(
     Ok(())
 }
 
-// What is answered to records and the end of their file.
+// What is returned to records and the end of their file.
 fn judge(alloc: Global, records: &[Given<'_>], last: &[Given<'_>]) -> Result<(), LinkFault> {
     let mut rules = Rules::new(alloc);
     let answer = take_file(&mut rules, records, last);
@@ -53,7 +53,7 @@ fn judge(alloc: Global, records: &[Given<'_>], last: &[Given<'_>]) -> Result<(),
     answer
 }
 
-// This is answered, or memory was refused.
+// This is returned, or memory was refused.
 fn comes(
     rt: &impl Abort,
     what: &str,
@@ -67,7 +67,7 @@ fn comes(
     Ok(())
 }
 
-// Each row's answer comes, where these records are the last of its file.
+// Each row's result comes, where these records are the last of its file.
 fn are_judged(
     rt: &(impl Abort + AllocGlobal),
     rows: &[Row<'_>],
@@ -651,7 +651,7 @@ fn refer(rules: &mut Rules, number: u16) -> Result<(), LinkFault> {
     take(rules, &Bytes(&[1, 0, low, high, 0, 0, 0, 4, 0, 0]))
 }
 
-// Takes references to so many globals, in one directory.
+// Takes references to n globals, in one directory.
 fn refer_to(rules: &mut Rules, count: u16) -> Result<(), LinkFault> {
     for number in 0..count {
         refer(rules, number)?;
@@ -659,7 +659,7 @@ fn refer_to(rules: &mut Rules, count: u16) -> Result<(), LinkFault> {
     Ok(())
 }
 
-// What is answered to a relocation after 8,192 globals, the last of which a relocation named, and a text of two bytes.
+// What is returned to a relocation after 8,192 globals, the last of which a relocation named, and a text of two bytes.
 fn relocate_last(
     rules: &mut Rules,
     relocation: &Given<'_>,
@@ -671,7 +671,7 @@ fn relocate_last(
     Ok(take(rules, relocation))
 }
 
-// What is answered to a displaced relocation of a global, by its first word, after 8,192 globals.
+// What is returned to a displaced relocation of a global, by its first word, after 8,192 globals.
 fn relocated_last(
     alloc: Global,
     displacement: u8,
@@ -705,7 +705,7 @@ fn the_8193rd_name_of_a_global_is_refused_in_a_relocation(rt: HostRuntime) -> Re
     )
 }
 
-// What is answered to a definition after 8,192 globals, one of them named twice, and a section of the same name.
+// What is returned to a definition after 8,192 globals, one of them named twice, and a section of the same name.
 fn define_last(rules: &mut Rules) -> Result<Result<(), LinkFault>, LinkFault> {
     refer_to(rules, 8_192)?;
     refer(rules, 8_191)?;
@@ -726,7 +726,7 @@ fn a_name_of_a_global_counts_once_and_apart_from_sections(rt: HostRuntime) -> Re
     )
 }
 
-// What is answered to a text after 32 modules.
+// What is returned to a text after 32 modules.
 fn text_after_modules(rules: &mut Rules) -> Result<Result<(), LinkFault>, LinkFault> {
     for _ in 0..32 {
         feed(rules, &[EndOfDirectory, EndOfModule])?;

@@ -6,7 +6,7 @@ use m11_obj::BlockFault;
 use std::process::Abort;
 use std::test::Fail;
 
-// How the link of so many bytes of the object ends: after a block that isn't the last a module is open.
+// How the link of n bytes of the object ends: after a block that isn't the last a module is open.
 fn outcome_of_beginning(length: usize) -> Result<LinkDone, LinkFault> {
     match length {
         0 | 79 => Ok(LinkDone { messages: 0 }),
@@ -29,7 +29,7 @@ fn check_beginnings(rt: &(impl Abort + AllocGlobal)) -> Result<(), Fail> {
     Ok(())
 }
 
-// The link of so many zero bytes ends with this.
+// The link of n zero bytes ends with this.
 fn zeros_end(
     rt: &(impl Abort + AllocGlobal),
     count: usize,

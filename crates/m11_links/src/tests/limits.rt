@@ -96,7 +96,7 @@ fn add_two(file: &mut Vec<u8>, first: Entry, second: Entry) -> Result<(), AllocE
 enum Made {
     // Empty modules.
     Modules(u32),
-    // So many modules that each have these many entries.
+    // N modules that each have these many entries.
     Entries(u32, u16, [u8; 2]),
     // A module that has these many entries, and two more in one directory.
     EntriesAndTwo(u16, [u8; 2], Entry, Entry),

@@ -1,4 +1,4 @@
-//! Plans of small objects, each with what it tells.
+//! Plans of small objects, each with what it reports.
 
 use super::records::{
     CONTROL_SECTION, Entry, GLOBAL_SYMBOL, Given, MODULE_NAME, PROGRAM_SECTION, TRANSFER_ADDRESS,
@@ -21,13 +21,13 @@ const ABS: u8 = 0o104;
 // The entries of a module, a record each.
 type Module<'a> = &'a [Entry<'a>];
 
-// What a row shows, the bottom, objects of one module each, and what their plan tells.
+// What a row shows, the bottom, objects of one module each, and what their plan reports.
 type Row<'a> = (&'a str, u16, &'a [Module<'a>], &'a [Fact<'a>]);
 
 // What a row shows, the bottom, and objects whose program is too large.
 type TooLarge<'a> = (&'a str, u16, &'a [Module<'a>]);
 
-// What a plan tells.
+// What a plan holds.
 #[derive(Clone, Copy)]
 enum Fact<'a> {
     // The base of a module's contribution to a section.
@@ -129,8 +129,8 @@ fn has_attributes(plan: &Plan, section: &[u8; 6], attributes: u8) -> bool {
     }
 }
 
-// Whether a plan tells this.
-fn tells(plan: &Plan, fact: &Fact<'_>) -> bool {
+// Whether a plan reports this.
+fn reports(plan: &Plan, fact: &Fact<'_>) -> bool {
     match *fact {
         Fact::Base(module_index, section, base) => has_base(plan, module_index, section, base),
         Fact::Value(global, value) => has_value(plan, global, Some(value)),
@@ -150,10 +150,10 @@ fn tells(plan: &Plan, fact: &Fact<'_>) -> bool {
     }
 }
 
-// Whether a plan tells all of these.
-fn tells_all(plan: &Plan, facts: &[Fact<'_>]) -> bool {
+// Whether a plan reports all of these.
+fn reports_all(plan: &Plan, facts: &[Fact<'_>]) -> bool {
     for fact in facts {
-        if !tells(plan, fact) {
+        if !reports(plan, fact) {
             return false;
         }
     }
@@ -201,16 +201,16 @@ fn refusal(alloc: Global, bottom: u16, modules: &[Module<'_>]) -> Option<LinkFau
     }
 }
 
-// Whether the plan of a row tells what it should.
+// Whether the plan of a row reports what it should.
 fn is_planned(alloc: Global, row: &Row<'_>) -> Result<bool, LinkFault> {
     let (_, bottom, modules, facts) = *row;
     let plan = plan(alloc, bottom, modules)?;
-    let is_right = tells_all(&plan, facts);
+    let is_right = reports_all(&plan, facts);
     drop(plan);
     Ok(is_right)
 }
 
-// Each row's plan tells what it should, or memory was refused.
+// Each row's plan reports what it should, or memory was refused.
 fn are_planned(rt: &(impl Abort + AllocGlobal), rows: &[Row<'_>]) -> Result<(), Fail> {
     for row in rows {
         assert!(rt; is_planned(rt.alloc(), row)?, "{}", row.0);
@@ -480,17 +480,17 @@ static TRANSFERS: [Row<'static>; 7] = [
 ];
 
 #[test]
-fn plans_tell_where_sections_lie(rt: HostRuntime) -> Result<(), Fail> {
+fn plans_report_where_sections_lie(rt: HostRuntime) -> Result<(), Fail> {
     are_planned(&rt, &SECTIONS)
 }
 
 #[test]
-fn plans_tell_what_globals_are_worth(rt: HostRuntime) -> Result<(), Fail> {
+fn plans_report_what_globals_are_worth(rt: HostRuntime) -> Result<(), Fail> {
     are_planned(&rt, &GLOBALS)
 }
 
 #[test]
-fn plans_tell_where_programs_start(rt: HostRuntime) -> Result<(), Fail> {
+fn plans_report_where_programs_start(rt: HostRuntime) -> Result<(), Fail> {
     are_planned(&rt, &TRANSFERS)
 }
 
@@ -538,7 +538,7 @@ fn has_memory(fault: Option<LinkFault>) -> Result<(), LinkFault> {
     }
 }
 
-// The end of the first reading after one record of a program that is too large, with no end of its module.
+// The end of the first pass after one record of a program that is too large, with no end of its module.
 fn end_inside(alloc: Global) -> Option<LinkFault> {
     let mut layout = Layout::new(alloc, 0o157776);
     let row: Entry<'_> = (PROGRAM_SECTION, b"      ", CON, 4);
@@ -551,7 +551,7 @@ fn end_inside(alloc: Global) -> Option<LinkFault> {
     }
 }
 
-// What each call answers after a block that is no record.
+// What each call returns after a block that is no record.
 fn answers_after_a_fault(alloc: Global) -> [Option<LinkFault>; 4] {
     let mut layout = Layout::new(alloc, 0o1000);
     let first = layout.block(&Given::Bytes(&[3]).block()).err();

@@ -32,7 +32,7 @@ fn take_module(layout: &mut Layout) -> Result<(), LinkFault> {
     Ok(())
 }
 
-// The plan of that module from 001000 on: PROG lies there, DATA at 001012, F at 001020, and 001024 is behind them.
+// The plan of that module from 001000 on: PROG lies there, DATA at 001012, F at 001020, and 001024 is after them.
 fn plan(alloc: Global) -> Result<Plan, LinkFault> {
     let mut layout = Layout::new(alloc, 0o1000);
     match take_module(&mut layout) {
@@ -44,7 +44,7 @@ fn plan(alloc: Global) -> Result<Plan, LinkFault> {
     }
 }
 
-// What a text of ten bytes 377 at 001000 comes to by records of relocations.
+// What a text of ten bytes 377 at 001000 yields by records of relocations.
 fn relocated(plan: &Plan, records: &[Given<'_>]) -> Result<[u8; 10], LinkFault> {
     let mut text = [0o377; 10];
     for given in records {
@@ -154,7 +154,7 @@ fn relocations_store_values_in_their_text(rt: HostRuntime) -> Result<(), Fail> {
 
 // A line of messages or of a map, without its names.
 #[derive(Clone, Copy)]
-enum Told {
+enum Reported {
     // A name, and for two of them a module.
     Undefined,
     Multiple,
@@ -168,82 +168,87 @@ enum Told {
     Limit(u16, u16),
 }
 
-fn line_of(told: Told, name: Name, module: Name) -> Line {
-    match told {
-        Told::Undefined => undefined_line(name),
-        Told::Multiple => multiple_line(name, module),
-        Told::Different => different_line(name, module),
-        Told::Section(base, size, attributes) => {
+fn line_of(reported: Reported, name: Name, module: Name) -> Line {
+    match reported {
+        Reported::Undefined => undefined_line(name),
+        Reported::Multiple => multiple_line(name, module),
+        Reported::Different => different_line(name, module),
+        Reported::Section(base, size, attributes) => {
             section_line(name, base, size, SectionFlags::from_bits_retain(attributes))
         }
-        Told::Global(value) => global_line(name, value, module),
-        Told::Name => name_line(name),
-        Told::Transfer(address) => transfer_line(address),
-        Told::Limit(bottom, top) => limit_line(bottom, top),
+        Reported::Global(value) => global_line(name, value, module),
+        Reported::Name => name_line(name),
+        Reported::Transfer(address) => transfer_line(address),
+        Reported::Limit(bottom, top) => limit_line(bottom, top),
     }
 }
 
 // A line, its name and its module, blank where it has none, and its text.
-type LineRow<'a> = (Told, &'a [u8; 6], &'a [u8; 6], &'a str);
+type LineRow<'a> = (Reported, &'a [u8; 6], &'a [u8; 6], &'a str);
 
 static LINES: [LineRow<'static>; 14] = [
-    (Told::Undefined, b"Q     ", BLANK, "UNDEFINED GLOBAL Q\n"),
     (
-        Told::Undefined,
+        Reported::Undefined,
+        b"Q     ",
+        BLANK,
+        "UNDEFINED GLOBAL Q\n",
+    ),
+    (
+        Reported::Undefined,
         b"ABCDEF",
         BLANK,
         "UNDEFINED GLOBAL ABCDEF\n",
     ),
     // blanks at the end of a line are removed
-    (Told::Undefined, BLANK, BLANK, "UNDEFINED GLOBAL\n"),
-    (Told::Name, BLANK, BLANK, "\n"),
+    (Reported::Undefined, BLANK, BLANK, "UNDEFINED GLOBAL\n"),
+    (Reported::Name, BLANK, BLANK, "\n"),
     (
-        Told::Multiple,
+        Reported::Multiple,
         b"Q     ",
         BLANK,
         "MULTIPLE DEFINITION Q      IN MODULE\n",
     ),
     (
-        Told::Multiple,
+        Reported::Multiple,
         b"X     ",
         b"B     ",
         "MULTIPLE DEFINITION X      IN MODULE B\n",
     ),
     (
-        Told::Different,
+        Reported::Different,
         b". ABS.",
         b"B     ",
         "DIFFERENT ATTRIBUTES . ABS. IN MODULE B\n",
     ),
     (
-        Told::Section(0, 0, 0o104),
+        Reported::Section(0, 0, 0o104),
         b". ABS.",
         BLANK,
         ". ABS. 000000 000000 RW,I,GBL,ABS,OVR\n",
     ),
     (
-        Told::Section(0o1000, 0, 0o040),
+        Reported::Section(0o1000, 0, 0o040),
         BLANK,
         BLANK,
         "       001000 000000 RW,I,LCL,REL,CON\n",
     ),
     // all attributes
     (
-        Told::Section(0o1000, 0o10, 0o365),
+        Reported::Section(0o1000, 0o10, 0o365),
         b"PROG  ",
         BLANK,
         "PROG   001000 000010 RO,D,GBL,REL,OVR,SAV\n",
     ),
     (
-        Told::Global(0o1006),
+        Reported::Global(0o1006),
         b"F     ",
         b"B     ",
         "F      001006 B\n",
     ),
-    (Told::Name, b"Q     ", BLANK, "Q\n"),
-    (Told::Transfer(1), BLANK, BLANK, "TRANSFER 000001\n"),
+    (Reported::Name, b"Q     ", BLANK, "Q\n"),
+    (Reported::Transfer(1), BLANK, BLANK, "TRANSFER 000001\n"),
     (
-        Told::Limit(0o1000, 0o1014),
+        Reported::Limit(0o1000, 0o1014),
         BLANK,
         BLANK,
         "LIMIT 001000 001014\n",
@@ -254,9 +259,9 @@ const BLANK: &[u8; 6] = b"      ";
 
 // Each row's line has its text.
 fn have_their_texts(rt: &impl Abort, rows: &[LineRow<'_>]) {
-    for (told, name, module, text) in rows {
+    for (reported, name, module, text) in rows {
         if let (Some(name), Some(module)) = (Name::pack(name), Name::pack(module)) {
-            let line = line_of(*told, name, module);
+            let line = line_of(*reported, name, module);
             assert!(rt; line.as_slice() == text.as_bytes(), "{text}");
         } else {
             assert!(rt; false, "{text}: no name");

@@ -1,4 +1,4 @@
-//! How far the tape has come while a second reading goes on, and second readings that give other bytes.
+//! How far the tape has come while a second pass goes on, and second readings that give other bytes.
 
 use super::{Content, DEFINES_F, Linked, Object, READS_F, READS_F_LINKED, files_of, linked_twice};
 use m11_base::MemorySink;
@@ -43,7 +43,7 @@ fn plan(alloc: Global) -> Result<Plan, LinkFault> {
     }
 }
 
-// What a second reading writes, without a map.
+// What a second pass writes, without a map.
 #[derive(Drop)]
 struct Outputs {
     tape: MemorySink,
@@ -69,12 +69,12 @@ impl Outputs {
             .is_ok()
     }
 
-    // Whether the tape has so many bytes.
+    // Whether the tape has n bytes.
     fn has(&self, length: usize) -> bool {
         self.tape.bytes().len() == length
     }
 
-    // Feeds the blocks of an object, after each of which the tape has so many bytes, and ends it.
+    // Feeds the blocks of an object, after each of which the tape has n bytes, and ends it.
     fn grows_by(&mut self, emit: &mut Emit, object: Object<'_>, lengths: &[usize]) -> bool {
         for (content, length) in object.iter().zip(lengths) {
             if self.feed(emit, content).is_err() || !self.has(*length) {
@@ -91,7 +91,7 @@ impl Outputs {
     }
 }
 
-// Whether a second reading holds one text, and no more: the transfer block is written at its end.
+// Whether a second pass holds one text, and no more: the transfer block is written at its end.
 fn writes_texts_in_turn(mut emit: Emit, outputs: &mut Outputs) -> bool {
     if outputs.holds_both_modules(&mut emit) {
         outputs.end(emit) && outputs.has(45)
@@ -101,7 +101,7 @@ fn writes_texts_in_turn(mut emit: Emit, outputs: &mut Outputs) -> bool {
     }
 }
 
-// The same of a second reading of the two modules.
+// The same of a second pass of the two modules.
 fn holds_one_text(alloc: Global) -> Result<bool, LinkFault> {
     let emit = Emit::new(alloc, plan(alloc)?);
     let mut outputs = Outputs {
@@ -120,7 +120,7 @@ fn one_text_is_held_and_no_more(rt: HostRuntime) -> Result<(), Fail> {
     Ok(())
 }
 
-// What was left where the second reading differs in the first block of the second module.
+// What was left where the second pass differs in the first block of the second module.
 fn is_refused(rt: &impl Abort, linked: &Linked) {
     let fault = LinkFault::Block(BlockFault::BadSum);
     assert!(rt;

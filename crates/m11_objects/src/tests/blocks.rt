@@ -19,7 +19,7 @@ static OBJECT: [u8; 79] = [
 ];
 
 // How many blocks are read before their end or a fault, of 80 at most, and the fault. After a fault each call
-// answers that the reader failed before.
+// returns that the reader failed before.
 fn read_to_end<F: Feed>(rt: &impl Abort, feed: &mut F) -> (usize, Option<BlockFault>) {
     let mut reader = BlockReader::new();
     for blocks in 0..80 {

@@ -9,7 +9,7 @@ use std::io::BufReader;
 use std::process::Abort;
 use std::test::Fail;
 
-// What a call of a feed answers: a byte, its end, or a failure.
+// What a call of a feed returns: a byte, its end, or a failure.
 pub(crate) type Answer = Result<Option<u8>, DeviceFault>;
 
 pub(crate) const A: Answer = Ok(Some(b'a'));
@@ -22,7 +22,7 @@ pub(crate) const END: Answer = Ok(None);
 
 pub(crate) const FAILS: Answer = Err(DeviceFault);
 
-// The calls of a feed answer these, one after another.
+// The calls of a feed return these, one after another.
 pub(crate) fn answers<F: Feed>(rt: &impl Abort, feed: &mut F, name: &str, wanted: &[Answer]) {
     for answer in wanted {
         same(rt, &name, &feed.next(), answer);
@@ -40,7 +40,7 @@ fn feeds_give_their_bytes_and_then_their_end_again_and_again(rt: HostRuntime) ->
     Ok(())
 }
 
-// A fuse passes so many calls, of which the end is one, and then fails at each; of two fuses the shorter one fails
+// A fuse passes n calls, of which the end is one, and then fails at each; of two fuses the shorter one fails
 // first.
 static FUSED: [(&str, u64, u64, &[Answer]); 4] = [
     ("2 calls", 2, u64::MAX, &[A, B, FAILS, FAILS]),
@@ -60,7 +60,7 @@ fn a_fused_feed_passes_its_calls_and_then_fails_at_each(rt: HostRuntime) {
 // A put of a sink: the bytes, and how many it takes, if it doesn't fail.
 pub(crate) type Put<'a> = (&'a [u8], Option<usize>);
 
-// The puts of a sink answer these, one after another.
+// The puts of a sink return these, one after another.
 pub(crate) fn takes<S: Sink>(rt: &impl Abort, sink: &mut S, name: &str, wanted: &[Put<'_>]) {
     for (bytes, count) in wanted {
         same(rt, &name, &sink.put(bytes).ok(), count);
@@ -141,7 +141,7 @@ fn a_fused_sink_passes_its_calls_and_then_fails_at_each(rt: HostRuntime) -> Resu
 
 #[test]
 fn all_is_put_or_the_beginning_before_the_failure(rt: HostRuntime) -> Result<(), Fail> {
-    // so many calls pass, of so many bytes at most
+    // n calls pass, of n bytes at most
     for (calls, most, wanted, answer) in [
         (3, 2, b"abcde".as_slice(), Ok(())),
         (2, 2, b"abcd".as_slice(), Err(PutFault::Device)),

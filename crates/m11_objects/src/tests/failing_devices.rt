@@ -7,7 +7,7 @@ use std::io;
 use std::io::{BufReader, ErrorKind, Read, Write};
 use std::test::Fail;
 
-// A reader or writer whose second call answers an error and touches nothing.
+// A reader or writer whose second call returns an error and touches nothing.
 #[derive(Drop)]
 struct SecondCallFails<D> {
     device: D,
@@ -69,7 +69,7 @@ fn an_interrupted_read_is_tried_again_and_a_failed_one_is_not(rt: HostRuntime) -
     Ok(())
 }
 
-// What the sink over a writer answers to three puts, and what is written then.
+// What the sink over a writer returns to three puts, and what is written then.
 static PUTS: [(ErrorKind, &[Put<'static>], &[u8]); 2] = [
     (
         ErrorKind::Interrupted,

@@ -14,7 +14,7 @@ const BAD_LENGTH: Option<RecordFault> = Some(RecordFault::BadLength);
 
 const BAD_NAME: Option<RecordFault> = Some(RecordFault::BadName);
 
-static TOLD: [(&str, &[u8], Option<RecordFault>); 33] = [
+static REPORTED: [(&str, &[u8], Option<RecordFault>); 33] = [
     ("type 0", &[0, 0], Some(RecordFault::UnknownType)),
     ("type 7", &[7, 0], Some(RecordFault::Library)),
     ("type 10", &[0o10, 0], Some(RecordFault::Library)),
@@ -65,7 +65,7 @@ static TOLD: [(&str, &[u8], Option<RecordFault>); 33] = [
         &[4, 0, 0o15, 4, 0, 0, 0o377, 0o377, 0, 0],
         BAD_NAME,
     ),
-    // of two faults the first is told
+    // of two faults the first is reported
     (
         "a bad first word and no second",
         &[1, 0, 0, 0o372],
@@ -133,8 +133,8 @@ static COMMANDS: [u8; 23] = [
 ];
 
 #[test]
-fn the_first_fault_of_a_block_is_told(rt: HostRuntime) {
-    for (name, bytes, wanted) in &TOLD {
+fn the_first_fault_of_a_block_is_reported(rt: HostRuntime) {
+    for (name, bytes, wanted) in &REPORTED {
         same(&rt, name, &fault_of(&rt, bytes), wanted);
     }
     // each command alone: at one that there is the displacement is missing

@@ -32,13 +32,13 @@ fn has_relocations(rt: &impl Abort, record: &Record<'_>, wanted: &[Relocation]) 
 }
 
 #[test]
-fn each_command_tells_its_relocation(rt: HostRuntime) -> Result<(), Fail> {
+fn each_command_reports_its_relocation(rt: HostRuntime) -> Result<(), Fail> {
     // F and . ABS. are names of two words
     let (symbol, section) = (name(b"F     ")?, name(b". ABS.")?);
     let f = [0x80, 0x25, 0, 0].as_slice();
     let abs = [0x01, 0xaf, 0x94, 0x0f].as_slice();
     let both = [0x01, 0xaf, 0x94, 0x0f, 0o376, 0o377].as_slice();
-    // a command, whether it has a byte form, what follows its displacement, and what it tells
+    // a command, whether it has a byte form, what follows its displacement, and what it reports
     for (command, has_byte_form, after, target) in [
         (0o1, true, [0o40, 0].as_slice(), Target::Internal(0o40)),
         (0o2, true, f, Target::Global(symbol)),

@@ -17,7 +17,7 @@ static TAPE: [u8; 20] = [
     0o001, 0o000, 0o006, 0o000, 0o000, 0o002, 0o367,
 ];
 
-// Reads so many bytes of the open block, and answers the last.
+// Reads n bytes of the open block, and returns the last.
 fn take_data<F: Feed>(reader: &mut TapeReader, feed: &mut F, count: u16) -> Result<u8, TapeFault>
     requires { left_of reader.old.stage ≡ count }
     ensures { left_of reader.new.stage ≡ 0 }
@@ -45,14 +45,14 @@ fn start_of<F: Feed>(reader: &mut TapeReader, feed: &mut F) -> Result<u16, TapeF
     Err(TapeFault::Failed)
 }
 
-// The start of a tape, or its fault, and what is answered then.
+// The start of a tape, or its fault, and what is returned then.
 fn outcome_of<F: Feed>(feed: &mut F) -> (Result<u16, TapeFault>, Result<TapePart, TapeFault>) {
     let mut reader = TapeReader::new();
     let first = start_of(&mut reader, feed);
     (first, reader.next(feed))
 }
 
-// What the bytes of a tape come to: its start, or the first fault.
+// What the bytes of a tape yield: its start, or the first fault.
 static READ: [(&str, &[u8], Result<u16, TapeFault>); 12] = [
     (
         "other bytes than 001 before a block",
@@ -103,7 +103,7 @@ static READ: [(&str, &[u8], Result<u16, TapeFault>); 12] = [
 #[test]
 fn a_tape_is_read_up_to_its_start_or_the_first_fault(rt: HostRuntime) {
     for (name, bytes, wanted) in &READ {
-        // the start is answered again, and after a fault that the reader failed
+        // the start is returned again, and after a fault that the reader failed
         let again = match wanted {
             Ok(address) => Ok(TapePart::Start(*address)),
             Err(_) => Err(TapeFault::Failed),

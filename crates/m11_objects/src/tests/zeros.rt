@@ -2,7 +2,7 @@
 
 use m11_base::{DeviceFault, Feed};
 
-// Gives so many zeros.
+// Gives n zeros.
 #[derive(Drop)]
 pub(crate) struct Zeros {
     pub(crate) left: u64,

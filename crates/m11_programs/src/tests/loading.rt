@@ -45,7 +45,7 @@ const OVER_ANOTHER: [u8; 27] = [
     0o370,
 ];
 
-// The beginning of a tape, the words of memory that it is loaded into, what its load comes to, and words that stand there
+// The beginning of a tape, the words of memory that it is loaded into, what its load yields, and words that stand there
 // then.
 struct Load {
     shows: &'static str,
@@ -154,13 +154,13 @@ static FAILED: [Load; 7] = [
     },
 ];
 
-// A machine with so many words of memory.
+// A machine with n words of memory.
 fn machine_with(rt: &(impl Abort + AllocGlobal), words: u16) -> Result<Machine, AllocError> {
     assert!(rt; 4_096 <= words && words <= 28_672);
     Machine::new(rt.alloc(), words)
 }
 
-// What the load of a tape into so many words comes to.
+// What the load of a tape into n words yields.
 fn loaded<F: Feed>(
     rt: &(impl Abort + AllocGlobal),
     words: u16,
@@ -180,7 +180,7 @@ fn bytes_left<F: Feed>(feed: &mut F) -> usize {
     80
 }
 
-// A block of the count 177777 at address 0, of which so many bytes of data came, all 0.
+// A block of the count 177777 at address 0, of which n bytes of data came, all 0.
 fn longest_block(alloc: Global, count: u16) -> Result<Vec<u8>, AllocError> {
     let mut bytes = vec![in alloc; 0; 6 + usize::from(count)]?;
     bytes[0] = 0o001;
@@ -189,7 +189,7 @@ fn longest_block(alloc: Global, count: u16) -> Result<Vec<u8>, AllocError> {
     Ok(bytes)
 }
 
-// Each tape comes to its outcome, and leaves its words.
+// Each tape yields its outcome, and leaves its words.
 fn check_loads(rt: &(impl Abort + AllocGlobal), loads: &[Load]) -> Result<(), Fail> {
     for load in loads {
         let mut machine = machine_with(rt, load.words)?;
@@ -215,9 +215,9 @@ fn a_tape_that_fails_leaves_what_came_before(rt: HostRuntime) -> Result<(), Fail
 }
 
 #[test]
-fn a_tape_that_is_cut_or_fails_is_told_so(rt: HostRuntime) -> Result<(), Fail> {
+fn a_tape_that_is_cut_or_fails_is_reported_so(rt: HostRuntime) -> Result<(), Fail> {
     for given in 0..21 {
-        // The tape ends after so many bytes: 13 of them are the first block.
+        // The tape ends after n bytes: 13 of them are the first block.
         let cut = match given {
             0 | 13 => Err(LoadFault::Tape(TapeFault::NoTransfer)),
             20 => Ok(0o1000),
@@ -225,7 +225,7 @@ fn a_tape_that_is_cut_or_fails_is_told_so(rt: HostRuntime) -> Result<(), Fail> {
         };
         let outcome = loaded(&rt, 4_096, &mut MemoryFeed::new(&HALTS[..given]))?;
         assert_eq!(rt; outcome, cut, "cut at {given}");
-        // Its device fails after so many calls.
+        // Its device fails after n calls.
         let failed = match given {
             20 => Ok(0o1000),
             _ => Err(LoadFault::Tape(TapeFault::Device)),
@@ -238,7 +238,7 @@ fn a_tape_that_is_cut_or_fails_is_told_so(rt: HostRuntime) -> Result<(), Fail> {
 }
 
 #[test]
-fn behind_the_transfer_block_nothing_is_read(rt: HostRuntime) -> Result<(), Fail> {
+fn after_the_transfer_block_nothing_is_read(rt: HostRuntime) -> Result<(), Fail> {
     let mut bytes = [0o001; 24];
     for at in 0..20 {
         bytes[at] = HALTS[at];

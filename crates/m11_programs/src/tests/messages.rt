@@ -1,4 +1,4 @@
-//! What a run tells at its stop, and what comes out where the messages fail.
+//! What a run reports at its stop, and what comes out where the messages fail.
 
 use super::tape_of;
 use m11_base::{FuseFeed, FuseSink, MemoryFeed, MemorySink, WriterSink};
@@ -32,14 +32,14 @@ const HALTS: Run<'static> = Run {
     line: b"HALT AFTER 1 STEPS\nR0 ",
 };
 
-// What a run comes to, and what it tells where so many calls of its messages pass, of a byte each.
-fn told(
+// What a run yields, and what it reports where n calls of its messages pass, of a byte each.
+fn reported(
     rt: &(impl Abort + AllocGlobal),
     run: Run<'_>,
-    tells: u64,
+    reports: u64,
 ) -> Result<(Result<SimDone, SimFault>, Vec<u8>), Fail> {
     let tape = tape_of(rt, &[(0o1000, run.words)], run.start)?;
-    let mut told = Vec::new(rt.alloc());
+    let mut reported = Vec::new(rt.alloc());
     let outcome = sim_run(
         rt.alloc(),
         &mut MemoryFeed::new(tape.as_slice()),
@@ -48,9 +48,9 @@ fn told(
         run.limit,
         &mut FuseFeed::new(MemoryFeed::new(b""), run.calls),
         &mut FuseSink::new(MemorySink::new(rt.alloc()), run.calls, 1),
-        &mut FuseSink::new(WriterSink::new(&mut told), tells, 1),
+        &mut FuseSink::new(WriterSink::new(&mut reported), reports, 1),
     );
-    Ok((outcome, told))
+    Ok((outcome, reported))
 }
 
 static RUNS: [Run<'static>; 9] = [
@@ -121,23 +121,23 @@ static RUNS: [Run<'static>; 9] = [
 ];
 
 // A run stops as it should, and its messages begin so.
-fn is_told(rt: &(impl Abort + AllocGlobal), run: Run<'_>) -> Result<(), Fail> {
-    let (outcome, text) = told(rt, run, u64::MAX)?;
+fn is_reported(rt: &(impl Abort + AllocGlobal), run: Run<'_>) -> Result<(), Fail> {
+    let (outcome, text) = reported(rt, run, u64::MAX)?;
     assert_eq!(rt; outcome, Ok(SimDone { stop: run.stop }));
     assert!(rt; text.as_slice().starts_with(run.line), "{:?}", run.stop);
     Ok(())
 }
 
-fn are_told(rt: &(impl Abort + AllocGlobal), rows: &[Run<'_>]) -> Result<(), Fail> {
+fn are_reported(rt: &(impl Abort + AllocGlobal), rows: &[Run<'_>]) -> Result<(), Fail> {
     for run in rows {
-        is_told(rt, *run)?;
+        is_reported(rt, *run)?;
     }
     Ok(())
 }
 
 #[test]
-fn each_stop_is_told_with_its_name_and_its_steps(rt: HostRuntime) -> Result<(), Fail> {
-    are_told(&rt, &RUNS)
+fn each_stop_is_reported_with_its_name_and_its_steps(rt: HostRuntime) -> Result<(), Fail> {
+    are_reported(&rt, &RUNS)
 }
 
 // The messages of a run have this beginning of the whole, of as many bytes as calls passed.
@@ -147,7 +147,7 @@ fn fails_after(
     whole: &[u8],
     calls: usize,
 ) -> Result<(), Fail> {
-    let (outcome, text) = told(rt, run, calls as u64)?;
+    let (outcome, text) = reported(rt, run, calls as u64)?;
     assert_eq!(rt; outcome, Err(SimFault::Write), "after {calls} calls");
     assert!(rt; whole.starts_with(text.as_slice()), "a beginning");
     assert_eq!(rt; text.len(), calls);
@@ -165,7 +165,7 @@ fn messages_that_fail_have_a_beginning_of_the_two_lines(rt: HostRuntime) -> Resu
         line: whole,
         ..HALTS
     };
-    let (_, all) = told(&rt, run, u64::MAX)?;
+    let (_, all) = reported(&rt, run, u64::MAX)?;
     assert!(rt; all.as_slice() == whole, "the messages");
     for calls in 0..whole.len() {
         fails_after(&rt, run, whole, calls)?;

@@ -27,30 +27,30 @@ const POLLS_THREE: [Part<'static>; 1] = [(
 struct Passes {
     reads: u64,
     writes: u64,
-    tells: u64,
+    reports: u64,
 }
 
-// What a run comes to: its outcome, what it sends to the console, and what its messages begin with.
+// What a run yields: its outcome, what it sends to the console, and what its messages begin with.
 #[derive(Clone, Copy)]
 struct Wanted<'a> {
     outcome: Result<SimDone, SimFault>,
     sent: &'a [u8],
-    told: &'a [u8],
+    reported: &'a [u8],
 }
 
-// What a run came to is what is wanted.
+// The outcome of a run is what is wanted.
 fn is_wanted(
     rt: &impl Abort,
     name: &str,
     wanted: Wanted<'_>,
     outcome: Result<SimDone, SimFault>,
     sent: &[u8],
-    told: &[u8],
+    reported: &[u8],
 ) {
     assert_eq!(rt; outcome, wanted.outcome, "{name}");
     assert!(rt; sent == wanted.sent, "{name}: what was sent");
     assert!(rt;
-        told.starts_with(wanted.told) && told.is_empty() == wanted.told.is_empty(),
+        reported.starts_with(wanted.reported) && reported.is_empty() == wanted.reported.is_empty(),
         "{name}: the messages"
     );
 }
@@ -64,7 +64,7 @@ fn check(
     wanted: Wanted<'_>,
 ) -> Result<(), Fail> {
     let mut sent = Vec::new(rt.alloc());
-    let mut told = Vec::new(rt.alloc());
+    let mut reported = Vec::new(rt.alloc());
     let outcome = sim_run(
         rt.alloc(),
         &mut MemoryFeed::new(tape),
@@ -73,14 +73,21 @@ fn check(
         1_000,
         &mut FuseFeed::new(MemoryFeed::new(b"ABC"), passes.reads),
         &mut FuseSink::new(WriterSink::new(&mut sent), passes.writes, 1),
-        &mut FuseSink::new(WriterSink::new(&mut told), passes.tells, 200),
+        &mut FuseSink::new(WriterSink::new(&mut reported), passes.reports, 200),
     );
-    is_wanted(rt, name, wanted, outcome, sent.as_slice(), told.as_slice());
+    is_wanted(
+        rt,
+        name,
+        wanted,
+        outcome,
+        sent.as_slice(),
+        reported.as_slice(),
+    );
     Ok(())
 }
 
-// A program that polls the console, by how many bytes it moves, so many reads and writes that pass, its stop, what it
-// sends, and what is told. The registers stand in two rows.
+// A program that polls the console, by how many bytes it moves, n reads and writes that pass, its stop, what it
+// sends, and what is reported. The registers stand in two rows.
 type Polling<'a> = (u8, u64, u64, Stop, &'a [u8], &'a [u8]);
 
 static POLLING: [Polling<'static>; 10] = [
@@ -163,16 +170,16 @@ fn check_polling(
     three: &[u8],
     rows: &[Polling<'_>],
 ) -> Result<(), Fail> {
-    for (moves, reads, writes, stop, sent, told) in rows {
+    for (moves, reads, writes, stop, sent, reported) in rows {
         let passes = Passes {
             reads: *reads,
             writes: *writes,
-            tells: 1,
+            reports: 1,
         };
         let wanted = Wanted {
             outcome: Ok(SimDone { stop: *stop }),
             sent,
-            told,
+            reported,
         };
         let tape = if *moves == 1 { one } else { three };
         check(rt, "a program that polls", tape, passes, wanted)?;
@@ -246,23 +253,23 @@ static REFUSED: [Refused<'static>; 9] = [
     ),
 ];
 
-// A run of a tape that ends in a fault sends and tells nothing, though nothing may be read of the console.
+// A run of a tape that ends in a fault sends and says nothing, though nothing may be read of the console.
 fn ends_in(
     rt: &(impl Abort + AllocGlobal),
     name: &str,
     tape: &[u8],
-    tells: u64,
+    reports: u64,
     fault: SimFault,
 ) -> Result<(), Fail> {
     let passes = Passes {
         reads: 0,
         writes: 0,
-        tells,
+        reports,
     };
     let wanted = Wanted {
         outcome: Err(fault),
         sent: b"",
-        told: b"",
+        reported: b"",
     };
     check(rt, name, tape, passes, wanted)
 }

@@ -10,7 +10,7 @@ use m11_cpu::{Stop, Turn};
 use std::process::Abort;
 use std::test::Fail;
 
-// A call, and what it answers.
+// A call, and what it returns.
 #[derive(Clone, Copy, Debug)]
 enum Call {
     Step(Turn),
@@ -63,7 +63,7 @@ static PROGRAMS: [Called<'static>; 3] = [
     ),
 ];
 
-// The calls on the machine of a program answer and leave what is said.
+// The calls on the machine of a program return and leave what is said.
 fn check_calls(
     rt: &(impl Abort + AllocGlobal),
     name: &str,

@@ -4,7 +4,7 @@ use super::same;
 use m11_scan::{Condition, Radix, read_condition, read_name, read_number, read_packed};
 use std::process::Abort;
 
-// Digits in a radix, the word that they come to, and its letters.
+// Digits in a radix, the word that they yield, and its letters.
 struct Digits {
     digits: &'static str,
     radix: Radix,

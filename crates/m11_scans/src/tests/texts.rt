@@ -73,7 +73,7 @@ static BRACKETED: [Row; 6] = [
     },
 ];
 
-// A text, and how many characters at its beginning are told.
+// A text, and how many characters at its beginning are reported.
 struct Length {
     text: &'static str,
     length: usize,

@@ -1,6 +1,6 @@
 use Rattle.std.proofs.Common.{◌≡◌, length, map}
 use Rattle.m11_base.specs.Mnemonics.{folded}
-use Rattle.m11_asm.specs.Statements.{same_bytes}
+use Rattle.m11_asm.specs.Statement.{same_bytes}
 use Rattle.m11_asm.proofs.statement.is_folded.Given as goal
 
 abbrev pub invariant-bytes : goal.invariant-bytes

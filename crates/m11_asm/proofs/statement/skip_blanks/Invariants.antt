@@ -1,5 +1,5 @@
 use Rattle.std.proofs.Common.{◌≡◌, length}
-use Rattle.m11_asm.specs.Statements.{without_blanks_before}
+use Rattle.m11_asm.specs.Statement.{without_blanks_before}
 use Rattle.m11_asm.proofs.statement.skip_blanks.Given as goal
 
 abbrev pub invariant-blanks : goal.invariant-blanks

@@ -1,6 +1,6 @@
 use Rattle.std.proofs.Common.{◌≡◌, ◌++◌, length}
 use Rattle.std.specs.Prelude.{option_map}
-use Rattle.m11_asm.specs.Statements.{elements_of, numbers_of}
+use Rattle.m11_asm.specs.Statement.{elements_of, numbers_of}
 use Rattle.m11_asm.proofs.statement.words.Given as goal
 
 abbrev pub invariant-elements : goal.invariant-elements

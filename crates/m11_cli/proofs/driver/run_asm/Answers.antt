@@ -1,8 +1,8 @@
 use Rattle.std.proofs.Common.{◌∙◌, ap, None}
-use Rattle.m11_asm.specs.Run.{Runs}
+use Rattle.m11_asm.specs.Run.{AsmRuns}
 use Rattle.m11_asm.specs.Writes.{texts}
 use Rattle.m11_cpu.specs.Dialogue.{output_of}
-use Rattle.m11_files.specs.Files.{keeping}
+use Rattle.m11_files.specs.Opens.{keeping}
 use Rattle.m11_tasks.specs.Opened.{asm_inputs}
 use Rattle.m11_cli.proofs.Sources.{are, runs, seen}
 use Rattle.m11_cli.proofs.driver.run_asm.Goals as goal
@@ -13,7 +13,7 @@ returns g c =
     let faults = g.F.Input.Feed.faults in
     let sink = g.F.Output.Sink in
     let sources = c.args.opened.sources.first.items in
-    let ran : Runs text faults sources c.asm_run-answer.new.first
+    let ran : AsmRuns text faults sources c.asm_run-answer.new.first
     (texts (sink.text c.args.opened.object) None (g.E.Sink.text c.args.err.now))
     (texts (sink.text c.asm_run-answer.new.object) None (g.E.Sink.text c.asm_run-answer.new.messages)) c.asm_run-answer.result =
     rw (c.as_mut_slice.ensures.value, c.asm_run-answer.ensures.listing_kept) at c.asm_run-answer.ensures.runs in

@@ -1,6 +1,6 @@
 use Rattle.std.proofs.Common.{◌∙◌, ap}
-use Rattle.m11_files.specs.Files.{keeping, keeping_some}
-use Rattle.m11_link.specs.SecondReading.{Runs}
+use Rattle.m11_files.specs.Opens.{keeping, keeping_some}
+use Rattle.m11_link.specs.SecondPass.{LinkRuns}
 use Rattle.m11_cli.specs.Driver.{outputs}
 use Rattle.m11_tasks.specs.Opened.{link_inputs}
 use Rattle.m11_cli.proofs.Linked.{emptied, kept, link_runs, same_output, seen_output, seen_sink}
@@ -19,10 +19,10 @@ returns g c =
     let tape' = seen_sink sink c.link_run-answer.new.tape in
     let map = seen_output sink c.args.opened.map in
     let map' = seen_output sink c.link_run-answer.new.map in
-    let told = seen_sink g.E.Sink c.args.err.now in
-    let told' = seen_sink g.E.Sink c.link_run-answer.new.messages in
-    let ran : Runs text faults first c.link_run-answer.new.first second c.link_run-answer.new.second task.bottom
-    (outputs tape map told) (outputs tape' map' told') c.link_run-answer.result =
+    let reported = seen_sink g.E.Sink c.args.err.now in
+    let reported' = seen_sink g.E.Sink c.link_run-answer.new.messages in
+    let ran : LinkRuns text faults first c.link_run-answer.new.first second c.link_run-answer.new.second task.bottom
+    (outputs tape map reported) (outputs tape' map' reported') c.link_run-answer.result =
     rw (
       c.as_mut_slice.ensures.value,
       c.as_mut_slice-2.ensures.value,

@@ -1,7 +1,7 @@
 use Rattle.std.proofs.Common.{inl, ap₂, refl, subst, sym, rules, []}
 use Rattle.m11_base.specs.Devices.{Rises}
 use Rattle.m11_cpu.specs.Dialogue.{input_of, output_of}
-use Rattle.m11_cli.specs.Driver.{Carries, Tells, store}
+use Rattle.m11_cli.specs.Driver.{Carries, Reports, store}
 use Rattle.m11_cli.specs.FaultLines.{open_line}
 use Rattle.m11_tasks.specs.Opened.{StopsAt, sim_inputs}
 use Rattle.m11_cli.specs.declared.outcome.Outcome.{Outcome}
@@ -17,20 +17,20 @@ returns-in-Ok-clause-outcome g c = inl (record {
   kept = ap₂ store c.in-Ok.ensures.files c.in-Ok.ensures.counts;
 })
 
--- the path at which opening stopped is told
+-- the path at which opening stopped is reported
 pub returns-in-Err-NotOpened-clause-outcome : goal.returns-in-Err-NotOpened-clause-outcome
 returns-in-Err-NotOpened-clause-outcome g c =
     let old = store (g.F.Opens.files c.args.files.now) (g.F.Opens.refusals c.args.files.now) in
     let new = store (g.F.Opens.files c.open_sim_file.new.files) (g.F.Opens.refusals c.open_sim_file.new.files) in
     let input = input_of (g.I.Feed.text c.args.input.now) (g.I.Feed.faults c.args.input.now) in
     let printed = output_of (g.O.Sink.text c.args.out.now) (g.O.Sink.faults c.args.out.now) in
-    let told = output_of (g.E.Sink.text c.args.err.now) (g.E.Sink.faults c.args.err.now) in
-    let told' = output_of (g.E.Sink.text c.not_opened.new.err) (g.E.Sink.faults c.not_opened.new.err) in
+    let reported = output_of (g.E.Sink.text c.args.err.now) (g.E.Sink.faults c.args.err.now) in
+    let reported' = output_of (g.E.Sink.text c.not_opened.new.err) (g.E.Sink.faults c.not_opened.new.err) in
     let path = c.in-Err-NotOpened.path.now in
     let stopped = c.in-Err-NotOpened.ensures in
     let rises : Rises old.refusals new.refusals = search rules in
     let stops : StopsAt old.files new.files (sim_inputs c.args.task.now) [] path = search rules in
-    let tells : Tells (open_line path) told told' = search rules in
+    let reports : Reports (open_line path) reported reported' = search rules in
     let P : Outcome → Type 0 = λ outcome. Carries (Sim c.args.task.now) outcome old new
-    (record { input = input; printed = printed; told = told }) (record { input = input; printed = printed; told = told' })
-    in subst P (sym c.not_opened.ensures.outcome) (refl, refl, (rises, path, stops, tells))
+    (record { input = input; printed = printed; reported = reported }) (record { input = input; printed = printed; reported = reported' })
+    in subst P (sym c.not_opened.ensures.outcome) (refl, refl, (rises, path, stops, reports))

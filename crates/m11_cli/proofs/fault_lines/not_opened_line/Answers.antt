@@ -1,5 +1,5 @@
 use Rattle.std.proofs.Common.{◌++◌, [], ◌∷◌, codes}
-use Rattle.m11_cli.proofs.Telling.{at_error, begins, begins_behind, then_at_error}
+use Rattle.m11_cli.proofs.Reporting.{at_error, begins, begins_after, then_at_error}
 use Rattle.m11_cli.proofs.fault_lines.not_opened_line.Goals as goal
 
 pub returns-in_err-put_all-clause-beginning : goal.returns-in_err-put_all-clause-beginning
@@ -10,13 +10,13 @@ returns-in_err-put_all-clause-beginning g c =
 pub returns-in_err-put_all-2-clause-beginning : goal.returns-in_err-put_all-2-clause-beginning
 returns-in_err-put_all-2-clause-beginning g c =
     at_error c.from_residual-in_err-put_all-2.result _
-    (begins_behind _ _ _ (codes "?M11 OPEN ") (c.args.path.now ++ 10 ∷ [])
+    (begins_after _ _ _ (codes "?M11 OPEN ") (c.args.path.now ++ 10 ∷ [])
     c.in_ok-put_all.ensures.whole
     (begins _ _ c.args.path.now (10 ∷ []) (rw c.as_bytes.ensures.value at c.in_err-put_all-2.ensures.beginning)))
 
 pub returns-clause-beginning : goal.returns-clause-beginning
 returns-clause-beginning g c =
-    then_at_error c.put_all-3.result _ _ (λ h. begins_behind _ _ _ (codes "?M11 OPEN ") (c.args.path.now ++ 10 ∷ [])
-    c.in_ok-put_all.ensures.whole (begins_behind _ _ _ c.args.path.now (10 ∷ [])
+    then_at_error c.put_all-3.result _ _ (λ h. begins_after _ _ _ (codes "?M11 OPEN ") (c.args.path.now ++ 10 ∷ [])
+    c.in_ok-put_all.ensures.whole (begins_after _ _ _ c.args.path.now (10 ∷ [])
     (rw c.as_bytes.ensures.value at c.in_ok-put_all-2.ensures.whole) h))
     c.put_all-3.ensures.beginning

@@ -1,5 +1,5 @@
 use Rattle.std.proofs.Common.{arith}
-use Rattle.m11_layout.specs.Planning.{bases_onto}
+use Rattle.m11_layout.specs.Plan.{bases_onto}
 use Rattle.m11_layout.proofs.Placing.{placed_next, place_failed, all_placed}
 use Rattle.m11_layout.proofs.bases.place_all.Goals as goal
 

@@ -1,5 +1,5 @@
 use Rattle.std.proofs.Common.{◌≡◌, drop}
-use Rattle.m11_layout.specs.Planning.{bases_onto}
+use Rattle.m11_layout.specs.Plan.{bases_onto}
 use Rattle.m11_layout.proofs.bases.place_all.Given as goal
 
 abbrev pub invariant-sections : goal.invariant-sections

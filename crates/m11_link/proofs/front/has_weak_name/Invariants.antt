@@ -1,6 +1,6 @@
 use Rattle.std.proofs.Common.{◌≡◌, false, drop}
 use Rattle.m11_link_text.specs.Findings.{planned}
-use Rattle.m11_link.specs.MapText.{is_empty, name_writes}
+use Rattle.m11_link.specs.Front.{is_empty, name_writes}
 use Rattle.m11_link.proofs.front.has_weak_name.Given as goal
 
 abbrev pub invariant-references : goal.invariant-references

@@ -1,5 +1,5 @@
 use Rattle.std.proofs.Common.{[], ◌∷◌, codes}
-use Rattle.m11_link.specs.Writes.{to_map}
+use Rattle.m11_link.specs.Outputs.{to_map}
 use Rattle.m11_link.proofs.Writing.{stopped_first, writes_then}
 use Rattle.m11_link.proofs.front.put_globals.Goals as goal
 

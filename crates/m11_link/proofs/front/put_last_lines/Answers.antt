@@ -1,7 +1,7 @@
 use Rattle.std.proofs.Common.{[], ◌∷◌}
 use Rattle.m11_link_text.specs.Findings.{planned}
 use Rattle.m11_link_text.specs.Lines.{transfer_line}
-use Rattle.m11_link.specs.Writes.{to_map}
+use Rattle.m11_link.specs.Outputs.{to_map}
 use Rattle.m11_link.proofs.Writing.{stopped_first, writes_then}
 use Rattle.m11_link.proofs.front.put_last_lines.Goals as goal
 

@@ -14,17 +14,17 @@ references-preserved g c = (
       (message_left (planned c.args.plan.now) c.args.plan.now.gathered.references c.references.index
       c.reference_at.result c.reference_at.ensures) (c.references.invariant.0 tape map) (c.in-Ok.ensures.writes tape map),
   count_left (planned c.args.plan.now) c.args.plan.now.gathered.references c.references.index c.args.count
-      c.references.told c.in-Ok.behind c.reference_at.result c.reference_at.ensures c.in-Ok.ensures.count
+      c.references.reported c.in-Ok.following c.reference_at.result c.reference_at.ensures c.in-Ok.ensures.count
       c.references.invariant.1,
 )
 
 pub returns-clause-writes : goal.returns-clause-writes
-returns-clause-writes g c = λ tape map. wrote_all _ _ _ _ c.references.told
+returns-clause-writes g c = λ tape map. wrote_all _ _ _ _ c.references.reported
     (messages_end (planned c.args.plan.now) c.args.plan.now.gathered.references c.references.index
     (omega (arith, c.references-test.false, c.reference_count-index-end.ensures)))
     (c.references.invariant.0 tape map)
 
 pub returns-clause-count : goal.returns-clause-count
 returns-clause-count g c = count_end (planned c.args.plan.now) c.args.plan.now.gathered.references c.references.index
-    c.args.count c.references.told (omega (arith, c.references-test.false, c.reference_count-index-end.ensures))
+    c.args.count c.references.reported (omega (arith, c.references-test.false, c.reference_count-index-end.ensures))
     c.references.invariant.1

@@ -1,7 +1,7 @@
 use Rattle.std.proofs.Common.{◌≡◌, ℕ, drop}
 use Rattle.m11_link_text.specs.Findings.{planned}
-use Rattle.m11_link.specs.MapText.{undefined_writes}
-use Rattle.m11_link.specs.Writes.{Output, output_of, outputs}
+use Rattle.m11_link.specs.Front.{undefined_writes}
+use Rattle.m11_link.specs.Outputs.{Output, output_of, outputs}
 use Rattle.m11_link.specs.Written.{counted}
 use Rattle.m11_link.proofs.Looping.{Leads}
 use Rattle.m11_link.proofs.front.put_undefined.Given as goal
@@ -12,5 +12,5 @@ invariant-references g l = ((tape map : Output) → Leads ℕ
     (outputs tape map (output_of g.U.Sink l.messages))
     (undefined_writes (planned l.plan) (drop l.index l.plan.gathered.references))
     (undefined_writes (planned l.plan) l.plan.gathered.references))
-    × (counted l.told (undefined_writes (planned l.plan) (drop l.index l.plan.gathered.references))
+    × (counted l.reported (undefined_writes (planned l.plan) (drop l.index l.plan.gathered.references))
     ≡ counted l.count (undefined_writes (planned l.plan) l.plan.gathered.references))

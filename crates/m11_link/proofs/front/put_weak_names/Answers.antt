@@ -1,5 +1,5 @@
 use Rattle.std.proofs.Common.{[], ◌∷◌, codes, ◌∙◌, sym}
-use Rattle.m11_link.specs.Writes.{to_map}
+use Rattle.m11_link.specs.Outputs.{to_map}
 use Rattle.m11_link.proofs.Looping.{some_weak, no_weak, weak_none, weak_some}
 use Rattle.m11_link.proofs.Writing.{gains_nothing, stopped_first, writes_then}
 use Rattle.m11_link.proofs.front.put_weak_names.Goals as goal

@@ -1,14 +1,14 @@
 use Rattle.std.proofs.Common.{◌≡◌, ℕ, List, None}
 use Rattle.m11_modules.specs.Parts.{Part, EndOfFile}
 use Rattle.m11_modules.specs.Rules.{fault_of}
-use Rattle.m11_layout.specs.Planning.{Planned}
-use Rattle.m11_link.specs.Emitting.{Stands, written}
-use Rattle.m11_link.specs.Writes.{Gains, Outputs, outputs_of}
+use Rattle.m11_layout.specs.Plan.{Planned}
+use Rattle.m11_link.specs.Emit.{EmitStands, written}
+use Rattle.m11_link.specs.Outputs.{Gains, Outputs, outputs_of}
 use Rattle.m11_link.proofs.SecondRead.{SentAll}
 use Rattle.m11_link.proofs.run.emit_all.Given as goal
 
 abbrev pub invariant-feeds : goal.invariant-feeds
-invariant-feeds g l = (plan : Planned) (before : List Part) (first : Outputs) → Stands plan before l.initial.emit
+invariant-feeds g l = (plan : Planned) (before : List Part) (first : Outputs) → EmitStands plan before l.initial.emit
     → fault_of before EndOfFile ≡ None
     → Gains first
     (outputs_of g.S.Sink g.T.Sink g.U.Sink l.initial.tape l.initial.map l.initial.messages)

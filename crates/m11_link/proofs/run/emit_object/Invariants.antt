@@ -1,15 +1,15 @@
 use Rattle.std.proofs.Common.{◌≡◌, ℕ, List, false}
 use Rattle.m11_modules.specs.Parts.{Part}
-use Rattle.m11_layout.specs.Planning.{Planned}
-use Rattle.m11_link.specs.Emitting.{Stands, written}
-use Rattle.m11_link.specs.Writes.{Gains, Outputs, outputs_of}
+use Rattle.m11_layout.specs.Plan.{Planned}
+use Rattle.m11_link.specs.Emit.{EmitStands, written}
+use Rattle.m11_link.specs.Outputs.{Gains, Outputs, outputs_of}
 use Rattle.m11_link.proofs.SecondRead.{Sent}
 use Rattle.m11_link.proofs.run.emit_object.Given as goal
 
 abbrev pub invariant-items : goal.invariant-items
 invariant-items g l = record {
   reads : l.reader.has_failed ≡ false;
-  sent : (plan : Planned) (before : List Part) (first : Outputs) → Stands plan before l.initial.emit
+  sent : (plan : Planned) (before : List Part) (first : Outputs) → EmitStands plan before l.initial.emit
       → Gains first
       (outputs_of g.S.Sink g.T.Sink g.U.Sink l.initial.tape l.initial.map l.initial.messages)
       (written plan l.initial.emit.has_begun before)

@@ -6,5 +6,5 @@ use Rattle.m11_obj.proofs.reading.check_record.Goals as goal
 pub returns-clause-says : goal.returns-clause-says
 unfolding content_of
 returns-clause-says c =
-    let is : c.check_behind.result ≡ checked (content_of c.args.bytes.now) = search rules in
-    some_content c.args.bytes.now c.check_behind.result (all_bytes c.args.bytes.now c.type_inv.bytes) c.requires is
+    let is : c.check_after.result ≡ checked (content_of c.args.bytes.now) = search rules in
+    some_content c.args.bytes.now c.check_after.result (all_bytes c.args.bytes.now c.type_inv.bytes) c.requires is

@@ -11,11 +11,11 @@ returns-in-Err c =
 
 pub loop-rest-smaller : goal.loop-rest-smaller
 loop-rest-smaller c =
-    relocation_shrinks.shorter c.loop-rest.rest.now (c.in-Ok.field-0-0, c.in-Ok.behind.now) c.in-Ok.ensures
+    relocation_shrinks.shorter c.loop-rest.rest.now (c.in-Ok.field-0-0, c.in-Ok.following.now) c.in-Ok.ensures
 
 pub loop-rest-preserved : goal.loop-rest-preserved
 loop-rest-preserved c =
-    sym (relocations_checked c.loop-rest.rest.now c.in-Ok.field-0-0 c.in-Ok.behind.now c.in-Ok.ensures)
+    sym (relocations_checked c.loop-rest.rest.now c.in-Ok.field-0-0 c.in-Ok.following.now c.in-Ok.ensures)
     ∙ c.loop-rest.invariant
 
 pub returns : goal.returns

@@ -1,5 +1,5 @@
 use Rattle.std.proofs.Common.{◌≡◌, take}
-use Rattle.m11_files.specs.Files.{AreFiles}
+use Rattle.m11_files.specs.Opens.{AreFiles}
 use Rattle.m11_tasks.specs.Opened.{texts}
 use Rattle.m11_tasks.proofs.opened.open_inputs.Given as goal
 

@@ -1,5 +1,5 @@
 use Rattle.std.proofs.Common.{refl}
-use Rattle.m11_cpu.specs.Places.{deferred}
+use Rattle.m11_cpu.specs.Addressing.{deferred}
 use Rattle.m11_cpu.proofs.Dialogues.{bind_aborts, bind_does, comes}
 use Rattle.m11_cpu.proofs.machine.Machine.deferred.Goals as goal
 

@@ -1,4 +1,4 @@
-use Rattle.m11_cpu.specs.Places.{fetch_operand}
+use Rattle.m11_cpu.specs.Addressing.{fetch_operand}
 use Rattle.m11_cpu.proofs.Dialogues.{bind_aborts, bind_does}
 use Rattle.m11_cpu.proofs.machine.Machine.fetch_operand.Goals as goal
 

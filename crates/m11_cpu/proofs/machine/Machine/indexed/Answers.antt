@@ -1,5 +1,5 @@
 use Rattle.std.proofs.Common.{refl, rules}
-use Rattle.m11_cpu.specs.Places.{indexed}
+use Rattle.m11_cpu.specs.Addressing.{indexed}
 use Rattle.m11_cpu.proofs.Dialogues.{bind_aborts, bind_does, comes_ok}
 use Rattle.m11_cpu.proofs.machine.Machine.indexed.Goals as goal
 

@@ -1,6 +1,6 @@
 use Rattle.std.proofs.Common.{refl, sym}
 use Rattle.m11_cpu.specs.Access.{load_word}
-use Rattle.m11_cpu.specs.Places.{next_word}
+use Rattle.m11_cpu.specs.Addressing.{next_word}
 use Rattle.m11_cpu.proofs.Dialogues.{act_by, bind_aborts, bind_does, comes_ok}
 use Rattle.m11_cpu.proofs.machine.Machine.next_word.Goals as goal
 

@@ -1,6 +1,6 @@
 use Rattle.std.proofs.Common.{ap, refl, ◌∙◌}
-use Rattle.m11_cpu.specs.Places.{back, deferred, forward, place_by, place_of}
-use Rattle.m11_cpu.specs.declared.operands.Place.TheVariants.{InMemory}
+use Rattle.m11_cpu.specs.Addressing.{back, deferred, forward, place_by, place_of}
+use Rattle.m11_cpu.specs.declared.addressing.OperandLocation.TheVariants.{InMemory}
 use Rattle.m11_cpu.proofs.Dialogues.{act_by, at_pair, bind_aborts, bind_does, comes, comes_ok, stepped_comes}
 use Rattle.m11_cpu.proofs.machine.Machine.place_of.Goals as goal
 

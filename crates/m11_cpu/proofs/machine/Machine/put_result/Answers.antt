@@ -1,5 +1,5 @@
 use Rattle.std.proofs.Common.{refl}
-use Rattle.m11_cpu.specs.Places.{put_result}
+use Rattle.m11_cpu.specs.Addressing.{put_result}
 use Rattle.m11_cpu.proofs.Dialogues.{bind_aborts, bind_does, comes_ok}
 use Rattle.m11_cpu.proofs.machine.Machine.put_result.Goals as goal
 

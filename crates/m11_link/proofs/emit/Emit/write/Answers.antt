@@ -1,4 +1,4 @@
-use Rattle.m11_link.specs.Emitting.{bytes_writes, with_bytes}
+use Rattle.m11_link.specs.Emit.{bytes_writes, with_bytes}
 use Rattle.m11_link.proofs.Emitted.{written_then}
 use Rattle.m11_link.proofs.Entering.{goes_stopped}
 use Rattle.m11_link.proofs.emit.Emit.write.Goals as goal

@@ -1,5 +1,5 @@
 use Rattle.std.proofs.Common.{None}
-use Rattle.m11_link.specs.Emitting.{held_writes, with_held}
+use Rattle.m11_link.specs.Emit.{held_writes, with_held}
 use Rattle.m11_link.proofs.Emitted.{written_then}
 use Rattle.m11_link.proofs.Entering.{goes_stopped}
 use Rattle.m11_link.proofs.emit.Emit.write_end.Goals as goal

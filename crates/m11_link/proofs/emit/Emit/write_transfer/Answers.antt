@@ -1,9 +1,9 @@
 use Rattle.std.proofs.Common.{◌∙◌, ap, [], ◌∷◌, None, Ok}
 use Rattle.m11_blocks.specs.Tapes.{tape_block}
 use Rattle.m11_link_text.specs.Findings.{planned}
-use Rattle.m11_link.specs.Writes.{no_output, to_tape}
+use Rattle.m11_link.specs.Outputs.{no_output, to_tape}
 use Rattle.m11_link.specs.declared.emit.LinkDone.{LinkDone}
-use Rattle.m11_link.proofs.Emitted.{telling_after, transfer_then}
+use Rattle.m11_link.proofs.Emitted.{reporting_after, transfer_then}
 use Rattle.m11_link.proofs.Writing.{stopped_first, stopped_alone}
 use Rattle.m11_link.proofs.emit.Emit.write_transfer.Goals as goal
 
@@ -25,5 +25,5 @@ returns-clause-writes g c =
 
 pub returns-clause-count : goal.returns-clause-count
 returns-clause-count g c = c.messages.ensures
-    ∙ ap (λ t. t.messages) (telling_after c.args.self.now c.begin.new.self c.self.view_is
+    ∙ ap (λ t. t.messages) (reporting_after c.args.self.now c.begin.new.self c.self.view_is
     (c.in_ok-begin.ensures no_output).1)

@@ -1,0 +1,178 @@
+-- What a plan says of what was gathered. (This project's own. That it is what Sections.antt and Globals.antt say of
+-- all parts is proved.)
+use Rattle.std.specs.Prelude.{◌≡◌, get_or, map, min, option_and_then, true, false, ℕ, ◌+◌, ◌%◌, nat_lt, List, [], ◌∷◌, ⊤, Option, Some, None, Result, Ok, Err, if◌then◌else◌}
+use Rattle.std.specs.Map.{keys_of, lookup}
+use Rattle.std.specs.Option.{unwrap_or}
+use Rattle.indexmap.specs.IndexMap.{insert_entry}
+use Rattle.m11_modules.specs.Names.{is_name}
+use Rattle.m11_layout.specs.Tables.{Gathered, gathered_after_all, is_contribution, nothing_gathered, settled}
+use Rattle.m11_layout.specs.Globals.{definitions_of, first_definition, global_value, globals_of, referred}
+use Rattle.m11_layout.specs.Modules.{name_at}
+use Rattle.m11_layout.specs.Sections.{first_attributes, is_relocatable, is_too_large, module_base, most_size, sections_of, top}
+use Rattle.m11_layout.specs.Transfers.{transfer_address}
+use Rattle.m11_layout.specs.declared.definition.Definition.{Definition}
+use Rattle.m11_layout.specs.declared.definition.GlobalPlace.{GlobalPlace}
+use Rattle.m11_layout.specs.declared.definition.GlobalPlace.TheVariants.{Absolute, In}
+use Rattle.m11_layout.specs.declared.definition.Total.{Total}
+use Rattle.m11_layout.specs.declared.definition.Transfer.{Transfer}
+use Rattle.m11_layout.specs.declared.planned.PlannedGlobal.{PlannedGlobal}
+use Rattle.m11_layout.specs.declared.planned.PlannedSection.{PlannedSection}
+use Rattle.m11_layout.specs.declared.fault.LinkFault.{LinkFault}
+use Rattle.m11_layout.specs.declared.fault.LinkFault.TheVariants.{BadOrder, TooLarge, NoMemory}
+use Rattle.m11_modules.specs.declared.fault.ModuleFault.TheVariants as rule
+use Rattle.m11_modules.specs.Parts.{Part, EndOfFile}
+use Rattle.m11_modules.specs.Places.{distinct}
+use Rattle.m11_modules.specs.Rules.{fault_of}
+
+-- ---- bases
+
+-- octal 160000: devices lie from here on
+abbrev pub address_limit : ℕ
+address_limit = 0o160000
+
+-- the bases of sections from an address on, and the address after them
+pub record Bases : Type 0 where
+  pub bases : List ((ℕ × ℕ) × ℕ)
+  pub top : ℕ
+
+-- a section at the next address, or an absolute one at 0; none where a relocatable one ends past the limit
+abbrev pub placed : List ((ℕ × ℕ) × ℕ) → ℕ → (ℕ × ℕ) × Total → Option Bases
+placed bases next section =
+    if is_relocatable section.1.attributes.0
+    then (if nat_lt address_limit (next + section.1.size) then None
+    else Some (record { bases = insert_entry is_name bases section.0 next; top = next + section.1.size }))
+    else Some (record { bases = insert_entry is_name bases section.0 0; top = next })
+
+-- sections one after another
+abbrev pub bases_onto : List ((ℕ × ℕ) × ℕ) → ℕ → List ((ℕ × ℕ) × Total) → Option Bases
+bases_onto bases next [] = Some (record { bases = bases; top = next })
+bases_onto bases next (section ∷ sections) =
+    option_and_then (λ following. bases_onto following.bases following.top sections) (placed bases next section)
+
+-- a section was placed, or it ends past the limit
+abbrev pub Places : Option Bases → List ((ℕ × ℕ) × ℕ) → Result ℕ LinkFault → Type 0
+Places placed new (Ok top) = placed ≡ Some (record { bases = new; top = top })
+Places placed new (Err TooLarge) = placed ≡ None
+Places placed new (Err NoMemory) = ⊤
+Places placed new (Err fault) = ⊥
+
+-- ---- what a plan reports
+
+pub record Planned : Type 0 where
+  pub gathered : Gathered
+  pub bases : List ((ℕ × ℕ) × ℕ)
+  pub bottom : ℕ
+  pub top : ℕ
+
+-- the base of a section; 0 where there is none of that name
+abbrev pub planned_section_base : Planned → ℕ × ℕ → ℕ
+planned_section_base plan name = unwrap_or (lookup (is_name name) plan.bases) 0
+
+abbrev pub after_offset : Option ℕ → ℕ → ℕ
+after_offset None base = 0
+after_offset (Some offset) base = (base + offset) % 0o200000
+
+-- the base of a module's contribution; 0 where it has none
+abbrev pub planned_base : Planned → ℕ → ℕ × ℕ → ℕ
+planned_base plan module_index name = after_offset
+    (lookup (is_contribution (module_index, name)) plan.gathered.contributions)
+    (planned_section_base plan name)
+
+abbrev pub value_at : Planned → ℕ → GlobalPlace → ℕ
+value_at plan module_index (Absolute value) = value
+value_at plan module_index (In section value) = (planned_base plan module_index section + value) % 0o200000
+
+abbrev pub defined_value : Planned → Option Definition → Option ℕ
+defined_value plan None = None
+defined_value plan (Some definition) = Some (value_at plan definition.module_index definition.place)
+
+-- the value of a global, where it is defined
+abbrev pub planned_value : Planned → ℕ × ℕ → Option ℕ
+planned_value plan name = defined_value plan (lookup (is_name name) plan.gathered.definitions)
+
+-- without an even transfer address it is 1, which starts nothing
+abbrev pub transfer_at : Planned → Option Transfer → ℕ
+transfer_at plan None = 1
+transfer_at plan (Some transfer) =
+    (planned_base plan transfer.module_index transfer.section + transfer.value) % 0o200000
+
+abbrev pub planned_transfer : Planned → ℕ
+planned_transfer plan = transfer_at plan (settled plan.gathered)
+
+-- the name of the module of an index, blank past the last
+abbrev pub planned_module : Planned → ℕ → ℕ × ℕ
+planned_module plan module_index = get_or plan.gathered.names module_index (0, 0)
+
+abbrev pub attributes_reported : Option Total → ℕ
+attributes_reported None = 0
+attributes_reported (Some total) = total.attributes.0
+
+-- the attributes of a section; 0 where there is none of that name
+abbrev pub planned_attributes : Planned → ℕ × ℕ → ℕ
+planned_attributes plan name = attributes_reported (lookup (is_name name) plan.gathered.sections)
+
+abbrev pub section_planned : Planned → (ℕ × ℕ) × Total → PlannedSection
+section_planned plan section = record {
+  name = section.0;
+  base = planned_section_base plan section.0;
+  size = min most_size section.1.size;
+  attributes = section.1.attributes;
+}
+
+-- the sections in order of first appearance
+unfoldable pub planned_sections : Planned → List PlannedSection
+planned_sections plan = map (section_planned plan) plan.gathered.sections
+
+abbrev pub global_planned : Planned → (ℕ × ℕ) × Definition → PlannedGlobal
+global_planned plan global = record {
+  name = global.0;
+  value = value_at plan global.1.module_index global.1.place;
+  module_name = planned_module plan global.1.module_index;
+}
+
+-- the globals in order of first definition
+unfoldable pub planned_globals : Planned → List PlannedGlobal
+planned_globals plan = map (global_planned plan) plan.gathered.definitions
+
+-- ---- the end of the first pass
+
+-- a plan of all parts
+pub record IsPlan (bottom : ℕ) (parts : List Part) (plan : Planned) : Type 0 where
+  pub gathered : plan.gathered ≡ gathered_after_all bottom nothing_gathered parts
+  pub bases : bases_onto [] bottom plan.gathered.sections ≡ Some (record { bases = plan.bases; top = plan.top })
+  pub bottom_is : plan.bottom ≡ bottom
+
+-- what a plan says of all parts, in the words of the definitions: nothing is too large; the base of each module's
+-- contribution to each section; the value of each global; the transfer address; the sections and globals, in order; the
+-- attributes of each section; definitions and references, in order; the modules' names; and the addresses between which
+-- relocatable sections lie
+pub record IsPlanOf (bottom : ℕ) (parts : List Part) (plan : Planned) : Type 0 where
+  pub fits : is_too_large bottom parts ≡ false
+  pub bases : (module_index : ℕ) (name : ℕ × ℕ)
+      → planned_base plan module_index name ≡ module_base bottom parts module_index name
+  pub values : (name : ℕ × ℕ) → planned_value plan name ≡ global_value bottom parts name
+  pub transfer : planned_transfer plan ≡ transfer_address bottom parts
+  pub sections : planned_sections plan ≡ sections_of bottom parts
+  pub globals : planned_globals plan ≡ globals_of bottom parts
+  pub attributes : (name : ℕ × ℕ) → planned_attributes plan name ≡ first_attributes parts name
+  pub definitions : (name : ℕ × ℕ) → lookup (is_name name) plan.gathered.definitions ≡ first_definition parts name
+  pub defined : keys_of plan.gathered.definitions ≡ distinct (keys_of (definitions_of parts))
+  pub references : plan.gathered.references ≡ referred parts
+  pub names : (module_index : ℕ) → planned_module plan module_index ≡ name_at parts module_index
+  pub limits : (plan.bottom ≡ bottom) × (plan.top ≡ top bottom parts)
+
+-- a plan of what was gathered
+abbrev pub Plans : ℕ → Gathered → Result Planned LinkFault → Type 0
+Plans bottom gathered (Ok plan) = (plan.gathered ≡ gathered) × (plan.bottom ≡ bottom)
+    × (bases_onto [] bottom gathered.sections ≡ Some (record { bases = plan.bases; top = plan.top }))
+Plans bottom gathered (Err TooLarge) = bases_onto [] bottom gathered.sections ≡ None
+Plans bottom gathered (Err NoMemory) = ⊤
+Plans bottom gathered (Err fault) = ⊥
+
+-- what the reading of all parts yields: a plan; an end inside a module, and only then a section that ends too high
+abbrev pub LayoutEnds : ℕ → List Part → Result Planned LinkFault → Type 0
+LayoutEnds bottom parts (Ok plan) = (fault_of parts EndOfFile ≡ None) × IsPlanOf bottom parts plan
+LayoutEnds bottom parts (Err BadOrder) = fault_of parts EndOfFile ≡ Some rule.BadOrder
+LayoutEnds bottom parts (Err TooLarge) = (fault_of parts EndOfFile ≡ None) × (is_too_large bottom parts ≡ true)
+LayoutEnds bottom parts (Err NoMemory) = ⊤
+LayoutEnds bottom parts (Err fault) = ⊥

@@ -1,0 +1,11 @@
+use Rattle.std.proofs.Common.{drop}
+use Rattle.m11_obj.specs.Reading.{record_entries}
+use Rattle.m11_link.specs.Outputs.{Output, output_of, outputs}
+use Rattle.m11_link.proofs.Entering.{LeadsEntries}
+use Rattle.m11_link.proofs.reporting.Reporter.note_entries.Given as goal
+
+abbrev pub invariant-entries : goal.invariant-entries
+invariant-entries g l = (tape map : Output) → LeadsEntries l.module_index
+    (outputs tape map (output_of g.U.Sink l.initial.messages)) l.initial.self
+    (outputs tape map (output_of g.U.Sink l.messages)) l.self
+    (drop l.index (record_entries l.record)) (record_entries l.record)

@@ -1,0 +1,10 @@
+use Rattle.std.proofs.Common.{sym}
+use Rattle.m11_link.proofs.Writing.{refused_first}
+use Rattle.m11_link.proofs.reporting.Reporter.put_transfer.Goals as goal
+
+pub returns-in_err-block : goal.returns-in_err-block
+returns-in_err-block g c = λ map messages. refused_first _ _ _ c.from_residual.ensures.1
+
+pub returns : goal.returns
+returns g c = λ map messages. rw (sym c.self.view_is)
+    (rw (c.as_slice.ensures.value, c.in_ok-block.ensures.bytes, c.transfer.ensures) at (c.put_tape.ensures map messages))

@@ -1,0 +1,249 @@
+-- The second pass of a link, call by call: what stands after the parts so far, and what is written. (This project's
+-- own. That it yields what Written.antt says is proved.)
+use Rattle.std.specs.Prelude.{◌≡◌, ◌+◌, ◌==◌, ◌&&◌, not, ℕ, Bool, true, false, List, [], ◌∷◌, ◌++◌, ⊤, Option, Some, None, Result, Ok, Err, if◌then◌else◌}
+use Rattle.indexmap.specs.IndexSet.{insert_key}
+use Rattle.m11_obj.specs.Reading.{content_of, record_entries, record_kind, record_relocations, record_text}
+use Rattle.m11_obj.specs.declared.records.RecordKind.{RecordKind}
+use Rattle.m11_obj.specs.declared.records.RecordKind.TheVariants as kind
+use Rattle.m11_obj.specs.declared.fault.RecordFault.{RecordFault}
+use Rattle.m11_obj.specs.declared.gsd.GsdEntry.{GsdEntry}
+use Rattle.m11_obj.specs.declared.gsd.GsdKind.{GsdKind}
+use Rattle.m11_obj.specs.declared.gsd.GsdKind.TheVariants.{GlobalSymbol}
+use Rattle.m11_obj.specs.declared.relocations.Relocation.{Relocation}
+use Rattle.m11_modules.specs.Names.{is_among, is_name}
+use Rattle.m11_modules.specs.Parts.{Part, Entry, EndOfFile, Text, Relocations, Relocated, record_parts}
+use Rattle.m11_modules.specs.Places.{Known, known_of, current_section, modules_in, this_module}
+use Rattle.m11_modules.specs.Rules.{defines, fault_of, first_fault}
+use Rattle.m11_modules.specs.declared.fault.ModuleFault.TheVariants as rule
+use Rattle.m11_layout.specs.Plan.{Planned}
+use Rattle.m11_layout.specs.Layout.{FirstFault}
+use Rattle.m11_layout.specs.declared.fault.LinkFault.{LinkFault}
+use Rattle.m11_layout.specs.declared.fault.LinkFault.TheVariants as fault
+use Rattle.m11_link.specs.declared.emit.LinkDone.{LinkDone}
+use Rattle.m11_link_text.specs.Findings.{Findings, planned}
+use Rattle.m11_link.specs.Front.{front_writes}
+use Rattle.m11_link.specs.Outputs.{Write, Outputs, Gains, Stops, StopsBetween, StopsIn}
+use Rattle.m11_link.specs.Written.{PlacedText, placed_text, text_writes, with_relocation, symbol_writes, entry_writes, defined_names, parts_writes, link_writes, counted}
+
+-- ---- what stands between two records
+
+-- the names defined so far, the text that may still be relocated, and the count of messages
+pub record Reporting : Type 0 where
+  pub plan : Planned
+  pub defined : List (ℕ × ℕ)
+  pub held : Option PlacedText
+  pub messages : ℕ
+
+abbrev pub with_count : List Write → Reporting → Reporting
+with_count writes t = record t { messages = counted t.messages writes }
+
+-- ---- texts
+
+abbrev pub with_held : Option PlacedText → Reporting → Reporting
+with_held held t = record t { held = held }
+
+abbrev pub held_writes : Option PlacedText → List Write
+held_writes None = []
+held_writes (Some text) = text_writes text
+
+abbrev pub held_with : Findings → Option PlacedText → Relocation → Option PlacedText
+held_with found None relocation = None
+held_with found (Some text) relocation = Some (with_relocation found text relocation)
+
+abbrev pub held_with_all : Findings → Option PlacedText → List Relocation → Option PlacedText
+held_with_all found held [] = held
+held_with_all found held (relocation ∷ relocations) =
+    held_with_all found (held_with found held relocation) relocations
+
+-- the text that is held after parts: each part but a relocation ends it, and a text is the next one
+abbrev pub held_at : Findings → List Part → Option PlacedText → Part → Option PlacedText
+held_at found before held (Text address bytes) =
+    Some (placed_text found (modules_in before) (current_section (this_module before)) address bytes)
+held_at found before held Relocations = held
+held_at found before held (Relocated relocation) = held_with found held relocation
+held_at found before held part = None
+
+abbrev pub held_after : Findings → List Part → Option PlacedText → List Part → Option PlacedText
+held_after found before held [] = held
+held_after found before held (part ∷ parts) =
+    held_after found (before ++ part ∷ []) (held_at found before held part) parts
+
+unfoldable pub held_text : Findings → List Part → Option PlacedText
+held_text found parts = held_after found [] None parts
+
+-- ---- entries
+
+abbrev pub defined_if : Bool → List (ℕ × ℕ) → ℕ × ℕ → List (ℕ × ℕ)
+defined_if defines defined name = if defines then insert_key is_name defined name else defined
+
+abbrev pub defined_by : GsdKind → List (ℕ × ℕ) → GsdEntry → List (ℕ × ℕ)
+defined_by GlobalSymbol defined entry = defined_if (defines entry) defined entry.name
+defined_by kind defined entry = defined
+
+abbrev pub defined_with : List (ℕ × ℕ) → GsdEntry → List (ℕ × ℕ)
+defined_with defined entry = defined_by entry.kind defined entry
+
+abbrev pub defined_with_all : List (ℕ × ℕ) → List GsdEntry → List (ℕ × ℕ)
+defined_with_all defined [] = defined
+defined_with_all defined (entry ∷ entries) = defined_with_all (defined_with defined entry) entries
+
+abbrev pub entries_writes : Findings → ℕ → List (ℕ × ℕ) → List GsdEntry → List Write
+entries_writes found module_index defined [] = []
+entries_writes found module_index defined (entry ∷ entries) = entry_writes found module_index defined entry
+    ++ entries_writes found module_index (defined_with defined entry) entries
+
+abbrev pub with_symbol : ℕ → GsdEntry → Reporting → Reporting
+with_symbol module_index entry t = record t {
+  defined = defined_if (defines entry) t.defined entry.name;
+  messages = counted t.messages (symbol_writes (planned t.plan) module_index t.defined entry);
+}
+
+abbrev pub with_name : ℕ × ℕ → Reporting → Reporting
+with_name name t = record t { defined = insert_key is_name t.defined name }
+
+abbrev pub with_entry : ℕ → GsdEntry → Reporting → Reporting
+with_entry module_index entry t = record t {
+  defined = defined_with t.defined entry;
+  messages = counted t.messages (entry_writes (planned t.plan) module_index t.defined entry);
+}
+
+abbrev pub with_entries : ℕ → List GsdEntry → Reporting → Reporting
+with_entries module_index entries t = record t {
+  defined = defined_with_all t.defined entries;
+  messages = counted t.messages (entries_writes (planned t.plan) module_index t.defined entries);
+}
+
+-- ---- records
+
+-- a text record's text counts from its section
+abbrev pub text_held : Findings → ℕ → ℕ × ℕ → Option (ℕ × List ℕ) → Option PlacedText
+text_held found module_index section None = None
+text_held found module_index section (Some text) = Some (placed_text found module_index section text.0 text.1)
+
+-- what a record of this type and these entries writes that stands in the module of this index
+abbrev pub record_writes : ℕ → Result RecordKind RecordFault → List GsdEntry → Reporting → List Write
+record_writes module_index (Ok kind.Gsd) entries t =
+    held_writes t.held ++ entries_writes (planned t.plan) module_index t.defined entries
+record_writes module_index (Ok kind.Relocations) entries t = []
+record_writes module_index (Ok kind.InternalSymbols) entries t = []
+record_writes module_index (Ok other) entries t = held_writes t.held
+record_writes module_index (Err refused) entries t = []
+
+-- and what stands after it, texts going to this section
+abbrev pub with_record : ℕ → ℕ × ℕ → Result RecordKind RecordFault → List GsdEntry → Option (ℕ × List ℕ)
+    → List Relocation → Reporting → Reporting
+with_record module_index section (Ok kind.Gsd) entries text relocations t =
+    with_entries module_index entries (with_held None t)
+with_record module_index section (Ok kind.Text) entries text relocations t =
+    with_held (text_held (planned t.plan) module_index section text) t
+with_record module_index section (Ok kind.Relocations) entries text relocations t =
+    with_held (held_with_all (planned t.plan) t.held relocations) t
+with_record module_index section (Ok kind.InternalSymbols) entries text relocations t = t
+with_record module_index section (Ok other) entries text relocations t = with_held None t
+with_record module_index section (Err refused) entries text relocations t = t
+
+-- the same by the bytes of a record
+abbrev pub bytes_writes : ℕ → List ℕ → Reporting → List Write
+bytes_writes module_index bytes t = record_writes module_index (record_kind bytes) (record_entries bytes) t
+
+abbrev pub with_bytes : ℕ → ℕ × ℕ → List ℕ → Reporting → Reporting
+with_bytes module_index section bytes t = with_record module_index section (record_kind bytes) (record_entries bytes)
+    (record_text bytes) (record_relocations bytes) t
+
+-- the writes were made and this stands after them; or they stopped
+abbrev pub Goes : {A S : Type 0} → Outputs → Outputs → List Write → S → S → Result A LinkFault → Type 0
+Goes old new writes state expected (Ok done) = Gains old new writes × (state ≡ expected)
+Goes old new writes state expected (Err stopped) = Stops old new writes stopped
+
+-- a name was kept, or memory was refused
+abbrev pub EmitKeeps : Reporting → Reporting → Result (Unit {0}) LinkFault → Type 0
+EmitKeeps state expected (Ok done) = state ≡ expected
+EmitKeeps state expected (Err fault.NoMemory) = ⊤
+EmitKeeps state expected (Err stopped) = ⊥
+
+-- ---- calls
+
+-- a second pass between two calls
+pub record Emitting : Type 0 where
+  pub known : Known
+  pub reporting : Reporting
+  pub has_begun : Bool
+  pub fault : Option LinkFault
+
+-- the messages on undefined globals and the map, where they was not written before
+abbrev pub begin_writes : Emitting → List Write
+begin_writes state = if state.has_begun then [] else front_writes (planned state.reporting.plan)
+
+abbrev pub begun_reporting : Emitting → Reporting
+begun_reporting state =
+    if state.has_begun then state.reporting else with_count (front_writes (planned state.reporting.plan)) state.reporting
+
+abbrev pub with_reporting : Reporting → Emitting → Emitting
+with_reporting reporting state = record state { reporting = reporting; has_begun = true }
+
+-- what is written after these parts: nothing before the first call that isn't refused; else the messages on undefined
+-- globals, the map, and what the parts make, but for a text that hasn't ended
+abbrev pub written : Planned → Bool → List Part → List Write
+written plan has_begun parts =
+    if has_begun then front_writes (planned plan) ++ parts_writes (planned plan) parts else []
+
+-- it stands after these parts, of which none has a fault
+pub record EmitStands (plan : Planned) (parts : List Part) (state : Emitting) : Type 0 where
+  pub sound : first_fault [] parts ≡ None
+  pub known : state.known ≡ known_of parts
+  pub planned_so : state.reporting.plan ≡ plan
+  pub defined : state.reporting.defined ≡ defined_names parts
+  pub held : state.reporting.held ≡ held_text (planned plan) parts
+  pub messages : state.reporting.messages ≡ counted 0 (written plan state.has_begun parts)
+  pub begun : state.has_begun ≡ false → parts ≡ []
+  pub fault : state.fault ≡ None
+
+-- what is written goes on from the one list of writes to the other, of which it is a beginning
+pub record GoesOn (Went : List Write → Type 0) (so_far all : List Write) : Type 0 where
+  pub more : List Write
+  pub split : all ≡ so_far ++ more
+  pub went : Went more
+
+-- parts were taken, and all that they make is written; or their first fault was returned, and nothing was written; or
+-- an output failed, or memory was refused
+abbrev pub TakesParts : Planned → List Part → Outputs → Outputs → Emitting → Emitting → List Part
+    → Result (Unit {0}) LinkFault → Type 0
+TakesParts plan before old new state state' parts (Ok done) = EmitStands plan (before ++ parts) state'
+    × (state'.has_begun ≡ true)
+    × GoesOn (Gains old new) (written plan state.has_begun before) (written plan true (before ++ parts))
+TakesParts plan before old new state state' parts (Err (fault.Write output)) = (first_fault before parts ≡ None)
+    × GoesOn (StopsIn output old new) (written plan state.has_begun before) (written plan true (before ++ parts))
+TakesParts plan before old new state state' parts (Err fault.NoMemory) =
+    GoesOn (StopsBetween old new) (written plan state.has_begun before) (written plan true (before ++ parts))
+TakesParts plan before old new state state' parts (Err stopped) = FirstFault before parts stopped × (new ≡ old)
+
+-- a block is no record, or its parts were taken
+abbrev pub TakesBlock : Planned → List Part → Outputs → Outputs → Emitting → Emitting → List ℕ
+    → Result (Unit {0}) LinkFault → Type 0
+TakesBlock plan before old new state state' bytes (Err (fault.Record inner)) =
+    (content_of bytes ≡ Err inner) × (new ≡ old)
+TakesBlock plan before old new state state' bytes result =
+    TakesParts plan before old new state state' (record_parts bytes) result
+
+-- where a fault was returned, it is returned again, nothing changes and nothing is written
+abbrev pub FailsAgain : Emitting → Emitting → Outputs → Outputs → Result (Unit {0}) LinkFault → Type 0
+FailsAgain state state' old new result = (stopped : LinkFault) → state.fault ≡ Some stopped
+    → (result ≡ Err stopped) × (state' ≡ state) × (new ≡ old)
+
+-- a fault is kept
+abbrev pub KeepsFault : Emitting → Result (Unit {0}) LinkFault → Type 0
+KeepsFault state (Ok done) = state.fault ≡ None
+KeepsFault state (Err stopped) = state.fault ≡ Some stopped
+
+-- the end of the second pass: the whole link is written; or the parts end inside a module, and nothing more was
+-- written; or an output failed, or memory was refused
+abbrev pub EmitEnds : Planned → List Part → Outputs → Outputs → Emitting → Result LinkDone LinkFault → Type 0
+EmitEnds plan parts old new state (Ok done) = (fault_of parts EndOfFile ≡ None)
+    × (done.messages ≡ counted 0 (link_writes (planned plan) parts))
+    × GoesOn (Gains old new) (written plan state.has_begun parts) (link_writes (planned plan) parts)
+EmitEnds plan parts old new state (Err (fault.Write output)) = (fault_of parts EndOfFile ≡ None)
+    × GoesOn (StopsIn output old new) (written plan state.has_begun parts) (link_writes (planned plan) parts)
+EmitEnds plan parts old new state (Err fault.NoMemory) =
+    GoesOn (StopsBetween old new) (written plan state.has_begun parts) (link_writes (planned plan) parts)
+EmitEnds plan parts old new state (Err fault.BadOrder) = (fault_of parts EndOfFile ≡ Some rule.BadOrder) × (new ≡ old)
+EmitEnds plan parts old new state (Err stopped) = ⊥

@@ -1,0 +1,69 @@
+-- The first pass of a link, over its feeds. (This project's own.)
+use Rattle.std.specs.Prelude.{◌≡◌, ℕ, List, [], Option, None, Result, Ok, Err}
+use Rattle.m11_base.specs.Devices.{Rises}
+use Rattle.m11_base.specs.Feed.{Text, NoneFailed}
+use Rattle.m11_blocks.specs.declared.block_fault.BlockFault.{BlockFault}
+use Rattle.m11_blocks.specs.declared.block_fault.BlockFault.TheVariants as block
+use Rattle.m11_modules.specs.Parts.{Part, EndOfFile}
+use Rattle.m11_modules.specs.Rules.{fault_of}
+use Rattle.m11_layout.specs.Plan.{Planned, IsPlanOf}
+use Rattle.m11_layout.specs.Layout.{LayoutState, LayoutStands}
+use Rattle.m11_layout.specs.declared.fault.LinkFault.{LinkFault}
+use Rattle.m11_layout.specs.declared.fault.LinkFault.TheVariants as fault
+use Rattle.m11_link.specs.Objects.{Item, taken, outcome, GivesItems, BeginsItems, GiveItems, FailAfter}
+
+-- a fault of a block as that of a link
+abbrev pub of_block : BlockFault → LinkFault
+of_block block.Device = fault.Read
+of_block block.TooMuch = fault.TooMuch
+of_block inner = fault.Block inner
+
+-- the layout stands after parts, and an object may end there
+pub record StandsBetween (bottom : ℕ) (parts : List Part) (layout : LayoutState) : Type 0 where
+  pub stands : LayoutStands bottom parts layout
+  pub between : fault_of parts EndOfFile ≡ None
+
+-- the items yielded parts after those before, and the layout stands after them
+pub record Reaches (bottom : ℕ) (before : List Part) (items : List Item) (layout : LayoutState) : Type 0 where
+  pub parts : List Part
+  pub taken-is : taken before items ≡ Ok parts
+  pub stands : StandsBetween bottom parts layout
+
+-- the items have no fault
+abbrev pub AreTaken : List Part → List Item → Type 0
+AreTaken before items = (parts : List Part) × (taken before items ≡ Ok parts)
+
+-- one object was laid out after these parts; or its first fault was returned, whatever follows; or the feed failed,
+-- and what had come till then has no fault; or memory was refused
+abbrev pub LaysOutObject : Option Text → ℕ → ℕ → ℕ → List Part → LayoutState → Result (Unit {0}) LinkFault → Type 0
+LaysOutObject text faults faults' bottom before layout (Ok done) =
+    (faults' ≡ faults) × (items : List Item) × GivesItems text items × Reaches bottom before items layout
+LaysOutObject text faults faults' bottom before layout (Err fault.Read) =
+    Rises faults faults' × (items : List Item) × BeginsItems text items × AreTaken before items
+LaysOutObject text faults faults' bottom before layout (Err fault.NoMemory) = faults' ≡ faults
+LaysOutObject text faults faults' bottom before layout (Err stopped) =
+    (faults' ≡ faults) × (items : List Item) × GivesItems text items × (taken before items ≡ Err stopped)
+
+-- the same of several
+abbrev pub LaysOut : {F : Type 0} → (F → Option Text) → (F → ℕ) → List F → List F → ℕ → List Part → LayoutState
+    → Result (Unit {0}) LinkFault → Type 0
+LaysOut text faults feeds feeds' bottom before layout (Ok done) = NoneFailed faults feeds feeds'
+    × (items : List Item) × GiveItems text feeds items × Reaches bottom before items layout
+LaysOut text faults feeds feeds' bottom before layout (Err fault.Read) =
+    (items : List Item) × FailAfter text faults feeds feeds' items × AreTaken before items
+LaysOut text faults feeds feeds' bottom before layout (Err fault.NoMemory) = NoneFailed faults feeds feeds'
+LaysOut text faults feeds feeds' bottom before layout (Err stopped) = NoneFailed faults feeds feeds'
+    × (items : List Item) × GiveItems text feeds items × (taken before items ≡ Err stopped)
+
+-- the whole first pass: a plan of the parts that the objects yield; or their fault; or a feed failed, and what had
+-- come till then has no fault; or memory was refused
+abbrev pub ReadsFirst : {F : Type 0} → (F → Option Text) → (F → ℕ) → List F → List F → ℕ → Result Planned LinkFault
+    → Type 0
+ReadsFirst text faults feeds feeds' bottom (Ok plan) = NoneFailed faults feeds feeds'
+    × (items : List Item) × GiveItems text feeds items
+    × (parts : List Part) × (outcome bottom items ≡ Ok parts) × IsPlanOf bottom parts plan
+ReadsFirst text faults feeds feeds' bottom (Err fault.Read) =
+    (items : List Item) × FailAfter text faults feeds feeds' items × AreTaken [] items
+ReadsFirst text faults feeds feeds' bottom (Err fault.NoMemory) = NoneFailed faults feeds feeds'
+ReadsFirst text faults feeds feeds' bottom (Err stopped) = NoneFailed faults feeds feeds'
+    × (items : List Item) × GiveItems text feeds items × (outcome bottom items ≡ Err stopped)

@@ -1,0 +1,79 @@
+-- What is written before the tape: the messages on undefined globals, and the map. (This project's own.)
+use Rattle.std.specs.Prelude.{ℕ, Bool, true, false, ◌&&◌, not, is_none, List, [], ◌∷◌, ◌++◌, map, codes, Option, Some, None, if◌then◌else◌}
+use Rattle.std.specs.List.{filter_map}
+use Rattle.m11_layout.specs.declared.planned.PlannedGlobal.{PlannedGlobal}
+use Rattle.m11_layout.specs.declared.planned.PlannedSection.{PlannedSection}
+use Rattle.m11_link_text.specs.Findings.{Findings}
+use Rattle.m11_link_text.specs.Lines as line
+use Rattle.m11_link.specs.Outputs.{Write, to_map, to_messages}
+
+-- ---- undefined globals
+
+abbrev pub is_strength : Bool → Bool → Bool
+is_strength true is_strong = is_strong
+is_strength false is_strong = not is_strong
+
+-- a name that is referred to and defined nowhere, where its references are of this strength: strong if one of them is
+abbrev pub undefined_by : Findings → Bool → (ℕ × ℕ) × Bool → Option (ℕ × ℕ)
+undefined_by found is_strong reference =
+    if is_none (found.value reference.0) && is_strength is_strong reference.1 then Some reference.0 else None
+
+-- the write for a name, if there is one
+abbrev pub written_if : (ℕ × ℕ → Write) → Option (ℕ × ℕ) → List Write
+written_if write None = []
+written_if write (Some name) = write name ∷ []
+
+-- in order of first reference
+unfoldable pub undefined_names : Findings → Bool → List ((ℕ × ℕ) × Bool) → List (ℕ × ℕ)
+undefined_names found is_strong references = filter_map (undefined_by found is_strong) references
+
+-- ---- the map
+
+abbrev pub section_write : PlannedSection → Write
+section_write section = to_map (line.section_line section.name section.base section.size section.attributes.0)
+
+abbrev pub global_write : PlannedGlobal → Write
+global_write global = to_map (line.global_line global.name global.value global.module_name)
+
+abbrev pub name_write : ℕ × ℕ → Write
+name_write name = to_map (line.name_line name)
+
+unfoldable pub section_writes : List PlannedSection → List Write
+section_writes sections = map section_write sections
+
+unfoldable pub global_writes : List PlannedGlobal → List Write
+global_writes globals = map global_write globals
+
+unfoldable pub name_writes : Findings → Bool → List ((ℕ × ℕ) × Bool) → List Write
+name_writes found is_strong references = map name_write (undefined_names found is_strong references)
+
+abbrev pub is_empty : List Write → Bool
+is_empty [] = true
+is_empty (write ∷ writes) = false
+
+-- names that are only referred to weakly stand under a word of their own, where there are any
+abbrev pub weak_writes : List Write → List Write
+weak_writes [] = []
+weak_writes (name ∷ names) = to_map (codes "WEAK\n") ∷ name ∷ names
+
+abbrev pub last_writes : Findings → List Write
+last_writes found =
+    to_map (line.transfer_line found.transfer) ∷ to_map (line.limit_line found.bottom found.top) ∷ []
+
+unfoldable pub map_writes : Findings → List Write
+map_writes found = (to_map (codes "SECTIONS\n") ∷ section_writes found.sections)
+    ++ ((to_map (codes "GLOBALS\n") ∷ global_writes found.globals)
+    ++ ((to_map (codes "UNDEFINED\n") ∷ name_writes found true found.references)
+    ++ (weak_writes (name_writes found false found.references) ++ last_writes found)))
+
+-- ---- in order
+
+abbrev pub undefined_write : ℕ × ℕ → Write
+undefined_write name = to_messages (line.undefined_line name)
+
+-- a message for each global with a strong reference that is defined nowhere
+unfoldable pub undefined_writes : Findings → List ((ℕ × ℕ) × Bool) → List Write
+undefined_writes found references = map undefined_write (undefined_names found true references)
+
+unfoldable pub front_writes : Findings → List Write
+front_writes found = undefined_writes found found.references ++ map_writes found

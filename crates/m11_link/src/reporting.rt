@@ -1,0 +1,367 @@
+//! What is made of records after the front: messages on entries, and texts as blocks of the tape.
+
+ghost use Rattle.std.specs.Prelude.{◌≡◌, ◌≤◌, ◌==◌, [], ◌∷◌, ◌++◌, length, Some, None};
+ghost use Rattle.m11_obj.specs.Reading.{record_entries, record_relocations};
+ghost use Rattle.m11_blocks.specs.Tapes.{tape_block};
+ghost use Rattle.m11_modules.specs.Names.{is_among};
+ghost use Rattle.m11_modules.specs.Rules.{defines};
+ghost use Rattle.m11_layout.specs.Sections.{attributes_by};
+ghost use Rattle.m11_link.specs.Emit.{Goes, EmitKeeps, bytes_writes, entries_writes, held_with, held_with_all, held_writes, with_bytes, with_count, with_entries, with_entry, with_held, with_name, with_symbol};
+ghost use Rattle.m11_link_text.specs.Findings.{planned};
+ghost use Rattle.m11_link.specs.Front.{front_writes};
+ghost use Rattle.m11_link.specs.Outputs.{Output, Writes, optional_output, output_of, outputs, to_messages, to_tape};
+ghost use Rattle.m11_link.specs.Written.{different_writes, entry_writes, placed_text, symbol_writes};
+
+use crate::front::put_front;
+use crate::held::{HeldText, ModuleSection};
+use crate::outputs::{put_message, put_tape};
+use bitflags::Flags;
+use indexmap::IndexSet;
+use m11_base::{Name, Sink};
+use m11_layout::{LinkFault, Plan, section_attributes};
+use m11_link_text::{Line, different_line, multiple_line};
+use m11_obj::{
+    GsdEntry, GsdKind, Record, RecordKind, Relocation, SectionFlags, SymbolFlags, tape_transfer,
+};
+use std::alloc::Global;
+use std::marker::Model;
+
+/// The plan, the names that are defined so far, the text that may still be relocated, and the count of messages.
+#[derive(Drop)]
+pub(crate) struct Reporter {
+    alloc: Global,
+    plan: Plan,
+    defined: IndexSet<Name>,
+    held: Option<HeldText>,
+    messages: u32,
+}
+
+impl Model for Reporter {
+    ghost use Rattle.m11_link.specs.Emit.{Reporting};
+
+    ghost Value = { Reporting };
+
+    ghost view = { λ t. record {
+      plan = t.plan;
+      defined = t.defined.keys;
+      held = t.held;
+      messages = t.messages;
+    } };
+}
+
+impl Reporter {
+    pub(crate) fn new(alloc: Global, plan: Plan) -> Reporter
+        ensures { result ≡ record { plan = plan; defined = []; held = None; messages = 0 } }
+    {
+        Reporter {
+            alloc,
+            plan,
+            defined: IndexSet::new(alloc),
+            held: None,
+            messages: 0,
+        }
+    }
+}
+
+impl Reporter {
+    /// The count of messages so far.
+    pub(crate) fn messages(&self) -> u32
+        ensures { result ≡ self.now.messages }
+    {
+        self.messages
+    }
+
+    /// What is written first: the messages on undefined globals, and the map.
+    pub(crate) fn begin<T: Sink, U: Sink>(
+        &mut self,
+        map: &mut Option<T>,
+        messages: &mut U,
+    ) -> Result<(), LinkFault>
+        ensures { (tape : Output) → Goes
+            (outputs tape (optional_output T.Sink map.old) (output_of U.Sink messages.old))
+            (outputs tape (optional_output T.Sink map.new) (output_of U.Sink messages.new))
+            (front_writes (planned self.old.plan)) self.new
+            (with_count (front_writes (planned self.old.plan)) self.old) result }
+    {
+        self.messages = put_front(&self.plan, map, messages, self.messages)?;
+        Ok(())
+    }
+
+    /// What a record makes that stands at this location.
+    pub(crate) fn note<S: Sink, U: Sink>(
+        &mut self,
+        location: ModuleSection,
+        record: &Record<'_>,
+        tape: &mut S,
+        messages: &mut U,
+    ) -> Result<(), LinkFault>
+        ensures { (map : Output) → Goes
+            (outputs (output_of S.Sink tape.old) map (output_of U.Sink messages.old))
+            (outputs (output_of S.Sink tape.new) map (output_of U.Sink messages.new))
+            (bytes_writes location.module_index «record».now self.old) self.new
+            (with_bytes location.module_index location.section «record».now self.old) result }
+    {
+        match record.kind() {
+            RecordKind::Gsd => self.note_directory(location.module_index, record, tape, messages),
+            RecordKind::EndOfGsd => self.end_text(tape),
+            RecordKind::Text => {
+                self.end_text(tape)?;
+                self.hold(location, record.text_address(), record.text_bytes());
+                Ok(())
+            }
+            RecordKind::Relocations => {
+                self.note_relocations(record);
+                Ok(())
+            }
+            RecordKind::InternalSymbols => Ok(()),
+            RecordKind::EndOfModule => self.end_text(tape),
+        }
+    }
+
+    /// The end of the text that is held: it is written as a block of the tape.
+    pub(crate) fn end_text<S: Sink>(&mut self, tape: &mut S) -> Result<(), LinkFault>
+        ensures { (map messages : Output) → Goes
+            (outputs (output_of S.Sink tape.old) map messages)
+            (outputs (output_of S.Sink tape.new) map messages)
+            (held_writes self.old.held) self.new (with_held None self.old) result }
+    {
+        self.put_held(tape)?;
+        self.held = None;
+        Ok(())
+    }
+
+    // The text that is held, as a block of the tape.
+    fn put_held<S: Sink>(&self, tape: &mut S) -> Result<(), LinkFault>
+        ensures { (map messages : Output) → Writes
+            (outputs (output_of S.Sink tape.old) map messages)
+            (outputs (output_of S.Sink tape.new) map messages) (held_writes self.now.held) result }
+    {
+        match &self.held {
+            Some(text) => text.put(self.alloc, tape),
+            None => Ok(()),
+        }
+    }
+
+    /// The transfer block.
+    pub(crate) fn put_transfer<S: Sink>(&self, tape: &mut S) -> Result<(), LinkFault>
+        ensures { (map messages : Output) → Writes
+            (outputs (output_of S.Sink tape.old) map messages)
+            (outputs (output_of S.Sink tape.new) map messages)
+            (to_tape (tape_block (planned self.now.plan).transfer []) ∷ []) result }
+    {
+        let block = tape_transfer(self.alloc, self.plan.transfer())?;
+        put_tape(tape, block.as_slice())
+    }
+
+    // Holds a text, where none is held.
+    fn hold(&mut self, location: ModuleSection, address: u16, bytes: &[u8])
+        requires { length bytes.now ≤ 512 }
+        ensures { self.new ≡ with_held (Some (placed_text (planned self.old.plan) location.module_index location.section
+            address bytes.now)) self.old }
+    {
+        self.held = Some(HeldText::new(&self.plan, location, address, bytes));
+    }
+
+    // The relocations of a record, into the text that is held.
+    fn note_relocations(&mut self, record: &Record<'_>)
+        ensures { self.new ≡ with_held (held_with_all (planned self.old.plan) self.old.held
+            (record_relocations «record».now)) self.old }
+    {
+        'relocations: for relocation in record.each_relocation() {
+            self.relocate(&relocation);
+        }
+    }
+
+    // A relocation, into the text that is held.
+    fn relocate(&mut self, relocation: &Relocation)
+        ensures { self.new ≡ with_held (held_with (planned self.old.plan) self.old.held relocation.now) self.old }
+    {
+        match &mut self.held {
+            Some(text) => text.relocate(&self.plan, relocation),
+            None => {}
+        }
+    }
+
+    // A directory record: its entries may give messages.
+    fn note_directory<S: Sink, U: Sink>(
+        &mut self,
+        module_index: usize,
+        record: &Record<'_>,
+        tape: &mut S,
+        messages: &mut U,
+    ) -> Result<(), LinkFault>
+        ensures { (map : Output) → Goes
+            (outputs (output_of S.Sink tape.old) map (output_of U.Sink messages.old))
+            (outputs (output_of S.Sink tape.new) map (output_of U.Sink messages.new))
+            (held_writes self.old.held
+            ++ entries_writes (planned self.old.plan) module_index self.old.defined (record_entries «record».now))
+            self.new (with_entries module_index (record_entries «record».now) (with_held None self.old)) result }
+    {
+        self.end_text(tape)?;
+        self.note_entries(module_index, record, messages)
+    }
+
+    // The entries of a directory record.
+    fn note_entries<U: Sink>(
+        &mut self,
+        module_index: usize,
+        record: &Record<'_>,
+        messages: &mut U,
+    ) -> Result<(), LinkFault>
+        ensures { (tape map : Output) → Goes
+            (outputs tape map (output_of U.Sink messages.old))
+            (outputs tape map (output_of U.Sink messages.new))
+            (entries_writes (planned self.old.plan) module_index self.old.defined (record_entries «record».now))
+            self.new (with_entries module_index (record_entries «record».now) self.old) result }
+    {
+        'entries: for index in 0..record.entry_count() {
+            match self.note_entry(module_index, &record.entry(index), messages) {
+                Ok(()) => {}
+                Err(fault) => return Err(fault),
+            }
+        }
+        Ok(())
+    }
+
+    // An entry.
+    fn note_entry<U: Sink>(
+        &mut self,
+        module_index: usize,
+        entry: &GsdEntry,
+        messages: &mut U,
+    ) -> Result<(), LinkFault>
+        ensures { (tape map : Output) → Goes
+            (outputs tape map (output_of U.Sink messages.old))
+            (outputs tape map (output_of U.Sink messages.new))
+            (entry_writes (planned self.old.plan) module_index self.old.defined entry.now) self.new
+            (with_entry module_index entry.now self.old) result }
+    {
+        match entry.kind {
+            GsdKind::ControlSection => self.note_section(module_index, entry, messages),
+            GsdKind::ProgramSection => self.note_section(module_index, entry, messages),
+            GsdKind::GlobalSymbol => self.note_symbol(module_index, entry, messages),
+            GsdKind::ModuleName => Ok(()),
+            GsdKind::InternalSymbol => Ok(()),
+            GsdKind::TransferAddress => Ok(()),
+            GsdKind::Identification => Ok(()),
+        }
+    }
+
+    // A section, which is reported where its attributes aren't those of its first entry.
+    fn note_section<U: Sink>(
+        &mut self,
+        module_index: usize,
+        entry: &GsdEntry,
+        messages: &mut U,
+    ) -> Result<(), LinkFault>
+        ensures { (tape map : Output) → Goes
+            (outputs tape map (output_of U.Sink messages.old))
+            (outputs tape map (output_of U.Sink messages.new))
+            (different_writes (planned self.old.plan) module_index (attributes_by entry.now.kind entry.now)) self.new
+            (with_count (different_writes (planned self.old.plan) module_index (attributes_by entry.now.kind entry.now))
+            self.old) result }
+    {
+        match section_attributes(entry) {
+            Some(attributes) => self.note_section_with(
+                module_index,
+                entry.name,
+                attributes,
+                messages,
+            ),
+            None => Ok(()),
+        }
+    }
+
+    // The same of a section that is entered with these attributes.
+    fn note_section_with<U: Sink>(
+        &mut self,
+        module_index: usize,
+        name: Name,
+        attributes: SectionFlags,
+        messages: &mut U,
+    ) -> Result<(), LinkFault>
+        ensures { (tape map : Output) → Goes
+            (outputs tape map (output_of U.Sink messages.old))
+            (outputs tape map (output_of U.Sink messages.new))
+            (different_writes (planned self.old.plan) module_index (Some (name, attributes.0))) self.new
+            (with_count (different_writes (planned self.old.plan) module_index (Some (name, attributes.0))) self.old)
+            result }
+    {
+        if self.has_first_attributes(name, attributes) {
+            return Ok(());
+        }
+        let line = different_line(name, self.module_name(module_index));
+        self.report(messages, &line)
+    }
+
+    // Whether these are the attributes of a section's first entry.
+    fn has_first_attributes(&self, name: Name, attributes: SectionFlags) -> bool
+        ensures { result ≡ (attributes.0 == (planned self.now.plan).attributes name) }
+    {
+        attributes.bits() == self.plan.attributes(name).bits()
+    }
+
+    // The name of a module.
+    fn module_name(&self, module_index: usize) -> Name
+        ensures { result ≡ (planned self.now.plan).module_name module_index }
+    {
+        self.plan.module_name(module_index)
+    }
+
+    // A global, which is reported where it is defined again.
+    fn note_symbol<U: Sink>(
+        &mut self,
+        module_index: usize,
+        entry: &GsdEntry,
+        messages: &mut U,
+    ) -> Result<(), LinkFault>
+        ensures { (tape map : Output) → Goes
+            (outputs tape map (output_of U.Sink messages.old))
+            (outputs tape map (output_of U.Sink messages.new))
+            (symbol_writes (planned self.old.plan) module_index self.old.defined entry.now) self.new
+            (with_symbol module_index entry.now self.old) result }
+    {
+        if !is_definition(entry) {
+            return Ok(());
+        }
+        if !self.is_defined(entry.name) {
+            return self.define(entry.name);
+        }
+        let line = multiple_line(entry.name, self.module_name(module_index));
+        self.report(messages, &line)
+    }
+
+    // Whether a global was defined before.
+    fn is_defined(&self, name: Name) -> bool
+        ensures { result ≡ is_among self.now.defined name }
+    {
+        self.defined.contains(&name)
+    }
+
+    // Keeps the name of a global that is defined.
+    fn define(&mut self, name: Name) -> Result<(), LinkFault>
+        ensures { EmitKeeps self.new (with_name name self.old) result }
+    {
+        self.defined.insert(name)?;
+        Ok(())
+    }
+
+    // One more message.
+    fn report<U: Sink>(&mut self, messages: &mut U, line: &Line) -> Result<(), LinkFault>
+        ensures { (tape map : Output) → Goes
+            (outputs tape map (output_of U.Sink messages.old))
+            (outputs tape map (output_of U.Sink messages.new))
+            (to_messages line.now.items ∷ []) self.new (with_count (to_messages line.now.items ∷ []) self.old) result }
+    {
+        put_message(messages, line.as_slice())?;
+        self.messages = self.messages.saturating_add(1);
+        Ok(())
+    }
+}
+
+// Whether an entry defines its symbol.
+fn is_definition(entry: &GsdEntry) -> bool
+    ensures { result ≡ defines entry.now }
+{
+    SymbolFlags::from_bits_retain(entry.flags).contains(SymbolFlags::DEFINED)
+}

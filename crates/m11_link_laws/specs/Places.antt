@@ -1,0 +1,36 @@
+-- Sections that lie one after another, and what modules enter of them. (MACRO-11 Language Reference Manual, ".PSECT
+-- directive": REL. That they lie in the order of their first entries, without gaps, is this project's own.)
+use Rattle.std.specs.Prelude.{ℕ, ◌+◌, Bool, List, [], ◌∷◌, Option}
+use Rattle.std.specs.List.{filter}
+use Rattle.std.specs.Map.{lookup}
+use Rattle.m11_modules.specs.Names.{is_name}
+use Rattle.m11_modules.specs.Parts.{Part}
+use Rattle.m11_modules.specs.Places.{section_names, sections_in}
+use Rattle.m11_layout.specs.Modules.{module_at}
+use Rattle.m11_layout.specs.Sections.{first_attributes, is_relocatable, section_base, section_size}
+
+-- addresses from a base on, as many as the size says
+pub record Span : Type 0 where
+  pub base : ℕ
+  pub size : ℕ
+
+-- each of the spans begins where the one before it ends, the first one at the bottom, and the last one ends at the top
+pub data LieInOrder : ℕ → List Span → ℕ → Type 0 where
+  Nothing : {bottom : ℕ} → LieInOrder bottom [] bottom
+  Section : {base size top : ℕ} {spans : List Span} → LieInOrder (base + size) spans top
+      → LieInOrder base (record { base = base; size = size } ∷ spans) top
+
+abbrev pub lies_from_bottom : List Part → ℕ × ℕ → Bool
+lies_from_bottom parts name = is_relocatable (first_attributes parts name)
+
+-- the names of relocatable sections, in the order of their first entries
+unfoldable pub relocatable_names : List Part → List (ℕ × ℕ)
+relocatable_names parts = filter (lies_from_bottom parts) (section_names parts)
+
+-- where a section lies
+abbrev pub span_of : ℕ → List Part → ℕ × ℕ → Span
+span_of bottom parts name = record { base = section_base bottom parts name; size = section_size parts name }
+
+-- the size of a section in the module of an index, if that module enters it
+abbrev pub size_entered : List Part → ℕ → ℕ × ℕ → Option ℕ
+size_entered parts index name = lookup (is_name name) (sections_in (module_at parts index))

@@ -1,0 +1,38 @@
+-- The tables that the two passes of a link keep of parts, and how large they grow. (This project's own.)
+use Rattle.std.specs.Prelude.{◌≡◌, ℕ, ◌+◌, ◌*◌, ◌≤◌, List, length}
+use Rattle.m11_modules.specs.Parts.{Part}
+use Rattle.m11_modules.specs.Places.{global_names, known_of, modules_in, section_names, sections_in}
+use Rattle.m11_modules.specs.Rules.{most_globals, most_modules, most_sections}
+use Rattle.m11_layout.specs.Tables.{Gathered, gathered_after_all, nothing_gathered}
+use Rattle.m11_link.specs.Written.{defined_names}
+
+-- what a layout gathers of parts
+abbrev pub gathered_of : ℕ → List Part → Gathered
+gathered_of bottom parts = gathered_after_all bottom nothing_gathered parts
+
+-- a name for each module that ended
+pub record ModulesKept (bottom : ℕ) (parts : List Part) : Type 0 where
+  pub gathered : length (gathered_of bottom parts).names ≡ modules_in parts
+  pub most : modules_in parts ≤ most_modules
+
+-- each section once; and in a module, each section that it enters
+pub record SectionsKept (bottom : ℕ) (parts : List Part) : Type 0 where
+  pub gathered : length (gathered_of bottom parts).sections ≡ length (section_names parts)
+  pub known : length (known_of parts).sections ≡ length (section_names parts)
+  pub entered : length (known_of parts).entered ≤ length (section_names parts)
+  pub most : length (section_names parts) ≤ most_sections
+
+-- a contribution for each entry of a section, of which no module has two of one name
+pub record ContributionsKept (bottom : ℕ) (parts : List Part) : Type 0 where
+  pub gathered : length (gathered_of bottom parts).contributions ≤ length (sections_in parts)
+  pub entered : length (sections_in parts) ≤ (modules_in parts + 1) * length (section_names parts)
+  pub most : length (sections_in parts) ≤ (most_modules + 1) * most_sections
+
+-- each global once where it is defined, and once where it is referred to
+pub record GlobalsKept (bottom : ℕ) (parts : List Part) : Type 0 where
+  pub definitions : length (gathered_of bottom parts).definitions ≤ length (global_names parts)
+  pub references : length (gathered_of bottom parts).references ≤ length (global_names parts)
+  pub weak : length (gathered_of bottom parts).weak ≤ length (global_names parts)
+  pub known : length (known_of parts).globals ≡ length (global_names parts)
+  pub defined : length (defined_names parts) ≤ length (global_names parts)
+  pub most : length (global_names parts) ≤ most_globals

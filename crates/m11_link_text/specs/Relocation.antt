@@ -1,0 +1,76 @@
+-- What a relocation stores, and where. (RT-11 Volume and File Formats Manual, "Object file format", RLD block. That the
+-- value replaces the bytes that stood there, and that a displaced byte is counted from its own address and 2, is this
+-- project's own.)
+use Rattle.std.specs.Prelude.{ℕ, ◌+◌, ◌-◌, ◌%◌, Bool, List, [], ◌∷◌, ◌++◌, length, take, drop, if◌then◌else◌}
+use Rattle.std.specs.Option.{unwrap_or}
+use Rattle.m11_blocks.specs.Frames.{word_bytes}
+use Rattle.m11_obj.specs.declared.relocations.Relocation.{Relocation}
+use Rattle.m11_obj.specs.declared.relocations.Target.{Target}
+use Rattle.m11_obj.specs.declared.relocations.Target.TheVariants as target
+use Rattle.m11_modules.specs.Rules.{lies_within}
+use Rattle.m11_link_text.specs.Findings.{Findings}
+
+-- addresses and words are known modulo 200000
+abbrev pub modulo : ℕ → ℕ
+modulo number = number % 0o200000
+
+-- one address less another
+abbrev pub less : ℕ → ℕ → ℕ
+less number other = (number + (0o200000 - other)) % 0o200000
+
+-- ---- what is stored
+
+-- a global that is defined nowhere counts as 0
+abbrev pub symbol : Findings → ℕ × ℕ → ℕ
+symbol found name = unwrap_or (found.value name) 0
+
+-- the address after the stored word, from which a displacement is counted
+abbrev pub following : ℕ → ℕ
+following location = modulo (location + 2)
+
+-- the value of a target at a location, in the module of this index, whose text stands after this base
+abbrev pub value_of : Findings → ℕ → ℕ → ℕ → Target → ℕ
+value_of found module_index own location (target.Internal constant) = modulo (own + constant)
+value_of found module_index own location (target.Global name) = symbol found name
+value_of found module_index own location (target.InternalDisplaced constant) = less constant (following location)
+value_of found module_index own location (target.GlobalDisplaced name) = less (symbol found name) (following location)
+value_of found module_index own location (target.GlobalAdditive name constant) = modulo (symbol found name + constant)
+value_of found module_index own location (target.GlobalAdditiveDisplaced name constant) =
+    less (modulo (symbol found name + constant)) (following location)
+value_of found module_index own location (target.Section name) = found.base module_index name
+value_of found module_index own location (target.SectionDisplaced name) =
+    less (found.base module_index name) (following location)
+value_of found module_index own location (target.SectionAdditive name constant) =
+    modulo (found.base module_index name + constant)
+value_of found module_index own location (target.SectionAdditiveDisplaced name constant) =
+    less (modulo (found.base module_index name + constant)) (following location)
+value_of found module_index own location other = 0
+
+-- a byte is the low byte of the value
+abbrev pub value_bytes : Bool → ℕ → List ℕ
+value_bytes is_byte value = if is_byte then (value % 256) ∷ [] else word_bytes value
+
+-- the bytes that a relocation stores: the two limits of the program, no bytes for the commands that only select a
+-- place, and else those of the value
+abbrev pub stored_bytes : Findings → ℕ → ℕ → ℕ → Bool → Target → List ℕ
+stored_bytes found module_index own location is_byte target.ProgramLimits =
+    word_bytes found.bottom ++ word_bytes found.top
+stored_bytes found module_index own location is_byte (target.LocationCounterDefinition name constant) = []
+stored_bytes found module_index own location is_byte (target.LocationCounterModification constant) = []
+stored_bytes found module_index own location is_byte other =
+    value_bytes is_byte (value_of found module_index own location other)
+
+-- ---- where
+
+-- bytes in the place of those that stood there
+abbrev pub replaced : List ℕ → ℕ → List ℕ → List ℕ
+replaced text index bytes = take index text ++ bytes ++ drop (index + length bytes) text
+
+-- a text that stands at an address, after this base, with a relocation: its first byte has the displacement 4. One
+-- that doesn't lie within the text, which is refused before, changes nothing
+abbrev pub relocated : Findings → ℕ → ℕ → ℕ → Relocation → List ℕ → List ℕ
+relocated found module_index own address relocation text =
+    let index = relocation.displacement - 4 in
+    let location = modulo (address + index) in
+    let bytes = stored_bytes found module_index own location relocation.is_byte relocation.target in
+    if lies_within relocation (length text) then replaced text index bytes else text

@@ -1,0 +1,147 @@
+//! What relocations store. (RT-11 Volume and File Formats Manual, "Object file format", RLD block.)
+
+ghost use Rattle.std.specs.Prelude.{◌≡◌, ◌≤◌, ◌<◌, ◌+◌, ◌-◌, ◌++◌, length, if◌then◌else◌};
+ghost use Rattle.m11_blocks.specs.Frames.{word_bytes};
+ghost use Rattle.arrayvec.specs.ArrayVec.{array_vec_len};
+ghost use Rattle.m11_link_text.specs.Findings.{planned};
+ghost use Rattle.m11_link_text.specs.Relocation as spec;
+ghost use Rattle.m11_modules.specs.Rules.{width_of};
+
+use arrayvec::ArrayVec;
+use byteorder::{ByteOrder, LittleEndian};
+use m11_base::Name;
+use m11_layout::Plan;
+use m11_modules::lies_within;
+use m11_obj::{Relocation, Target};
+
+// A module's text in the making: the module's index, and the base that its section has in it.
+#[derive(Clone, Copy)]
+pub(crate) struct Origin {
+    pub(crate) module_index: usize,
+    pub(crate) base: u16,
+}
+
+// The value of a global; 0 where it is defined nowhere.
+fn symbol(plan: &Plan, name: Name) -> u16
+    ensures { result ≡ spec.symbol (planned plan.now) name }
+{
+    plan.value(name).unwrap_or(0)
+}
+
+// A value less the address after a location.
+fn displaced(value: u16, location: u16) -> u16
+    ensures { result ≡ spec.less value (spec.following location) }
+{
+    value.wrapping_sub(location.wrapping_add(2))
+}
+
+// The value of a target at a location.
+fn value_of(plan: &Plan, origin: Origin, location: u16, target: Target) -> u16
+    ensures { result ≡ spec.value_of (planned plan.now) origin.module_index origin.base location target }
+{
+    let index = origin.module_index;
+    match target {
+        Target::Internal(constant) => origin.base.wrapping_add(constant),
+        Target::Global(name) => symbol(plan, name),
+        Target::InternalDisplaced(constant) => displaced(constant, location),
+        Target::GlobalDisplaced(name) => displaced(symbol(plan, name), location),
+        Target::GlobalAdditive(name, constant) => symbol(plan, name).wrapping_add(constant),
+        Target::GlobalAdditiveDisplaced(name, constant) => {
+            displaced(symbol(plan, name).wrapping_add(constant), location)
+        }
+        Target::Section(name) => plan.base(index, name),
+        Target::SectionDisplaced(name) => displaced(plan.base(index, name), location),
+        Target::SectionAdditive(name, constant) => plan.base(index, name).wrapping_add(constant),
+        Target::SectionAdditiveDisplaced(name, constant) => {
+            displaced(plan.base(index, name).wrapping_add(constant), location)
+        }
+        Target::LocationCounterDefinition(_, _) => 0,
+        Target::LocationCounterModification(_) => 0,
+        Target::ProgramLimits => 0,
+    }
+}
+
+// The bytes of a value: its word, or its low byte.
+fn value_bytes(is_byte: bool, value: u16) -> ArrayVec<u8, 4>
+    ensures bytes { result.items ≡ spec.value_bytes is_byte value }
+    ensures width { array_vec_len result ≡ (if is_byte then 1 else 2) }
+{
+    let mut bytes = ArrayVec::new();
+    if is_byte {
+        bytes.push((value % 256) as u8);
+    } else {
+        put_word(&mut bytes, value);
+    }
+    bytes
+}
+
+// Adds a word, its low byte first.
+fn put_word(bytes: &mut ArrayVec<u8, 4>, word: u16)
+    requires { array_vec_len bytes.old ≤ 2 }
+    ensures { bytes.new.items ≡ bytes.old.items ++ word_bytes word }
+{
+    let mut pair = [0; 2];
+    LittleEndian::write_u16(&mut pair, word);
+    bytes.try_extend_from_slice(&pair).unwrap();
+}
+
+// The two limits of the program.
+fn limit_bytes(plan: &Plan) -> ArrayVec<u8, 4>
+    ensures width { array_vec_len result ≡ 4 }
+    ensures bytes { result.items ≡ word_bytes plan.now.bottom ++ word_bytes plan.now.top }
+{
+    let (bottom, top) = plan.limits();
+    let mut bytes = ArrayVec::new();
+    put_word(&mut bytes, bottom);
+    put_word(&mut bytes, top);
+    bytes
+}
+
+// The bytes that a relocation stores at a location.
+fn stored_bytes(
+    plan: &Plan,
+    origin: Origin,
+    location: u16,
+    relocation: &Relocation,
+) -> ArrayVec<u8, 4>
+    ensures bytes { result.items ≡ spec.stored_bytes (planned plan.now) origin.module_index origin.base location
+        relocation.now.is_byte relocation.now.target }
+    ensures width { array_vec_len result ≤ width_of relocation.now.is_byte relocation.now.target }
+{
+    match relocation.target {
+        Target::ProgramLimits => limit_bytes(plan),
+        Target::LocationCounterDefinition(_, _) => ArrayVec::new(),
+        Target::LocationCounterModification(_) => ArrayVec::new(),
+        target => value_bytes(relocation.is_byte, value_of(plan, origin, location, target)),
+    }
+}
+
+// Puts bytes in the place of those that stand at an index of a text.
+fn replace(text: &mut [u8], index: usize, bytes: &[u8])
+    requires { index + length bytes.now ≤ length text.old }
+    ensures { text.new ≡ spec.replaced text.old index bytes.now }
+{
+    text[index..index + bytes.len()].copy_from_slice(bytes);
+}
+
+/// Puts what a relocation stores into its text, which stands at this address in the module of this index; `base` is
+/// that of the text's section in the module. What stood there is replaced. A relocation that doesn't lie within its
+/// text changes nothing.
+pub fn relocate(
+    plan: &Plan,
+    module_index: usize,
+    base: u16,
+    address: u16,
+    relocation: &Relocation,
+    text: &mut [u8],
+)
+    ensures { text.new ≡ spec.relocated (planned plan.now) module_index base address relocation.now text.old }
+{
+    if lies_within(relocation, text.len()) {
+        let index = relocation.displacement - 4;
+        let location = address.wrapping_add(u16::from(index));
+        let origin = Origin { module_index, base };
+        let bytes = stored_bytes(plan, origin, location, relocation);
+        replace(text, usize::from(index), bytes.as_slice());
+    }
+}

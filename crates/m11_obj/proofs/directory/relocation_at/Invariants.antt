@@ -1,5 +1,0 @@
-use Rattle.m11_obj.proofs.Walks.{Passed}
-use Rattle.m11_obj.proofs.directory.relocation_at.Given as goal
-
-abbrev pub invariant-loop : goal.invariant-loop
-invariant-loop l = Passed l.bytes l.rest l.counter
