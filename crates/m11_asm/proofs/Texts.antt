@@ -1,4 +1,4 @@
--- Texts cut at places, from the front and from after.
+-- Texts cut at places, from the front and from the end.
 use Rattle.std.proofs.Common.{◌≡◌, ℕ, zero, suc, ◌<◌, Bool, true, false, not, cond, List, [], ◌∷◌, ◌++◌, length, take, drop, map, Option, Some, None, refl, sym, ap, ◌∙◌, arith, inl, inr, add-one, ◌⊎◌}
 use Rattle.std.specs.Prelude.{position, unwrap_or, ◌==◌, ◌&&◌}
 use Rattle.std.specs.List.{position_or_len, list_all}

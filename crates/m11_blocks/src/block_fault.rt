@@ -18,7 +18,7 @@ pub enum BlockFault {
     /// 3: the bytes of a block do not add up to 0 modulo 256.
     #[error("bad sum")]
     BadSum,
-    /// 4: a length that reports more than 512 bytes of content.
+    /// 4: a length of more than 512 bytes of content.
     #[error("block too long")]
     TooLong,
     /// 5: another byte than 000 or 001 before a block, or than 000 after its 001.

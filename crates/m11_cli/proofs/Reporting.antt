@@ -14,7 +14,7 @@ use Rattle.m11_cli.specs.declared.outcome.Outcome.TheVariants.{Usage, Asm, Link,
 use Rattle.m11_tasks.specs.declared.tasks.Task.{Task}
 use Rattle.m11_tasks.specs.declared.tasks.Task.TheVariants as task
 
--- a put that reported of its success or of its failure
+-- a put that returned success or failure
 pub reports : {X E : Type 0} (r : Result X E) (text : List ℕ) (old new : Output)
     → OnOk r (Appends old.text new.text text) → OnOk r (new.faults ≡ old.faults)
     → OnErr r (AppendsBeginning old.text new.text text) → OnErr r (Rises old.faults new.faults)

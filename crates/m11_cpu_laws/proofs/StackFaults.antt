@@ -1,4 +1,4 @@
--- By which traps a step yields STACK FAULT.
+-- Which traps stop a step by STACK FAULT.
 use Rattle.std.proofs.Common.{◌≡◌, Bool, true, false, cond, List, Option, Some, None, Result, Ok, Err, refl, sym, subst, ap, ◌∙◌}
 use Rattle.m11_cpu.specs.Dialogue.{Comes, Exchange, Leads}
 use Rattle.m11_cpu.specs.Steps.{ended, instruction, step, step_unless, turned}

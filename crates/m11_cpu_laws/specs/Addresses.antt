@@ -94,7 +94,7 @@ pub record TrapFaulted (left : Machine) (exchanges : List Exchange) (m' : Machin
   pub trapped : Leads (trap vector left) exchanges (Stopped StackFault, m')
   pub no_word : cannot_push left ≡ true
 
--- a step yields STACK FAULT by such a trap alone: its instruction's, or the trace trap
+-- a step ends by STACK FAULT through such a trap alone: its instruction's, or the trace trap
 pub record StepFaulted (m : Machine) (exchanges : List Exchange) (m' : Machine) : Type 0 where
   pub came : Result Ending Abort
   pub left : Machine

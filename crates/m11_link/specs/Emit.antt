@@ -170,7 +170,7 @@ pub record Emitting : Type 0 where
   pub has_begun : Bool
   pub fault : Option LinkFault
 
--- the messages on undefined globals and the map, where they was not written before
+-- the messages on undefined globals and the map, where they were not written before
 abbrev pub begin_writes : Emitting → List Write
 begin_writes state = if state.has_begun then [] else front_writes (planned state.reporting.plan)
 

@@ -114,7 +114,7 @@ pub record GivesItems (text : Option Text) (items : List Item) : Type 0 where
   pub has : HasBytes text source
   pub are : ObjectItems most_bytes source items
 
--- the object that it gave a beginning of had yield these
+-- the object that it gave a beginning of had yielded these
 pub record BeginsItems (text : Option Text) (items : List Item) : Type 0 where
   pub beginning : List ℕ
   pub has : BeginsWith text beginning

@@ -275,7 +275,7 @@ impl Emit {
         })
     }
 
-    // The messages on undefined globals and the map, where they was not written before.
+    // The messages on undefined globals and the map, where they were not written before.
     fn begin<T: Sink, U: Sink>(
         &mut self,
         map: &mut Option<T>,

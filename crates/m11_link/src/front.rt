@@ -13,7 +13,7 @@ use m11_link_text::{
     global_line, limit_line, name_line, section_line, transfer_line, undefined_line,
 };
 
-/// The messages on undefined globals, and then the map; returns how many messages there are, n being there
+/// The messages on undefined globals, and then the map; returns how many messages there are with the `count` of those
 /// before.
 pub(crate) fn put_front<T: Sink, U: Sink>(
     plan: &Plan,
@@ -44,8 +44,8 @@ fn undefined(plan: &Plan, reference: (Name, bool), is_strong: bool) -> Option<Na
     }
 }
 
-// A message for each global with a strong reference that is defined nowhere; returns how many there are, where as many
-// were there before.
+// A message for each global with a strong reference that is defined nowhere; returns how many there are with the `count`
+// of those before.
 fn put_undefined<U: Sink>(plan: &Plan, messages: &mut U, count: u32) -> Result<u32, LinkFault>
     ensures writes { (tape map : Output) → Writes
         (outputs tape map (output_of U.Sink messages.old))

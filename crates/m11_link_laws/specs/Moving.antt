@@ -1,7 +1,7 @@
 -- What moves where the bottom of a link moves: all that counts from the contribution of a module to a relocatable
 -- section, by the distance; nothing else. (RT-11 Volume and File Formats Manual, "Object file format", GSD and RLD
 -- blocks. What moves how far is this project's own: it names what Sections.antt, Globals.antt and Transfers.antt of the
--- layout and Storing.antt of the linker yield.)
+-- layout and Relocation.antt of the linker yield.)
 use Rattle.std.specs.Prelude.{◌≡◌, ℕ, ◌+◌, ◌-◌, ◌%◌, Bool, true, false, ◌&&◌, ◌||◌, not, nat_le, nat_lt, List, [], ◌∷◌, ◌++◌, length, map, option_map, is_some, Option, Some, None, if◌then◌else◌}
 use Rattle.std.specs.List.{find, list_all}
 use Rattle.std.specs.Map.{lookup}

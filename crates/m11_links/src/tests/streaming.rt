@@ -1,4 +1,4 @@
-//! How far the tape has come while a second pass goes on, and second readings that give other bytes.
+//! How far the tape has come while a second pass goes on, and second passes that give other bytes.
 
 use super::{Content, DEFINES_F, Linked, Object, READS_F, READS_F_LINKED, files_of, linked_twice};
 use m11_base::MemorySink;
