@@ -64,8 +64,8 @@ fn put_undefined<U: Sink>(plan: &Plan, messages: &mut U, count: u32) -> Result<u
     Ok(reported)
 }
 
-// The message on a reference, where it is strong and its global is defined nowhere; returns the count of messages, so
-// many being there before.
+// The message on a reference, where it is strong and its global is defined nowhere; returns the count of messages
+// with the `count` of those before.
 fn put_if_undefined<U: Sink>(
     plan: &Plan,
     reference: (Name, bool),
