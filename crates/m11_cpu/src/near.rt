@@ -1,53 +1,70 @@
-//! What an instruction finds near: operands in registers and in memory, without the console. (PDP-11/40 Processor
-//! Handbook, "Addressing modes".)
+//! Operands in registers and in memory, without the console. (PDP-11/40 Processor Handbook, "Addressing modes".)
 
-ghost use Rattle.std.specs.Prelude.{◌≡◌, ◌<◌, IfSome, None, true};
+ghost use Rattle.std.specs.Prelude.{◌≡◌, ◌<◌, ◌/◌, ◌%◌, IfSome, None, true};
 ghost use Rattle.m11_arithmetic.specs.Sizes.{size_limit};
+ghost use Rattle.m11_base.specs.Operand.{mode_of};
+ghost use Rattle.m11_cpu.specs.Near.{NearEnds, NearKeeps, is_near, ChangesRegisters, ComesTo, is_plain, plain_at};
+ghost use Rattle.m11_cpu.specs.Addressing.{put_result, fetch, fetch_operand, indexed, place_of, store};
 ghost use Rattle.m11_base.specs.declared.operand.Mode.TheVariants as mode;
-ghost use Rattle.m11_cpu.specs.declared.addressing.OperandLocation.TheVariants.{InMemory, InRegister};
-ghost use Rattle.m11_cpu.specs.Near.{ChangesRegisters, ComesTo, NearEnds, NearKeeps, is_near, is_plain, plain_at};
-ghost use Rattle.m11_cpu.specs.Addressing.{fetch, fetch_operand, indexed, place_of, store};
+ghost use Rattle.m11_cpu.specs.declared.addressing.OperandLocation.TheVariants.{InMemory};
 
 use crate::addressing::{OperandLocation, step_of, without_low_byte};
 use crate::machine::Machine;
+use m11_arithmetic::Computed;
 use m11_base::{Mode, Operand, Register, Size};
 
 impl Machine {
-    // Whether a word or byte lies in memory.
+    // The word or byte that an operand means.
+    #[tactic(auto, using(crate::proofs::QuickDone::in_register, crate::proofs::QuickDone::place_fetched, crate::proofs::QuickDone::plain_fetched))]
     #[inline(always)]
-    pub(crate) fn is_plain(&self, size: Size, address: u16) -> bool
-        ensures { result ≡ is_plain size address self.now.memory }
+    pub(crate) fn near_operand(&mut self, operand: Operand, size: Size) -> Option<u16>
+        ensures some { IfSome result (λ value. ComesTo (fetch_operand operand size) self.old value self.new) }
+        ensures fits { IfSome result (λ value. value < size_limit size) }
+        ensures registers { ChangesRegisters self.old self.new }
+        ensures none { result ≡ None → self.new ≡ self.old }
     {
-        match size {
-            Size::Word => address % 2 != 1 && self.memory.holds(address),
-            Size::Byte => self.memory.holds(address),
+        match operand.mode {
+            Mode::Register => Some(self.near_value(
+                OperandLocation::InRegister(operand.register),
+                size,
+            )),
+            _ => {
+                let address = self.plain_place(operand, size)?;
+                Some(self.plain(size, address))
+            }
         }
     }
 
-    // The word or byte at an address in memory.
+    // The place of an operand.
+    #[tactic(auto, using(crate::proofs::QuickDone::in_register))]
     #[inline(always)]
-    pub(crate) fn plain(&self, size: Size, address: u16) -> u16
-        requires { is_plain size address self.now.memory ≡ true }
-        ensures value { result ≡ plain_at size address self.now.memory }
+    pub(crate) fn near_place(&mut self, operand: Operand, size: Size) -> Option<OperandLocation>
+        ensures some { IfSome result (λ place. ComesTo (place_of operand size) self.old place self.new) }
+        ensures near { IfSome result (λ place. is_near size place self.new ≡ true) }
+        ensures registers { ChangesRegisters self.old self.new }
+        ensures none { result ≡ None → self.new ≡ self.old }
+    {
+        match operand.mode {
+            Mode::Register => Some(OperandLocation::InRegister(operand.register)),
+            _ => {
+                let address = self.plain_place(operand, size)?;
+                Some(OperandLocation::InMemory(address))
+            }
+        }
+    }
+
+    // The word or byte in a place.
+    #[tactic(auto, using(crate::proofs::QuickDone::plain_fetched), unfolding(crate::specs::Addressing::fetch))]
+    #[inline(always)]
+    pub(crate) fn near_value(&self, place: OperandLocation, size: Size) -> u16
+        requires { is_near size place self.now ≡ true }
+        ensures fetched { ComesTo (fetch place size) self.now result self.now }
         ensures fits { result < size_limit size }
     {
-        match size {
-            Size::Word => self.memory.word(address),
-            Size::Byte => u16::from(self.memory.byte(address)),
-        }
-    }
-
-    // Puts a word or byte at an address in memory.
-    #[tactic(auto, using(crate::proofs::QuickDone::word_stored, crate::proofs::QuickDone::byte_stored))]
-    #[inline(always)]
-    pub(crate) fn set_plain(&mut self, size: Size, address: u16, value: u16)
-        requires plain { is_plain size address self.old.memory ≡ true }
-        ensures stored { NearEnds (store (InMemory address) size value) self.old self.new }
-        ensures keeps { NearKeeps self.old self.new }
-    {
-        match size {
-            Size::Word => self.memory.set_word(address, value),
-            Size::Byte => self.memory.set_byte(address, (value % 256) as u8),
+        match (place, size) {
+            (OperandLocation::InRegister(register), Size::Word) => self.register(register),
+            (OperandLocation::InRegister(register), Size::Byte) => self.register(register) % 256,
+            (OperandLocation::InMemory(address), _) => self.plain(size, address),
         }
     }
 
@@ -89,7 +106,7 @@ impl Machine {
         }
     }
 
-    // The same by a pointer, in mode 3. It and the next one aren't inlined, so that what calls them can be.
+    // The place of an operand by a pointer, in mode 3. It and the next one aren't inlined, so that what calls them can be.
     #[tactic(auto, using(crate::proofs::QuickDone::by_pointer))]
     #[inline(never)]
     fn plain_pointer(&mut self, operand: Operand, size: Size) -> Option<u16>
@@ -111,7 +128,7 @@ impl Machine {
         Some(address)
     }
 
-    // The same by the word after the code, in mode 6.
+    // The place of an operand by the word after the code, in mode 6.
     #[tactic(auto, using(crate::proofs::QuickDone::index_at, crate::proofs::QuickDone::counter_back))]
     #[inline(never)]
     fn plain_index(&mut self, operand: Operand, size: Size) -> Option<u16>
@@ -134,25 +151,46 @@ impl Machine {
         Some(address)
     }
 
-    // The word or byte in a place.
-    #[tactic(auto, using(crate::proofs::QuickDone::plain_fetched), unfolding(crate::specs::Addressing::fetch))]
+    // The word or byte at an address in memory.
     #[inline(always)]
-    pub(crate) fn near_value(&self, place: OperandLocation, size: Size) -> u16
-        requires { is_near size place self.now ≡ true }
-        ensures fetched { ComesTo (fetch place size) self.now result self.now }
+    pub(crate) fn plain(&self, size: Size, address: u16) -> u16
+        requires { is_plain size address self.now.memory ≡ true }
+        ensures value { result ≡ plain_at size address self.now.memory }
         ensures fits { result < size_limit size }
     {
-        match (place, size) {
-            (OperandLocation::InRegister(register), Size::Word) => self.register(register),
-            (OperandLocation::InRegister(register), Size::Byte) => self.register(register) % 256,
-            (OperandLocation::InMemory(address), _) => self.plain(size, address),
+        match size {
+            Size::Word => self.memory.word(address),
+            Size::Byte => u16::from(self.memory.byte(address)),
         }
+    }
+
+    // Whether a word or byte lies in memory.
+    #[inline(always)]
+    pub(crate) fn is_plain(&self, size: Size, address: u16) -> bool
+        ensures { result ≡ is_plain size address self.now.memory }
+    {
+        match size {
+            Size::Word => address % 2 != 1 && self.memory.holds(address),
+            Size::Byte => self.memory.holds(address),
+        }
+    }
+
+    // Puts a result into a place, and then its condition codes.
+    #[tactic(auto, using(crate::proofs::QuickDone::bind_comes, crate::proofs::QuickDone::comes_at, crate::proofs::QuickDone::finished_stopped, crate::proofs::QuickDone::finished_trace), unfolding(crate::specs::Addressing::put_result))]
+    #[inline(always)]
+    pub(crate) fn put_computed(&mut self, place: OperandLocation, size: Size, computed: Computed)
+        requires { is_near size place self.old ≡ true }
+        ensures done { NearEnds (put_result place size computed) self.old self.new }
+        ensures keeps { NearKeeps self.old self.new }
+    {
+        self.put_near(place, size, computed.value);
+        self.finish(place, computed.codes);
     }
 
     // Puts a word or byte into a place.
     #[tactic(auto, unfolding(crate::specs::Addressing::store))]
     #[inline(always)]
-    pub(crate) fn put_near(&mut self, place: OperandLocation, size: Size, value: u16)
+    fn put_near(&mut self, place: OperandLocation, size: Size, value: u16)
         requires { is_near size place self.old ≡ true }
         ensures stored { NearEnds (store place size value) self.old self.new }
         ensures keeps { NearKeeps self.old self.new }
@@ -169,42 +207,27 @@ impl Machine {
         }
     }
 
-    // The word or byte that an operand means.
-    #[tactic(auto, using(crate::proofs::QuickDone::in_register, crate::proofs::QuickDone::place_fetched, crate::proofs::QuickDone::plain_fetched))]
+    // Puts a word or byte at an address in memory.
+    #[tactic(auto, using(crate::proofs::QuickDone::word_stored, crate::proofs::QuickDone::byte_stored))]
     #[inline(always)]
-    pub(crate) fn near_operand(&mut self, operand: Operand, size: Size) -> Option<u16>
-        ensures some { IfSome result (λ value. ComesTo (fetch_operand operand size) self.old value self.new) }
-        ensures fits { IfSome result (λ value. value < size_limit size) }
-        ensures registers { ChangesRegisters self.old self.new }
-        ensures none { result ≡ None → self.new ≡ self.old }
+    pub(crate) fn set_plain(&mut self, size: Size, address: u16, value: u16)
+        requires plain { is_plain size address self.old.memory ≡ true }
+        ensures stored { NearEnds (store (InMemory address) size value) self.old self.new }
+        ensures keeps { NearKeeps self.old self.new }
     {
-        match operand.mode {
-            Mode::Register => Some(self.near_value(
-                OperandLocation::InRegister(operand.register),
-                size,
-            )),
-            _ => {
-                let address = self.plain_place(operand, size)?;
-                Some(self.plain(size, address))
-            }
+        match size {
+            Size::Word => self.memory.set_word(address, value),
+            Size::Byte => self.memory.set_byte(address, (value % 256) as u8),
         }
     }
+}
 
-    // The place of an operand.
-    #[tactic(auto, using(crate::proofs::QuickDone::in_register))]
-    #[inline(always)]
-    pub(crate) fn near_place(&mut self, operand: Operand, size: Size) -> Option<OperandLocation>
-        ensures some { IfSome result (λ place. ComesTo (place_of operand size) self.old place self.new) }
-        ensures near { IfSome result (λ place. is_near size place self.new ≡ true) }
-        ensures registers { ChangesRegisters self.old self.new }
-        ensures none { result ≡ None → self.new ≡ self.old }
-    {
-        match operand.mode {
-            Mode::Register => Some(OperandLocation::InRegister(operand.register)),
-            _ => {
-                let address = self.plain_place(operand, size)?;
-                Some(OperandLocation::InMemory(address))
-            }
-        }
-    }
+// Whether the six bits of an operand mean the register itself. They are looked at, and not the mode that they give, so
+// that a mode is distinguished once.
+#[tactic(auto, using(crate::proofs::QuickDone::register_mode))]
+#[inline(always)]
+pub(crate) fn is_register(bits: u16) -> bool
+    ensures { result ≡ true → mode_of (bits % 64 / 8) ≡ mode.Register }
+{
+    bits / 8 % 8 == 0
 }
