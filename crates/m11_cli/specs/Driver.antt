@@ -12,7 +12,7 @@ use Rattle.m11_asm.specs.declared.fault.AsmFault.{AsmFault}
 use Rattle.m11_asm.specs.declared.fault.AsmFault.TheVariants as asm-fault
 use Rattle.m11_asm.specs.declared.run.AsmDone.{AsmDone}
 use Rattle.m11_cpu.specs.Dialogue.{Input, Output, both, input_of, output_of}
-use Rattle.m11_cpu.specs.Simulation.{Simulates}
+use Rattle.m11_cpu.specs.Simulation.{Simulates, request_of, run_devices}
 use Rattle.m11_cpu.specs.declared.fault.SimFault.{SimFault}
 use Rattle.m11_cpu.specs.declared.fault.SimFault.TheVariants as sim-fault
 use Rattle.m11_cpu.specs.declared.stop.SimDone.{SimDone}
@@ -154,9 +154,10 @@ pub record RunsTape (sim : SimTask) (old new : Store) (before after : Streams) (
   pub tape : Input
   pub tape' : Input
   pub read : Holds old.files sim.tape.now tape.text
-  pub runs : Simulates sim.start sim.words sim.limit tape tape'
-      (both before.input.text before.input.faults before.printed.text before.printed.faults)
-      (both after.input.text after.input.faults after.printed.text after.printed.faults) before.reported after.reported answer
+  pub runs : Simulates (request_of sim.start sim.words sim.limit)
+      (run_devices tape (both before.input.text before.input.faults before.printed.text before.printed.faults) before.reported)
+      (run_devices tape' (both after.input.text after.input.faults after.printed.text after.printed.faults) after.reported)
+      answer
   pub kept : new ≡ old
 
 abbrev pub MayRun : SimTask → Store → Store → Streams → Streams → Result SimDone SimFault → Type 0

@@ -2,7 +2,7 @@
 
 ghost use Rattle.std.specs.Prelude.{◌≡◌, map};
 ghost use Rattle.m11_cpu.specs.Dialogue.{Input, Output, both, input_of, output_of};
-ghost use Rattle.m11_cpu.specs.Simulation.{Simulates};
+ghost use Rattle.m11_cpu.specs.Simulation.{Simulates, request_of, run_devices};
 ghost use Rattle.m11_cli.specs.Driver.{Assembles, Carries, ComesTo, Explains, Links, Obeys, Store, Reports, ReportsSome, store, streams};
 ghost use Rattle.m11_cli.specs.FaultLines.{line_of, open_line};
 ghost use Rattle.m11_files.specs.Opens.{AreFiles, IsEmptied, IsEmptiedSome, creating, keeping_some};
@@ -323,11 +323,13 @@ fn run_sim<T: Feed + Drop, I: Feed, O: Sink, E: Sink>(
     task: &SimTask<'_>,
 ) -> Result<SimDone, SimFault>
     requires { IsDoable (Sim task.now) }
-    ensures { (tape' : Input) × Simulates task.now.start task.now.words task.now.limit
-        (input_of (T.text tape) (T.faults tape)) tape'
+    ensures { (tape' : Input) × Simulates (request_of task.now.start task.now.words task.now.limit)
+        (run_devices (input_of (T.text tape) (T.faults tape))
         (both (I.text input.old) (I.faults input.old) (O.text out.old) (O.faults out.old))
+        (output_of (E.text err.old) (E.faults err.old)))
+        (run_devices tape'
         (both (I.text input.new) (I.faults input.new) (O.text out.new) (O.faults out.new))
-        (output_of (E.text err.old) (E.faults err.old)) (output_of (E.text err.new) (E.faults err.new)) result }
+        (output_of (E.text err.new) (E.faults err.new))) result }
 {
     let mut tape = tape;
     sim_run(

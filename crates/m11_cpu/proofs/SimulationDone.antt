@@ -10,37 +10,38 @@ use Rattle.m11_cpu.specs.Dialogue.{Devices, Does, Input, Output}
 use Rattle.m11_cpu.specs.Loading.{LoadsInto}
 use Rattle.m11_cpu.specs.Machine.{new_machine, psw_in}
 use Rattle.m11_cpu.specs.Messages.{PutsMessages, messages_of}
-use Rattle.m11_cpu.specs.Simulation.{HasRun, Simulates, started}
+use Rattle.m11_cpu.specs.Simulation.{HasRun, Request, RunDevices, Simulates, run_devices, started}
 
-pub not_loaded : (start : Option ℕ) (words limit : ℕ) (tape tape' : Input) (console : Devices) (reported : Output)
-    (machine m : Machine) (fault : LoadFault) → machine ≡ new_machine words
+pub not_loaded : (request : Request) (tape tape' : Input) (console : Devices) (reported : Output)
+    (machine m : Machine) (fault : LoadFault) → machine ≡ new_machine request.words
     → LoadsInto tape.text tape'.text tape.faults tape'.faults machine m (Err fault)
-    → Simulates start words limit tape tape' console console reported reported (Err (Load fault))
-not_loaded start words limit tape tape' console reported machine m fault e h =
+    → Simulates request (run_devices tape console reported) (run_devices tape' console reported) (Err (Load fault))
+not_loaded request tape tape' console reported machine m fault e h =
     let P : Machine → Type 0 = λ n. LoadsInto tape.text tape'.text tape.faults tape'.faults n m (Err fault) in
     (m, subst P e h, refl, refl)
 
-pub has_run : (start : Option ℕ) (words limit : ℕ) (tape tape' : Input) (console console' : Devices) (ran : Ran)
-    (machine loaded m : Machine) (transfer address : ℕ) → machine ≡ new_machine words
-    → LoadsInto tape.text tape'.text tape.faults tape'.faults machine loaded (Ok transfer)
-    → address ≡ unwrap_or start transfer → Does (started address limit loaded) console console' (ran, m)
-    → HasRun start words limit tape tape' console console' ran m
-has_run start words limit tape tape' console console' ran machine loaded m transfer address e h f k =
-    let P : Machine → Type 0 = λ n. LoadsInto tape.text tape'.text tape.faults tape'.faults n loaded (Ok transfer) in
-    let Q : ℕ → Type 0 = λ n. Does (started n limit loaded) console console' (ran, m) in
+pub has_run : (request : Request) (before after : RunDevices) (ran : Ran) (machine loaded m : Machine)
+    (transfer address : ℕ) → machine ≡ new_machine request.words
+    → LoadsInto before.tape.text after.tape.text before.tape.faults after.tape.faults machine loaded (Ok transfer)
+    → address ≡ unwrap_or request.start transfer
+    → Does (started address request.limit loaded) before.console after.console (ran, m)
+    → HasRun request before after ran m
+has_run request before after ran machine loaded m transfer address e h f k =
+    let P : Machine → Type 0 = λ n.
+    LoadsInto before.tape.text after.tape.text before.tape.faults after.tape.faults n loaded (Ok transfer) in
+    let Q : ℕ → Type 0 = λ n. Does (started n request.limit loaded) before.console after.console (ran, m) in
     record { transfer = transfer; loaded = loaded; loads = subst P e h; runs = subst Q f k }
 
-pub not_reported : (start : Option ℕ) (words limit : ℕ) (tape tape' : Input) (console console' : Devices)
-    (reported reported' : Output) (ran : Ran) (m : Machine) (psw : ℕ) (fault : SimFault)
-    → HasRun start words limit tape tape' console console' ran m → psw ≡ psw_in m
-    → PutsMessages {A = Unit {0}} reported.text reported'.text reported.faults reported'.faults
+pub not_reported : (request : Request) (before after : RunDevices) (ran : Ran) (m : Machine) (psw : ℕ) (fault : SimFault)
+    → HasRun request before after ran m → psw ≡ psw_in m
+    → PutsMessages {A = Unit {0}} before.messages.text after.messages.text before.messages.faults after.messages.faults
     (messages_of ran.stop ran.steps m.registers psw) (Err fault)
-    → Simulates start words limit tape tape' console console' reported reported' (Err fault)
-not_reported start words limit tape tape' console console' reported reported' ran m psw Write run e h =
-    let P : ℕ → Type 0 = λ n. PutsMessages {A = Unit {0}} reported.text reported'.text reported.faults reported'.faults
-    (messages_of ran.stop ran.steps m.registers n) (Err Write) in
+    → Simulates request before after (Err fault)
+not_reported request before after ran m psw Write run e h =
+    let P : ℕ → Type 0 = λ n. PutsMessages {A = Unit {0}} before.messages.text after.messages.text
+    before.messages.faults after.messages.faults (messages_of ran.stop ran.steps m.registers n) (Err Write) in
     (ran, m, run, (subst P e h).0, (subst P e h).1)
-not_reported start words limit tape tape' console console' reported reported' ran m psw NoMemory run e h =
+not_reported request before after ran m psw NoMemory run e h =
     let to : Option (List ℕ) → ℕ → Output = λ t f. record { text = t; faults = f } in
     (ap₂ to h.0 h.1, inr (ran, m, run))
-not_reported start words limit tape tape' console console' reported reported' ran m psw (Load fault) run e h = absurd h
+not_reported request before after ran m psw (Load fault) run e h = absurd h

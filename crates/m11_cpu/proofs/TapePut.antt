@@ -116,7 +116,7 @@ module _ (old here : Place) (before now : List ℕ) (stage : TapeStage) (blocks 
             }
 
         pub block_fails : (A : Type 0) (fault : LoadFault)
-            → PutsData {A = A} new end now memory address count content (Err fault)
+            → PutsData {A = A} new end now memory (address, count) content (Err fault)
             → Loads old end before memory (Err fault)
         block_fails A (Tape fault) p = inr (address, content, p.0, inside_block p.0 p.1, p.2)
         block_fails A OutsideMemory p =

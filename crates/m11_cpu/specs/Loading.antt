@@ -120,13 +120,13 @@ LoadsInto text text' faults faults' before after answer =
 
 -- ---- one block
 
--- what the putting of a block's data yields, the header of which was given
-abbrev pub PutsData : {A : Type 0} → Place → Place → List ℕ → List ℕ → ℕ → ℕ → List ℕ → Result A LoadFault → Type 0
-PutsData old new before after address count content (Ok done) =
-    (length content ≡ count) × Took old new content × AreInside (length before) address content
-    × (after ≡ with_bytes address content before)
-PutsData old new before after address count content (Err (Tape fault)) =
-    (here : Place) × PutSome old here before after address count content × Stops data_byte here new (why_of fault)
-PutsData old new before after address count content (Err OutsideMemory) =
-    (here : Place) × PutSome old here before after address count content
-    × GivesOutside here new (length before) (address + length content)
+-- what the putting of a block's data yields, the header of which was given: `span` is its address and the number of its bytes
+abbrev pub PutsData : {A : Type 0} → Place → Place → List ℕ → List ℕ → ℕ × ℕ → List ℕ → Result A LoadFault → Type 0
+PutsData old new before after span content (Ok done) =
+    (length content ≡ span.1) × Took old new content × AreInside (length before) span.0 content
+    × (after ≡ with_bytes span.0 content before)
+PutsData old new before after span content (Err (Tape fault)) =
+    (here : Place) × PutSome old here before after span.0 span.1 content × Stops data_byte here new (why_of fault)
+PutsData old new before after span content (Err OutsideMemory) =
+    (here : Place) × PutSome old here before after span.0 span.1 content
+    × GivesOutside here new (length before) (span.0 + length content)

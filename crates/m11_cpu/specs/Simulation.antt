@@ -23,33 +23,52 @@ started address limit m =
     if address % 2 == 1 then Comes (record { stop = NoStart; steps = 0 }, m)
     else run_counted limit (with_register Pc address m)
 
+-- what is asked of a run: a start that replaces that of the tape, the words of memory, and the limit of steps
+pub record Request : Type 0 where
+  pub start : Option ℕ
+  pub words : ℕ
+  pub limit : ℕ
+
+abbrev pub request_of : Option ℕ → ℕ → ℕ → Request
+request_of start words limit = record { start = start; words = words; limit = limit }
+
+-- the devices of a run
+pub record RunDevices : Type 0 where
+  pub tape : Input
+  pub console : Devices
+  pub messages : Output
+
+abbrev pub run_devices : Input → Devices → Output → RunDevices
+run_devices tape console messages = record { tape = tape; console = console; messages = messages }
+
 -- the tape was loaded into a new machine
 abbrev pub Loaded : ℕ → Input → Input → Machine → Result ℕ LoadFault → Type 0
 Loaded words tape tape' m answer = LoadsInto tape.text tape'.text tape.faults tape'.faults (new_machine words) m answer
 
 -- the tape was loaded, and the program was run from its start, or from the one that replaces it
-pub record HasRun (start : Option ℕ) (words limit : ℕ) (tape tape' : Input) (console console' : Devices)
-    (ran : Ran) (m : Machine) : Type 0 where
+pub record HasRun (request : Request) (before after : RunDevices) (ran : Ran) (m : Machine) : Type 0 where
   pub transfer : ℕ
   pub loaded : Machine
-  pub loads : Loaded words tape tape' loaded (Ok transfer)
-  pub runs : Does (started (unwrap_or start transfer) limit loaded) console console' (ran, m)
+  pub loads : Loaded request.words before.tape after.tape loaded (Ok transfer)
+  pub runs : Does (started (unwrap_or request.start transfer) request.limit loaded) before.console after.console (ran, m)
 
 abbrev pub text_at_stop : Ran → Machine → List ℕ
 text_at_stop ran m = messages_of ran.stop ran.steps m.registers (psw_in m)
 
 -- what a whole run yields: its stop, which the messages report; or the tape was not loaded, and nothing was run or
 -- reported; or the messages were reported in part; or memory was refused, at first or when the program had stopped
-abbrev pub Simulates : Option ℕ → ℕ → ℕ → Input → Input → Devices → Devices → Output → Output → Result SimDone SimFault
-    → Type 0
-Simulates start words limit tape tape' console console' reported reported' (Ok done) =
-    (ran : Ran) × (m : Machine) × HasRun start words limit tape tape' console console' ran m × (done.stop ≡ ran.stop)
-    × Appends reported.text reported'.text (text_at_stop ran m) × (reported'.faults ≡ reported.faults)
-Simulates start words limit tape tape' console console' reported reported' (Err (Load fault)) =
-    (m : Machine) × Loaded words tape tape' m (Err fault) × (console' ≡ console) × (reported' ≡ reported)
-Simulates start words limit tape tape' console console' reported reported' (Err Write) =
-    (ran : Ran) × (m : Machine) × HasRun start words limit tape tape' console console' ran m
-    × AppendsBeginning reported.text reported'.text (text_at_stop ran m) × Rises reported.faults reported'.faults
-Simulates start words limit tape tape' console console' reported reported' (Err NoMemory) =
-    (reported' ≡ reported) × (((tape' ≡ tape) × (console' ≡ console))
-    ⊎ ((ran : Ran) × (m : Machine) × HasRun start words limit tape tape' console console' ran m))
+abbrev pub Simulates : Request → RunDevices → RunDevices → Result SimDone SimFault → Type 0
+Simulates request before after (Ok done) =
+    (ran : Ran) × (m : Machine) × HasRun request before after ran m × (done.stop ≡ ran.stop)
+    × Appends before.messages.text after.messages.text (text_at_stop ran m)
+    × (after.messages.faults ≡ before.messages.faults)
+Simulates request before after (Err (Load fault)) =
+    (m : Machine) × Loaded request.words before.tape after.tape m (Err fault) × (after.console ≡ before.console)
+    × (after.messages ≡ before.messages)
+Simulates request before after (Err Write) =
+    (ran : Ran) × (m : Machine) × HasRun request before after ran m
+    × AppendsBeginning before.messages.text after.messages.text (text_at_stop ran m)
+    × Rises before.messages.faults after.messages.faults
+Simulates request before after (Err NoMemory) =
+    (after.messages ≡ before.messages) × (((after.tape ≡ before.tape) × (after.console ≡ before.console))
+    ⊎ ((ran : Ran) × (m : Machine) × HasRun request before after ran m))

@@ -23,7 +23,7 @@ fn load_block<F: Feed>(
     ensures put { (content : List ℕ)
         × PutsData (place (F.text feed.old) (F.faults feed.old) reader.old.room)
         (place (F.text feed.new) (F.faults feed.new) reader.new.room)
-        memory.old memory.new address count content result
+        memory.old memory.new (address, count) content result
         × MatchResult result (λ _. reader.new.stage ≡ InBlock 0 (total_of address content)) (λ _. ⊤) }
     ensures size { length memory.new ≡ length memory.old }
 {

@@ -3,7 +3,7 @@
 ghost use Rattle.std.specs.Prelude.{◌≡◌, ◌≤◌};
 ghost use Rattle.m11_cpu.specs.Dialogue.{Does, both, input_of, output_of};
 ghost use Rattle.m11_cpu.specs.Memory.{least_words, most_words};
-ghost use Rattle.m11_cpu.specs.Simulation.{Simulates, started};
+ghost use Rattle.m11_cpu.specs.Simulation.{Simulates, request_of, run_devices, started};
 
 use crate::fault::SimFault;
 use crate::machine::Machine;
@@ -32,11 +32,13 @@ pub fn sim_run<T: Feed, I: Feed, O: Sink, M: Sink>(
 ) -> Result<SimDone, SimFault>
     requires least { least_words ≤ words }
     requires most { words ≤ most_words }
-    ensures { Simulates start words limit
-        (input_of (T.text tape.old) (T.faults tape.old)) (input_of (T.text tape.new) (T.faults tape.new))
+    ensures { Simulates (request_of start words limit)
+        (run_devices (input_of (T.text tape.old) (T.faults tape.old))
         (both (I.text input.old) (I.faults input.old) (O.text output.old) (O.faults output.old))
+        (output_of (M.text messages.old) (M.faults messages.old)))
+        (run_devices (input_of (T.text tape.new) (T.faults tape.new))
         (both (I.text input.new) (I.faults input.new) (O.text output.new) (O.faults output.new))
-        (output_of (M.text messages.old) (M.faults messages.old)) (output_of (M.text messages.new) (M.faults messages.new))
+        (output_of (M.text messages.new) (M.faults messages.new)))
         result }
 {
     let mut machine = Machine::new(alloc, words)?;
