@@ -14,7 +14,7 @@ use Rattle.m11_obj.specs.declared.relocations.Target.TheVariants.{Internal, Glob
 use Rattle.m11_obj.specs.declared.relocations.Relocation.{Relocation}
 use Rattle.m11_blocks.specs.Frames.{word_bytes}
 use Rattle.m11_obj.specs.Gsd.{kind_code, name_bytes, entry_bytes, EntryFits}
-use Rattle.m11_obj.specs.Relocations.{command, target_name, target_constant, optional_name, optional_word, byte_form, relocation_bytes, FormExists, RelocationFits}
+use Rattle.m11_obj.specs.Relocations.{parts_of, optional_name, optional_word, byte_form, relocation_bytes, FormExists, RelocationFits}
 use Rattle.m11_obj.specs.Reading.{◌>>=◌, first_byte, first_word, first_name_word, first_name, entry_kind, first_entry, items_within, Form, Nothing, Constant, Name, NameAndConstant, is_without_byte_form, row_of, form_of, first_target, first_relocation}
 use Rattle.m11_obj.proofs.FieldsOf.{done, ok_is, bind_ok, guard_ok, entry_of}
 use Rattle.m11_obj.proofs.Items.{Shrinks}
@@ -180,9 +180,9 @@ entry_reads bytes x are e =
 
 -- a target has this command, and what follows the command
 record TargetIs (code : ℕ) (target : Target) (name : Option (ℕ × ℕ)) (constant : Option ℕ) : Type 0 where
-  command_is : command target ≡ code
-  name_is : target_name target ≡ name
-  constant_is : target_constant target ≡ constant
+  command_is : (parts_of target).command ≡ code
+  name_is : (parts_of target).name ≡ name
+  constant_is : (parts_of target).constant ≡ constant
 
 -- a row is that of the command
 abbrev Reports : ℕ → Form → Type 0
@@ -248,7 +248,7 @@ form_parts : (b : Bool) (row : Result Form RecordFault) (form : Form) → cond b
 form_parts true row form e = absurd cc
 form_parts false row form e = (e, refl)
 
-form_exists : (is_byte : Bool) (target : Target) → (is_byte && is_without_byte_form (command target)) ≡ false
+form_exists : (is_byte : Bool) (target : Target) → (is_byte && is_without_byte_form (parts_of target).command) ≡ false
     → FormExists is_byte target
 form_exists false target e = tt
 form_exists true (Internal constant) e = tt
@@ -267,10 +267,10 @@ form_exists true (SectionAdditiveDisplaced name constant) e = tt
 
 -- what stands after the displacement
 record TargetStands (code : ℕ) (bytes : List ℕ) (x : Target × List ℕ) : Type 0 where
-  begins : Begins bytes (optional_name (target_name x.0) ++ optional_word (target_constant x.0)) x.1
-  command_is : command x.0 ≡ code
-  name : IfSome (target_name x.0) IsName
-  constant : IfSome (target_constant x.0) (λ word. word < 2 ^ 16)
+  begins : Begins bytes (optional_name (parts_of x.0).name ++ optional_word (parts_of x.0).constant) x.1
+  command_is : (parts_of x.0).command ≡ code
+  name : IfSome (parts_of x.0).name IsName
+  constant : IfSome (parts_of x.0).constant (λ word. word < 2 ^ 16)
 
 stands : (code : ℕ) (bytes : List ℕ) (target : Target) (rest : List ℕ) (x : Target × List ℕ) (name : Option (ℕ × ℕ))
     (constant : Option ℕ) → TargetIs code target name constant
@@ -279,7 +279,7 @@ stands : (code : ℕ) (bytes : List ℕ) (target : Target) (rest : List ℕ) (x 
 stands code bytes target rest x name constant reports begins is_name fits e =
     let made : Target × List ℕ = (target, rest) in
     let N : Option (ℕ × ℕ) → Type 0 =
-    λ n. Begins bytes (optional_name n ++ optional_word (target_constant target)) rest in
+    λ n. Begins bytes (optional_name n ++ optional_word (parts_of target).constant) rest in
     let C : Option ℕ → Type 0 = λ c. Begins bytes (optional_name name ++ optional_word c) rest in
     let here : TargetStands code bytes made = record {
       begins = subst N (sym reports.name_is) (subst C (sym reports.constant_is) begins);
@@ -330,12 +330,12 @@ relocation_made : (bytes : List ℕ) (code displacement : ℕ × List ℕ) (targ
     → done (relocation_of code.0 displacement.0 target.0, target.1) ≡ done x → RelocationReads bytes x
 relocation_made bytes code displacement target x c d t has_form e =
     let is_byte : Bool = nat_le 128 code.0 in
-    let following : List ℕ = optional_name (target_name target.0) ++ optional_word (target_constant target.0) in
+    let following : List ℕ = optional_name ((parts_of target.0).name) ++ optional_word ((parts_of target.0).constant) in
     let others = begins_then code.1 (displacement.0 ∷ []) displacement.1 following target.1 d.begins t.begins in
     let whole = begins_then bytes (code.0 ∷ []) code.1 (displacement.0 ∷ following) target.1 c.begins others in
-    let command_byte : code.0 ≡ command target.0 + byte_form is_byte =
+    let command_byte : code.0 ≡ (parts_of target.0).command + byte_form is_byte =
     code_parts code.0 is_byte c.fits refl ∙ ap (λ (n : ℕ). n + byte_form is_byte) (sym t.command_is) in
-    let exists : (is_byte && is_without_byte_form (command target.0)) ≡ false =
+    let exists : (is_byte && is_without_byte_form ((parts_of target.0).command)) ≡ false =
     ap (λ (n : ℕ). is_byte && is_without_byte_form n) t.command_is ∙ has_form in
     let made : Relocation × List ℕ = (relocation_of code.0 displacement.0 target.0, target.1) in
     let here : RelocationReads bytes made = record {

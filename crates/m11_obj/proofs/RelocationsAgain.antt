@@ -10,7 +10,7 @@ use Rattle.m11_obj.specs.declared.relocations.Target.TheVariants.{Internal, Glob
 use Rattle.m11_obj.specs.declared.relocations.Relocation.{Relocation}
 use Rattle.m11_blocks.specs.Frames.{word_bytes}
 use Rattle.m11_obj.specs.Gsd.{name_bytes}
-use Rattle.m11_obj.specs.Relocations.{command, target_name, target_constant, optional_name, optional_word, byte_form, relocation_bytes, relocations_bytes, FormExists, RelocationFits, RelocationsFit}
+use Rattle.m11_obj.specs.Relocations.{parts_of, optional_name, optional_word, byte_form, relocation_bytes, relocations_bytes, FormExists, RelocationFits, RelocationsFit}
 use Rattle.m11_obj.specs.Reading.{Form, Nothing, Constant, Name, NameAndConstant, row_of, form_of, first_target, first_relocation, items_within, items_of, relocations_of}
 use Rattle.m11_obj.proofs.ReadAgain.{word_again, name_again}
 
@@ -31,7 +31,7 @@ row (SectionAdditive name constant) = NameAndConstant (λ n c. SectionAdditive n
 row (SectionAdditiveDisplaced name constant) = NameAndConstant (λ n c. SectionAdditiveDisplaced n c)
 
 row_again : (is_byte : Bool) (target : Target) → FormExists is_byte target
-    → form_of is_byte (command target) ≡ Ok (row target)
+    → form_of is_byte (parts_of target).command ≡ Ok (row target)
 unfolding form_of row_of row
 row_again false (Internal constant) exists = refl
 row_again false (Global name) exists = refl
@@ -80,10 +80,10 @@ both_again target name constant rest is lt =
     ∙ rw (name_again name (word_bytes constant ++ rest) is, word_again constant rest lt) refl
 
 abbrev arguments : Target → List ℕ
-arguments target = optional_name (target_name target) ++ optional_word (target_constant target)
+arguments target = optional_name (parts_of target).name ++ optional_word (parts_of target).constant
 
-target_again : (target : Target) (rest : List ℕ) → IfSome (target_name target) IsName
-    → IfSome (target_constant target) (λ word. word < 2 ^ 16)
+target_again : (target : Target) (rest : List ℕ) → IfSome (parts_of target).name IsName
+    → IfSome (parts_of target).constant (λ word. word < 2 ^ 16)
     → first_target (row target) (arguments target ++ rest) ≡ Ok (target, rest)
 unfolding row first_target
 target_again (Internal constant) rest is lt = constant_again (λ c. Internal c) constant rest lt
@@ -105,7 +105,7 @@ target_again (SectionAdditive name constant) rest is lt =
 target_again (SectionAdditiveDisplaced name constant) rest is lt =
     both_again (λ n c. SectionAdditiveDisplaced n c) name constant rest is lt
 
-command_below : (target : Target) → command target < 16
+command_below : (target : Target) → (parts_of target).command < 16
 command_below (Internal constant) = omega arith
 command_below (Global name) = omega arith
 command_below (InternalDisplaced constant) = omega arith
@@ -136,8 +136,8 @@ relocation_again relocation rest fits =
     let target = relocation.target in
     let below = command_below target in
     rw (
-      bit_again (command target) relocation.is_byte below,
-      code_again (command target) relocation.is_byte below,
+      bit_again (parts_of target).command relocation.is_byte below,
+      code_again (parts_of target).command relocation.is_byte below,
       row_again relocation.is_byte target fits.form,
       target_again target rest fits.name fits.constant,
     ) refl

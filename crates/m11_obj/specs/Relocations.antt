@@ -9,52 +9,30 @@ use Rattle.m11_obj.specs.declared.relocations.Relocation.{Relocation}
 use Rattle.m11_blocks.specs.Frames.{word_bytes}
 use Rattle.m11_obj.specs.Gsd.{name_bytes}
 
--- the command of a target, which stands in octal in the manual
-abbrev pub command : Target → ℕ
-command (Internal constant) = 0o1
-command (Global name) = 0o2
-command (InternalDisplaced constant) = 0o3
-command (GlobalDisplaced name) = 0o4
-command (GlobalAdditive name constant) = 0o5
-command (GlobalAdditiveDisplaced name constant) = 0o6
-command (LocationCounterDefinition name constant) = 0o7
-command (LocationCounterModification constant) = 0o10
-command ProgramLimits = 0o11
-command (Section name) = 0o12
-command (SectionDisplaced name) = 0o14
-command (SectionAdditive name constant) = 0o15
-command (SectionAdditiveDisplaced name constant) = 0o16
+-- what an entry has beside its displacement: the command, which stands in octal in the manual, the name that follows it, if one
+-- does, and the constant that comes last, if one does
+pub record Parts : Type 0 where
+  pub command : ℕ
+  pub name : Option (ℕ × ℕ)
+  pub constant : Option ℕ
 
--- the name that a command has, and its constant
-abbrev pub target_name : Target → Option (ℕ × ℕ)
-target_name (Internal constant) = None
-target_name (Global name) = Some name
-target_name (InternalDisplaced constant) = None
-target_name (GlobalDisplaced name) = Some name
-target_name (GlobalAdditive name constant) = Some name
-target_name (GlobalAdditiveDisplaced name constant) = Some name
-target_name (LocationCounterDefinition name constant) = Some name
-target_name (LocationCounterModification constant) = None
-target_name ProgramLimits = None
-target_name (Section name) = Some name
-target_name (SectionDisplaced name) = Some name
-target_name (SectionAdditive name constant) = Some name
-target_name (SectionAdditiveDisplaced name constant) = Some name
+abbrev pub parts : ℕ → Option (ℕ × ℕ) → Option ℕ → Parts
+parts command name constant = record { command = command; name = name; constant = constant }
 
-abbrev pub target_constant : Target → Option ℕ
-target_constant (Internal constant) = Some constant
-target_constant (Global name) = None
-target_constant (InternalDisplaced constant) = Some constant
-target_constant (GlobalDisplaced name) = None
-target_constant (GlobalAdditive name constant) = Some constant
-target_constant (GlobalAdditiveDisplaced name constant) = Some constant
-target_constant (LocationCounterDefinition name constant) = Some constant
-target_constant (LocationCounterModification constant) = Some constant
-target_constant ProgramLimits = None
-target_constant (Section name) = None
-target_constant (SectionDisplaced name) = None
-target_constant (SectionAdditive name constant) = Some constant
-target_constant (SectionAdditiveDisplaced name constant) = Some constant
+abbrev pub parts_of : Target → Parts
+parts_of (Internal constant) = parts 0o1 None (Some constant)
+parts_of (Global name) = parts 0o2 (Some name) None
+parts_of (InternalDisplaced constant) = parts 0o3 None (Some constant)
+parts_of (GlobalDisplaced name) = parts 0o4 (Some name) None
+parts_of (GlobalAdditive name constant) = parts 0o5 (Some name) (Some constant)
+parts_of (GlobalAdditiveDisplaced name constant) = parts 0o6 (Some name) (Some constant)
+parts_of (LocationCounterDefinition name constant) = parts 0o7 (Some name) (Some constant)
+parts_of (LocationCounterModification constant) = parts 0o10 None (Some constant)
+parts_of ProgramLimits = parts 0o11 None None
+parts_of (Section name) = parts 0o12 (Some name) None
+parts_of (SectionDisplaced name) = parts 0o14 (Some name) None
+parts_of (SectionAdditive name constant) = parts 0o15 (Some name) (Some constant)
+parts_of (SectionAdditiveDisplaced name constant) = parts 0o16 (Some name) (Some constant)
 
 abbrev pub optional_name : Option (ℕ × ℕ) → List ℕ
 optional_name None = []
@@ -71,8 +49,8 @@ byte_form is_byte = if is_byte then 0o200 else 0
 -- the command byte, the displacement byte, the name if there is one, the constant if there is one
 abbrev pub relocation_bytes : Relocation → List ℕ
 relocation_bytes relocation =
-    (command relocation.target + byte_form relocation.is_byte) ∷ relocation.displacement
-    ∷ optional_name (target_name relocation.target) ++ optional_word (target_constant relocation.target)
+    ((parts_of relocation.target).command + byte_form relocation.is_byte) ∷ relocation.displacement
+    ∷ optional_name (parts_of relocation.target).name ++ optional_word (parts_of relocation.target).constant
 
 abbrev pub relocations_bytes : List Relocation → List ℕ
 relocations_bytes relocations = flat_map relocation_bytes relocations
@@ -93,8 +71,8 @@ FormExists false target = Unit {0}
 pub record RelocationFits (relocation : Relocation) : Type 0 where
   pub form : FormExists relocation.is_byte relocation.target
   pub displacement : relocation.displacement < 2 ^ 8
-  pub name : IfSome (target_name relocation.target) IsName
-  pub constant : IfSome (target_constant relocation.target) (λ word. word < 2 ^ 16)
+  pub name : IfSome (parts_of relocation.target).name IsName
+  pub constant : IfSome (parts_of relocation.target).constant (λ word. word < 2 ^ 16)
 
 abbrev pub RelocationsFit : List Relocation → Type 0
 RelocationsFit relocations = All RelocationFits relocations

@@ -5,7 +5,7 @@ ghost use Rattle.std.specs.Prelude.{◌≡◌, ◌+◌, ◌≤◌, ◌<◌, ◌^
 ghost use Rattle.arrayvec.specs.ArrayVec.{array_vec_len};
 ghost use Rattle.m11_base.specs.Rad50.{IsName};
 ghost use Rattle.m11_blocks.specs.Frames.{content_limit};
-ghost use Rattle.m11_obj.specs.Relocations.{command, target_name, target_constant, optional_name, optional_word, relocation_bytes, FormExists, RelocationFits};
+ghost use Rattle.m11_obj.specs.Relocations.{parts_of, optional_name, optional_word, relocation_bytes, FormExists, RelocationFits};
 
 use crate::gsd::{put_name, put_word};
 use m11_base::Name;
@@ -43,68 +43,73 @@ pub enum Target {
     SectionAdditiveDisplaced(Name, u16),
 }
 
-impl Target {
-    // The command.
-    fn command(&self) -> u8
-        ensures code { result ≡ command self.now }
-        ensures below { result < 16 }
-    {
-        match self {
-            Target::Internal(_) => 0o1,
-            Target::Global(_) => 0o2,
-            Target::InternalDisplaced(_) => 0o3,
-            Target::GlobalDisplaced(_) => 0o4,
-            Target::GlobalAdditive(_, _) => 0o5,
-            Target::GlobalAdditiveDisplaced(_, _) => 0o6,
-            Target::LocationCounterDefinition(_, _) => 0o7,
-            Target::LocationCounterModification(_) => 0o10,
-            Target::ProgramLimits => 0o11,
-            Target::Section(_) => 0o12,
-            Target::SectionDisplaced(_) => 0o14,
-            Target::SectionAdditive(_, _) => 0o15,
-            Target::SectionAdditiveDisplaced(_, _) => 0o16,
-        }
-    }
-
+// What an entry has beside its displacement.
+#[derive(Clone, Copy)]
+struct EntryParts {
+    command: u8,
     // The name that follows the command, if one does.
-    fn name(&self) -> Option<Name>
-        ensures { result ≡ target_name self.now }
+    name: Option<Name>,
+    // The constant that comes last, if one does.
+    constant: Option<u16>,
+}
+
+impl EntryParts {
+    fn new(command: u8, name: Option<Name>, constant: Option<u16>) -> EntryParts
+        ensures { result ≡ record { command = command; name = name; constant = constant } }
     {
-        match self {
-            Target::Global(name)
-            | Target::GlobalDisplaced(name)
-            | Target::GlobalAdditive(name, _)
-            | Target::GlobalAdditiveDisplaced(name, _)
-            | Target::LocationCounterDefinition(name, _)
-            | Target::Section(name)
-            | Target::SectionDisplaced(name)
-            | Target::SectionAdditive(name, _)
-            | Target::SectionAdditiveDisplaced(name, _) => Some(*name),
-            Target::Internal(_)
-            | Target::InternalDisplaced(_)
-            | Target::LocationCounterModification(_)
-            | Target::ProgramLimits => None,
+        EntryParts {
+            command,
+            name,
+            constant,
         }
     }
+}
 
-    // The constant that comes last, if one does.
-    fn constant(&self) -> Option<u16>
-        ensures constant { result ≡ target_constant self.now }
+impl Target {
+    fn parts(&self) -> EntryParts
+        ensures command { result.command ≡ (parts_of self.now).command }
+        ensures name { result.name ≡ (parts_of self.now).name }
+        ensures constant { result.constant ≡ (parts_of self.now).constant }
+        ensures below { result.command < 16 }
     {
         match self {
-            Target::Internal(constant)
-            | Target::InternalDisplaced(constant)
-            | Target::GlobalAdditive(_, constant)
-            | Target::GlobalAdditiveDisplaced(_, constant)
-            | Target::LocationCounterDefinition(_, constant)
-            | Target::LocationCounterModification(constant)
-            | Target::SectionAdditive(_, constant)
-            | Target::SectionAdditiveDisplaced(_, constant) => Some(*constant),
-            Target::Global(_)
-            | Target::GlobalDisplaced(_)
-            | Target::ProgramLimits
-            | Target::Section(_)
-            | Target::SectionDisplaced(_) => None,
+            Target::Internal(constant) => EntryParts::new(0o1, None, Some(*constant)),
+            Target::Global(name) => EntryParts::new(0o2, Some(*name), None),
+            Target::InternalDisplaced(constant) => EntryParts::new(0o3, None, Some(*constant)),
+            Target::GlobalDisplaced(name) => EntryParts::new(0o4, Some(*name), None),
+            Target::GlobalAdditive(name, constant) => EntryParts::new(
+                0o5,
+                Some(*name),
+                Some(*constant),
+            ),
+            Target::GlobalAdditiveDisplaced(name, constant) => EntryParts::new(
+                0o6,
+                Some(*name),
+                Some(*constant),
+            ),
+            Target::LocationCounterDefinition(name, constant) => EntryParts::new(
+                0o7,
+                Some(*name),
+                Some(*constant),
+            ),
+            Target::LocationCounterModification(constant) => EntryParts::new(
+                0o10,
+                None,
+                Some(*constant),
+            ),
+            Target::ProgramLimits => EntryParts::new(0o11, None, None),
+            Target::Section(name) => EntryParts::new(0o12, Some(*name), None),
+            Target::SectionDisplaced(name) => EntryParts::new(0o14, Some(*name), None),
+            Target::SectionAdditive(name, constant) => EntryParts::new(
+                0o15,
+                Some(*name),
+                Some(*constant),
+            ),
+            Target::SectionAdditiveDisplaced(name, constant) => EntryParts::new(
+                0o16,
+                Some(*name),
+                Some(*constant),
+            ),
         }
     }
 }
@@ -124,12 +129,9 @@ impl Relocation {
     pub fn byte_count(&self) -> usize
         ensures { result ≡ length (relocation_bytes self.now) }
     {
-        let name = if self.target.name().is_some() { 4 } else { 0 };
-        let constant = if self.target.constant().is_some() {
-            2
-        } else {
-            0
-        };
+        let parts = self.target.parts();
+        let name = if parts.name.is_some() { 4 } else { 0 };
+        let constant = if parts.constant.is_some() { 2 } else { 0 };
         2 + name + constant
     }
 }
@@ -161,13 +163,13 @@ pub(crate) fn put_relocation(content: &mut Block, relocation: &Relocation)
     ensures bytes { content.new.items ≡ content.old.items ++ relocation_bytes relocation.now }
     ensures fits { RelocationFits relocation.now }
 {
-    let command = relocation.target.command();
+    let parts = relocation.target.parts();
     content.push(if relocation.is_byte {
-        command + 0o200
+        parts.command + 0o200
     } else {
-        command
+        parts.command
     });
     content.push(relocation.displacement);
-    put_optional_name(content, relocation.target.name());
-    put_optional_word(content, relocation.target.constant());
+    put_optional_name(content, parts.name);
+    put_optional_word(content, parts.constant);
 }

@@ -1,4 +1,4 @@
-use Rattle.std.proofs.Common.{ℕ, List, length, ap, ◌∙◌, arith}
+use Rattle.std.proofs.Common.{ℕ, List, length, ap, arith}
 use Rattle.m11_obj.specs.Reading.{record_entries}
 use Rattle.m11_obj.proofs.RecordFields.{entries_counted}
 use Rattle.m11_obj.proofs.records.Record.entry_count.Goals as goal
