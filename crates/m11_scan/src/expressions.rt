@@ -88,7 +88,8 @@ fn place_if(holds: bool, depth: usize, is_due: bool) -> Option<Within>
     }
 }
 
-fn role_of(sort: Sort) -> Role
+/// What a token of a sort can be in an expression.
+pub fn role_of(sort: Sort) -> Role
     ensures { result ≡ role_of sort }
 {
     match sort {

@@ -19,7 +19,7 @@ mod texts;
 
 pub use conditions::{Condition, read_condition};
 pub use cutting::{Token, tokens, tokens_from};
-pub use expressions::expression_length;
+pub use expressions::{Role, Within, expression_length, role_of};
 pub use laws::{
     nested_brackets_are_read_whole, there_is_one_cut, tokens_lie_in_order,
     written_expressions_are_taken_whole,

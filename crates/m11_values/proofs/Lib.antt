@@ -1,0 +1,3 @@
+mod Exits
+mod LastOperators
+mod Parts

@@ -1,0 +1,135 @@
+//! Values of expressions. (MACRO-11 Language Reference Manual, "Expressions".)
+
+ghost use Rattle.std.specs.Prelude.{◌≡◌, ◌<◌, ◌≤◌, drop, length, map};
+ghost use Rattle.std.specs.Option.{IfSome};
+ghost use Rattle.m11_scan.specs.Expressions.{begin, expression_length, role_of, sort_of};
+ghost use Rattle.m11_values.specs.Places.{after, found_at, last_operator, operator_at, operator_of};
+ghost use Rattle.m11_values.specs.Quantities.{quantity};
+ghost use Rattle.m11_values.specs.Values.{expression_tokens, items_of, value_of};
+
+use crate::names::Names;
+use crate::operations::combined;
+use crate::operators::Operator;
+use crate::prefixes::{applied, prefix_of, radix_under, reach};
+use crate::terms::atom;
+use crate::values::Value;
+use m11_scan::{Line, Radix, Role, Sort, Token, Within, expression_length, role_of};
+
+// An operator, and the place of its token.
+#[derive(Clone, Copy, PartialEq, Eq, Debug)]
+pub struct Split {
+    pub(crate) place: usize,
+    pub(crate) operator: Operator,
+}
+
+/// The value of the expression that tokens of a line begin with, and the tokens after it. A term may be missing, and so may a `>`; both
+/// are flagged. That tokens are left over isn't.
+pub fn value<'a, N: Names>(tokens: &'a [Token], line: &Line, names: &N) -> (Value, &'a [Token])
+    ensures value { quantity result.0
+        ≡ value_of (N.base names.now) (items_of (N.stands_for names.now) line.now.text (expression_tokens tokens.now)) }
+    ensures rest { result.1.now ≡ drop (expression_length (map sort_of tokens.now)) tokens.now }
+{
+    let length = expression_length(tokens);
+    let value = expression(&tokens[..length], names.radix(), line, names);
+    (value, &tokens[length..])
+}
+
+// The value of an expression that has all of some tokens.
+fn expression<N: Names>(tokens: &[Token], radix: Radix, line: &Line, names: &N) -> Value
+    ensures { quantity result ≡ value_of radix (items_of (N.stands_for names.now) line.now.text tokens.now) }
+{
+    if let Some(split) = last_operator(tokens) {
+        let left = expression(&tokens[..split.place], radix, line, names);
+        let right = expression(&tokens[split.place + 1..], radix, line, names);
+        return combined(split.operator, left, right);
+    }
+    match tokens {
+        [] => Value::missing(),
+        [first, rest @ ..] => match prefix_of(first.sort) {
+            Some(prefix) => {
+                let end = reach(prefix, rest);
+                let value = expression(&rest[..end], radix_under(prefix, radix), line, names);
+                applied(prefix, end < rest.len(), value)
+            }
+            None => atom(first, radix, line, names),
+        },
+    }
+}
+
+// The last operator between two terms that stands outside brackets.
+fn last_operator(tokens: &[Token]) -> Option<Split>
+    ensures last { result ≡ last_operator begin (map sort_of tokens.now) }
+    ensures within { IfSome result (λ split. split.place < length tokens.now) }
+{
+    let mut found = None;
+    let mut count = 0;
+    let mut place = Within {
+        depth: 0,
+        is_due: true,
+    };
+    let mut rest = tokens;
+    'tokens: while let [token, others @ ..] = rest {
+        found = found_at(operator_at(token.sort, place), count, found);
+        place = after(role_of(token.sort), place);
+        count += 1;
+        rest = others;
+    }
+    found
+}
+
+// An operator at a place, or the one that was found before it.
+fn found_at(operator: Option<Operator>, place: usize, found: Option<Split>) -> Option<Split>
+    ensures { result ≡ found_at operator place found }
+{
+    match operator {
+        Some(operator) => Some(Split { place, operator }),
+        None => found,
+    }
+}
+
+// The operator that a token is at a place, outside brackets.
+fn operator_at(sort: Sort, place: Within) -> Option<Operator>
+    ensures { result ≡ operator_at sort place }
+{
+    if place.depth == 0 {
+        operator_of(place.is_due, sort)
+    } else {
+        None
+    }
+}
+
+// The operator that a token is between two terms, by whether a term is due.
+fn operator_of(is_due: bool, sort: Sort) -> Option<Operator>
+    ensures { result ≡ operator_of is_due sort }
+{
+    match sort {
+        Sort::Plus => { if is_due { None } else { Some(Operator::Add) } }
+        Sort::Minus => {
+            if is_due {
+                None
+            } else {
+                Some(Operator::Subtract)
+            }
+        }
+        Sort::Times => Some(Operator::Multiply),
+        Sort::Over => Some(Operator::Divide),
+        Sort::And => Some(Operator::And),
+        Sort::Or => Some(Operator::Or),
+        _ => None,
+    }
+}
+
+// The place after a token of a role.
+fn after(role: Role, place: Within) -> Within
+    requires { place.depth < usize.MAX }
+    ensures { result ≡ after role place }
+{
+    let (depth, is_due) = match role {
+        Role::Term => (place.depth, false),
+        Role::Prefix | Role::Sign | Role::Operator => (place.depth, true),
+        Role::Opens => (place.depth + 1, true),
+        Role::Closes => (place.depth.saturating_sub(1), false),
+        Role::Foreign => (place.depth, place.is_due),
+    };
+    Within { depth, is_due }
+}

@@ -1,0 +1,52 @@
+//! What a value counts from. (MACRO-11 Language Reference Manual, "Evaluating relocatable and absolute expressions".)
+
+ghost use Rattle.std.specs.Prelude.{◌≡◌};
+ghost use Rattle.m11_values.specs.Kinds.{is_register, kind_of, refusal};
+ghost use Rattle.m11_scan.specs.Views.{bits_of};
+
+use crate::operators::Operator;
+use m11_base::Name;
+use m11_scan::Letters;
+
+/// What the number of a value counts from.
+#[derive(Clone, Copy, PartialEq, Eq, Debug)]
+pub enum Kind {
+    /// From 0: the number is the value.
+    Absolute,
+    /// From the beginning of the section with this number.
+    Section(u16),
+    /// The number is that of a register.
+    Register,
+    /// From the place that this name has in another object.
+    Reference(Name),
+}
+
+impl Kind {
+    /// Whether it is a register.
+    pub fn is_register(self) -> bool
+        ensures { result ≡ is_register self }
+    {
+        matches!(&self, Kind::Register)
+    }
+}
+
+// The kind of what an operator makes of two kinds, where they may stand with it.
+pub(crate) fn kind_of(operator: Operator, left: Kind, right: Kind) -> Option<Kind>
+    ensures { result ≡ kind_of operator left right }
+{
+    match (operator, left, right) {
+        (_, Kind::Absolute, Kind::Absolute) => Some(Kind::Absolute),
+        (Operator::Add, kind, Kind::Absolute) => Some(kind),
+        (Operator::Add, Kind::Absolute, kind) => Some(kind),
+        (Operator::Subtract, kind, Kind::Absolute) => Some(kind),
+        (Operator::Subtract, Kind::Section(a), Kind::Section(b)) if a == b => Some(Kind::Absolute),
+        _ => None,
+    }
+}
+
+// The letter of an operand that may not stand where it does: R for a register, else A.
+pub(crate) fn refusal(is_register: bool) -> Letters
+    ensures { bits_of result ≡ refusal is_register }
+{
+    if is_register { Letters::R } else { Letters::A }
+}

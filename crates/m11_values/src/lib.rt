@@ -1,0 +1,19 @@
+//! What values the expressions of a line have, and which symbols they read. What a symbol stands for is the caller's; nothing takes
+//! memory. (MACRO-11 Language Reference Manual, "Terms" and "Expressions".)
+#![tactic(auto)]
+
+mod expressions;
+mod kinds;
+mod names;
+mod operations;
+mod operators;
+mod prefixes;
+mod terms;
+mod values;
+
+pub use expressions::value;
+pub use kinds::Kind;
+pub use m11_scan::Radix;
+pub use names::{Names, Symbol};
+pub use operators::Operator;
+pub use values::Value;

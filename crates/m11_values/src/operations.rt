@@ -1,0 +1,131 @@
+//! What operators make of values. (MACRO-11 Language Reference Manual, "Unary operators" and "Binary operators".)
+
+ghost use Rattle.std.specs.Prelude.{◌≡◌, ◌≢◌};
+ghost use Rattle.m11_scan.specs.Views.{bits_of};
+ghost use Rattle.m11_values.specs.Operations.{absence, as_register, combined, complemented, division_letters, limited, negated, number_of, quotient, replaced, settled};
+ghost use Rattle.m11_values.specs.Quantities.{quantity};
+
+use crate::kinds::{Kind, kind_of, refusal};
+use crate::operators::Operator;
+use crate::values::Value;
+use m11_scan::Letters;
+
+// What an operator makes of two values.
+pub(crate) fn combined(operator: Operator, left: Value, right: Value) -> Value
+    ensures { quantity result ≡ combined operator (quantity left) (quantity right) }
+{
+    let letters = left
+        .letters
+        .with(right.letters)
+        .with(division_letters(operator, right.number));
+    settled(
+        kind_of(operator, left.kind, right.kind),
+        number_of(operator, left.number, right.number),
+        letters,
+        left.kind.is_register() || right.kind.is_register(),
+    )
+}
+
+// The number that an operator makes of two numbers, modulo 65536.
+fn number_of(operator: Operator, left: u16, right: u16) -> u16
+    ensures { result ≡ number_of operator left right }
+{
+    match operator {
+        Operator::Add => left.wrapping_add(right),
+        Operator::Subtract => left.wrapping_sub(right),
+        Operator::Multiply => left.wrapping_mul(right),
+        Operator::Divide => quotient(left, right),
+        Operator::And => left & right,
+        Operator::Or => left | right,
+    }
+}
+
+// The quotient of two numbers with signs, rounded towards 0, or 0 where the divisor is 0.
+fn quotient(left: u16, right: u16) -> u16
+    ensures { result ≡ quotient left right }
+{
+    if right == 0 {
+        0
+    } else {
+        let exact = i32::from(left.cast_signed()) / i32::from(right.cast_signed());
+        (exact.cast_unsigned() % 65536) as u16
+    }
+}
+
+// A for a division by 0.
+fn division_letters(operator: Operator, divisor: u16) -> Letters
+    ensures { bits_of result ≡ division_letters operator divisor }
+{
+    match operator {
+        Operator::Divide => Letters::A.when(divisor == 0),
+        _ => Letters::none(),
+    }
+}
+
+// A number of a kind, or an absolute one where its operands may not stand together.
+fn settled(kind: Option<Kind>, number: u16, letters: Letters, has_register: bool) -> Value
+    ensures { quantity result ≡ settled kind number (bits_of letters) has_register }
+{
+    match kind {
+        Some(kind) => limited(Value {
+            number,
+            kind,
+            letters,
+        }),
+        None => Value::absolute(number, letters.with(refusal(has_register))),
+    }
+}
+
+// The same value, but a register over 7 is an absolute number and has R.
+fn limited(value: Value) -> Value
+    ensures { quantity result ≡ limited (quantity value) }
+{
+    if value.kind.is_register() && value.number > 7 {
+        Value::absolute(value.number, value.letters.with(Letters::R))
+    } else {
+        value
+    }
+}
+
+// The value with a minus before it.
+pub(crate) fn negated(value: Value) -> Value
+    ensures { quantity result ≡ negated (quantity value) }
+{
+    replaced(value, 0u16.wrapping_sub(value.number))
+}
+
+// The value with every bit turned.
+pub(crate) fn complemented(value: Value) -> Value
+    ensures { quantity result ≡ complemented (quantity value) }
+{
+    replaced(value, 65535 - value.number)
+}
+
+// Another number in the place of an absolute one.
+fn replaced(value: Value, number: u16) -> Value
+    ensures { quantity result ≡ replaced (quantity value) number }
+{
+    Value::absolute(number, value.letters.with(absence(value.kind)))
+}
+
+// The letter of a kind where only an absolute number may stand.
+fn absence(kind: Kind) -> Letters
+    ensures { bits_of result ≡ absence kind }
+{
+    match kind {
+        Kind::Absolute => Letters::none(),
+        Kind::Register => refusal(true),
+        Kind::Section(_) | Kind::Reference(_) => refusal(false),
+    }
+}
+
+// The register of a number.
+pub(crate) fn as_register(value: Value) -> Value
+    ensures { quantity result ≡ as_register (quantity value) }
+{
+    limited(Value {
+        number: value.number,
+        kind: Kind::Register,
+        letters: value.letters.with(absence(value.kind)),
+    })
+}
