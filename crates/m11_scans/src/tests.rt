@@ -5,6 +5,7 @@ mod expressions;
 mod lines;
 mod terms;
 mod texts;
+mod values;
 
 use std::fmt::{Debug, Display};
 use std::process::Abort;
