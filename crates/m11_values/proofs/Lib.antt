@@ -1,3 +1,4 @@
 mod Exits
+mod Folds
 mod LastOperators
 mod Parts

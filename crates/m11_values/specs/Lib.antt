@@ -5,3 +5,4 @@ pub mod Terms
 pub mod Prefixes
 pub mod Places
 pub mod Values
+pub mod Laws

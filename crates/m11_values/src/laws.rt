@@ -1,0 +1,27 @@
+//! Laws of the values of expressions. Each is the contract of a function that does nothing.
+
+ghost use Rattle.std.specs.Prelude.{◌≡◌, ◌∷◌, ◌++◌, [], List};
+ghost use Rattle.m11_scan.specs.Expressions.{role_of};
+ghost use Rattle.m11_scan.specs.declared.expressions.Role.TheVariants.{Term};
+ghost use Rattle.m11_scan.specs.declared.radix.Radix.{Radix};
+ghost use Rattle.m11_scan.specs.declared.sort.Sort.TheVariants.{Greater, Less};
+ghost use Rattle.m11_values.specs.declared.operators.Operator.{Operator};
+ghost use Rattle.m11_values.specs.Laws.{AreSteps, IsOperator, IsTerm, IsWhole, Step, left_fold, written};
+ghost use Rattle.m11_values.specs.Operations.{combined};
+ghost use Rattle.m11_values.specs.Terms.{Item, atom_value};
+ghost use Rattle.m11_values.specs.Values.{value_of};
+
+/// An operator outside brackets with one term after it joins the values of what stands before it and of that term.
+#[tactic(auto, using(crate::proofs::Folds::joined_value))]
+pub fn an_operator_joins_its_sides()
+    ensures { (radix : Radix) (front back : List Item) (mark : Item) (operator : Operator)
+        → IsOperator operator front mark → IsTerm back
+        → value_of radix (front ++ mark ∷ back) ≡ combined operator (value_of radix front) (value_of radix back) }
+{}
+
+/// Where terms of one token are joined by operators, these are applied from left to right.
+#[tactic(auto, using(crate::proofs::Folds::folded_value))]
+pub fn operators_apply_from_left_to_right()
+    ensures { (radix : Radix) (first : Item) (steps : List Step) → role_of first.sort ≡ Term → AreSteps steps
+        → value_of radix (first ∷ written steps) ≡ left_fold radix (atom_value radix first.atom) steps }
+{}
