@@ -148,13 +148,13 @@ no_operator TwoColons h = cc
 no_operator Equals h = cc
 no_operator TwoEquals h = cc
 
-sorts-append : (front back : List Item) → sorts_of (front ++ back) ≡ sorts_of front ++ sorts_of back
+pub sorts-append : (front back : List Item) → sorts_of (front ++ back) ≡ sorts_of front ++ sorts_of back
 sorts-append front back = map-append item_sort front back
 
-size_of : (front : List Item) → length (sorts_of front) ≡ length front
+pub size_of : (front : List Item) → length (sorts_of front) ≡ length front
 size_of front = length-map front item_sort
 
-front_is : (front back : List Item) → take (length front) (front ++ back) ≡ front
+pub front_is : (front back : List Item) → take (length front) (front ++ back) ≡ front
 front_is [] back = refl
 front_is (item ∷ front) back = ap (λ (l : List Item). item ∷ l) (front_is front back)
 

@@ -1,4 +1,5 @@
 mod Exits
 mod Folds
+mod Groups
 mod LastOperators
 mod Parts

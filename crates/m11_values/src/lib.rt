@@ -14,7 +14,7 @@ mod values;
 
 pub use expressions::value;
 pub use kinds::Kind;
-pub use laws::{an_operator_joins_its_sides, operators_apply_from_left_to_right};
+pub use laws::{an_operator_joins_its_sides, brackets_keep_the_value, operators_apply_from_left_to_right};
 pub use m11_scan::Radix;
 pub use names::{Names, Symbol};
 pub use operators::Operator;
