@@ -2,4 +2,5 @@ mod Exits
 mod Folds
 mod Groups
 mod LastOperators
+mod Meanings
 mod Parts

@@ -6,3 +6,4 @@ pub mod Prefixes
 pub mod Places
 pub mod Values
 pub mod Laws
+pub mod Symbols

@@ -1,6 +1,6 @@
 //! Laws of the values of expressions. Each is the contract of a function that does nothing.
 
-ghost use Rattle.std.specs.Prelude.{◌≡◌, ◌∷◌, ◌++◌, [], List};
+ghost use Rattle.std.specs.Prelude.{◌≡◌, ◌∷◌, ◌++◌, [], ℕ, List};
 ghost use Rattle.m11_scan.specs.Expressions.{role_of};
 ghost use Rattle.m11_scan.specs.declared.expressions.Role.TheVariants.{Term};
 ghost use Rattle.m11_scan.specs.declared.radix.Radix.{Radix};
@@ -8,8 +8,12 @@ ghost use Rattle.m11_scan.specs.declared.sort.Sort.TheVariants.{Greater, Less};
 ghost use Rattle.m11_values.specs.declared.operators.Operator.{Operator};
 ghost use Rattle.m11_values.specs.Laws.{AreSteps, IsOperator, IsTerm, IsWhole, Step, left_fold, written};
 ghost use Rattle.m11_values.specs.Operations.{combined};
+ghost use Rattle.m11_scan.specs.declared.cutting.Token.{Token};
+ghost use Rattle.m11_values.specs.declared.names.Symbol.{Symbol};
+ghost use Rattle.m11_values.specs.Quantities.{Quantity};
+ghost use Rattle.m11_values.specs.Symbols.{AgreeOn, symbols_of};
 ghost use Rattle.m11_values.specs.Terms.{Item, atom_value};
-ghost use Rattle.m11_values.specs.Values.{value_of};
+ghost use Rattle.m11_values.specs.Values.{items_of, value_of};
 
 /// An operator outside brackets with one term after it joins the values of what stands before it and of that term.
 #[tactic(auto, using(crate::proofs::Folds::joined_value))]
@@ -31,4 +35,12 @@ pub fn operators_apply_from_left_to_right()
 pub fn brackets_keep_the_value()
     ensures { (radix : Radix) (less greater : Item) (items : List Item) → less.sort ≡ Less → greater.sort ≡ Greater
         → IsWhole items → value_of radix (less ∷ (items ++ greater ∷ [])) ≡ value_of radix items }
+{}
+
+/// Two meanings of symbols that agree on those which an expression reads give it the same value in the same radix.
+#[tactic(auto, using(crate::proofs::Meanings::agreeing_values))]
+pub fn symbols_that_are_read_decide()
+    ensures { (radix : Radix) (line : List ℕ) (first second : Symbol → Quantity) (tokens : List Token)
+        → AgreeOn (symbols_of line tokens) first second
+        → value_of radix (items_of first line tokens) ≡ value_of radix (items_of second line tokens) }
 {}

@@ -9,13 +9,18 @@ mod names;
 mod operations;
 mod operators;
 mod prefixes;
+mod symbols;
 mod terms;
 mod values;
 
 pub use expressions::value;
 pub use kinds::Kind;
-pub use laws::{an_operator_joins_its_sides, brackets_keep_the_value, operators_apply_from_left_to_right};
+pub use laws::{
+    an_operator_joins_its_sides, brackets_keep_the_value, operators_apply_from_left_to_right,
+    symbols_that_are_read_decide,
+};
 pub use m11_scan::Radix;
 pub use names::{Names, Symbol};
 pub use operators::Operator;
+pub use symbols::next_symbol;
 pub use values::Value;
