@@ -1,3 +1,4 @@
+mod Cases
 mod Exits
 mod Folds
 mod Groups

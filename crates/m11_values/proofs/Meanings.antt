@@ -62,7 +62,7 @@ others_agree : (first second : Symbol → Quantity) (symbol : Option Symbol) (sy
 others_agree first second (Some symbol) symbols agree = agree.1
 others_agree first second None symbols agree = agree
 
-abbrev with_atom : Sort → Atom → List Item → List Item
+abbrev pub with_atom : Sort → Atom → List Item → List Item
 with_atom sort atom items = record { sort = sort; atom = atom } ∷ items
 
 items_agree : (line : List ℕ) (first second : Symbol → Quantity) (tokens : List Token)
@@ -70,7 +70,7 @@ items_agree : (line : List ℕ) (first second : Symbol → Quantity) (tokens : L
 items_agree line first second [] agree = refl
 items_agree line first second (token ∷ tokens) agree =
     let here : atom_of first token.sort (text_between line token.start token.end)
-        ≡ atom_of second token.sort (text_between line token.start token.end) =
+    ≡ atom_of second token.sort (text_between line token.start token.end) =
     atom_agrees first second token.sort (text_between line token.start token.end)
     (first_agrees first second (symbol_in token.sort (text_between line token.start token.end)) (symbols_of line tokens) agree) in
     ap (λ (a : Atom). with_atom token.sort a (items_of first line tokens)) here

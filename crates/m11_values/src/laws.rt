@@ -1,6 +1,7 @@
 //! Laws of the values of expressions. Each is the contract of a function that does nothing.
 
-ghost use Rattle.std.specs.Prelude.{◌≡◌, ◌∷◌, ◌++◌, [], ℕ, List};
+ghost use Rattle.std.specs.Prelude.{◌≡◌, ◌∷◌, ◌++◌, [], ℕ, List, map};
+ghost use Rattle.m11_scan.specs.Cutting.{Lexeme};
 ghost use Rattle.m11_scan.specs.Expressions.{role_of};
 ghost use Rattle.m11_scan.specs.declared.expressions.Role.TheVariants.{Term};
 ghost use Rattle.m11_scan.specs.declared.radix.Radix.{Radix};
@@ -11,8 +12,8 @@ ghost use Rattle.m11_values.specs.Operations.{combined};
 ghost use Rattle.m11_scan.specs.declared.cutting.Token.{Token};
 ghost use Rattle.m11_values.specs.declared.names.Symbol.{Symbol};
 ghost use Rattle.m11_values.specs.Quantities.{Quantity};
-ghost use Rattle.m11_values.specs.Symbols.{AgreeOn, symbols_of};
-ghost use Rattle.m11_values.specs.Terms.{Item, atom_value};
+ghost use Rattle.m11_values.specs.Symbols.{AgreeOn, AreSame, symbols_of};
+ghost use Rattle.m11_values.specs.Terms.{Item, atom_value, item};
 ghost use Rattle.m11_values.specs.Values.{items_of, value_of};
 
 /// An operator outside brackets with one term after it joins the values of what stands before it and of that term.
@@ -43,4 +44,11 @@ pub fn symbols_that_are_read_decide()
     ensures { (radix : Radix) (line : List ℕ) (first second : Symbol → Quantity) (tokens : List Token)
         → AgreeOn (symbols_of line tokens) first second
         → value_of radix (items_of first line tokens) ≡ value_of radix (items_of second line tokens) }
+{}
+
+/// Tokens that differ in the case of letters alone, outside `'c` and `"cc`, have the same value.
+#[tactic(auto, using(crate::proofs::Cases::same_values))]
+pub fn case_makes_no_difference()
+    ensures { (radix : Radix) (stands_for : Symbol → Quantity) (first second : List Lexeme) → AreSame first second
+        → value_of radix (map (item stands_for) first) ≡ value_of radix (map (item stands_for) second) }
 {}

@@ -16,8 +16,8 @@ mod values;
 pub use expressions::value;
 pub use kinds::Kind;
 pub use laws::{
-    an_operator_joins_its_sides, brackets_keep_the_value, operators_apply_from_left_to_right,
-    symbols_that_are_read_decide,
+    an_operator_joins_its_sides, brackets_keep_the_value, case_makes_no_difference,
+    operators_apply_from_left_to_right, symbols_that_are_read_decide,
 };
 pub use m11_scan::Radix;
 pub use names::{Names, Symbol};
