@@ -1,6 +1,6 @@
 -- The value of what operators join, by the values of the parts.
-use Rattle.std.proofs.Common.{◌≡◌, ℕ, zero, suc, ◌+◌, ◌<◌, ◌≤◌, Bool, true, false, List, [], ◌∷◌, ◌++◌, length, map, take, drop, Option, Some, None, refl, sym, ap, ◌∙◌, arith, eqb, if◌then◌else◌}
-use Rattle.std.proofs.lemmas.List.{append_assoc, append-nil, length-append, length-map, map-append}
+use Rattle.std.proofs.Common.{◌≡◌, ℕ, zero, suc, Bool, true, false, List, [], ◌∷◌, ◌++◌, length, take, drop, Option, Some, None, refl, sym, ap, ◌∙◌, arith, eqb, if◌then◌else◌}
+use Rattle.std.proofs.lemmas.List.{append_assoc, append-nil, length-map, map-append}
 use Rattle.std.proofs.lemmas.Bool.{ne_eqb}
 use Rattle.m11_scan.specs.Expressions.{begin, role_of}
 use Rattle.m11_scan.specs.declared.expressions.Role.{Role}
@@ -18,7 +18,7 @@ use Rattle.m11_values.specs.Places.{after, last_operator, later, operator_at, op
 use Rattle.m11_values.specs.Prefixes.{prefix_of}
 use Rattle.m11_values.specs.Quantities.{Quantity}
 use Rattle.m11_values.specs.Terms.{Item, atom_value}
-use Rattle.m11_values.specs.Values.{by_parts, item_sort, sorts_of, split_value, term_value, value_of}
+use Rattle.m11_values.specs.Values.{item_sort, sorts_of, split_value, term_value, value_of}
 use Rattle.m11_values.proofs.Parts.{value_by_parts}
 
 abbrev found : ℕ → Operator → Option Split

@@ -1,5 +1,5 @@
 -- The value of an expression in brackets.
-use Rattle.std.proofs.Common.{◌≡◌, ℕ, zero, suc, ◌+◌, ◌-◌, ◌<◌, ◌≤◌, Bool, true, false, List, [], ◌∷◌, ◌++◌, length, take, Option, Some, None, nat_lt, refl, sym, ap, ◌∙◌, arith, eqb, if◌then◌else◌}
+use Rattle.std.proofs.Common.{◌≡◌, ℕ, zero, suc, ◌+◌, ◌-◌, Bool, true, false, List, [], ◌∷◌, ◌++◌, length, take, Option, Some, None, nat_lt, refl, sym, ap, ◌∙◌, arith, eqb, if◌then◌else◌}
 use Rattle.std.proofs.lemmas.List.{length-append}
 use Rattle.std.proofs.lemmas.Bool.{ne_eqb, lt-ltb}
 use Rattle.m11_scan.specs.Expressions.{begin, count_from, goes_on, role_of, taken}
@@ -14,7 +14,6 @@ use Rattle.m11_values.specs.declared.prefixes.Prefix.TheVariants.{Bracket}
 use Rattle.m11_values.specs.Laws.{IsWhole, place_after}
 use Rattle.m11_values.specs.Places.{after, last_operator, later, operator_at, operator_of}
 use Rattle.m11_values.specs.Prefixes.{applied, bracket_length, depth_after, one_more, prefix_of}
-use Rattle.m11_values.specs.Quantities.{Quantity}
 use Rattle.m11_values.specs.Terms.{Item}
 use Rattle.m11_values.specs.Values.{sorts_of, split_value, term_value, value_of}
 use Rattle.m11_values.proofs.Parts.{value_by_parts}

@@ -1,5 +1,5 @@
 -- Expressions whose tokens stand for the same have the same value.
-use Rattle.std.proofs.Common.{◌≡◌, ℕ, zero, suc, ◌+◌, ◌<◌, ◌≤◌, Bool, true, false, List, [], ◌∷◌, length, map, get_or, Option, Some, None, nat_le, nat_lt, refl, sym, ap, ◌∙◌, arith, eqb, ltb, if◌then◌else◌}
+use Rattle.std.proofs.Common.{◌≡◌, ℕ, List, [], ◌∷◌, Option, Some, None, refl, ap, ◌∙◌}
 use Rattle.m11_scan.specs.Cutting.{text_between}
 use Rattle.m11_scan.specs.Letters.{letter_A}
 use Rattle.m11_scan.specs.declared.cutting.Token.{Token}

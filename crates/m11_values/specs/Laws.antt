@@ -1,23 +1,17 @@
 -- What is meant by an operator between two parts of an expression, by terms of one token with operators between them, by an
 -- expression in brackets, by the symbols of an expression, and by tokens that differ in case alone.
-use Rattle.std.specs.Prelude.{◌≡◌, ℕ, Bool, true, false, List, [], ◌∷◌, ◌++◌, length, map, All, Option, Some, None}
-use Rattle.m11_base.specs.Mnemonics.{folded}
-use Rattle.m11_scan.specs.Cutting.{Lexeme}
+use Rattle.std.specs.Prelude.{◌≡◌, false, List, [], ◌∷◌, length, Some, None}
 use Rattle.m11_scan.specs.Expressions.{begin, expression_length, role_of}
-use Rattle.m11_scan.specs.Views.{lexeme}
-use Rattle.m11_scan.specs.declared.cutting.Token.{Token}
 use Rattle.m11_scan.specs.declared.expressions.Role.TheVariants.{Term}
 use Rattle.m11_scan.specs.declared.expressions.Within.{Within}
 use Rattle.m11_scan.specs.declared.radix.Radix.{Radix}
 use Rattle.m11_scan.specs.declared.sort.Sort.{Sort}
-use Rattle.m11_scan.specs.declared.sort.Sort.TheVariants as sorts
-use Rattle.m11_values.specs.declared.names.Symbol.{Symbol}
 use Rattle.m11_values.specs.declared.operators.Operator.{Operator}
 use Rattle.m11_values.specs.Operations.{combined}
 use Rattle.m11_values.specs.Places.{after, last_operator, operator_at, operator_of}
 use Rattle.m11_values.specs.Quantities.{Quantity}
-use Rattle.m11_values.specs.Terms.{Item, atom_value, item, symbol_in}
-use Rattle.m11_values.specs.Values.{sorts_of, value_of}
+use Rattle.m11_values.specs.Terms.{Item, atom_value}
+use Rattle.m11_values.specs.Values.{sorts_of}
 
 -- the place after some tokens
 abbrev pub place_after : Within → List Sort → Within

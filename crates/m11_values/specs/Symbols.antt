@@ -1,6 +1,6 @@
 -- The symbols that an expression reads, and tokens that differ in the case of letters alone. (MACRO-11 Language Reference Manual,
 -- "Symbols" and "Character set".)
-use Rattle.std.specs.Prelude.{◌≡◌, ℕ, List, [], ◌∷◌, ◌++◌, map, flat_map, Option, Some, None}
+use Rattle.std.specs.Prelude.{◌≡◌, ℕ, List, [], ◌∷◌, map, Option, Some, None}
 use Rattle.m11_base.specs.Mnemonics.{folded}
 use Rattle.m11_scan.specs.Cutting.{Lexeme, text_between}
 use Rattle.m11_scan.specs.declared.cutting.Token.{Token}
