@@ -1,5 +1,5 @@
 -- A layout that stands after parts, and after more of them.
-use Rattle.std.proofs.Common.{◌≡◌, ℕ, List, [], ◌∷◌, ◌++◌, append-nil, Option, Some, None, Result, Ok, Err, refl, sym, subst}
+use Rattle.std.proofs.Common.{◌≡◌, ℕ, List, [], ◌∷◌, ◌++◌, append-nil, Option, Some, None, Result, Ok, Err, IsErrAnd, refl, sym, subst}
 use Rattle.std.specs.Option.{option_or}
 use Rattle.std.specs.Prelude.{is_ok, true}
 use Rattle.std.proofs.Math.Seq.{append_snoc}
@@ -7,14 +7,19 @@ use Rattle.m11_obj.specs.Reading.{◌>>=◌, IsRecord, content_of, record_of}
 use Rattle.m11_obj.specs.Records.{Content}
 use Rattle.m11_obj.specs.declared.fault.RecordFault.{RecordFault}
 use Rattle.m11_modules.specs.declared.fault.ModuleFault.{ModuleFault}
+use Rattle.m11_modules.specs.declared.fault.ModuleFault.TheVariants as rule
+use Rattle.m11_modules.proofs.KnownAfter.{taken_after}
 use Rattle.m11_modules.specs.Laws.{TakesAfter}
 use Rattle.m11_modules.specs.Parts.{Part, EndOfFile}
-use Rattle.m11_modules.specs.Places.{known_of}
+use Rattle.m11_modules.specs.Places.{Known, known_of}
 use Rattle.m11_modules.specs.Rules.{fault_of, first_fault}
 use Rattle.m11_modules.specs.Parts.{record_parts}
+use Rattle.m11_modules.specs.Steps.{RulesTake}
+use Rattle.m11_layout.specs.Fault.{of_module}
 use Rattle.m11_layout.specs.Tables.{Gathered, gathered_after, gathered_after_all, nothing_gathered}
-use Rattle.m11_layout.specs.Layout.{LayoutState, LayoutStands}
+use Rattle.m11_layout.specs.Layout.{FirstFault, LayoutState, LayoutStands, TakesBlock, TakesParts}
 use Rattle.m11_layout.specs.declared.fault.LinkFault.{LinkFault}
+use Rattle.m11_layout.specs.declared.fault.LinkFault.TheVariants as fault
 
 pub begins : (bottom : ℕ) (reading : LayoutState) → reading.known ≡ known_of [] → reading.gathered ≡ nothing_gathered
     → reading.bottom ≡ bottom → reading.fault ≡ None → LayoutStands bottom [] reading
@@ -79,31 +84,46 @@ pub record_is : (items bytes : List ℕ) → ◌≡◌ {A = Result (List ℕ) Re
     → bytes ≡ items
 record_is items bytes e = same_bytes (content_of items) items bytes e
 
-there : (content : Result Content RecordFault) (items bytes : List ℕ)
-    → ◌≡◌ {A = Result (List ℕ) RecordFault} (Ok bytes) (content >>= λ c. Ok items) → is_ok content ≡ true
-there (Ok c) items bytes e = refl
-there (Err fault) items bytes e = absurd cc
-
--- a block that was read is a record
-pub record_there : (items bytes : List ℕ) → ◌≡◌ {A = Result (List ℕ) RecordFault} (Ok bytes) (record_of items)
-    → IsRecord items
-record_there items bytes e = there (content_of items) items bytes e
-
--- a block that is a record was taken
-pub block_taken : {seen new : LayoutState} (bottom : ℕ) (before : List Part) (old : LayoutState) (items bytes : List ℕ)
-    → seen ≡ old
-    → ◌≡◌ {A = Result (List ℕ) RecordFault} (Ok bytes) (record_of items) → LayoutStands bottom before old
-    → (seen.known ≡ known_of before → TakesAfter before new.known (record_parts bytes) (Ok tt))
-    → new.gathered ≡ gathered_after_all seen.bottom seen.gathered (record_parts bytes)
-    → new.bottom ≡ seen.bottom → new.fault ≡ seen.fault → LayoutStands bottom (before ++ record_parts items) new
-block_taken {seen} {new} bottom before old items bytes is e s t g b f =
+-- parts were judged and noted
+pub parts_taken : {seen new : LayoutState} (bottom : ℕ) (before parts : List Part) (old : LayoutState) → seen ≡ old
+    → LayoutStands bottom before old
+    → (seen.known ≡ known_of before → TakesAfter before new.known parts (Ok tt))
+    → new.gathered ≡ gathered_after_all seen.bottom seen.gathered parts
+    → new.bottom ≡ seen.bottom → new.fault ≡ seen.fault → LayoutStands bottom (before ++ parts) new
+parts_taken {seen} {new} bottom before parts old is s t g b f =
     let P : LayoutState → Type 0 = λ reading. LayoutStands bottom before reading in
-    let Q : List ℕ → Type 0 = λ these. LayoutStands bottom (before ++ record_parts these) new in
     let s' = subst P (sym is) s in
-    subst Q (record_is items bytes e) (goes_on bottom before (record_parts bytes) seen new s' (t s'.known) g b f)
+    goes_on bottom before parts seen new s' (t s'.known) g b f
 
-pub fault_kept : {seen : LayoutState} (old : LayoutState) → seen ≡ old → seen.fault ≡ old.fault
-fault_kept {seen} old is = let P : LayoutState → Type 0 = λ reading. seen.fault ≡ reading.fault in subst P is refl
+-- a fault of parts, found by what is known before them
+pub fault_found : (before parts : List Part) (old new : Known) (broken : ModuleFault) → old ≡ known_of before
+    → RulesTake old new parts (Err broken) → FirstFault before parts (of_module broken)
+fault_found before parts old new rule.NoMemory is h = tt
+fault_found before parts old new rule.BadOrder is h =
+    (rule.BadOrder, taken_after before old new parts (Err rule.BadOrder) is h, refl)
+fault_found before parts old new rule.NoText is h =
+    (rule.NoText, taken_after before old new parts (Err rule.NoText) is h, refl)
+fault_found before parts old new rule.BadDisplacement is h =
+    (rule.BadDisplacement, taken_after before old new parts (Err rule.BadDisplacement) is h, refl)
+fault_found before parts old new rule.UnknownSection is h =
+    (rule.UnknownSection, taken_after before old new parts (Err rule.UnknownSection) is h, refl)
+fault_found before parts old new rule.TextOutside is h =
+    (rule.TextOutside, taken_after before old new parts (Err rule.TextOutside) is h, refl)
+fault_found before parts old new rule.TooManyGlobals is h =
+    (rule.TooManyGlobals, taken_after before old new parts (Err rule.TooManyGlobals) is h, refl)
+fault_found before parts old new rule.TooManySections is h =
+    (rule.TooManySections, taken_after before old new parts (Err rule.TooManySections) is h, refl)
+fault_found before parts old new rule.TooManyModules is h =
+    (rule.TooManyModules, taken_after before old new parts (Err rule.TooManyModules) is h, refl)
+
+pub fault_reported : (before parts : List Part) (old new : Known) (broken : ModuleFault) (state : LayoutState) (bottom : ℕ)
+    (result : Result (Unit {0}) LinkFault) → old ≡ known_of before
+    → RulesTake old new parts (Err broken) → IsErrAnd result (λ e. e ≡ of_module broken)
+    → TakesParts bottom before state parts result
+fault_reported before parts old new broken state bottom (Ok done) is h e = absurd e
+fault_reported before parts old new broken state bottom (Err stopped) is h e =
+    let P : LinkFault → Type 0 = λ said. FirstFault before parts said in
+    subst P (sym e) (fault_found before parts old new broken is h)
 
 -- the end of a file was taken
 nothing_noted : (bottom : ℕ) (g : Gathered) → g ≡ gathered_after_all bottom g (EndOfFile ∷ [])

@@ -1,8 +1,11 @@
 //! The first pass of a link: what it gathers, record by record.
 
-ghost use Rattle.std.specs.Prelude.{◌≡◌, ◌∷◌, [], ℕ, List, Some, Err, IfOk};
-ghost use Rattle.m11_obj.specs.Reading.{IsRecord};
-ghost use Rattle.m11_modules.specs.Parts.{Part, EndOfFile};
+ghost use Rattle.std.specs.Prelude.{◌≡◌, ◌≢◌, ◌∷◌, [], ℕ, List, Some, Ok, Err, IfOk, map};
+ghost use Rattle.m11_obj.specs.Reading.{IsRecord, record_kind, record_relocations};
+ghost use Rattle.m11_modules.specs.Parts.{Part, EndOfFile, Relocated, Relocations, record_parts};
+ghost use Rattle.m11_modules.specs.Places.{global_of};
+ghost use Rattle.m11_modules.specs.Steps.{RulesTake, TakesOne};
+ghost use Rattle.m11_layout.specs.Tables.{gathered_after_all, with_relocated};
 ghost use Rattle.m11_layout.specs.Plan.{LayoutEnds};
 ghost use Rattle.m11_layout.specs.declared.fault.LinkFault.{LinkFault};
 ghost use Rattle.m11_layout.specs.Layout.{FailsAgain, KeepsFault, LayoutStands, TakesBlock, TakesParts};
@@ -10,8 +13,8 @@ ghost use Rattle.m11_layout.specs.Layout.{FailsAgain, KeepsFault, LayoutStands, 
 use crate::fault::LinkFault;
 use crate::plan::{Plan, plan_of};
 use crate::tables::Tables;
-use m11_modules::Rules;
-use m11_obj::{Block, read_record};
+use m11_modules::{ModuleFault, Rules};
+use m11_obj::{Block, Record, RecordKind, Relocation, read_record};
 use std::alloc::Global;
 use std::marker::Model;
 
@@ -141,8 +144,89 @@ impl Layout {
         ensures kept { self.new.fault ≡ self.old.fault }
     {
         let record = read_record(block)?;
-        self.rules.record(&record)?;
-        self.tables.note(self.bottom, &record)?;
+        self.take_record(&record)
+    }
+
+    // Takes one record.
+    fn take_record(&mut self, record: &Record<'_>) -> Result<(), LinkFault>
+        ensures takes { (bottom : ℕ) (before : List Part) → LayoutStands bottom before self.old
+            → TakesParts bottom before self.new (record_parts «record».now) result }
+        ensures kept { self.new.fault ≡ self.old.fault }
+    {
+        match record.kind() {
+            RecordKind::Relocations => self.take_relocations(record),
+            _ => self.take_other(record),
+        }
+    }
+
+    // Takes a record that holds no relocations: it is judged, and then noted.
+    fn take_other(&mut self, record: &Record<'_>) -> Result<(), LinkFault>
+        requires { record_kind «record».now ≢ Ok RecordKind.Relocations }
+        ensures takes { (bottom : ℕ) (before : List Part) → LayoutStands bottom before self.old
+            → TakesParts bottom before self.new (record_parts «record».now) result }
+        ensures kept { self.new.fault ≡ self.old.fault }
+    {
+        self.rules.record(record)?;
+        self.tables.note(self.bottom, record)?;
+        Ok(())
+    }
+
+    // Takes a relocation record.
+    fn take_relocations(&mut self, record: &Record<'_>) -> Result<(), LinkFault>
+        ensures takes { (bottom : ℕ) (before : List Part) → LayoutStands bottom before self.old
+            → TakesParts bottom before self.new
+            (Relocations ∷ map (λ relocation. Relocated relocation) (record_relocations «record».now)) result }
+        ensures kept { self.new.fault ≡ self.old.fault }
+    {
+        self.note_relocations(record)?;
+        Ok(())
+    }
+
+    // Judges and notes a relocation record, by what is known before it.
+    #[tactic(auto, using(m11_modules::proofs::Taking::taken_then, m11_modules::proofs::Taking::refused_first), unfolding(crate::specs::Tables::gathered_after))]
+    fn note_relocations(&mut self, record: &Record<'_>) -> Result<(), ModuleFault>
+        ensures judged { RulesTake self.old.known self.new.known
+            (Relocations ∷ map (λ relocation. Relocated relocation) (record_relocations «record».now)) result }
+        ensures noted { IfOk result (λ _. self.new.gathered ≡ gathered_after_all self.old.bottom self.old.gathered
+            (Relocations ∷ map (λ relocation. Relocated relocation) (record_relocations «record».now))) }
+        ensures bottom { self.new.bottom ≡ self.old.bottom }
+        ensures kept { self.new.fault ≡ self.old.fault }
+    {
+        match self.rules.begin_relocations() {
+            Ok(()) => self.note_each_relocation(record),
+            Err(fault) => Err(fault),
+        }
+    }
+
+    // Judges and notes the relocations of a record in one walk.
+    fn note_each_relocation(&mut self, record: &Record<'_>) -> Result<(), ModuleFault>
+        ensures judged { RulesTake self.old.known self.new.known
+            (map (λ relocation. Relocated relocation) (record_relocations «record».now)) result }
+        ensures noted { IfOk result (λ _. self.new.gathered ≡ gathered_after_all self.old.bottom self.old.gathered
+            (map (λ relocation. Relocated relocation) (record_relocations «record».now))) }
+        ensures bottom { self.new.bottom ≡ self.old.bottom }
+        ensures kept { self.new.fault ≡ self.old.fault }
+    {
+        'relocations: for relocation in record.each_relocation() {
+            match self.note_relocation(relocation) {
+                Ok(()) => {}
+                Err(fault) => return Err(fault),
+            }
+        }
+        Ok(())
+    }
+
+    // Judges and notes a relocation.
+    #[tactic(auto, unfolding(m11_modules::specs::Steps::TakesOne))]
+    fn note_relocation(&mut self, relocation: Relocation) -> Result<(), ModuleFault>
+        ensures judged { TakesOne self.old.known self.new.known (Relocated relocation) result }
+        ensures noted { IfOk result (λ _. self.new.gathered ≡ with_relocated (global_of relocation.target) self.old.gathered) }
+        ensures bottom { self.new.bottom ≡ self.old.bottom }
+        ensures kept { self.new.fault ≡ self.old.fault }
+    {
+        let target = relocation.target;
+        self.rules.relocation(relocation)?;
+        self.tables.note_target(target)?;
         Ok(())
     }
 }

@@ -1,8 +1,8 @@
 //! The tables that a layout gathers while records come.
 
-ghost use Rattle.std.specs.Prelude.{◌≡◌, ◌≤◌, ◌<◌, Some, get_or, length, map, slice_get};
-ghost use Rattle.m11_obj.specs.Reading.{record_entries, record_relocations};
-ghost use Rattle.m11_modules.specs.Parts.{Entry, Relocated};
+ghost use Rattle.std.specs.Prelude.{◌≡◌, ◌≢◌, ◌≤◌, ◌<◌, Ok, Some, get_or, length, map, slice_get};
+ghost use Rattle.m11_obj.specs.Reading.{record_entries, record_kind};
+ghost use Rattle.m11_modules.specs.Parts.{Entry};
 ghost use Rattle.m11_modules.specs.Parts.{record_parts};
 ghost use Rattle.std.specs.Int.RustNames.{bit_and};
 ghost use Rattle.std.specs.Map.{lookup};
@@ -274,16 +274,17 @@ impl Tables {
         }
     }
 
-    /// Notes what a record says, which the rules have taken.
+    /// Notes what a record says, which the rules have taken. What relocations say is noted one by one, by `note_target`.
     #[tactic(auto, unfolding(crate::specs::Tables::gathered_after))]
     pub(crate) fn note(&mut self, bottom: u16, record: &Record<'_>) -> Result<(), AllocError>
+        requires { record_kind «record».now ≢ Ok RecordKind.Relocations }
         ensures { TablesKeep self.new (gathered_after_all bottom self.old (record_parts «record».now)) result }
     {
         match record.kind() {
             RecordKind::Gsd => self.note_entries(bottom, record),
             RecordKind::EndOfGsd => Ok(()),
             RecordKind::Text => Ok(()),
-            RecordKind::Relocations => self.note_relocations(bottom, record),
+            RecordKind::Relocations => unreachable!(),
             RecordKind::InternalSymbols => Ok(()),
             RecordKind::EndOfModule => self.note_end(),
         }
@@ -296,20 +297,6 @@ impl Tables {
     {
         'entries: for index in 0..record.entry_count() {
             match self.note_entry(bottom, &record.entry(index)) {
-                Ok(()) => {}
-                Err(refused) => return Err(refused),
-            }
-        }
-        Ok(())
-    }
-
-    // The relocations of a record.
-    fn note_relocations(&mut self, bottom: u16, record: &Record<'_>) -> Result<(), AllocError>
-        ensures { TablesKeep self.new (gathered_after_all bottom self.old
-            (map (λ relocation. Relocated relocation) (record_relocations «record».now))) result }
-    {
-        'relocations: for relocation in record.each_relocation() {
-            match self.note_target(relocation.target) {
                 Ok(()) => {}
                 Err(refused) => return Err(refused),
             }

@@ -240,9 +240,10 @@ impl Rules {
         Ok(())
     }
 
-    // A relocation.
+    /// Takes one relocation of a record whose beginning was taken: `begin_relocations` and then this call for each of its
+    /// relocations are one call of `record`, for who uses a relocation in the walk that judges it.
     #[tactic(auto, unfolding(crate::specs::Steps::TakesOne, crate::specs::Steps::known_after, crate::specs::Rules::fault_known))]
-    fn relocation(&mut self, relocation: Relocation) -> Result<(), ModuleFault>
+    pub fn relocation(&mut self, relocation: Relocation) -> Result<(), ModuleFault>
         ensures { TakesOne self.old self.new (Relocated relocation) result }
     {
         match check_relocation(&relocation, &self.entered, self.text, &self.globals) {
@@ -280,9 +281,9 @@ impl Rules {
         }
     }
 
-    // A relocation record begins.
+    /// Takes the beginning of a relocation record: `BadOrder` outside the body of a module.
     #[tactic(auto, unfolding(crate::specs::Steps::TakesOne, crate::specs::Steps::known_after, crate::specs::Rules::fault_known))]
-    fn begin_relocations(&mut self) -> Result<(), ModuleFault>
+    pub fn begin_relocations(&mut self) -> Result<(), ModuleFault>
         ensures { TakesOne self.old self.new Relocations result }
     {
         match self.stage {
