@@ -1,14 +1,19 @@
 -- A second pass that stands after parts, and after more of them.
-use Rattle.std.proofs.Common.{◌≡◌, ℕ, Bool, true, false, if◌then◌else◌, List, [], ◌∷◌, ◌++◌, append_assoc, append-nil, Option, Some, None, Result, Ok, Err, IsErrAnd, refl, sym, subst, ap, ap₂, ◌∙◌}
+use Rattle.std.proofs.Common.{◌≡◌, ℕ, Bool, true, false, if◌then◌else◌, List, [], ◌∷◌, ◌++◌, append_assoc, append-nil, Option, Some, None, Result, Ok, Err, IfOk, IsErrAnd, refl, sym, subst, ap, ap₂, ◌∙◌}
 use Rattle.std.proofs.lemmas.Bool.{false≢true, true≢false}
-use Rattle.m11_obj.specs.Reading.{◌>>=◌, content_of, entries_in, kind_in, record_of, relocations_in, text_in}
+use Rattle.std.specs.Prelude.{is_ok}
+use Rattle.m11_obj.specs.Reading.{◌>>=◌, IsRecord, content_of, entries_in, kind_in, record_kind, record_of, record_relocations, relocations_in, text_in}
+use Rattle.m11_obj.specs.declared.records.RecordKind.TheVariants as kind
+use Rattle.m11_obj.specs.declared.relocations.Relocation.{Relocation}
 use Rattle.m11_obj.specs.Records as records
 use Rattle.m11_obj.specs.declared.fault.RecordFault.{RecordFault}
 use Rattle.m11_modules.specs.Laws.{TakesAfter}
-use Rattle.m11_modules.specs.Parts.{Part, EndOfFile, parts_in, parts_of, record_parts}
+use Rattle.m11_modules.specs.Parts.{Part, EndOfFile, Relocations, parts_in, parts_of, record_parts}
+use Rattle.m11_modules.specs.Steps.{RulesTake}
+use Rattle.m11_modules.proofs.KnownAfter.{taken_after}
 use Rattle.m11_layout.specs.Globals.{definitions_of}
 use Rattle.m11_modules.specs.Places.{Known, current_section, distinct, known_of, modules_in, this_module}
-use Rattle.m11_modules.specs.Rules.{fault_of, first_fault}
+use Rattle.m11_modules.specs.Rules.{first_fault}
 use Rattle.m11_modules.specs.declared.fault.ModuleFault.{ModuleFault}
 use Rattle.m11_modules.specs.declared.fault.ModuleFault.TheVariants as rule
 use Rattle.m11_layout.proofs.Standing.{record_is, sound_after}
@@ -16,11 +21,11 @@ use Rattle.m11_layout.specs.Fault.{of_module}
 use Rattle.m11_layout.specs.Plan.{Planned}
 use Rattle.m11_layout.specs.declared.fault.LinkFault.{LinkFault}
 use Rattle.m11_layout.specs.declared.fault.LinkFault.TheVariants as fault
-use Rattle.m11_link.specs.Emit.{Emitting, Reporting, Goes, GoesOn, EmitStands, TakesBlock, TakesParts, begin_writes, begun_reporting, bytes_writes, entries_writes, held_text, held_with_all, held_writes, record_writes, with_bytes, with_count, with_held, with_record, with_reporting, written}
+use Rattle.m11_link.specs.Emit.{Emitting, Reporting, Goes, GoesOn, EmitStands, TakesBlock, TakesParts, begin_writes, begun_reporting, bytes_writes, entries_writes, held_text, held_with, held_with_all, held_writes, record_writes, relocated_parts, with_bytes, with_count, with_held, with_record, with_reporting, written}
 use Rattle.m11_link_text.specs.Findings.{planned}
 use Rattle.m11_link.specs.Front.{front_writes}
 use Rattle.m11_link.specs.Outputs.{Outputs, Write, Gains, Stops, StopsBetween, StopsIn, Writes}
-use Rattle.m11_link.specs.Written.{PlacedText, block_at, counted, defined_names, parts_writes, placed_text, text_writes}
+use Rattle.m11_link.specs.Written.{PlacedText, block_at, counted, defined_names, parts_writes}
 use Rattle.m11_link.proofs.Counting.{counted-append}
 use Rattle.m11_link.proofs.Entering.{goes_stopped_alone}
 use Rattle.m11_link.proofs.Writing.{gains_nothing, gains_then, refused_before, stops_after, writes_then}
@@ -379,45 +384,9 @@ module _ {seen : Emitting} (plan : Planned) (before : List Part) (s : Emitting) 
       subst P is (parts_taken plan before (EndOfFile ∷ []) (λ t. held_writes t.held) (with_held None) (end_makes plan before)
       seen here a b s' known result t.0 t.1 k)
 
-content_is : (r : Result records.Content RecordFault) (items bytes : List ℕ)
-    → ◌≡◌ {A = Result (List ℕ) RecordFault} (Ok bytes) (r >>= λ c. Ok items) → (c : records.Content) × (r ≡ Ok c)
-content_is (Ok c) items bytes e = (c, refl)
-content_is (Err refused) items bytes e = absurd cc
-
--- a refusal of a record is none of a block that is no record
-of_block : (plan : Planned) (before : List Part) (a : Outputs) (s s' : Emitting) (items : List ℕ) (broken : ModuleFault)
-    → TakesParts plan before a a s s' (record_parts items) (Err (of_module broken))
-    → TakesBlock plan before a a s s' items (Err (of_module broken))
-of_block plan before a s s' items rule.BadOrder h = h
-of_block plan before a s s' items rule.NoText h = h
-of_block plan before a s s' items rule.BadDisplacement h = h
-of_block plan before a s s' items rule.UnknownSection h = h
-of_block plan before a s s' items rule.TextOutside h = h
-of_block plan before a s s' items rule.TooManyGlobals h = h
-of_block plan before a s s' items rule.TooManySections h = h
-of_block plan before a s s' items rule.TooManyModules h = h
-of_block plan before a s s' items rule.NoMemory h = h
-
--- nor is what stopped a write
-of_writes : (plan : Planned) (before : List Part) (a b : Outputs) (s s' expected : Emitting) (items : List ℕ) (ws : List Write)
-    (result : Result (Unit {0}) LinkFault) → Goes a b ws s' expected result
-    → TakesParts plan before a b s s' (record_parts items) result → TakesBlock plan before a b s s' items result
-of_writes plan before a b s s' expected items ws (Ok done) g h = h
-of_writes plan before a b s s' expected items ws (Err (fault.Write output)) g h = h
-of_writes plan before a b s s' expected items ws (Err fault.NoMemory) g h = h
-of_writes plan before a b s s' expected items ws (Err fault.Read) g h = absurd g
-of_writes plan before a b s s' expected items ws (Err (fault.Block inner)) g h = absurd g
-of_writes plan before a b s s' expected items ws (Err (fault.Record inner)) g h = absurd g
-of_writes plan before a b s s' expected items ws (Err fault.BadOrder) g h = absurd g
-of_writes plan before a b s s' expected items ws (Err fault.NoText) g h = absurd g
-of_writes plan before a b s s' expected items ws (Err fault.BadDisplacement) g h = absurd g
-of_writes plan before a b s s' expected items ws (Err fault.UnknownSection) g h = absurd g
-of_writes plan before a b s s' expected items ws (Err fault.TooLarge) g h = absurd g
-of_writes plan before a b s s' expected items ws (Err fault.TooManyGlobals) g h = absurd g
-of_writes plan before a b s s' expected items ws (Err fault.TooManySections) g h = absurd g
-of_writes plan before a b s s' expected items ws (Err fault.TooManyModules) g h = absurd g
-of_writes plan before a b s s' expected items ws (Err fault.TooMuch) g h = absurd g
-of_writes plan before a b s s' expected items ws (Err fault.TextOutside) g h = absurd g
+content_there : (r : Result records.Content RecordFault) → is_ok r ≡ true → (c : records.Content) × (r ≡ Ok c)
+content_there (Ok c) e = (c, refl)
+content_there (Err refused) e = absurd (false≢true e)
 
 -- where the next record stands
 abbrev Place : Type 0
@@ -428,8 +397,8 @@ location_of : (before : List Part) (known : Known) → known ≡ known_of before
 unfolding known_of
 location_of before known e = ap (λ k. (k.modules, k.section)) e
 
-module _ {seen : Emitting} (plan : Planned) (before : List Part) (s : Emitting) (items bytes : List ℕ) (is : seen ≡ s)
-    (e : ◌≡◌ {A = Result (List ℕ) RecordFault} (Ok bytes) (record_of items)) (stands : EmitStands plan before s) where
+module _ {seen : Emitting} (plan : Planned) (before : List Part) (s : Emitting) (bytes : List ℕ) (is : seen ≡ s)
+    (there : IsRecord bytes) (stands : EmitStands plan before s) where
   abbrev index : ℕ
   index = modules_in before
 
@@ -437,32 +406,25 @@ module _ {seen : Emitting} (plan : Planned) (before : List Part) (s : Emitting) 
   section = current_section (this_module before)
 
   makes : Makes plan before (record_parts bytes) (bytes_writes index bytes) (with_bytes index section bytes)
-  makes =
-      let c = content_is (content_of items) items bytes e in
-      let P : List ℕ → Type 0 = λ these. content_of these ≡ Ok c.0 in
-      block_makes plan before bytes c.0 (subst P (sym (record_is items bytes e)) c.1)
+  makes = let c = content_there (content_of bytes) there in block_makes plan before bytes c.0 c.1
 
-  pub block_refused : (a : Outputs) (s' : Emitting) (new : Known) (broken : ModuleFault) (result : Result (Unit {0}) LinkFault)
+  pub record_refused : (a : Outputs) (s' : Emitting) (new : Known) (broken : ModuleFault) (result : Result (Unit {0}) LinkFault)
       → (seen.known ≡ known_of before → TakesAfter before new (record_parts bytes) (Err broken))
-      → IsErrAnd result (λ f. f ≡ of_module broken) → TakesBlock plan before a a s s' items result
-  block_refused a s' new broken (Ok done) h f = absurd f
-  block_refused a s' new broken (Err stopped) h f =
-      let P : Emitting → Type 0 = λ x. TakesParts plan before a a x s' (record_parts bytes) (Err (of_module broken)) in
-      let Q : List ℕ → Type 0 = λ these. TakesParts plan before a a s s' (record_parts these) (Err (of_module broken)) in
-      let R : LinkFault → Type 0 = λ l. TakesBlock plan before a a s s' items (Err l) in
+      → IsErrAnd result (λ f. f ≡ of_module broken) → TakesParts plan before a a s s' (record_parts bytes) result
+  record_refused a s' new broken result h f =
+      let P : Emitting → Type 0 = λ x. TakesParts plan before a a x s' (record_parts bytes) result in
       let now = here plan before s is stands in
-      let parts = subst P is (refused_by plan before (record_parts bytes) (bytes_writes index bytes)
-      (with_bytes index section bytes) makes seen now a s' new broken (h now.known)) in
-      subst R (sym f) (of_block plan before a s s' items broken (subst Q (record_is items bytes e) parts))
+      subst P is (parts_refused plan before (record_parts bytes) (bytes_writes index bytes)
+      (with_bytes index section bytes) makes seen now a s' new broken result (h now.known) f)
 
-  pub block_taken : (a b : Outputs) (s' : Emitting) (known : Known) (location : Place) (result : Result (Unit {0}) LinkFault)
+  pub record_taken : (a b : Outputs) (s' : Emitting) (known : Known) (location : Place) (result : Result (Unit {0}) LinkFault)
       → ◌≡◌ {A = Place} location (s.known.modules, s.known.section)
       → (seen.known ≡ known_of before → TakesAfter before known (record_parts bytes) (Ok tt))
       → Goes a b (begin_writes seen ++ bytes_writes location.0 bytes (begun_reporting seen)) s'
       (let now : Emitting = record seen { known = known } in
       with_reporting (with_bytes location.0 location.1 bytes (begun_reporting seen)) now) result
-      → TakesBlock plan before a b s s' items result
-  block_taken a b s' known location result l h k =
+      → TakesParts plan before a b s s' (record_parts bytes) result
+  record_taken a b s' known location result l h k =
       let now = here plan before s is stands in
       let t = h now.known in
       let expected : Place → Emitting = λ at. let x : Emitting = record seen { known = known } in
@@ -471,10 +433,118 @@ module _ {seen : Emitting} (plan : Planned) (before : List Part) (s : Emitting) 
       Goes a b (begin_writes seen ++ bytes_writes at.0 bytes (begun_reporting seen)) s' (expected at) result in
       let k' = subst G (l ∙ location_of before s.known stands.known) k in
       let P : Emitting → Type 0 = λ x. TakesParts plan before a b x s' (record_parts bytes) result in
-      let Q : List ℕ → Type 0 = λ these. TakesParts plan before a b s s' (record_parts these) result in
-      let parts = subst P is (parts_taken plan before (record_parts bytes) (bytes_writes index bytes)
-      (with_bytes index section bytes) makes seen now a b s' known result t.0 t.1 k') in
-      of_writes plan before a b s s' (expected (index, section)) items _ result k' (subst Q (record_is items bytes e) parts)
+      subst P is (parts_taken plan before (record_parts bytes) (bytes_writes index bytes)
+      (with_bytes index section bytes) makes seen now a b s' known result t.0 t.1 k')
+
+-- ---- relocations, by calls
+
+abbrev pub relocating : List Relocation → Reporting → Reporting
+relocating relocations t = with_held (held_with_all (planned t.plan) t.held relocations) t
+
+-- what is written first changes no text that is held
+begun_after : (b : Bool) (t : Reporting) (ws : List Write) (relocations : List Relocation)
+    → (if b then relocating relocations t else with_count ws (relocating relocations t))
+    ≡ relocating relocations (if b then t else with_count ws t)
+begun_after true t ws relocations = refl
+begun_after false t ws relocations = refl
+
+same_but : (mid old : Emitting) (reporting : Reporting) → mid.reporting ≡ reporting → mid.has_begun ≡ old.has_begun
+    → mid.fault ≡ old.fault → mid ≡ (let x : Emitting = record old { known = mid.known; reporting = reporting } in x)
+same_but mid old reporting e f g =
+    let with_these : Reporting → Bool → Option LinkFault → Emitting =
+    λ t b o. let x : Emitting = record { known = mid.known; reporting = t; has_begun = b; fault = o } in x in
+    ap (λ t. with_these t mid.has_begun mid.fault) e ∙ ap (λ b. with_these reporting b mid.fault) f
+    ∙ ap (λ o. with_these reporting old.has_begun o) g
+
+module _ (plan : Planned) (before : List Part) (relocations : List Relocation) (old mid : Emitting)
+    (stands : EmitStands plan before old) where
+  abbrev parts : List Part
+  parts = Relocations ∷ relocated_parts relocations
+
+  relocations_make : Makes plan before parts (λ t. []) (relocating relocations)
+  relocations_make = content_makes plan before (records.Relocations relocations)
+
+  pub relocations_refused : (a : Outputs) (s' : Emitting) (broken : ModuleFault) (result : Result (Unit {0}) LinkFault)
+      → RulesTake old.known mid.known parts (Err broken) → IsErrAnd result (λ f. f ≡ of_module broken)
+      → TakesParts plan before a a old s' parts result
+  relocations_refused a s' broken result h f =
+      parts_refused plan before parts (λ t. []) (relocating relocations) relocations_make old stands a s' mid.known
+      broken result (taken_after before old.known mid.known parts (Err broken) stands.known h) f
+
+  pub relocations_taken : (a b : Outputs) (s' : Emitting) (result : Result (Unit {0}) LinkFault)
+      → RulesTake old.known mid.known parts (Ok tt) → mid.reporting ≡ relocating relocations old.reporting
+      → mid.has_begun ≡ old.has_begun → mid.fault ≡ old.fault
+      → Goes a b (begin_writes mid) s' (with_reporting (begun_reporting mid) mid) result
+      → TakesParts plan before a b old s' parts result
+  relocations_taken a b s' result h e f g k =
+      let t = taken_after before old.known mid.known parts (Ok tt) stands.known h in
+      let P : Emitting → Type 0 = λ x. Goes a b (begin_writes x) s' (with_reporting (begun_reporting x) x) result in
+      let Q : Reporting → Type 0 = λ u. Goes a b (begin_writes old) s'
+      (let x : Emitting = record old { known = mid.known } in with_reporting u x) result in
+      let R : List Write → Type 0 = λ ws. Goes a b ws s'
+      (let x : Emitting = record old { known = mid.known } in
+      with_reporting (relocating relocations (begun_reporting old)) x) result in
+      parts_taken plan before parts (λ t. []) (relocating relocations) relocations_make old stands a b s' mid.known result
+      t.0 t.1 (subst R (sym (append-nil (begin_writes old)))
+      (subst Q (begun_after old.has_begun old.reporting (front_writes (planned old.reporting.plan)) relocations)
+      (subst P (same_but mid old (relocating relocations old.reporting) e f g) k)))
+
+-- relocations that are left are stored one by one
+pub stored_more : (now later target : Reporting) (rest following : List Relocation) (item : Relocation)
+    → rest ≡ item ∷ following → relocating rest now ≡ target
+    → later ≡ with_held (held_with (planned now.plan) now.held item) now → relocating following later ≡ target
+stored_more now later target rest following item e i h =
+    let P : List Relocation → Type 0 = λ left. relocating left now ≡ target in
+    let Q : Reporting → Type 0 = λ t. relocating following t ≡ target in
+    subst Q (sym h) (subst P e i)
+
+pub fault_left : {A : Type 0} (a b : Outputs) (ws : List Write) (state expected : Emitting) (kept : Option LinkFault)
+    (result : Result A LinkFault) → Goes a b ws state expected result → expected.fault ≡ kept
+    → IfOk result (λ _. state.fault ≡ kept)
+fault_left a b ws state expected kept (Ok done) h e = ap (λ x. x.fault) h.1 ∙ e
+fault_left a b ws state expected kept (Err stopped) h e = tt
+
+-- ---- a record by its block
+
+relocation_parts : (r : Result records.Content RecordFault) → (r >>= λ c. Ok (kind_in c)) ≡ Ok kind.Relocations
+    → parts_in r ≡ Relocations ∷ relocated_parts (relocations_in r)
+relocation_parts (Ok (records.Gsd entries)) e = absurd cc
+relocation_parts (Ok records.EndOfGsd) e = absurd cc
+relocation_parts (Ok (records.Text address bytes)) e = absurd cc
+relocation_parts (Ok (records.Relocations relocations)) e = refl
+relocation_parts (Ok records.InternalSymbols) e = absurd cc
+relocation_parts (Ok records.EndOfModule) e = absurd cc
+relocation_parts (Err refused) e = absurd cc
+
+no_record : (broken : ModuleFault) (inner : RecordFault) → fault.Record inner ≡ of_module broken → ⊥
+no_record rule.NoMemory inner e = cc
+no_record rule.BadOrder inner e = cc
+no_record rule.NoText inner e = cc
+no_record rule.BadDisplacement inner e = cc
+no_record rule.UnknownSection inner e = cc
+no_record rule.TextOutside inner e = cc
+no_record rule.TooManyGlobals inner e = cc
+no_record rule.TooManySections inner e = cc
+no_record rule.TooManyModules inner e = cc
+
+-- no fault of parts is one of a block that is no record
+of_record : (plan : Planned) (before : List Part) (a b : Outputs) (s s' : Emitting) (items : List ℕ)
+    (result : Result (Unit {0}) LinkFault) → TakesParts plan before a b s s' (record_parts items) result
+    → TakesBlock plan before a b s s' items result
+of_record plan before a b s s' items (Ok done) h = h
+of_record plan before a b s s' items (Err (fault.Record inner)) h = absurd (no_record h.0.0 inner h.0.2)
+of_record plan before a b s s' items (Err stopped) h = h
+
+pub relocations_block : (plan : Planned) (before : List Part) (a b : Outputs) (s s' : Emitting) (items bytes : List ℕ)
+    (result : Result (Unit {0}) LinkFault) → ◌≡◌ {A = Result (List ℕ) RecordFault} (Ok bytes) (record_of items)
+    → record_kind bytes ≡ Ok kind.Relocations
+    → TakesParts plan before a b s s' (Relocations ∷ relocated_parts (record_relocations bytes)) result
+    → TakesBlock plan before a b s s' items result
+relocations_block plan before a b s s' items bytes result e k h =
+    let P : List Part → Type 0 = λ parts. TakesParts plan before a b s s' parts result in
+    let Q : List ℕ → Type 0 = λ these. TakesParts plan before a b s s' (record_parts these) result in
+    of_record plan before a b s s' items result
+    (subst Q (record_is items bytes e) (subst P (sym (relocation_parts (content_of bytes) k)) h))
 
 -- ---- the transfer block, by calls
 

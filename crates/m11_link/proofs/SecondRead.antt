@@ -1,7 +1,6 @@
 -- The loops of the second pass.
 use Rattle.std.proofs.Common.{◌≡◌, ◌∙◌, ℕ, ◌+◌, ◌<◌, ◌≤◌, Bool, true, false, List, [], ◌∷◌, ◌++◌, length, get_or, set, append-nil, append_assoc, Option, Some, None, Result, Ok, Err, refl, sym, ap, subst}
 use Rattle.std.proofs.lemmas.Grind.{flat_map-append}
-use Rattle.m11_base.specs.Devices.{Rises}
 use Rattle.m11_base.specs.Feed.{Text as FeedText, GiveAll, NoneFailed}
 use Rattle.m11_blocks.specs.Blocks.{first_block, why_of}
 use Rattle.m11_blocks.specs.Limited.{EndsBetween, Reads, Stops, most_bytes, place}

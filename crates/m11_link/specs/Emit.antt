@@ -1,6 +1,6 @@
 -- The second pass of a link, call by call: what stands after the parts so far, and what is written. (This project's
 -- own. That it yields what Written.antt says is proved.)
-use Rattle.std.specs.Prelude.{◌≡◌, ◌+◌, ◌==◌, ◌&&◌, not, ℕ, Bool, true, false, List, [], ◌∷◌, ◌++◌, ⊤, Option, Some, None, Result, Ok, Err, if◌then◌else◌}
+use Rattle.std.specs.Prelude.{◌≡◌, ℕ, Bool, true, false, List, [], ◌∷◌, ◌++◌, map, ⊤, Option, Some, None, Result, Ok, Err, if◌then◌else◌}
 use Rattle.indexmap.specs.IndexSet.{insert_key}
 use Rattle.m11_obj.specs.Reading.{content_of, record_entries, record_kind, record_relocations, record_text}
 use Rattle.m11_obj.specs.declared.records.RecordKind.{RecordKind}
@@ -10,8 +10,8 @@ use Rattle.m11_obj.specs.declared.gsd.GsdEntry.{GsdEntry}
 use Rattle.m11_obj.specs.declared.gsd.GsdKind.{GsdKind}
 use Rattle.m11_obj.specs.declared.gsd.GsdKind.TheVariants.{GlobalSymbol}
 use Rattle.m11_obj.specs.declared.relocations.Relocation.{Relocation}
-use Rattle.m11_modules.specs.Names.{is_among, is_name}
-use Rattle.m11_modules.specs.Parts.{Part, Entry, EndOfFile, Text, Relocations, Relocated, record_parts}
+use Rattle.m11_modules.specs.Names.{is_name}
+use Rattle.m11_modules.specs.Parts.{Part, EndOfFile, Text, Relocations, Relocated, record_parts}
 use Rattle.m11_modules.specs.Places.{Known, known_of, current_section, modules_in, this_module}
 use Rattle.m11_modules.specs.Rules.{defines, fault_of, first_fault}
 use Rattle.m11_modules.specs.declared.fault.ModuleFault.TheVariants as rule
@@ -114,6 +114,10 @@ with_entries module_index entries t = record t {
 }
 
 -- ---- records
+
+-- the parts of relocations
+abbrev pub relocated_parts : List Relocation → List Part
+relocated_parts relocations = map (λ relocation. Relocated relocation) relocations
 
 -- a text record's text counts from its section
 abbrev pub text_held : Findings → ℕ → ℕ × ℕ → Option (ℕ × List ℕ) → Option PlacedText

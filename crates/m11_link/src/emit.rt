@@ -1,12 +1,13 @@
 //! The second pass of a link: it writes tape, map and messages while blocks come.
 
-ghost use Rattle.std.specs.Prelude.{◌≡◌, ◌∷◌, ◌++◌, [], ℕ, List, Some, None, Err, IfOk, false};
-ghost use Rattle.m11_obj.specs.Reading.{IsRecord};
+ghost use Rattle.std.specs.Prelude.{◌≡◌, ◌≢◌, ◌∷◌, ◌++◌, [], ℕ, List, Some, None, Ok, Err, IfOk, false};
+ghost use Rattle.m11_obj.specs.Reading.{IsRecord, record_kind, record_relocations};
 ghost use Rattle.m11_blocks.specs.Tapes.{tape_block};
-ghost use Rattle.m11_modules.specs.Parts.{Part, EndOfFile, record_parts};
+ghost use Rattle.m11_modules.specs.Parts.{Part, EndOfFile, Relocated, Relocations, record_parts};
+ghost use Rattle.m11_modules.specs.Steps.{RulesTake, TakesOne};
 ghost use Rattle.m11_layout.specs.Plan.{Planned};
 ghost use Rattle.m11_layout.specs.declared.fault.LinkFault.{LinkFault};
-ghost use Rattle.m11_link.specs.Emit.{EmitEnds, FailsAgain, Goes, KeepsFault, EmitStands, TakesBlock, TakesParts, begin_writes, begun_reporting, bytes_writes, held_writes, with_bytes, with_held, with_reporting};
+ghost use Rattle.m11_link.specs.Emit.{EmitEnds, FailsAgain, Goes, KeepsFault, EmitStands, TakesBlock, TakesParts, begin_writes, begun_reporting, bytes_writes, held_with, held_with_all, held_writes, relocated_parts, with_bytes, with_held, with_reporting};
 ghost use Rattle.m11_link_text.specs.Findings.{planned};
 ghost use Rattle.m11_link.specs.Outputs.{Output, Writes, optional_output, output_of, outputs, outputs_of, to_tape};
 
@@ -14,8 +15,8 @@ use crate::held::ModuleSection;
 use crate::reporting::Reporter;
 use m11_base::Sink;
 use m11_layout::{LinkFault, Plan};
-use m11_modules::Rules;
-use m11_obj::{Block, Record, read_record};
+use m11_modules::{ModuleFault, Rules};
+use m11_obj::{Block, Record, RecordKind, Relocation, read_record};
 use std::alloc::Global;
 use std::marker::Model;
 
@@ -168,7 +169,7 @@ impl Emit {
         }
     }
 
-    // Takes one block where no fault came before. It is judged whole before anything is written.
+    // Takes one block where no fault came before.
     fn take_block<S: Sink, T: Sink, U: Sink>(
         &mut self,
         block: &Block,
@@ -184,9 +185,99 @@ impl Emit {
         ensures kept { IfOk result (λ _. self.new.fault ≡ self.old.fault) }
     {
         let record = read_record(block)?;
+        match record.kind() {
+            RecordKind::Relocations => self.take_relocations(&record, map, messages),
+            _ => self.take_other(&record, tape, map, messages),
+        }
+    }
+
+    // Takes a record that holds no relocations. It is judged whole before anything is written.
+    fn take_other<S: Sink, T: Sink, U: Sink>(
+        &mut self,
+        record: &Record<'_>,
+        tape: &mut S,
+        map: &mut Option<T>,
+        messages: &mut U,
+    ) -> Result<(), LinkFault>
+        requires is { IsRecord «record».now }
+        requires other { record_kind «record».now ≢ Ok RecordKind.Relocations }
+        ensures takes { (plan : Planned) (before : List Part) → EmitStands plan before self.old → TakesParts plan before
+            (outputs_of S.Sink T.Sink U.Sink tape.old map.old messages.old)
+            (outputs_of S.Sink T.Sink U.Sink tape.new map.new messages.new)
+            self.old self.new (record_parts «record».now) result }
+        ensures kept { IfOk result (λ _. self.new.fault ≡ self.old.fault) }
+    {
         let location = self.location();
-        self.rules.record(&record)?;
-        self.write(location, &record, tape, map, messages)
+        self.rules.record(record)?;
+        self.write(location, record, tape, map, messages)
+    }
+
+    // Takes a relocation record. Nothing is written before all of it is judged; what is stored till then is stored in
+    // the text that is held.
+    fn take_relocations<T: Sink, U: Sink>(
+        &mut self,
+        record: &Record<'_>,
+        map: &mut Option<T>,
+        messages: &mut U,
+    ) -> Result<(), LinkFault>
+        ensures takes { (tape : Output) (plan : Planned) (before : List Part) → EmitStands plan before self.old
+            → TakesParts plan before
+            (outputs tape (optional_output T.Sink map.old) (output_of U.Sink messages.old))
+            (outputs tape (optional_output T.Sink map.new) (output_of U.Sink messages.new))
+            self.old self.new
+            (Relocations ∷ relocated_parts (record_relocations «record».now)) result }
+        ensures kept { IfOk result (λ _. self.new.fault ≡ self.old.fault) }
+    {
+        self.store_relocations(record)?;
+        self.begin(map, messages)
+    }
+
+    // Judges a relocation record and stores its relocations, by what is known before it.
+    #[tactic(auto, using(m11_modules::proofs::Taking::taken_then, m11_modules::proofs::Taking::refused_first))]
+    fn store_relocations(&mut self, record: &Record<'_>) -> Result<(), ModuleFault>
+        ensures judged { RulesTake self.old.known self.new.known
+            (Relocations ∷ relocated_parts (record_relocations «record».now)) result }
+        ensures stored { IfOk result (λ _. self.new.reporting ≡ with_held (held_with_all (planned self.old.reporting.plan)
+            self.old.reporting.held (record_relocations «record».now)) self.old.reporting) }
+        ensures begun { self.new.has_begun ≡ self.old.has_begun }
+        ensures kept { self.new.fault ≡ self.old.fault }
+    {
+        match self.rules.begin_relocations() {
+            Ok(()) => self.store_each_relocation(record),
+            Err(fault) => Err(fault),
+        }
+    }
+
+    // Judges and stores the relocations of a record in one walk.
+    fn store_each_relocation(&mut self, record: &Record<'_>) -> Result<(), ModuleFault>
+        ensures judged { RulesTake self.old.known self.new.known
+            (relocated_parts (record_relocations «record».now)) result }
+        ensures stored { IfOk result (λ _. self.new.reporting ≡ with_held (held_with_all (planned self.old.reporting.plan)
+            self.old.reporting.held (record_relocations «record».now)) self.old.reporting) }
+        ensures begun { self.new.has_begun ≡ self.old.has_begun }
+        ensures kept { self.new.fault ≡ self.old.fault }
+    {
+        'relocations: for relocation in record.each_relocation() {
+            match self.store_relocation(relocation) {
+                Ok(()) => {}
+                Err(fault) => return Err(fault),
+            }
+        }
+        Ok(())
+    }
+
+    // Judges a relocation and stores it in the text that is held.
+    #[tactic(auto, unfolding(m11_modules::specs::Steps::TakesOne))]
+    fn store_relocation(&mut self, relocation: Relocation) -> Result<(), ModuleFault>
+        ensures judged { TakesOne self.old.known self.new.known (Relocated relocation) result }
+        ensures stored { IfOk result (λ _. self.new.reporting ≡ with_held
+            (held_with (planned self.old.reporting.plan) self.old.reporting.held relocation) self.old.reporting) }
+        ensures begun { self.new.has_begun ≡ self.old.has_begun }
+        ensures kept { self.new.fault ≡ self.old.fault }
+    {
+        self.rules.relocation(relocation)?;
+        self.reporter.relocate(&relocation);
+        Ok(())
     }
 
     // Where the next record stands.
@@ -208,6 +299,7 @@ impl Emit {
         map: &mut Option<T>,
         messages: &mut U,
     ) -> Result<(), LinkFault>
+        requires { record_kind «record».now ≢ Ok RecordKind.Relocations }
         ensures { Goes
             (outputs_of S.Sink T.Sink U.Sink tape.old map.old messages.old)
             (outputs_of S.Sink T.Sink U.Sink tape.new map.new messages.new)

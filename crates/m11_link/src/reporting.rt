@@ -1,12 +1,12 @@
 //! What is made of records after the front: messages on entries, and texts as blocks of the tape.
 
-ghost use Rattle.std.specs.Prelude.{◌≡◌, ◌≤◌, ◌==◌, [], ◌∷◌, ◌++◌, length, Some, None};
-ghost use Rattle.m11_obj.specs.Reading.{record_entries, record_relocations};
+ghost use Rattle.std.specs.Prelude.{◌≡◌, ◌≢◌, ◌≤◌, ◌==◌, [], ◌∷◌, ◌++◌, length, Ok, Some, None};
+ghost use Rattle.m11_obj.specs.Reading.{record_entries, record_kind};
 ghost use Rattle.m11_blocks.specs.Tapes.{tape_block};
 ghost use Rattle.m11_modules.specs.Names.{is_among};
 ghost use Rattle.m11_modules.specs.Rules.{defines};
 ghost use Rattle.m11_layout.specs.Sections.{attributes_by};
-ghost use Rattle.m11_link.specs.Emit.{Goes, EmitKeeps, bytes_writes, entries_writes, held_with, held_with_all, held_writes, with_bytes, with_count, with_entries, with_entry, with_held, with_name, with_symbol};
+ghost use Rattle.m11_link.specs.Emit.{Goes, EmitKeeps, bytes_writes, entries_writes, held_with, held_writes, with_bytes, with_count, with_entries, with_entry, with_held, with_name, with_symbol};
 ghost use Rattle.m11_link_text.specs.Findings.{planned};
 ghost use Rattle.m11_link.specs.Front.{front_writes};
 ghost use Rattle.m11_link.specs.Outputs.{Output, Writes, optional_output, output_of, outputs, to_messages, to_tape};
@@ -87,7 +87,7 @@ impl Reporter {
         Ok(())
     }
 
-    /// What a record makes that stands at this location.
+    /// What a record makes that stands at this location. Relocations are stored one by one, by `relocate`.
     pub(crate) fn note<S: Sink, U: Sink>(
         &mut self,
         location: ModuleSection,
@@ -95,6 +95,7 @@ impl Reporter {
         tape: &mut S,
         messages: &mut U,
     ) -> Result<(), LinkFault>
+        requires { record_kind «record».now ≢ Ok RecordKind.Relocations }
         ensures { (map : Output) → Goes
             (outputs (output_of S.Sink tape.old) map (output_of U.Sink messages.old))
             (outputs (output_of S.Sink tape.new) map (output_of U.Sink messages.new))
@@ -109,10 +110,7 @@ impl Reporter {
                 self.hold(location, record.text_address(), record.text_bytes());
                 Ok(())
             }
-            RecordKind::Relocations => {
-                self.note_relocations(record);
-                Ok(())
-            }
+            RecordKind::Relocations => unreachable!(),
             RecordKind::InternalSymbols => Ok(()),
             RecordKind::EndOfModule => self.end_text(tape),
         }
@@ -162,18 +160,8 @@ impl Reporter {
         self.held = Some(HeldText::new(&self.plan, location, address, bytes));
     }
 
-    // The relocations of a record, into the text that is held.
-    fn note_relocations(&mut self, record: &Record<'_>)
-        ensures { self.new ≡ with_held (held_with_all (planned self.old.plan) self.old.held
-            (record_relocations «record».now)) self.old }
-    {
-        'relocations: for relocation in record.each_relocation() {
-            self.relocate(&relocation);
-        }
-    }
-
-    // A relocation, into the text that is held.
-    fn relocate(&mut self, relocation: &Relocation)
+    /// Stores a relocation in the text that is held.
+    pub(crate) fn relocate(&mut self, relocation: &Relocation)
         ensures { self.new ≡ with_held (held_with (planned self.old.plan) self.old.held relocation.now) self.old }
     {
         match &mut self.held {

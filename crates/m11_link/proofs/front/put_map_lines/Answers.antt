@@ -1,6 +1,5 @@
-use Rattle.m11_link_text.specs.Findings.{planned}
 use Rattle.m11_link.specs.Front.{map_writes}
-use Rattle.m11_link.proofs.Writing.{stopped_first, stopped_alone, writes_then}
+use Rattle.m11_link.proofs.Writing.{stopped_first, writes_then}
 use Rattle.m11_link.proofs.front.put_map_lines.Goals as goal
 
 pub returns-in_err-put_sections : goal.returns-in_err-put_sections

@@ -1,4 +1,4 @@
-use Rattle.std.proofs.Common.{◌≡◌, ℕ, List, false}
+use Rattle.std.proofs.Common.{◌≡◌, List, false}
 use Rattle.m11_modules.specs.Parts.{Part}
 use Rattle.m11_layout.specs.Plan.{Planned}
 use Rattle.m11_link.specs.Emit.{EmitStands, written}

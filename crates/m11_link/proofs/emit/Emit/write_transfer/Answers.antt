@@ -1,4 +1,4 @@
-use Rattle.std.proofs.Common.{◌∙◌, ap, [], ◌∷◌, None, Ok}
+use Rattle.std.proofs.Common.{◌∙◌, ap, [], ◌∷◌, Ok}
 use Rattle.m11_blocks.specs.Tapes.{tape_block}
 use Rattle.m11_link_text.specs.Findings.{planned}
 use Rattle.m11_link.specs.Outputs.{no_output, to_tape}

@@ -1,4 +1,4 @@
-use Rattle.std.proofs.Common.{refl, sym}
+use Rattle.std.proofs.Common.{refl}
 use Rattle.m11_obj.specs.Reading.{record_text}
 use Rattle.m11_link.proofs.Entering.{goes_stopped_alone, text_then}
 use Rattle.m11_link.proofs.Writing.{gains_nothing}
@@ -19,9 +19,6 @@ returns-in_ok-end_text-in-Text g c = λ map. rw c.in-Text.ensures.kind
     (text_then _ _ c.args.self.now c.end_text-in-Text.new.self c.hold.new.self c.args.location.module_index
     c.args.location.section c.text_address.result c.text_bytes.result.now (record_text c.args.record.now)
     c.text_address.ensures c.text_bytes.ensures.bytes (c.in_ok-end_text-in-Text.ensures map _) c.hold.ensures)
-
-pub returns-in-Relocations : goal.returns-in-Relocations
-returns-in-Relocations g c = λ map. rw c.in-Relocations.ensures.kind (gains_nothing _, c.note_relocations.ensures)
 
 pub returns-in-InternalSymbols : goal.returns-in-InternalSymbols
 returns-in-InternalSymbols g c = λ map. rw c.in-InternalSymbols.ensures.kind (gains_nothing _, refl)

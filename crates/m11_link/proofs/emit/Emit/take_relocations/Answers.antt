@@ -1,0 +1,19 @@
+use Rattle.m11_obj.specs.Reading.{record_relocations}
+use Rattle.m11_link.specs.Outputs.{no_output}
+use Rattle.m11_link.proofs.Emitted.{fault_left, relocations_refused, relocations_taken}
+use Rattle.m11_link.proofs.emit.Emit.take_relocations.Goals as goal
+
+pub returns-in_err-store_relocations-clause-takes : goal.returns-in_err-store_relocations-clause-takes
+returns-in_err-store_relocations-clause-takes g c = λ tape plan before stands. relocations_refused plan before
+    (record_relocations c.args.record.now) c.args.self.now c.store_relocations.new.self stands _ _
+    c.in_err-store_relocations.field-0.0 _ c.in_err-store_relocations.ensures.judged c.from_residual.ensures.1
+
+pub returns-clause-takes : goal.returns-clause-takes
+returns-clause-takes g c = λ tape plan before stands. relocations_taken plan before
+    (record_relocations c.args.record.now) c.args.self.now c.store_relocations.new.self stands _ _ c.begin.new.self
+    c.begin.result c.in_ok-store_relocations.ensures.judged c.in_ok-store_relocations.ensures.stored
+    c.in_ok-store_relocations.ensures.begun c.in_ok-store_relocations.ensures.kept (c.begin.ensures tape)
+
+pub returns-clause-kept : goal.returns-clause-kept
+returns-clause-kept g c = fault_left _ _ _ _ _ _ c.begin.result (c.begin.ensures no_output)
+    c.in_ok-store_relocations.ensures.kept
