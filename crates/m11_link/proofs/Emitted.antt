@@ -1,5 +1,5 @@
 -- A second pass that stands after parts, and after more of them.
-use Rattle.std.proofs.Common.{◌≡◌, ℕ, Bool, true, false, if◌then◌else◌, List, [], ◌∷◌, ◌++◌, append_assoc, append-nil, Option, Some, None, Result, Ok, Err, IfOk, IsErrAnd, refl, sym, subst, ap, ap₂, ◌∙◌}
+use Rattle.std.proofs.Common.{◌≡◌, ℕ, Bool, true, false, if◌then◌else◌, List, [], ◌∷◌, ◌++◌, append_assoc, append-nil, Option, Some, None, Result, Ok, Err, IfOk, IsErrAnd, inl, inr, refl, sym, subst, ap, ap₂, ◌∙◌}
 use Rattle.std.proofs.lemmas.Bool.{false≢true, true≢false}
 use Rattle.std.specs.Prelude.{is_ok}
 use Rattle.m11_obj.specs.Reading.{◌>>=◌, IsRecord, content_of, entries_in, kind_in, record_kind, record_of, record_relocations, relocations_in, text_in}
@@ -263,7 +263,7 @@ module _ (plan : Planned) (before parts : List Part) (ws : Reporting → List Wr
     went_on (λ more. Gains a b more) gains,
   )
   parts_taken a b s' known (Err (fault.Write output)) sound k h = (sound, went_on (λ more. StopsIn output a b more) h)
-  parts_taken a b s' known (Err fault.NoMemory) sound k h = went_on (λ more. StopsBetween a b more) h
+  parts_taken a b s' known (Err fault.NoMemory) sound k h = inr (sound, went_on (λ more. StopsBetween a b more) h)
   parts_taken a b s' known (Err fault.Read) sound k h = absurd h
   parts_taken a b s' known (Err (fault.Block inner)) sound k h = absurd h
   parts_taken a b s' known (Err (fault.Record inner)) sound k h = absurd h
@@ -289,7 +289,7 @@ module _ (plan : Planned) (before parts : List Part) (ws : Reporting → List Wr
   refused_by a s' new rule.TooManyGlobals h = ((rule.TooManyGlobals, h, refl), refl)
   refused_by a s' new rule.TooManySections h = ((rule.TooManySections, h, refl), refl)
   refused_by a s' new rule.TooManyModules h = ((rule.TooManyModules, h, refl), refl)
-  refused_by a s' new rule.NoMemory h = went_on (λ more. StopsBetween a a more) (refused_before a made)
+  refused_by a s' new rule.NoMemory h = inl refl
 
   pub parts_refused : (a : Outputs) (s' : Emitting) (new : Known) (broken : ModuleFault) (result : Result (Unit {0}) LinkFault)
       → TakesAfter before new parts (Err broken) → IsErrAnd result (λ e. e ≡ of_module broken)
@@ -527,24 +527,36 @@ no_record rule.TooManyGlobals inner e = cc
 no_record rule.TooManySections inner e = cc
 no_record rule.TooManyModules inner e = cc
 
+there : (content : Result records.Content RecordFault) (items bytes : List ℕ)
+    → ◌≡◌ {A = Result (List ℕ) RecordFault} (Ok bytes) (content >>= λ c. Ok items) → is_ok content ≡ true
+there (Ok c) items bytes e = refl
+there (Err fault) items bytes e = absurd cc
+
 -- no fault of parts is one of a block that is no record
 of_record : (plan : Planned) (before : List Part) (a b : Outputs) (s s' : Emitting) (items : List ℕ)
-    (result : Result (Unit {0}) LinkFault) → TakesParts plan before a b s s' (record_parts items) result
-    → TakesBlock plan before a b s s' items result
-of_record plan before a b s s' items (Ok done) h = h
-of_record plan before a b s s' items (Err (fault.Record inner)) h = absurd (no_record h.0.0 inner h.0.2)
-of_record plan before a b s s' items (Err stopped) h = h
+    (result : Result (Unit {0}) LinkFault) → IsRecord items
+    → TakesParts plan before a b s s' (record_parts items) result → TakesBlock plan before a b s s' items result
+of_record plan before a b s s' items (Ok done) is h = h
+of_record plan before a b s s' items (Err (fault.Write output)) is h = (is, h)
+of_record plan before a b s s' items (Err fault.NoMemory) is h = inr (is, h)
+of_record plan before a b s s' items (Err (fault.Record inner)) is h = absurd (no_record h.0.0 inner h.0.2)
+of_record plan before a b s s' items (Err stopped) is h = h
 
-pub relocations_block : (plan : Planned) (before : List Part) (a b : Outputs) (s s' : Emitting) (items bytes : List ℕ)
-    (result : Result (Unit {0}) LinkFault) → ◌≡◌ {A = Result (List ℕ) RecordFault} (Ok bytes) (record_of items)
-    → record_kind bytes ≡ Ok kind.Relocations
-    → TakesParts plan before a b s s' (Relocations ∷ relocated_parts (record_relocations bytes)) result
-    → TakesBlock plan before a b s s' items result
-relocations_block plan before a b s s' items bytes result e k h =
-    let P : List Part → Type 0 = λ parts. TakesParts plan before a b s s' parts result in
-    let Q : List ℕ → Type 0 = λ these. TakesParts plan before a b s s' (record_parts these) result in
-    of_record plan before a b s s' items result
-    (subst Q (record_is items bytes e) (subst P (sym (relocation_parts (content_of bytes) k)) h))
+module _ (plan : Planned) (before : List Part) (a b : Outputs) (s s' : Emitting) (items bytes : List ℕ)
+    (result : Result (Unit {0}) LinkFault) (e : ◌≡◌ {A = Result (List ℕ) RecordFault} (Ok bytes) (record_of items)) where
+  pub record_block : TakesParts plan before a b s s' (record_parts bytes) result
+      → TakesBlock plan before a b s s' items result
+  record_block h =
+      let Q : List ℕ → Type 0 = λ these. TakesParts plan before a b s s' (record_parts these) result in
+      of_record plan before a b s s' items result (there (content_of items) items bytes e)
+      (subst Q (record_is items bytes e) h)
+
+  pub relocations_block : record_kind bytes ≡ Ok kind.Relocations
+      → TakesParts plan before a b s s' (Relocations ∷ relocated_parts (record_relocations bytes)) result
+      → TakesBlock plan before a b s s' items result
+  relocations_block k h =
+      let P : List Part → Type 0 = λ parts. TakesParts plan before a b s s' parts result in
+      record_block (subst P (sym (relocation_parts (content_of bytes) k)) h)
 
 -- ---- the transfer block, by calls
 

@@ -10,6 +10,5 @@ pub mod ItemsTaken
 pub mod ObjectsRead
 pub mod FirstRead
 pub mod Sole
-pub mod WritesLeft
 pub mod SecondRead
 pub mod Agreeing

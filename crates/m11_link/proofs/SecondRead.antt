@@ -1,87 +1,35 @@
 -- The loops of the second pass.
-use Rattle.std.proofs.Common.{◌≡◌, ◌∙◌, ℕ, ◌+◌, ◌<◌, ◌≤◌, Bool, true, false, List, [], ◌∷◌, ◌++◌, length, get_or, set, append-nil, append_assoc, Option, Some, None, Result, Ok, Err, refl, sym, ap, subst}
-use Rattle.std.proofs.lemmas.Grind.{flat_map-append}
+use Rattle.std.proofs.Common.{◌≡◌, ◌∙◌, ℕ, ◌+◌, ◌<◌, ◌≤◌, Bool, true, false, List, [], ◌∷◌, ◌++◌, length, get_or, set, append-nil, append_assoc, Option, Some, None, Result, Ok, Err, ◌⊎◌, inl, inr, refl, sym, ap, subst}
 use Rattle.m11_base.specs.Feed.{Text as FeedText, GiveAll, NoneFailed}
 use Rattle.m11_blocks.specs.Blocks.{first_block, why_of}
 use Rattle.m11_blocks.specs.Limited.{EndsBetween, Reads, Stops, most_bytes, place}
-use Rattle.m11_obj.specs.Reading.{IsRecord, content_of}
-use Rattle.m11_obj.specs.Records.{Content}
+use Rattle.m11_obj.specs.Reading.{IsRecord}
 use Rattle.m11_blocks.specs.declared.block_fault.BlockFault.{BlockFault}
 use Rattle.m11_blocks.specs.declared.block_fault.BlockFault.TheVariants as block
-use Rattle.m11_obj.specs.declared.fault.RecordFault.{RecordFault}
 use Rattle.m11_modules.specs.declared.fault.ModuleFault.{ModuleFault}
-use Rattle.m11_modules.specs.Parts.{Part, EndOfFile, parts_in, parts_of, record_parts}
+use Rattle.m11_modules.specs.Parts.{Part, EndOfFile, record_parts}
 use Rattle.m11_modules.specs.Rules.{fault_of, first_fault}
 use Rattle.m11_modules.specs.declared.fault.ModuleFault.TheVariants as rule
-use Rattle.m11_blocks.specs.Tapes.{tape_block}
 use Rattle.m11_layout.specs.Plan.{Planned}
 use Rattle.m11_layout.specs.declared.fault.LinkFault.{LinkFault}
 use Rattle.m11_layout.specs.declared.fault.LinkFault.TheVariants as fault
 use Rattle.m11_layout.specs.declared.fault.LinkOutput.{LinkOutput}
 use Rattle.m11_link.specs.Emit.{Emitting, EmitEnds, GoesOn, EmitStands, TakesBlock, TakesParts, written}
 use Rattle.m11_link.specs.FirstPass.{of_block}
-use Rattle.m11_link.specs.Objects.{◌>>=◌, AreItems, Item, BlockOf, ObjectEnds, Refused, GiveItems, GivesItems, parts_or_fault, taken, taken_item, taken_parts, unless_fault}
+use Rattle.m11_link.specs.Objects.{◌>>=◌, AreItems, Item, BlockOf, ObjectEnds, Refused, GiveItems, GivesItems, taken, taken_item}
 use Rattle.m11_link.specs.Objects as objects
 use Rattle.m11_link.specs.declared.emit.LinkDone.{LinkDone}
 use Rattle.m11_link_text.specs.Findings.{planned}
 use Rattle.m11_link.specs.Written.{link_writes}
-use Rattle.m11_link.specs.SecondPass.{Emits, ReadsSecond, all_writes, Emitted, EmitsObject, IsOfItems, StopsAmong, items_parts, items_writes, parts_within}
-use Rattle.m11_link.specs.Outputs.{Outputs, Write, Gains, StopsBetween, StopsIn, to_tape}
+use Rattle.m11_link.specs.SecondPass.{Emits, ReadsSecond, Emitted, EmitsObject, IsOfItems, StopsAt, StopsBefore, StopsLink, StopsWithin, WrittenAfter, begun_by}
+use Rattle.m11_link.specs.Outputs.{Outputs, Write, Gains, StopsBetween, StopsIn}
 use Rattle.m11_base.proofs.FeedsRead.{SoFar, begin, all_read, failed_here, given_more, none_failed, read_more}
 use Rattle.m11_link.proofs.FirstRead.{are_after, one_object}
 use Rattle.m11_link.proofs.Steady.{objects_come}
-use Rattle.m11_link.proofs.ItemsTaken.{fault_after, Answer, Decides, bind_ok, block_taken, decides_more, decides_then, end_decides, end_taken, ends_again, no_record_decides, one_taken, parts_decide, taken_after}
+use Rattle.m11_link.proofs.ItemsTaken.{fault_after, Answer, Decides, block_taken, decides_more, decides_then, end_decides, end_taken, ends_again, no_record_decides, one_taken, parts_decide, taken_after}
 use Rattle.m11_link.proofs.ObjectsRead.{StopsObject, Walked, walk_begins, walk_ends, walk_more, walk_stops, walk_whole}
-use Rattle.m11_link.proofs.Writing.{gains_nothing, gains_then, stops_before, stops_after}
-use Rattle.m11_link.proofs.WritesLeft.{Begins, written_more}
-
--- ---- the parts of items that were taken
-
-unless_is : (broken : Option ModuleFault) (parts these : List Part) → unless_fault broken parts ≡ Ok these → these ≡ parts
-unless_is None parts these e = cc
-unless_is (Some said) parts these e = absurd cc
-
-content_is : (before : List Part) (content : Result Content RecordFault) (these : List Part)
-    → (parts_or_fault content >>= taken_parts before) ≡ Ok these → these ≡ before ++ parts_in content
-content_is before (Ok content) these e =
-    unless_is (first_fault before (parts_of content)) (before ++ parts_of content) these e
-content_is before (Err inner) these e = absurd cc
-
-item_is : (before : List Part) (item : Item) (these : List Part) → taken_item before item ≡ Ok these
-    → these ≡ before ++ parts_within item
-item_is before (BlockOf bytes) these e = content_is before (content_of bytes) these e
-item_is before ObjectEnds these e =
-    unless_is (first_fault before (EndOfFile ∷ [])) (before ++ EndOfFile ∷ []) these e
-item_is before (Refused refused) these e = absurd cc
-
-same_parts : (xs ys : List Part) → ◌≡◌ {A = Answer} (Ok xs) (Ok ys) → ys ≡ xs
-same_parts xs ys e = cc
-
-pub parts_are : (before : List Part) (items : List Item) (parts : List Part) → taken before items ≡ Ok parts
-    → parts ≡ before ++ items_parts items
-unfolding items_parts
-parts_are before [] parts e = same_parts before parts e ∙ sym (append-nil before)
-parts_are before (item ∷ items) parts e =
-    let first = bind_ok (taken_item before item) (λ these. taken these items) parts e in
-    parts_are first.0 items parts first.2
-    ∙ ap (λ (these : List Part). these ++ items_parts items) (item_is before item first.0 first.1)
-    ∙ append_assoc before (parts_within item) (items_parts items)
-
-items_parts-append : (xs ys : List Item) → items_parts (xs ++ ys) ≡ items_parts xs ++ items_parts ys
-unfolding items_parts
-items_parts-append xs ys = flat_map-append parts_within xs ys
-
-one_item : (item : Item) → items_parts (item ∷ []) ≡ parts_within item
-unfolding items_parts
-one_item item = append-nil (parts_within item)
-
--- after the parts of the items that were taken stand those of the others
-pub parts_and : (before : List Part) (done more : List Item) (parts : List Part) → taken before done ≡ Ok parts
-    → before ++ items_parts (done ++ more) ≡ parts ++ items_parts more
-parts_and before done more parts e =
-    ap (λ (these : List Part). before ++ these) (items_parts-append done more)
-    ∙ sym (append_assoc before (items_parts done) (items_parts more))
-    ∙ ap (λ (these : List Part). these ++ items_parts more) (sym (parts_are before done parts e))
+use Rattle.m11_link.proofs.Writing.{gains_nothing, gains_then, stops_after}
+use Rattle.m11_layout.proofs.Standing.{sound_after}
 
 -- ---- what is written
 
@@ -103,80 +51,198 @@ stops_between_on first now new some all g o =
     let P : List Write → Type 0 = λ these. StopsBetween first new these in
     subst P (sym o.split) (stops_after first now new some o.more fault.NoMemory g o.went)
 
-stops_in_more : (output : LinkOutput) (first new : Outputs) (some all : List Write) → StopsIn output first new some
-    → Begins some all → StopsIn output first new all
-stops_in_more output first new some all s b =
-    let P : List Write → Type 0 = λ these. StopsIn output first new these in
-    subst P (sym b.1) (stops_before first new some b.0 (fault.Write output) s)
-
-stops_between_more : (first new : Outputs) (some all : List Write) → StopsBetween first new some
-    → Begins some all → StopsBetween first new all
-stops_between_more first new some all s b =
-    let P : List Write → Type 0 = λ these. StopsBetween first new these in
-    subst P (sym b.1) (stops_before first new some b.0 fault.NoMemory s)
+abbrev Begins : List Write → List Write → Type 0
+Begins some all = (rest : List Write) × (all ≡ some ++ rest)
 
 between_of : (first new : Outputs) (some all : List Write) → Gains first new some → Begins some all
     → StopsBetween first new all
 between_of first new some all g b = record { done = some; more = b.0; split = b.1; gains = g }
 
--- what parts write is a beginning of what all items write
-module _ (plan : Planned) (before : List Part) (done more : List Item) (parts : List Part)
-    (taken-is : taken before done ≡ Ok parts) where
-  items_begin : (has_begun : Bool) → Begins (written plan has_begun parts) (items_writes plan before (done ++ more))
-  items_begin has_begun =
-      let P : List Part → Type 0 = λ these. Begins (written plan has_begun parts) (written plan true these) in
-      subst P (sym (parts_and before done more parts taken-is)) (written_more plan has_begun parts (items_parts more))
+-- what is written before anything stands is a beginning of what is written
+begins_all : (plan : Planned) (has_begun : Bool) (parts : List Part)
+    → Begins (written plan has_begun parts) (written plan true parts)
+begins_all plan false parts = (written plan true parts, refl)
+begins_all plan true parts = ([], sym (append-nil (written plan true parts)))
 
--- the same where one item was being taken
-module _ (plan : Planned) (before : List Part) (done : List Item) (item : Item) (more : List Item) (parts : List Part)
-    (taken-is : taken before done ≡ Ok parts) where
-  item_begins : Begins (written plan true (parts ++ parts_within item))
-      (items_writes plan before ((done ++ item ∷ []) ++ more))
-  item_begins =
-      let P : List Part → Type 0 = λ these. Begins (written plan true (parts ++ parts_within item)) (written plan true these) in
-      let e : before ++ items_parts ((done ++ item ∷ []) ++ more) ≡ (parts ++ parts_within item) ++ items_parts more =
-      ap (λ (these : List Item). before ++ items_parts these) (append_assoc done (item ∷ []) more)
-      ∙ parts_and before done (item ∷ more) parts taken-is
-      ∙ ap (λ (these : List Part). parts ++ these) (items_parts-append (item ∷ []) more)
-      ∙ ap (λ (these : List Part). parts ++ (these ++ items_parts more)) (one_item item)
-      ∙ sym (append_assoc parts (parts_within item) (items_parts more)) in
-      subst P (sym e) (written_more plan true (parts ++ parts_within item) (items_parts more))
+-- ---- whether a call was Ok
+
+begun_one : (has_begun : Bool) (items : List Item) (item : Item) → begun_by has_begun (items ++ item ∷ []) ≡ true
+begun_one has_begun [] item = refl
+begun_one has_begun (first ∷ items) item = refl
+
+begun_still : (items : List Item) → begun_by true items ≡ true
+begun_still [] = refl
+begun_still (item ∷ items) = refl
+
+begun_on : (has_begun : Bool) (xs ys : List Item) → begun_by (begun_by has_begun xs) ys ≡ begun_by has_begun (xs ++ ys)
+begun_on has_begun [] ys = refl
+begun_on has_begun (x ∷ xs) ys = begun_still ys
+
+-- ---- where a pass stops, after more items
+
+module _ (plan : Planned) (b has_begun : Bool) (before : List Part) (items : List Item) (parts : List Part)
+    (taken-is : taken before items ≡ Ok parts) (begun : has_begun ≡ begun_by b items) (first new : Outputs) where
+  written_more : (own : List Item) → WrittenAfter plan has_begun parts own first new
+      → WrittenAfter plan b before (items ++ own) first new
+  written_more own w =
+      let P : Bool → Type 0 = λ x. Gains first new (written plan x w.parts) in
+      let e : begun_by has_begun own ≡ begun_by b (items ++ own) =
+      ap (λ x. begun_by x own) begun ∙ begun_on b items own in
+      record {
+        parts = w.parts;
+        taken-is = taken_after before items own parts taken-is ∙ w.taken-is;
+        gains = subst P e w.gains;
+      }
+
+  within_more : (Stop : List Write → Type 0) (own others : List Item) → StopsWithin Stop plan parts own
+      → StopsWithin Stop plan before (items ++ (own ++ others))
+  within_more Stop own others w = record {
+    done = items ++ w.done;
+    more = w.more ++ others;
+    split = ap (λ (these : List Item). items ++ (these ++ others)) w.split
+        ∙ ap (λ (these : List Item). items ++ these) (append_assoc w.done w.more others)
+        ∙ sym (append_assoc items w.done (w.more ++ others));
+    parts = w.parts;
+    taken-is = taken_after before items w.done parts taken-is ∙ w.taken-is;
+    stops = w.stops;
+  }
+
+  before_more : (stopped : LinkFault) (own others : List Item)
+      → StopsBefore plan has_begun parts own stopped first new
+      → StopsBefore plan b before (items ++ (own ++ others)) stopped first new
+  unfolding written_more
+  before_more stopped own others w = record {
+    done = items ++ w.done;
+    item = w.item;
+    more = w.more ++ others;
+    split = ap (λ (these : List Item). items ++ (these ++ others)) w.split
+        ∙ ap (λ (these : List Item). items ++ these) (append_assoc w.done (w.item ∷ w.more) others)
+        ∙ sym (append_assoc items w.done (w.item ∷ (w.more ++ others)));
+    exactly = written_more w.done w.exactly;
+    refused = w.refused;
+  }
+
+  stops_more : (stopped : LinkFault) (own others : List Item) → StopsAt stopped plan has_begun parts own first new
+      → StopsAt stopped plan b before (items ++ (own ++ others)) first new
+  stops_more (fault.Write output) own others s = within_more (StopsIn output first new) own others s
+  stops_more fault.NoMemory own others s = within_more (StopsBetween first new) own others s
+  stops_more stopped own others s = before_more stopped own others s
 
 -- ---- an item that stops the reading
 
+-- an item was taken, and it stops among what is written after it
+abbrev Within : Planned → Bool → List Part → Item → (List Write → Type 0) → Type 0
+Within plan has_begun parts item Stop = (these : List Part) × (taken_item parts item ≡ Ok these)
+    × GoesOn Stop (written plan has_begun parts) (written plan true these)
+
 abbrev Halts : Planned → Bool → List Part → Item → Outputs → Outputs → LinkFault → Type 0
-Halts plan has_begun parts item now new (fault.Write output) = GoesOn (StopsIn output now new)
-    (written plan has_begun parts) (written plan true (parts ++ parts_within item))
-Halts plan has_begun parts item now new fault.NoMemory = GoesOn (StopsBetween now new)
-    (written plan has_begun parts) (written plan true (parts ++ parts_within item))
+Halts plan has_begun parts item now new (fault.Write output) = Within plan has_begun parts item (StopsIn output now new)
+Halts plan has_begun parts item now new fault.NoMemory =
+    (new ≡ now) ⊎ Within plan has_begun parts item (StopsBetween now new)
 Halts plan has_begun parts item now new stopped = Decides parts (item ∷ []) stopped × (new ≡ now)
 
-block_halts : (plan : Planned) (parts : List Part) (now new : Outputs) (emit emit' : Emitting) (bytes : List ℕ)
-    (stopped : LinkFault) → TakesBlock plan parts now new emit emit' bytes (Err stopped)
-    → Halts plan emit.has_begun parts (BlockOf bytes) now new stopped
-block_halts plan parts now new emit emit' bytes (fault.Write output) h = h.1
-block_halts plan parts now new emit emit' bytes fault.NoMemory h = h
-block_halts plan parts now new emit emit' bytes (fault.Record inner) h = (no_record_decides parts bytes inner h.0, h.1)
-block_halts plan parts now new emit emit' bytes stopped h = (parts_decide parts bytes stopped h.0, h.1)
+module _ (plan : Planned) (parts : List Part) (sound : first_fault [] parts ≡ None) (now new : Outputs)
+    (emit emit' : Emitting) where
+  within_block : (bytes : List ℕ) (Stop : List Write → Type 0) → IsRecord bytes
+      → first_fault parts (record_parts bytes) ≡ None
+      → GoesOn Stop (written plan emit.has_begun parts) (written plan true (parts ++ record_parts bytes))
+      → Within plan emit.has_begun parts (BlockOf bytes) Stop
+  within_block bytes Stop is none h =
+      (parts ++ record_parts bytes, block_taken parts bytes is (sound_after [] parts (record_parts bytes) sound none), h)
 
-end_halts : (plan : Planned) (parts : List Part) (now new : Outputs) (emit emit' : Emitting)
-    (stopped : LinkFault) → TakesParts plan parts now new emit emit' (EndOfFile ∷ []) (Err stopped)
-    → Halts plan emit.has_begun parts ObjectEnds now new stopped
-end_halts plan parts now new emit emit' (fault.Write output) h = h.1
-end_halts plan parts now new emit emit' fault.NoMemory h = h
-end_halts plan parts now new emit emit' stopped h = (end_decides parts stopped h.0, h.1)
+  within_end : (Stop : List Write → Type 0) → first_fault parts (EndOfFile ∷ []) ≡ None
+      → GoesOn Stop (written plan emit.has_begun parts) (written plan true (parts ++ EndOfFile ∷ []))
+      → Within plan emit.has_begun parts ObjectEnds Stop
+  within_end Stop none h =
+      (parts ++ EndOfFile ∷ [], end_taken parts (sound_after [] parts (EndOfFile ∷ []) sound none), h)
 
-module _ (text : Option FeedText) (faults faults' : ℕ) (plan : Planned) (before : List Part) (first now new : Outputs)
-    (emit' : Emitting) (has_begun : Bool) (done : List Item) (item : Item) (more : List Item) (parts : List Part)
-    (taken-is : taken before done ≡ Ok parts) (gains : Gains first now (written plan has_begun parts))
+  refused_memory : (bytes : List ℕ) → (new ≡ now) ⊎ (IsRecord bytes
+      × TakesParts plan parts now new emit emit' (record_parts bytes) (Err fault.NoMemory))
+      → (new ≡ now) ⊎ Within plan emit.has_begun parts (BlockOf bytes) (StopsBetween now new)
+  refused_memory bytes (inl e) = inl e
+  refused_memory bytes (inr h) = here h.1
+    where
+      here : TakesParts plan parts now new emit emit' (record_parts bytes) (Err fault.NoMemory)
+          → (new ≡ now) ⊎ Within plan emit.has_begun parts (BlockOf bytes) (StopsBetween now new)
+      here (inl e) = inl e
+      here (inr k) = inr (within_block bytes (StopsBetween now new) h.0 k.0 k.1)
+
+  block_halts : (bytes : List ℕ) (stopped : LinkFault) → TakesBlock plan parts now new emit emit' bytes (Err stopped)
+      → Halts plan emit.has_begun parts (BlockOf bytes) now new stopped
+  block_halts bytes (fault.Write output) h = within_block bytes (StopsIn output now new) h.0 h.1.0 h.1.1
+  block_halts bytes fault.NoMemory h = refused_memory bytes h
+  block_halts bytes (fault.Record inner) h = (no_record_decides parts bytes inner h.0, h.1)
+  block_halts bytes stopped h = (parts_decide parts bytes stopped h.0, h.1)
+
+  end_memory : TakesParts plan parts now new emit emit' (EndOfFile ∷ []) (Err fault.NoMemory)
+      → (new ≡ now) ⊎ Within plan emit.has_begun parts ObjectEnds (StopsBetween now new)
+  end_memory (inl e) = inl e
+  end_memory (inr k) = inr (within_end (StopsBetween now new) k.0 k.1)
+
+  end_halts : (stopped : LinkFault) → TakesParts plan parts now new emit emit' (EndOfFile ∷ []) (Err stopped)
+      → Halts plan emit.has_begun parts ObjectEnds now new stopped
+  end_halts (fault.Write output) h = within_end (StopsIn output now new) h.0 h.1
+  end_halts fault.NoMemory h = end_memory h
+  end_halts stopped h = (end_decides parts stopped h.0, h.1)
+
+-- a fault that one item decides is its own
+refused_alone : (parts : List Part) (item : Item) (stopped : LinkFault) → taken parts (item ∷ []) ≡ Err stopped
+    → taken_item parts item ≡ Err stopped
+refused_alone parts item stopped e = alone (taken_item parts item) e
+  where
+    alone : (r : Answer) → (r >>= λ these. taken these []) ≡ Err stopped → r ≡ Err stopped
+    alone (Ok these) h = absurd cc
+    alone (Err other) h = h
+
+module _ (text : Option FeedText) (faults faults' : ℕ) (plan : Planned) (b : Bool) (before : List Part)
+    (first now new : Outputs) (emit' : Emitting) (has_begun : Bool) (done : List Item) (item : Item) (more : List Item)
+    (parts : List Part) (taken-is : taken before done ≡ Ok parts) (begun : has_begun ≡ begun_by b done)
+    (gains : Gains first now (written plan has_begun parts))
     (same : faults' ≡ faults) (given : GivesItems text ((done ++ item ∷ []) ++ more)) where
-  unwritten : new ≡ now → StopsBetween first new (items_writes plan before ((done ++ item ∷ []) ++ more))
-  unwritten e =
-      let P : Outputs → Type 0 = λ these. Gains first these (written plan has_begun parts) in
-      let Q : List Item → Type 0 = λ these. Begins (written plan has_begun parts) (items_writes plan before these) in
-      between_of first new (written plan has_begun parts) (items_writes plan before ((done ++ item ∷ []) ++ more))
-      (subst P (sym e) gains)
-      (subst Q (sym (append_assoc done (item ∷ []) more)) (items_begin plan before done (item ∷ more) parts taken-is has_begun))
+  still : new ≡ now → Gains first new (written plan has_begun parts)
+  still e = let P : Outputs → Type 0 = λ these. Gains first these (written plan has_begun parts) in subst P (sym e) gains
+
+  exactly : new ≡ now → WrittenAfter plan b before done first new
+  exactly e =
+      let P : Bool → Type 0 = λ x. Gains first new (written plan x parts) in
+      record { parts = parts; taken-is = taken-is; gains = subst P begun (still e) }
+
+  refused_now : (stopped : LinkFault) → taken_item parts item ≡ Err stopped → new ≡ now
+      → StopsBefore plan b before ((done ++ item ∷ []) ++ more) stopped first new
+  unfolding exactly
+  refused_now stopped r e = record {
+    done = done;
+    item = item;
+    more = more;
+    split = append_assoc done (item ∷ []) more;
+    exactly = exactly e;
+    refused = r;
+  }
+
+  within_now : (Stop : List Write → Type 0) (these : List Part) → taken_item parts item ≡ Ok these
+      → Stop (written plan true these) → StopsWithin Stop plan before ((done ++ item ∷ []) ++ more)
+  within_now Stop these t s = record {
+    done = done ++ item ∷ [];
+    more = more;
+    split = refl;
+    parts = these;
+    taken-is = taken_after before done (item ∷ []) parts taken-is ∙ one_taken parts item (Ok these) t;
+    stops = s;
+  }
+
+  memory_now : (new ≡ now) ⊎ Within plan has_begun parts item (StopsBetween now new)
+      → StopsWithin (StopsBetween first new) plan before ((done ++ item ∷ []) ++ more)
+  memory_now (inl e) = record {
+    done = done;
+    more = item ∷ more;
+    split = append_assoc done (item ∷ []) more;
+    parts = parts;
+    taken-is = taken-is;
+    stops = between_of first new (written plan has_begun parts) (written plan true parts) (still e)
+        (begins_all plan has_begun parts);
+  }
+  memory_now (inr h) = within_now (StopsBetween first new) h.0 h.1
+      (stops_between_on first now new (written plan has_begun parts) (written plan true h.0) gains h.2)
 
   reported : (stopped : LinkFault) → Decides parts (item ∷ []) stopped
       → Decides before ((done ++ item ∷ []) ++ more) stopped
@@ -184,52 +250,47 @@ module _ (text : Option FeedText) (faults faults' : ℕ) (plan : Planned) (befor
       (decides_then before parts done (item ∷ []) stopped taken-is d)
 
   halted : (stopped : LinkFault) → Halts plan has_begun parts item now new stopped
-      → EmitsObject text faults faults' plan before first new emit' (Err stopped)
+      → EmitsObject text faults faults' plan b before first new emit' (Err stopped)
   halted (fault.Write output) h = (
     same,
     (done ++ item ∷ []) ++ more,
     given,
     tt,
-    stops_in_more output first new (written plan true (parts ++ parts_within item))
-        (items_writes plan before ((done ++ item ∷ []) ++ more))
-        (stops_in_on output first now new (written plan has_begun parts) (written plan true (parts ++ parts_within item))
-        gains h)
-        (item_begins plan before done item more parts taken-is),
+    within_now (StopsIn output first new) h.0 h.1
+        (stops_in_on output first now new (written plan has_begun parts) (written plan true h.0) gains h.2),
   )
-  halted fault.NoMemory h = (
+  halted fault.NoMemory h = (same, (done ++ item ∷ []) ++ more, given, tt, memory_now h)
+  halted fault.Read h = absurd h.0
+  halted stopped h = (
     same,
     (done ++ item ∷ []) ++ more,
     given,
-    tt,
-    stops_between_more first new (written plan true (parts ++ parts_within item))
-        (items_writes plan before ((done ++ item ∷ []) ++ more))
-        (stops_between_on first now new (written plan has_begun parts) (written plan true (parts ++ parts_within item))
-        gains h)
-        (item_begins plan before done item more parts taken-is),
+    reported stopped h.0,
+    refused_now stopped (refused_alone parts item stopped h.0) h.1,
   )
-  halted fault.Read h = absurd h.0
-  halted stopped h = (same, (done ++ item ∷ []) ++ more, given, reported stopped h.0, unwritten h.1)
 
 -- ---- one object
 
-pub record Sent (text text' : Option FeedText) (faults faults' room : ℕ) (plan : Planned) (before : List Part)
-    (first now : Outputs) (emit : Emitting) : Type 0 where
+pub record Sent (text text' : Option FeedText) (faults faults' room : ℕ) (plan : Planned) (b : Bool)
+    (before : List Part) (first now : Outputs) (emit : Emitting) : Type 0 where
   pub done : List Item
   pub walked : Walked text text' faults faults' room done
   pub parts : List Part
   pub taken-is : taken before done ≡ Ok parts
   pub stands : EmitStands plan parts emit
+  pub begun : emit.has_begun ≡ begun_by b done
   pub gains : Gains first now (written plan emit.has_begun parts)
 
 pub sent_first : (text : Option FeedText) (faults : ℕ) (plan : Planned) (before : List Part) (first now : Outputs)
     (emit : Emitting) → EmitStands plan before emit → Gains first now (written plan emit.has_begun before)
-    → Sent text text faults faults most_bytes plan before first now emit
+    → Sent text text faults faults most_bytes plan emit.has_begun before first now emit
 sent_first text faults plan before first now emit s g = record {
   done = [];
   walked = walk_begins text faults;
   parts = before;
   taken-is = refl;
   stands = s;
+  begun = refl;
   gains = g;
 }
 
@@ -243,8 +304,8 @@ written_on first now new plan parts more emit emit' g b o =
     let P : Bool → Type 0 = λ has_begun. Gains first new (written plan has_begun (parts ++ more)) in
     subst P (sym b) (gains_on first now new (written plan emit.has_begun parts) (written plan true (parts ++ more)) g o)
 
-module _ (text text1 : Option FeedText) (faults faults1 room1 : ℕ) (plan : Planned) (before : List Part)
-    (first now : Outputs) (emit : Emitting) (l : Sent text text1 faults faults1 room1 plan before first now emit)
+module _ (text text1 : Option FeedText) (faults faults1 room1 : ℕ) (plan : Planned) (b : Bool) (before : List Part)
+    (first now : Outputs) (emit : Emitting) (l : Sent text text1 faults faults1 room1 plan b before first now emit)
     (text2 : Option FeedText) (faults2 room2 : ℕ) (new : Outputs) (emit' : Emitting) where
   module _ (content : List ℕ)
       (r : Reads first_block (place text1 faults1 room1) (place text2 faults2 room2) content) where
@@ -252,7 +313,7 @@ module _ (text text1 : Option FeedText) (faults faults1 room1 : ℕ) (plan : Pla
     walked = walk_more text text1 faults faults1 room1 l.done l.walked text2 faults2 room2 content r
 
     pub sent_more : TakesBlock plan l.parts now new emit emit' content (Ok tt) → IsRecord content
-        → Sent text text2 faults faults2 room2 plan before first new emit'
+        → Sent text text2 faults faults2 room2 plan b before first new emit'
     sent_more t is = record {
       done = l.done ++ BlockOf content ∷ [];
       walked = walked;
@@ -261,20 +322,21 @@ module _ (text text1 : Option FeedText) (faults faults1 room1 : ℕ) (plan : Pla
           ∙ one_taken l.parts (BlockOf content) (Ok (l.parts ++ record_parts content))
           (block_taken l.parts content is t.0.sound);
       stands = t.0;
+      begun = t.1 ∙ sym (begun_one b l.done (BlockOf content));
       gains = written_on first now new plan l.parts (record_parts content) emit emit' l.gains t.1 t.2;
     }
 
     pub sent_refused : (stopped : LinkFault) → TakesBlock plan l.parts now new emit emit' content (Err stopped)
-        → EmitsObject text faults faults2 plan before first new emit' (Err stopped)
+        → EmitsObject text faults faults2 plan b before first new emit' (Err stopped)
     sent_refused stopped t =
         let whole = walk_whole text text2 faults faults2 room2 (l.done ++ BlockOf content ∷ []) walked in
-        halted text faults faults2 plan before first now new emit' emit.has_begun l.done (BlockOf content) whole.0
-        l.parts l.taken-is l.gains walked.took.faults whole.1 stopped
-        (block_halts plan l.parts now new emit emit' content stopped t)
+        halted text faults faults2 plan b before first now new emit' emit.has_begun l.done (BlockOf content) whole.0
+        l.parts l.taken-is l.begun l.gains walked.took.faults whole.1 stopped
+        (block_halts plan l.parts l.stands.sound now new emit emit' content stopped t)
 
   pub sent_ends : Stops first_block (place text1 faults1 room1) (place text2 faults2 room2) EndsBetween
       → (result : Result (Unit {0}) LinkFault) → TakesParts plan l.parts now new emit emit' (EndOfFile ∷ []) result
-      → EmitsObject text faults faults2 plan before first new emit' result
+      → EmitsObject text faults faults2 plan b before first new emit' result
   sent_ends s (Ok done) t =
       let end = walk_ends text text1 faults faults1 room1 l.done l.walked text2 faults2 room2 s in (
         end.1,
@@ -286,94 +348,109 @@ module _ (text text1 : Option FeedText) (faults faults1 room1 : ℕ) (plan : Pla
               ∙ one_taken l.parts ObjectEnds (Ok (l.parts ++ EndOfFile ∷ [])) (end_taken l.parts t.0.sound);
           stands = t.0;
           between = ends_again l.parts t.0.sound;
+          begun = t.1 ∙ sym (begun_one b l.done ObjectEnds);
           gains = written_on first now new plan l.parts (EndOfFile ∷ []) emit emit' l.gains t.1 t.2;
         },
       )
   sent_ends s (Err stopped) t =
       let end = walk_ends text text1 faults faults1 room1 l.done l.walked text2 faults2 room2 s in
       let P : List Item → Type 0 = λ these. GivesItems text these in
-      halted text faults faults2 plan before first now new emit' emit.has_begun l.done ObjectEnds [] l.parts l.taken-is
-      l.gains end.1 (subst P (sym (append-nil (l.done ++ ObjectEnds ∷ []))) end.0) stopped
-      (end_halts plan l.parts now new emit emit' stopped t)
+      halted text faults faults2 plan b before first now new emit' emit.has_begun l.done ObjectEnds [] l.parts l.taken-is
+      l.begun l.gains end.1 (subst P (sym (append-nil (l.done ++ ObjectEnds ∷ []))) end.0) stopped
+      (end_halts plan l.parts l.stands.sound now new emit emit' stopped t)
 
-  -- the feed gave no block, and nothing was written
-  still : (more : List Item) → StopsBetween first now (items_writes plan before (l.done ++ more))
-  still more = between_of first now (written plan emit.has_begun l.parts) (items_writes plan before (l.done ++ more))
-      l.gains (items_begin plan before l.done more l.parts l.taken-is emit.has_begun)
+  -- the feed gave no block, and nothing more was written
+  exactly_now : WrittenAfter plan b before l.done first now
+  exactly_now =
+      let P : Bool → Type 0 = λ x. Gains first now (written plan x l.parts) in
+      record { parts = l.parts; taken-is = l.taken-is; gains = subst P l.begun l.gains }
 
-  still_done : StopsBetween first now (items_writes plan before l.done)
-  still_done =
-      let P : List Item → Type 0 = λ these. StopsBetween first now (items_writes plan before these) in
-      subst P (append-nil l.done) (still [])
+  refused_here : (stopped : LinkFault)
+      → StopsBefore plan b before (l.done ++ Refused stopped ∷ []) stopped first now
+  refused_here stopped = record {
+    done = l.done;
+    item = Refused stopped;
+    more = [];
+    split = refl;
+    exactly = exactly_now;
+    refused = refl;
+  }
+
+  no_write : (inner : BlockFault) (output : LinkOutput) → fault.Write output ≡ of_block inner → ⊥
+  no_write block.Device output is = cc
+  no_write block.TooMuch output is = cc
+  no_write inner output is = cc
+
+  no_memory : (inner : BlockFault) → fault.NoMemory ≡ of_block inner → ⊥
+  no_memory block.Device is = cc
+  no_memory block.TooMuch is = cc
+  no_memory inner is = cc
 
   stopped_so : (stopped : LinkFault) → (inner : BlockFault) → stopped ≡ of_block inner
       → StopsObject text text1 faults faults1 room1 l.done l.walked text2 faults2 room2 stopped
-      → EmitsObject text faults faults2 plan before first now emit (Err stopped)
-  stopped_so fault.Read inner is h = (h.0, l.done, h.1, (l.parts, l.taken-is), still_done)
-  stopped_so fault.NoMemory inner is h =
-      (h.0, l.done ++ Refused fault.NoMemory ∷ [], h.1, tt, still (Refused fault.NoMemory ∷ []))
-  stopped_so (fault.Write output) inner is h = absurd (never inner output is)
-    where
-      never : (inner : BlockFault) (output : LinkOutput) → fault.Write output ≡ of_block inner → ⊥
-      never block.Device output is = cc
-      never block.TooMuch output is = cc
-      never inner output is = cc
+      → EmitsObject text faults faults2 plan b before first now emit (Err stopped)
+  stopped_so fault.Read inner is h = (h.0, l.done, h.1, exactly_now)
+  stopped_so fault.NoMemory inner is h = absurd (no_memory inner is)
+  stopped_so (fault.Write output) inner is h = absurd (no_write inner output is)
   stopped_so stopped inner is h = (
     h.0,
     l.done ++ Refused stopped ∷ [],
     h.1,
     taken_after before l.done (Refused stopped ∷ []) l.parts l.taken-is,
-    still (Refused stopped ∷ []),
+    refused_here stopped,
   )
 
   pub sent_stops : (inner : BlockFault)
       → Stops first_block (place text1 faults1 room1) (place text2 faults2 room2) (why_of inner)
       → (stopped : LinkFault) → stopped ≡ of_block inner
-      → EmitsObject text faults faults2 plan before first now emit (Err stopped)
+      → EmitsObject text faults faults2 plan b before first now emit (Err stopped)
   sent_stops inner s stopped is =
-      let P : LinkFault → Type 0 = λ these. EmitsObject text faults faults2 plan before first now emit (Err these) in
+      let P : LinkFault → Type 0 = λ these. EmitsObject text faults faults2 plan b before first now emit (Err these) in
       subst P (sym is) (stopped_so (of_block inner) inner refl
       (walk_stops text text1 faults faults1 room1 l.done l.walked text2 faults2 room2 inner s))
 
 -- ---- objects one after another
 
 pub record SentAll {F : Type 0} (text : F → Option FeedText) (faults : F → ℕ) (initial here : List F) (index : ℕ)
-    (plan : Planned) (before : List Part) (first now : Outputs) (emit : Emitting) : Type 0 where
+    (plan : Planned) (b : Bool) (before : List Part) (first now : Outputs) (emit : Emitting) : Type 0 where
   pub sources : List (List ℕ)
   pub items : List Item
   pub feeds : SoFar text faults initial here index sources
   pub are : AreItems sources items
-  pub emitted : Emitted plan before items first now emit
+  pub emitted : Emitted plan b before items first now emit
 
 module _ {F : Type 0} (text : F → Option FeedText) (faults : F → ℕ) where
   pub all_begin : (initial : List F) (plan : Planned) (before : List Part) (first now : Outputs) (emit : Emitting)
       → EmitStands plan before emit → fault_of before EndOfFile ≡ None
       → Gains first now (written plan emit.has_begun before)
-      → SentAll text faults initial initial 0 plan before first now emit
+      → SentAll text faults initial initial 0 plan emit.has_begun before first now emit
   all_begin initial plan before first now emit s b g = record {
     sources = [];
     items = [];
     feeds = begin text faults initial;
     are = objects.AreItems.Nothing;
-    emitted = record { parts = before; taken-is = refl; stands = s; between = b; gains = g };
+    emitted = record { parts = before; taken-is = refl; stands = s; between = b; begun = refl; gains = g };
   }
 
-  pub all_sent : (initial here : List F) (index : ℕ) (plan : Planned) (before : List Part) (first now : Outputs)
-      (emit : Emitting) → SentAll text faults initial here index plan before first now emit → length here ≤ index
-      → Emits text faults initial here plan before first now emit (Ok tt)
-  all_sent initial here index plan before first now emit l over =
+  pub all_sent : (initial here : List F) (index : ℕ) (plan : Planned) (b : Bool) (before : List Part)
+      (first now : Outputs) (emit : Emitting) → SentAll text faults initial here index plan b before first now emit
+      → length here ≤ index
+      → Emits text faults initial here plan b before first now emit (Ok tt)
+  all_sent initial here index plan b before first now emit l over =
       let all = all_read text faults initial here index l.sources l.feeds over in
       (all.0, l.items, record { sources = l.sources; given = all.1; are = l.are }, l.emitted)
 
   -- one more object
-  module _ (initial here : List F) (index : ℕ) (plan : Planned) (before : List Part) (first now new : Outputs)
-      (emit emit' : Emitting) (l : SentAll text faults initial here index plan before first now emit)
+  module _ (initial here : List F) (index : ℕ) (plan : Planned) (b : Bool) (before : List Part)
+      (first now new : Outputs) (emit emit' : Emitting)
+      (l : SentAll text faults initial here index plan b before first now emit)
       (inside : index < length here) (d x z : F) (x-is : x ≡ get_or here index d) where
     parts : List Part
     parts = l.emitted.parts
 
-    pub object_sent : EmitsObject (text x) (faults x) (faults z) plan l.emitted.parts first new emit' (Ok tt)
-        → SentAll text faults initial (set here index z) (index + 1) plan before first new emit'
+    pub object_sent : EmitsObject (text x) (faults x) (faults z) plan emit.has_begun l.emitted.parts first new emit'
+        (Ok tt)
+        → SentAll text faults initial (set here index z) (index + 1) plan b before first new emit'
     object_sent h = record {
       sources = l.sources ++ h.2.source ∷ [];
       items = l.items ++ h.1;
@@ -384,36 +461,10 @@ module _ {F : Type 0} (text : F → Option FeedText) (faults : F → ℕ) where
         taken-is = taken_after before l.items h.1 l.emitted.parts l.emitted.taken-is ∙ h.3.taken-is;
         stands = h.3.stands;
         between = h.3.between;
+        begun = h.3.begun ∙ ap (λ x. begun_by x h.1) l.emitted.begun ∙ begun_on b l.items h.1;
         gains = h.3.gains;
       };
     }
-
-    -- what these items write begins what they and others do
-    more_writes : (own others : List Item)
-        → Begins (items_writes plan l.emitted.parts own) (items_writes plan before (l.items ++ (own ++ others)))
-    more_writes own others =
-        let P : List Part → Type 0 = λ these. Begins (items_writes plan l.emitted.parts own) (written plan true these) in
-        let e : before ++ items_parts (l.items ++ (own ++ others))
-        ≡ (l.emitted.parts ++ items_parts own) ++ items_parts others =
-        parts_and before l.items (own ++ others) l.emitted.parts l.emitted.taken-is
-        ∙ ap (λ (these : List Part). l.emitted.parts ++ these) (items_parts-append own others)
-        ∙ sym (append_assoc l.emitted.parts (items_parts own) (items_parts others)) in
-        subst P (sym e) (written_more plan true (l.emitted.parts ++ items_parts own) (items_parts others))
-
-    read_writes : (own : List Item)
-        → Begins (items_writes plan l.emitted.parts own) (items_writes plan before (l.items ++ own))
-    read_writes own =
-        let P : List Item → Type 0 = λ these. Begins (items_writes plan l.emitted.parts own)
-        (items_writes plan before (l.items ++ these)) in
-        subst P (append-nil own) (more_writes own [])
-
-    among : (stopped : LinkFault) (own others : List Item)
-        → StopsAmong stopped first new (items_writes plan l.emitted.parts own)
-        → StopsAmong stopped first new (items_writes plan before (l.items ++ (own ++ others)))
-    among (fault.Write output) own others s = stops_in_more output first new (items_writes plan l.emitted.parts own)
-        (items_writes plan before (l.items ++ (own ++ others))) s (more_writes own others)
-    among stopped own others s = stops_between_more first new (items_writes plan l.emitted.parts own)
-        (items_writes plan before (l.items ++ (own ++ others))) s (more_writes own others)
 
     of_items : (stopped : LinkFault) (own others : List Item) → IsOfItems l.emitted.parts own stopped
         → IsOfItems before (l.items ++ (own ++ others)) stopped
@@ -439,20 +490,21 @@ module _ {F : Type 0} (text : F → Option FeedText) (faults : F → ℕ) where
       }
 
       stops_so : (stopped : LinkFault) → IsOfItems l.emitted.parts own stopped
-          → StopsAmong stopped first new (items_writes plan l.emitted.parts own)
+          → StopsAt stopped plan emit.has_begun l.emitted.parts own first new
           → NoneFailed faults initial (set here index z) × (items : List Item) × GiveItems text initial items
-          × IsOfItems before items stopped × StopsAmong stopped first new (items_writes plan before items)
+          × IsOfItems before items stopped × StopsAt stopped plan b before items first new
       stops_so stopped e s = (
         none_failed text faults initial here index l.sources l.feeds inside d x z x-is same,
         l.items ++ (own ++ others_come.0),
         all_given,
         of_items stopped own others_come.0 e,
-        among stopped own others_come.0 s,
+        stops_more plan b emit.has_begun before l.items l.emitted.parts l.emitted.taken-is l.emitted.begun first new
+            stopped own others_come.0 s,
       )
 
     pub object_stops : (stopped : LinkFault)
-        → EmitsObject (text x) (faults x) (faults z) plan l.emitted.parts first new emit' (Err stopped)
-        → Emits text faults initial (set here index z) plan before first new emit' (Err stopped)
+        → EmitsObject (text x) (faults x) (faults z) plan emit.has_begun l.emitted.parts first new emit' (Err stopped)
+        → Emits text faults initial (set here index z) plan b before first new emit' (Err stopped)
     object_stops fault.Read h = (
       l.items ++ h.1,
       record {
@@ -465,9 +517,8 @@ module _ {F : Type 0} (text : F → Option FeedText) (faults : F → ℕ) where
         begun = h.2.are;
         items-are = refl;
       },
-      (h.3.0, taken_after before l.items h.1 l.emitted.parts l.emitted.taken-is ∙ h.3.1),
-      stops_between_more first new (items_writes plan l.emitted.parts h.1) (items_writes plan before (l.items ++ h.1))
-          h.4 (read_writes h.1),
+      written_more plan b emit.has_begun before l.items l.emitted.parts l.emitted.taken-is l.emitted.begun first new h.1
+          h.3,
     )
     object_stops stopped h = stops_so h.1 h.2 h.0 stopped h.3 h.4
 
@@ -480,38 +531,23 @@ nothing_written plan old has_begun e =
     let P : Bool → Type 0 = λ begun. Gains old old (written plan begun []) in subst P (sym e) (gains_nothing old)
 
 module _ {F : Type 0} (text : F → Option FeedText) (faults : F → ℕ) (feeds feeds' : List F) (plan : Planned)
-    (old : Outputs) where
-  transfer_more : (items : List Item) → Begins (items_writes plan [] items) (all_writes plan items)
-  transfer_more items = (to_tape (tape_block (planned plan).transfer []) ∷ [], refl)
+    (b : Bool) (fresh : b ≡ false) (old : Outputs) where
+  stops_link : (stopped : LinkFault) (items : List Item) (now : Outputs) → StopsAt stopped plan b [] items old now
+      → StopsLink stopped plan items old now
+  stops_link (fault.Write output) items now s = inl s
+  stops_link fault.NoMemory items now s = inl s
+  stops_link stopped items now s =
+      let P : Bool → Type 0 = λ x. StopsBefore plan x [] items stopped old now in subst P fresh s
 
   pub second_stops : (now : Outputs) (emit : Emitting) (stopped : LinkFault)
-      → Emits text faults feeds feeds' plan [] old now emit (Err stopped)
+      → Emits text faults feeds feeds' plan b [] old now emit (Err stopped)
       → ReadsSecond text faults feeds feeds' plan old now (Err stopped)
-  second_stops now emit fault.Read h = (
-    h.0,
-    h.1,
-    h.2,
-    stops_between_more old now (items_writes plan [] h.0) (all_writes plan h.0) h.3 (transfer_more h.0),
-  )
-  second_stops now emit (fault.Write output) h = (
-    h.0,
-    h.1,
-    h.2,
-    h.3,
-    stops_in_more output old now (items_writes plan [] h.1) (all_writes plan h.1) h.4 (transfer_more h.1),
-  )
-  second_stops now emit stopped h = (
-    h.0,
-    h.1,
-    h.2,
-    h.3,
-    stops_between_more old now (items_writes plan [] h.1) (all_writes plan h.1) h.4 (transfer_more h.1),
-  )
+  second_stops now emit fault.Read h =
+      let P : Bool → Type 0 = λ x. WrittenAfter plan x [] h.0 old now in
+      (h.0, h.1, (h.2.parts, h.2.taken-is), subst P fresh h.2)
+  second_stops now emit stopped h = (h.0, h.1, h.2, h.3, stops_link stopped h.1 now h.4)
 
-  module _ (now new : Outputs) (emit : Emitting) (h : Emits text faults feeds feeds' plan [] old now emit (Ok tt)) where
-    parts_here : h.3.parts ≡ items_parts h.1
-    parts_here = parts_are [] h.1 h.3.parts h.3.taken-is
-
+  module _ (now new : Outputs) (emit : Emitting) (h : Emits text faults feeds feeds' plan b [] old now emit (Ok tt)) where
     pub second_ends : (result : Result LinkDone LinkFault) → EmitEnds plan h.3.parts now new emit result
         → ReadsSecond text faults feeds feeds' plan old new result
     second_ends (Ok done) e = (
@@ -528,18 +564,24 @@ module _ {F : Type 0} (text : F → Option FeedText) (faults : F → ℕ) (feeds
       h.1,
       h.2,
       tt,
-      let P : List Part → Type 0 = λ these. StopsIn output old new (link_writes (planned plan) these) in
-          subst P parts_here (stops_in_on output old now new (written plan emit.has_begun h.3.parts)
-          (link_writes (planned plan) h.3.parts) h.3.gains e.1),
+      inr (record {
+        parts = h.3.parts;
+        taken-is = h.3.taken-is;
+        stops = stops_in_on output old now new (written plan emit.has_begun h.3.parts)
+            (link_writes (planned plan) h.3.parts) h.3.gains e.1;
+      }),
     )
     second_ends (Err fault.NoMemory) e = (
       h.0,
       h.1,
       h.2,
       tt,
-      let P : List Part → Type 0 = λ these. StopsBetween old new (link_writes (planned plan) these) in
-          subst P parts_here (stops_between_on old now new (written plan emit.has_begun h.3.parts)
-          (link_writes (planned plan) h.3.parts) h.3.gains e),
+      inr (record {
+        parts = h.3.parts;
+        taken-is = h.3.taken-is;
+        stops = stops_between_on old now new (written plan emit.has_begun h.3.parts)
+            (link_writes (planned plan) h.3.parts) h.3.gains e;
+      }),
     )
     second_ends (Err fault.BadOrder) e = absurd (none_some rule.BadOrder (sym h.3.between ∙ e.0))
       where

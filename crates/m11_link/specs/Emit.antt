@@ -1,8 +1,8 @@
 -- The second pass of a link, call by call: what stands after the parts so far, and what is written. (This project's
 -- own. That it yields what Written.antt says is proved.)
-use Rattle.std.specs.Prelude.{◌≡◌, ℕ, Bool, true, false, List, [], ◌∷◌, ◌++◌, map, ⊤, Option, Some, None, Result, Ok, Err, if◌then◌else◌}
+use Rattle.std.specs.Prelude.{◌≡◌, ◌⊎◌, ℕ, Bool, true, false, List, [], ◌∷◌, ◌++◌, map, ⊤, Option, Some, None, Result, Ok, Err, if◌then◌else◌}
 use Rattle.indexmap.specs.IndexSet.{insert_key}
-use Rattle.m11_obj.specs.Reading.{content_of, record_entries, record_kind, record_relocations, record_text}
+use Rattle.m11_obj.specs.Reading.{IsRecord, content_of, record_entries, record_kind, record_relocations, record_text}
 use Rattle.m11_obj.specs.declared.records.RecordKind.{RecordKind}
 use Rattle.m11_obj.specs.declared.records.RecordKind.TheVariants as kind
 use Rattle.m11_obj.specs.declared.fault.RecordFault.{RecordFault}
@@ -209,7 +209,7 @@ pub record GoesOn (Went : List Write → Type 0) (so_far all : List Write) : Typ
   pub went : Went more
 
 -- parts were taken, and all that they make is written; or their first fault was returned, and nothing was written; or
--- an output failed, or memory was refused
+-- they have none, and an output failed, or memory was refused; or memory was refused before anything was written
 abbrev pub TakesParts : Planned → List Part → Outputs → Outputs → Emitting → Emitting → List Part
     → Result (Unit {0}) LinkFault → Type 0
 TakesParts plan before old new state state' parts (Ok done) = EmitStands plan (before ++ parts) state'
@@ -217,8 +217,9 @@ TakesParts plan before old new state state' parts (Ok done) = EmitStands plan (b
     × GoesOn (Gains old new) (written plan state.has_begun before) (written plan true (before ++ parts))
 TakesParts plan before old new state state' parts (Err (fault.Write output)) = (first_fault before parts ≡ None)
     × GoesOn (StopsIn output old new) (written plan state.has_begun before) (written plan true (before ++ parts))
-TakesParts plan before old new state state' parts (Err fault.NoMemory) =
-    GoesOn (StopsBetween old new) (written plan state.has_begun before) (written plan true (before ++ parts))
+TakesParts plan before old new state state' parts (Err fault.NoMemory) = (new ≡ old)
+    ⊎ ((first_fault before parts ≡ None)
+    × GoesOn (StopsBetween old new) (written plan state.has_begun before) (written plan true (before ++ parts)))
 TakesParts plan before old new state state' parts (Err stopped) = FirstFault before parts stopped × (new ≡ old)
 
 -- a block is no record, or its parts were taken
@@ -226,6 +227,10 @@ abbrev pub TakesBlock : Planned → List Part → Outputs → Outputs → Emitti
     → Result (Unit {0}) LinkFault → Type 0
 TakesBlock plan before old new state state' bytes (Err (fault.Record inner)) =
     (content_of bytes ≡ Err inner) × (new ≡ old)
+TakesBlock plan before old new state state' bytes (Err (fault.Write output)) = IsRecord bytes
+    × TakesParts plan before old new state state' (record_parts bytes) (Err (fault.Write output))
+TakesBlock plan before old new state state' bytes (Err fault.NoMemory) = (new ≡ old) ⊎ (IsRecord bytes
+    × TakesParts plan before old new state state' (record_parts bytes) (Err fault.NoMemory))
 TakesBlock plan before old new state state' bytes result =
     TakesParts plan before old new state state' (record_parts bytes) result
 

@@ -9,7 +9,7 @@ ghost use Rattle.m11_modules.specs.Parts.{Part, EndOfFile};
 ghost use Rattle.m11_modules.specs.Rules.{fault_of};
 ghost use Rattle.m11_link.specs.Emit.{written};
 ghost use Rattle.m11_link.specs.Emit as emitting;
-ghost use Rattle.m11_link.specs.SecondPass.{Emits, EmitsObject, ReadsSecond, LinkRuns};
+ghost use Rattle.m11_link.specs.SecondPass.{Emits, EmitsObject, ReadsSecond, LinkRuns, LinkRunsOr};
 ghost use Rattle.m11_link.specs.Outputs.{Gains, Outputs, outputs_of};
 
 use crate::emit::{Emit, LinkDone};
@@ -22,9 +22,10 @@ use std::alloc::Global;
 ///
 /// `first` and `second` give the same objects for two passes, of which only the second one writes. Relocatable
 /// sections lie from `bottom` on. Faults, the first in the order of the input: `Read`; `Block`, `TooMuch` and
-/// `Record`; the rules of modules; `TooLarge` after the last block. Where the first pass is refused nothing was
-/// written. Then `Write`, after which nothing more is written, and the same faults again where the second pass
-/// gives other bytes. `NoMemory` wherever memory is refused.
+/// `Record`; the rules of modules; `TooLarge` after the last block. Where the first pass is refused the outputs are as
+/// they were. Then `Write`, after which nothing more is written, and the same faults again where the second pass
+/// gives other bytes: what the records before the fault make is then written, but for a text that hasn't ended.
+/// `NoMemory` wherever memory is refused.
 pub fn link_run<F: Feed, S: Sink, T: Sink, U: Sink>(
     alloc: Global,
     first: &mut [F],
@@ -34,7 +35,11 @@ pub fn link_run<F: Feed, S: Sink, T: Sink, U: Sink>(
     map: &mut Option<T>,
     messages: &mut U,
 ) -> Result<LinkDone, LinkFault>
-    ensures { LinkRuns F.text F.faults first.old first.new second.old second.new bottom
+    ensures runs { LinkRuns F.text F.faults first.old first.new second.old second.new bottom
+        (outputs_of S.Sink T.Sink U.Sink tape.old map.old messages.old)
+        (outputs_of S.Sink T.Sink U.Sink tape.new map.new messages.new) result }
+    ensures untouched { LinkRunsOr ((tape.new ≡ tape.old) × (map.new ≡ map.old) × (messages.new ≡ messages.old))
+        F.text F.faults first.old first.new second.old second.new bottom
         (outputs_of S.Sink T.Sink U.Sink tape.old map.old messages.old)
         (outputs_of S.Sink T.Sink U.Sink tape.new map.new messages.new) result }
 {
@@ -148,7 +153,7 @@ fn emit_all<F: Feed, S: Sink, T: Sink, U: Sink>(
         → Gains first
         (outputs_of S.Sink T.Sink U.Sink tape.old map.old messages.old)
         (written plan emit.old.has_begun before)
-        → Emits F.text F.faults feeds.old feeds.new plan before first
+        → Emits F.text F.faults feeds.old feeds.new plan emit.old.has_begun before first
         (outputs_of S.Sink T.Sink U.Sink tape.new map.new messages.new) emit.new result }
 {
     'feeds: for feed in feeds.iter_mut() {
@@ -172,7 +177,7 @@ fn emit_object<F: Feed, S: Sink, T: Sink, U: Sink>(
         → Gains first
         (outputs_of S.Sink T.Sink U.Sink tape.old map.old messages.old)
         (written plan emit.old.has_begun before)
-        → EmitsObject (F.text feed.old) (F.faults feed.old) (F.faults feed.new) plan before first
+        → EmitsObject (F.text feed.old) (F.faults feed.old) (F.faults feed.new) plan emit.old.has_begun before first
         (outputs_of S.Sink T.Sink U.Sink tape.new map.new messages.new) emit.new result }
 {
     let mut reader = BlockReader::new();

@@ -4,7 +4,9 @@ pub mod PlainTextsWritten
 pub mod JoiningEnds
 pub mod JoiningFindings
 pub mod JoiningWrites
+pub mod ItemsParts
 pub mod JoiningItems
+pub mod RunsDecided
 pub mod JoiningBytes
 pub mod MovingNumbers
 pub mod MovingFindings

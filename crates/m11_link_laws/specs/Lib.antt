@@ -4,3 +4,4 @@ pub mod Joining
 pub mod Moving
 pub mod Order
 pub mod Tables
+pub mod Runs

@@ -28,7 +28,7 @@ returns g c =
       c.as_mut_slice-2.ensures.value,
       same_output sink c.args.opened.map,
       same_output sink c.link_run-answer.new.map,
-    ) at c.link_run-answer.ensures in
+    ) at c.link_run-answer.ensures.runs in
     λ before read again emptied-tape emptied-map created same. record {
       first = seen text faults first;
       first' = seen text faults c.link_run-answer.new.first;

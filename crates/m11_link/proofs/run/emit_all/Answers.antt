@@ -12,7 +12,7 @@ feeds-init g c = λ plan before first s b w.
 pub feeds-preserved : goal.feeds-preserved
 feeds-preserved g c = λ plan before first s b w.
     let l = c.feeds.invariant plan before first s b w in
-    object_sent g.F.Feed.text g.F.Feed.faults c.args.feeds.now c.feeds.feeds c.feeds.feed-index plan before first
+    object_sent g.F.Feed.text g.F.Feed.faults c.args.feeds.now c.feeds.feeds c.feeds.feed-index plan c.args.emit.now.has_begun before first
     (outputs_of g.S.Sink g.T.Sink g.U.Sink c.feeds.tape c.feeds.map c.feeds.messages)
     (outputs_of g.S.Sink g.T.Sink g.U.Sink c.emit_object.new.tape c.emit_object.new.map c.emit_object.new.messages)
     c.feeds.emit c.emit_object.new.emit l (omega (arith, c.feeds-test.true)) c.feed-item.result
@@ -22,7 +22,7 @@ feeds-preserved g c = λ plan before first s b w.
 pub returns-in-Err : goal.returns-in-Err
 returns-in-Err g c = λ plan before first s b w.
     let l = c.feeds.invariant plan before first s b w in
-    object_stops g.F.Feed.text g.F.Feed.faults c.args.feeds.now c.feeds.feeds c.feeds.feed-index plan before first
+    object_stops g.F.Feed.text g.F.Feed.faults c.args.feeds.now c.feeds.feeds c.feeds.feed-index plan c.args.emit.now.has_begun before first
     (outputs_of g.S.Sink g.T.Sink g.U.Sink c.feeds.tape c.feeds.map c.feeds.messages)
     (outputs_of g.S.Sink g.T.Sink g.U.Sink c.emit_object.new.tape c.emit_object.new.map c.emit_object.new.messages)
     c.feeds.emit c.emit_object.new.emit l (omega (arith, c.feeds-test.true)) c.feed-item.result
@@ -31,6 +31,6 @@ returns-in-Err g c = λ plan before first s b w.
 
 pub returns : goal.returns
 returns g c = λ plan before first s b w.
-    all_sent g.F.Feed.text g.F.Feed.faults c.args.feeds.now c.feeds.feeds c.feeds.feed-index plan before first
+    all_sent g.F.Feed.text g.F.Feed.faults c.args.feeds.now c.feeds.feeds c.feeds.feed-index plan c.args.emit.now.has_begun before first
     (outputs_of g.S.Sink g.T.Sink g.U.Sink c.feeds.tape c.feeds.map c.feeds.messages)
     c.feeds.emit (c.feeds.invariant plan before first s b w) (omega (arith, c.feeds-test.false))

@@ -13,6 +13,6 @@ invariant-feeds g l = (plan : Planned) (before : List Part) (first : Outputs) �
     → Gains first
     (outputs_of g.S.Sink g.T.Sink g.U.Sink l.initial.tape l.initial.map l.initial.messages)
     (written plan l.initial.emit.has_begun before)
-    → SentAll g.F.Feed.text g.F.Feed.faults l.initial.feeds l.feeds l.feed-index plan before first
+    → SentAll g.F.Feed.text g.F.Feed.faults l.initial.feeds l.feeds l.feed-index plan l.initial.emit.has_begun before first
     (outputs_of g.S.Sink g.T.Sink g.U.Sink l.tape l.map l.messages)
     l.emit

@@ -28,7 +28,7 @@ items-preserved g c = record {
       let l = c.items.invariant.sent plan before first s w in
       let reads = rw (c.items.invariant.reads, c.in-Ok-true.field-0-test) at c.in-Ok-true.ensures.reads in
       sent_more (g.F.Feed.text c.args.feed.now) (g.F.Feed.text c.items.feed) (g.F.Feed.faults c.args.feed.now)
-      (g.F.Feed.faults c.items.feed) c.items.reader.room plan before first
+      (g.F.Feed.faults c.items.feed) c.items.reader.room plan c.args.emit.now.has_begun before first
       (outputs_of g.S.Sink g.T.Sink g.U.Sink c.items.tape c.items.map c.items.messages)
       c.items.emit l (g.F.Feed.text c.next_into.new.feed) (g.F.Feed.faults c.next_into.new.feed) c.next_into.new.self.room
       (outputs_of g.S.Sink g.T.Sink g.U.Sink c.feed.new.tape c.feed.new.map c.feed.new.messages)
@@ -41,7 +41,7 @@ returns-in-Err-feed g c = λ plan before first s w.
     let l = c.items.invariant.sent plan before first s w in
     let reads = rw (c.items.invariant.reads, c.in-Ok-true.field-0-test) at c.in-Ok-true.ensures.reads in
     sent_refused (g.F.Feed.text c.args.feed.now) (g.F.Feed.text c.items.feed) (g.F.Feed.faults c.args.feed.now)
-    (g.F.Feed.faults c.items.feed) c.items.reader.room plan before first
+    (g.F.Feed.faults c.items.feed) c.items.reader.room plan c.args.emit.now.has_begun before first
     (outputs_of g.S.Sink g.T.Sink g.U.Sink c.items.tape c.items.map c.items.messages)
     c.items.emit l (g.F.Feed.text c.next_into.new.feed) (g.F.Feed.faults c.next_into.new.feed) c.next_into.new.self.room
     (outputs_of g.S.Sink g.T.Sink g.U.Sink c.feed.new.tape c.feed.new.map c.feed.new.messages)
@@ -53,7 +53,7 @@ returns-in-Ok-false g c = λ plan before first s w.
     let l = c.items.invariant.sent plan before first s w in
     let reads = rw (c.items.invariant.reads, c.in-Ok-false.field-0-test) at c.in-Ok-false.ensures.reads in
     sent_ends (g.F.Feed.text c.args.feed.now) (g.F.Feed.text c.items.feed) (g.F.Feed.faults c.args.feed.now)
-    (g.F.Feed.faults c.items.feed) c.items.reader.room plan before first
+    (g.F.Feed.faults c.items.feed) c.items.reader.room plan c.args.emit.now.has_begun before first
     (outputs_of g.S.Sink g.T.Sink g.U.Sink c.items.tape c.items.map c.items.messages)
     c.items.emit l (g.F.Feed.text c.next_into.new.feed) (g.F.Feed.faults c.next_into.new.feed) c.next_into.new.self.room
     (outputs_of g.S.Sink g.T.Sink g.U.Sink c.end_file.new.tape c.end_file.new.map c.end_file.new.messages)
@@ -64,7 +64,7 @@ returns-in-Err g c = λ plan before first s w.
     let l = c.items.invariant.sent plan before first s w in
     let reads = rw c.items.invariant.reads at c.in-Err.ensures.reads in
     sent_stops (g.F.Feed.text c.args.feed.now) (g.F.Feed.text c.items.feed) (g.F.Feed.faults c.args.feed.now)
-    (g.F.Feed.faults c.items.feed) c.items.reader.room plan before first
+    (g.F.Feed.faults c.items.feed) c.items.reader.room plan c.args.emit.now.has_begun before first
     (outputs_of g.S.Sink g.T.Sink g.U.Sink c.items.tape c.items.map c.items.messages)
     c.items.emit l (g.F.Feed.text c.next_into.new.feed) (g.F.Feed.faults c.next_into.new.feed) c.next_into.new.self.room
     (outputs_of g.S.Sink g.T.Sink g.U.Sink c.items.tape c.items.map c.items.messages)

@@ -14,7 +14,7 @@ invariant-items g l = record {
       (outputs_of g.S.Sink g.T.Sink g.U.Sink l.initial.tape l.initial.map l.initial.messages)
       (written plan l.initial.emit.has_begun before)
       → Sent (g.F.Feed.text l.initial.feed) (g.F.Feed.text l.feed) (g.F.Feed.faults l.initial.feed)
-      (g.F.Feed.faults l.feed) l.reader.room plan before first
+      (g.F.Feed.faults l.feed) l.reader.room plan l.initial.emit.has_begun before first
       (outputs_of g.S.Sink g.T.Sink g.U.Sink l.tape l.map l.messages)
       l.emit;
 }

@@ -9,7 +9,8 @@ returns-in-Ok g c =
     let old = (outputs_of g.S.Sink g.T.Sink g.U.Sink c.args.tape.now c.args.map.now c.args.messages.now) in
     let h = c.in-Ok.ensures c.args.plan [] old c.new-emit.ensures.stands ends_first
     (nothing_written c.args.plan old c.new-emit.result.has_begun c.new-emit.ensures.fresh) in
-    second_ends g.F.Feed.text g.F.Feed.faults c.args.feeds.now c.emit_all.new.feeds c.args.plan old
+    second_ends g.F.Feed.text g.F.Feed.faults c.args.feeds.now c.emit_all.new.feeds c.args.plan c.new-emit.result.has_begun
+    c.new-emit.ensures.fresh old
     (outputs_of g.S.Sink g.T.Sink g.U.Sink c.emit_all.new.tape c.emit_all.new.map c.emit_all.new.messages)
     (outputs_of g.S.Sink g.T.Sink g.U.Sink c.end.new.tape c.end.new.map c.end.new.messages)
     c.emit_all.new.emit h c.end.result (c.end.ensures.ends c.args.plan h.3.parts h.3.stands)
@@ -17,7 +18,8 @@ returns-in-Ok g c =
 pub returns-in-Err : goal.returns-in-Err
 returns-in-Err g c =
     let old = (outputs_of g.S.Sink g.T.Sink g.U.Sink c.args.tape.now c.args.map.now c.args.messages.now) in
-    second_stops g.F.Feed.text g.F.Feed.faults c.args.feeds.now c.emit_all.new.feeds c.args.plan old
+    second_stops g.F.Feed.text g.F.Feed.faults c.args.feeds.now c.emit_all.new.feeds c.args.plan c.new-emit.result.has_begun
+    c.new-emit.ensures.fresh old
     (outputs_of g.S.Sink g.T.Sink g.U.Sink c.emit_all.new.tape c.emit_all.new.map c.emit_all.new.messages)
     c.emit_all.new.emit c.in-Err.fault (c.in-Err.ensures c.args.plan [] old c.new-emit.ensures.stands ends_first
     (nothing_written c.args.plan old c.new-emit.result.has_begun c.new-emit.ensures.fresh))

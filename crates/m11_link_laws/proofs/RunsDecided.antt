@@ -1,0 +1,172 @@
+-- A run over known objects does what their outcome says.
+use Rattle.std.proofs.Common.{◌≡◌, ◌∙◌, ℕ, Bool, true, false, if◌then◌else◌, List, [], ◌∷◌, Option, Some, None, Result, Ok, Err, ◌⊎◌, inl, inr, refl, sym, ap, ap₂, subst}
+use Rattle.std.specs.Prelude.{⊤}
+use Rattle.m11_base.specs.Feed.{GiveAll, HasBytes, Text}
+use Rattle.m11_modules.specs.Parts.{Part}
+use Rattle.m11_layout.specs.Plan.{IsPlanOf, Planned}
+use Rattle.m11_layout.specs.Sections.{is_too_large}
+use Rattle.m11_layout.specs.declared.fault.LinkFault.{LinkFault}
+use Rattle.m11_layout.specs.declared.fault.LinkFault.TheVariants as fault
+use Rattle.m11_link_text.specs.Findings.{findings_of, planned}
+use Rattle.m11_link.specs.FirstPass.{ReadsFirst}
+use Rattle.m11_link.specs.Objects.{◌>>=◌, AreItems, GiveItems, Item, outcome, taken, unless_too_large}
+use Rattle.m11_link.specs.Outputs.{Gains, Outputs, Write}
+use Rattle.m11_link.specs.SecondPass.{LinkRuns, ReadsSecond}
+use Rattle.m11_link.specs.Written.{counted, link_writes}
+use Rattle.m11_link.specs.declared.emit.LinkDone.{LinkDone}
+use Rattle.m11_link.proofs.Agreeing.{written_by_definition}
+use Rattle.m11_link.proofs.ItemsTaken.{Answer}
+use Rattle.m11_link.proofs.Sole.{objects_same}
+use Rattle.m11_link_laws.specs.Runs.{AreKnown, IsDecided, IsKnown, IsRefusal, MayStop}
+
+-- ---- answers
+
+no_both : (r : Answer) (parts : List Part) (stopped : LinkFault) → r ≡ Ok parts → r ≡ Err stopped → ⊥
+no_both r parts stopped e f = let g : ◌≡◌ {A = Answer} (Ok parts) (Err stopped) = sym e ∙ f in cc
+
+one_parts : (r : Answer) (xs ys : List Part) → r ≡ Ok xs → r ≡ Ok ys → xs ≡ ys
+one_parts r xs ys e f = let g : ◌≡◌ {A = Answer} (Ok xs) (Ok ys) = sym e ∙ f in cc
+
+one_fault : (r : Answer) (x y : LinkFault) → r ≡ Err x → r ≡ Err y → x ≡ y
+one_fault r x y e f = let g : ◌≡◌ {A = Answer} (Err x) (Err y) = sym e ∙ f in cc
+
+small : (b : Bool) (these parts : List Part) → ◌≡◌ {A = Answer} (if b then Err fault.TooLarge else Ok these) (Ok parts)
+    → ◌≡◌ {A = Answer} (Ok these) (Ok parts)
+small true these parts e = absurd cc
+small false these parts e = e
+
+taken_of : (bottom : ℕ) (r : Answer) (parts : List Part) → (r >>= unless_too_large bottom) ≡ Ok parts → r ≡ Ok parts
+taken_of bottom (Ok these) parts e = small (is_too_large bottom these) these parts e
+taken_of bottom (Err stopped) parts e = absurd cc
+
+-- ---- what is known decides the items
+
+known_bytes : (text : Option Text) (source other : List ℕ) → IsKnown text source → HasBytes text other → other ≡ source
+known_bytes None source other k h = absurd k
+known_bytes (Some text) source other k h = sym h ∙ k
+
+known_sources : {F : Type 0} (text : F → Option Text) (feeds : List F) (sources others : List (List ℕ))
+    → AreKnown text feeds sources → GiveAll text feeds others → others ≡ sources
+known_sources text [] [] [] k h = refl
+known_sources text [] [] (other ∷ others) k h = absurd h
+known_sources text [] (source ∷ sources) others k h = absurd k
+known_sources text (feed ∷ feeds) [] others k h = absurd k
+known_sources text (feed ∷ feeds) (source ∷ sources) [] k h = absurd h
+known_sources text (feed ∷ feeds) (source ∷ sources) (other ∷ others) k h =
+    ap₂ (λ (x : List ℕ) (xs : List (List ℕ)). x ∷ xs) (known_bytes (text feed) source other k.0 h.0)
+    (known_sources text feeds sources others k.1 h.1)
+
+module _ {F : Type 0} (text : F → Option Text) (faults : F → ℕ) (bottom : ℕ) (sources : List (List ℕ))
+    (items : List Item) (are : AreItems sources items) where
+  same_items : (feeds : List F) → AreKnown text feeds sources → (others : List Item) → GiveItems text feeds others
+      → others ≡ items
+  same_items feeds k others g =
+      let P : List (List ℕ) → Type 0 = λ these. AreItems these others in
+      objects_same sources others items (subst P (known_sources text feeds sources g.sources k g.given) g.are) are
+
+  -- ---- what each pass says
+
+  abbrev IsDevice : LinkFault → Type 0
+  IsDevice fault.Read = ⊤
+  IsDevice fault.NoMemory = ⊤
+  IsDevice stopped = ⊥
+
+  module _ (first first' : List F) (known : AreKnown text first sources) where
+    first_says : (stopped : LinkFault) → ReadsFirst text faults first first' bottom (Err stopped)
+        → IsDevice stopped ⊎ (outcome bottom items ≡ Err stopped)
+    first_says fault.Read h = inl tt
+    first_says fault.NoMemory h = inl tt
+    first_says stopped h = inr (ap (outcome bottom) (sym (same_items first known h.1 h.2)) ∙ h.3)
+
+    first_plans : (plan : Planned) → ReadsFirst text faults first first' bottom (Ok plan)
+        → (parts : List Part) × (outcome bottom items ≡ Ok parts) × IsPlanOf bottom parts plan
+    first_plans plan h = (h.3, ap (outcome bottom) (sym (same_items first known h.1 h.2)) ∙ h.4, h.5)
+
+  module _ (second second' : List F) (known : AreKnown text second sources) (plan : Planned) (old new : Outputs) where
+    second_says : (stopped : LinkFault) → ReadsSecond text faults second second' plan old new (Err stopped)
+        → MayStop stopped ⊎ (taken [] items ≡ Err stopped)
+    second_says fault.Read h = inl tt
+    second_says (fault.Write output) h = inl tt
+    second_says fault.NoMemory h = inl tt
+    second_says stopped h = inr (ap (taken []) (sym (same_items second known h.1 h.2)) ∙ h.3)
+
+    second_writes : (done : LinkDone) → ReadsSecond text faults second second' plan old new (Ok done)
+        → (parts : List Part) × (taken [] items ≡ Ok parts) × Gains old new (link_writes (planned plan) parts)
+        × (done.messages ≡ counted 0 (link_writes (planned plan) parts))
+    second_writes done h = (h.3, ap (taken []) (sym (same_items second known h.1 h.2)) ∙ h.4, h.5, h.6)
+
+  -- ---- the run
+
+  device_stops : (stopped : LinkFault) → IsDevice stopped → MayStop stopped
+  device_stops fault.Read h = tt
+  device_stops fault.NoMemory h = tt
+  device_stops stopped h = absurd h
+
+  device_refuses : (refused stopped : LinkFault) → IsDevice stopped → IsRefusal refused stopped
+  device_refuses refused fault.Read h = tt
+  device_refuses refused fault.NoMemory h = tt
+  device_refuses refused stopped h = absurd h
+
+  same_refused : (refused stopped : LinkFault) → stopped ≡ refused → IsRefusal refused stopped
+  same_refused refused fault.Read e = tt
+  same_refused refused fault.NoMemory e = tt
+  same_refused refused stopped e = e
+
+  stops_or : (stopped : LinkFault) (r : Answer) (parts : List Part) → r ≡ Ok parts → MayStop stopped ⊎ (r ≡ Err stopped)
+      → MayStop stopped
+  stops_or stopped r parts e (inl h) = h
+  stops_or stopped r parts e (inr f) = absurd (no_both r parts stopped e f)
+
+  refuses_or : (refused stopped : LinkFault) → outcome bottom items ≡ Err refused
+      → IsDevice stopped ⊎ (outcome bottom items ≡ Err stopped) → IsRefusal refused stopped
+  refuses_or refused stopped e (inl h) = device_refuses refused stopped h
+  refuses_or refused stopped e (inr f) =
+      same_refused refused stopped (one_fault (outcome bottom items) stopped refused f e)
+
+  first_or : (stopped : LinkFault) → IsDevice stopped ⊎ (outcome bottom items ≡ Err stopped)
+      → MayStop stopped ⊎ (outcome bottom items ≡ Err stopped)
+  first_or stopped (inl h) = inl (device_stops stopped h)
+  first_or stopped (inr e) = inr e
+
+  module _ (first first' second second' : List F) (known : AreKnown text first sources)
+      (again : AreKnown text second sources) (old new : Outputs) where
+    all_written : (parts : List Part) (done : LinkDone) → outcome bottom items ≡ Ok parts → (plan : Planned)
+        → ReadsFirst text faults first first' bottom (Ok plan)
+        → ReadsSecond text faults second second' plan old new (Ok done) → IsDecided bottom (Ok parts) old new (Ok done)
+    all_written parts done e plan h k =
+        let planned-so = first_plans first first' known plan h in
+        let wrote = second_writes second second' again plan old new done k in
+        let same = one_parts (taken [] items) wrote.0 parts wrote.1 (taken_of bottom (taken [] items) parts e) in
+        let here = one_parts (outcome bottom items) planned-so.0 parts planned-so.1 e in
+        let P : List Part → Type 0 = λ these. IsPlanOf bottom these plan in
+        let ws : link_writes (planned plan) wrote.0 ≡ link_writes (findings_of bottom parts) parts =
+        ap (λ these. link_writes (planned plan) these) same
+        ∙ written_by_definition bottom parts parts plan (subst P here planned-so.2) in
+        let G : List Write → Type 0 = λ these. Gains old new these in
+        (subst G ws wrote.2, wrote.3 ∙ ap (λ these. counted 0 these) ws)
+
+    decided : (o : Answer) → outcome bottom items ≡ o → (result : Result LinkDone LinkFault)
+        → LinkRuns text faults first first' second second' bottom old new result → IsDecided bottom o old new result
+    decided (Ok parts) e (Ok done) h = all_written parts done e h.0 h.1 h.2
+    decided (Ok parts) e (Err stopped) (inl h) =
+        stops_or stopped (outcome bottom items) parts e (first_or stopped (first_says first first' known stopped h.0))
+    decided (Ok parts) e (Err stopped) (inr h) =
+        stops_or stopped (taken [] items) parts (taken_of bottom (taken [] items) parts e)
+        (second_says second second' again h.0 old new stopped h.2)
+    decided (Err refused) e (Ok done) h =
+        let p = first_plans first first' known h.0 h.1 in
+        no_both (outcome bottom items) p.0 refused p.1 e
+    decided (Err refused) e (Err stopped) (inl h) =
+        (refuses_or refused stopped e (first_says first first' known stopped h.0), h.2)
+    decided (Err refused) e (Err stopped) (inr h) =
+        let p = first_plans first first' known h.0 h.1 in
+        absurd (no_both (outcome bottom items) p.0 refused p.1 e)
+
+pub run_decided : {F : Type 0} (text : F → Option Text) (faults : F → ℕ) (first first' second second' : List F)
+    (bottom : ℕ) (sources : List (List ℕ)) (items : List Item) (old new : Outputs) (result : Result LinkDone LinkFault)
+    → AreItems sources items → AreKnown text first sources → AreKnown text second sources
+    → LinkRuns text faults first first' second second' bottom old new result
+    → IsDecided bottom (outcome bottom items) old new result
+run_decided text faults first first' second second' bottom sources items old new result are known again h =
+    decided text faults bottom sources items are first first' second second' known again old new
+    (outcome bottom items) refl result h

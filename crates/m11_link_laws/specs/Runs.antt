@@ -1,0 +1,44 @@
+-- What a run of the linker comes to over known objects. (This project's own.)
+use Rattle.std.specs.Prelude.{◌≡◌, ℕ, List, [], ◌∷◌, ⊤, Option, Some, None, Result, Ok, Err}
+use Rattle.m11_base.specs.Feed.{Text}
+use Rattle.m11_modules.specs.Parts.{Part}
+use Rattle.m11_layout.specs.declared.fault.LinkFault.{LinkFault}
+use Rattle.m11_layout.specs.declared.fault.LinkFault.TheVariants as fault
+use Rattle.m11_link_text.specs.Findings.{findings_of}
+use Rattle.m11_link.specs.Outputs.{Outputs, Gains}
+use Rattle.m11_link.specs.Written.{counted, link_writes}
+use Rattle.m11_link.specs.declared.emit.LinkDone.{LinkDone}
+
+-- a text is known, and is these bytes
+abbrev pub IsKnown : Option Text → List ℕ → Type 0
+IsKnown None source = ⊥
+IsKnown (Some text) source = text.bytes ≡ source
+
+-- the texts of all feeds are known, and are these
+abbrev pub AreKnown : {F : Type 0} → (F → Option Text) → List F → List (List ℕ) → Type 0
+AreKnown text [] [] = ⊤
+AreKnown text [] (source ∷ sources) = ⊥
+AreKnown text (feed ∷ feeds) [] = ⊥
+AreKnown text (feed ∷ feeds) (source ∷ sources) = IsKnown (text feed) source × AreKnown text feeds sources
+
+-- what may stop a link of objects that have no fault
+abbrev pub MayStop : LinkFault → Type 0
+MayStop fault.Read = ⊤
+MayStop (fault.Write output) = ⊤
+MayStop fault.NoMemory = ⊤
+MayStop stopped = ⊥
+
+-- the refusal of the objects, unless they couldn't be read so far
+abbrev pub IsRefusal : LinkFault → LinkFault → Type 0
+IsRefusal refused fault.Read = ⊤
+IsRefusal refused fault.NoMemory = ⊤
+IsRefusal refused stopped = stopped ≡ refused
+
+-- objects of these parts: all that the definitions say was written, and its messages counted; or it was stopped.
+-- Objects that are refused: the refusal, and nothing written
+abbrev pub IsDecided : ℕ → Result (List Part) LinkFault → Outputs → Outputs → Result LinkDone LinkFault → Type 0
+IsDecided bottom (Ok parts) old new (Ok done) = Gains old new (link_writes (findings_of bottom parts) parts)
+    × (done.messages ≡ counted 0 (link_writes (findings_of bottom parts) parts))
+IsDecided bottom (Ok parts) old new (Err stopped) = MayStop stopped
+IsDecided bottom (Err refused) old new (Ok done) = ⊥
+IsDecided bottom (Err refused) old new (Err stopped) = IsRefusal refused stopped × (new ≡ old)

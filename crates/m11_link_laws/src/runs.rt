@@ -1,0 +1,23 @@
+//! Whole runs over known objects.
+
+ghost use Rattle.std.specs.Prelude.{List, ℕ, Result};
+ghost use Rattle.m11_layout.specs.declared.fault.LinkFault.{LinkFault};
+ghost use Rattle.m11_link.specs.Objects.{AreItems, Item, outcome};
+ghost use Rattle.m11_link.specs.Outputs.{Outputs};
+ghost use Rattle.m11_link.specs.SecondPass.{LinkRuns};
+ghost use Rattle.m11_link.specs.declared.emit.LinkDone.{LinkDone};
+ghost use Rattle.m11_link_laws.specs.Runs.{AreKnown, IsDecided};
+
+use m11_base::Feed;
+
+/// Where both passes get the same known bytes, their outcome decides the run. If it is parts, a run that is Ok has
+/// written exactly what the definitions say of them, to the tape, the map and the messages, and no other faults come than
+/// `Read`, `Write` and `NoMemory`. If it is a refusal, the run returns that refusal, `Read` or `NoMemory`, and writes
+/// nothing.
+#[tactic(auto, using(crate::proofs::RunsDecided::run_decided))]
+pub fn known_objects_decide_the_run<F: Feed>()
+    ensures { (first again second later : List F) (bottom : ℕ) (sources : List (List ℕ)) (items : List Item)
+        (old new : Outputs) (answer : Result LinkDone LinkFault) → AreItems sources items → AreKnown F.text first sources
+        → AreKnown F.text second sources → LinkRuns F.text F.faults first again second later bottom old new answer
+        → IsDecided bottom (outcome bottom items) old new answer }
+{}
