@@ -1,13 +1,16 @@
 -- Cutting a text one piece after the other.
-use Rattle.std.proofs.Common.{◌≡◌, ℕ, zero, suc, ◌+◌, ◌-◌, ◌<◌, List, [], ◌∷◌, ◌++◌, length, drop, take, map, refl, sym, ap, ◌∙◌, subst, arith}
-use Rattle.std.proofs.lemmas.List.{drop-drop, length-drop, append_assoc, map-append, take_rest}
+use Rattle.std.proofs.Common.{◌≡◌, ℕ, zero, suc, ◌+◌, ◌-◌, ◌<◌, ◌≤◌, true, false, List, [], ◌∷◌, ◌++◌, length, drop, take, map, refl, sym, ap, ◌∙◌, subst, arith}
+use Rattle.std.specs.Prelude.{◌||◌}
+use Rattle.std.specs.List.{list_any}
+use Rattle.std.proofs.lemmas.List.{drop-drop, drop_all, length-drop, append_assoc, map-append, take_rest}
 use Rattle.m11_scan.specs.declared.sort.Sort.{Sort}
 use Rattle.m11_scan.specs.declared.sort.Form.{Form}
 use Rattle.m11_scan.specs.declared.sort.Form.TheVariants.{Cut, Blank, Comment, Skipped}
 use Rattle.m11_scan.specs.declared.pieces.Piece.{Piece}
 use Rattle.m11_scan.specs.declared.cutting.Token.{Token}
 use Rattle.m11_scan.specs.Pieces.{first_piece}
-use Rattle.m11_scan.specs.Cutting.{Lexeme, lexemes_at, lexemes_from, pieces_after, pieces_of}
+use Rattle.m11_scan.specs.Cutting.{Lexeme, lexemes_at, lexemes_from, pieces_after, pieces_of, tokens_from}
+use Rattle.m11_scan.specs.Skipped.{has_skipped, is_skipped}
 use Rattle.m11_scan.specs.Views.{lexeme}
 
 -- what is left over of a piece is passed over
@@ -84,3 +87,46 @@ module _ (line : List ℕ) (start : ℕ) (piece : Piece) (inside : start < lengt
         ap (λ ls. map (lexeme line) tokens ++ ls)
         (sym (next_lexemes ∙ ap (λ ls. ls ++ rest) (no_lexeme line start (start + piece.length) piece.form other)))
         ∙ before
+
+  -- a token stands before those after it
+  pub token_stands : (sort : Sort) → piece.form ≡ Cut sort
+      → tokens_from line start
+      ≡ lexeme line (record { sort = sort; start = start; end = start + piece.length })
+      ∷ tokens_from line (start + piece.length)
+  token_stands sort form =
+      let rest : List Lexeme = tokens_from line (start + piece.length) in
+      next_lexemes ∙ ap (λ f. lexemes_at line start (start + piece.length) f ++ rest) form
+
+  -- before any other piece stand the tokens after it
+  pub other_stands : ((sort : Sort) → piece.form ≡ Cut sort → ⊥)
+      → tokens_from line start ≡ tokens_from line (start + piece.length)
+  other_stands other =
+      let rest : List Lexeme = tokens_from line (start + piece.length) in
+      next_lexemes ∙ ap (λ ls. ls ++ rest) (no_lexeme line start (start + piece.length) piece.form other)
+
+-- after the last character stands no token
+pub none_stands : (line : List ℕ) (start : ℕ) → length line ≤ start → tokens_from line start ≡ []
+none_stands line start le =
+    ap (λ text. lexemes_from line start (pieces_of text)) (drop_all start line le)
+
+-- what begins no token, first or after the first piece
+pub skipped_first : (text : List ℕ) (piece : Piece) → 0 < length text → piece ≡ first_piece text → 0 < piece.length
+    → has_skipped text ≡ (is_skipped piece.form || has_skipped (drop piece.length text))
+skipped_first text piece nonempty is begins =
+    let P : Piece → Type 0 = λ p. 0 < p.length in
+    let Q : Piece → Type 0 = λ p. has_skipped text ≡ (is_skipped p.form || has_skipped (drop p.length text)) in
+    subst Q (sym is) (ap (list_any (λ (p : Piece). is_skipped p.form)) (pieces_of-first text nonempty (subst P is begins)))
+
+module _ (text : List ℕ) (piece : Piece) (nonempty : 0 < length text) (is : piece ≡ first_piece text)
+    (begins : 0 < piece.length) where
+  pub skipped_here : is_skipped piece.form ≡ true → true ≡ has_skipped text
+  skipped_here here =
+      sym (skipped_first text piece nonempty is begins
+      ∙ ap (λ b. b || has_skipped (drop piece.length text)) here)
+
+  pub skipped_later : (rest : List ℕ) → is_skipped piece.form ≡ false
+      → rest ≡ take (length text - piece.length) (drop piece.length text) → has_skipped rest ≡ has_skipped text
+  skipped_later rest here same =
+      ap has_skipped (same ∙ take_rest text piece.length)
+      ∙ sym (skipped_first text piece nonempty is begins
+      ∙ ap (λ b. b || has_skipped (drop piece.length text)) here)

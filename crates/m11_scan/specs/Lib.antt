@@ -6,6 +6,7 @@ pub mod Lines
 pub mod Names
 pub mod Numbers
 pub mod Pieces
+pub mod Skipped
 pub mod Conditions
 pub mod Cuts
 pub mod Cutting

@@ -1,6 +1,6 @@
 //! The tokens of a line. (MACRO-11 Language Reference Manual, "Symbols and expressions".)
 
-ghost use Rattle.std.specs.Prelude.{◌≡◌, ◌<◌, ◌≤◌, length, map};
+ghost use Rattle.std.specs.Prelude.{◌≡◌, ◌<◌, ◌≤◌, [], ◌∷◌, length, map, IfSome, MatchOption};
 ghost use Rattle.m11_scan.specs.Cutting.{text_between, tokens_from, tokens_of};
 ghost use Rattle.m11_scan.specs.Views.{lexeme};
 
@@ -64,4 +64,30 @@ pub fn tokens_from(line: &Line, place: usize) -> ArrayVec<Token, LINE_LIMIT>
         start = end;
     }
     tokens
+}
+
+/// The token that stands next in a line from a place on, if one does.
+pub fn next_token(line: &Line, place: usize) -> Option<Token>
+    requires { place ≤ length line.now.text }
+    ensures token { MatchOption result (tokens_from line.now.text place ≡ [])
+        (λ token. tokens_from line.now.text place ≡ lexeme line.now.text token ∷ tokens_from line.now.text token.end) }
+    ensures place { IfSome result (λ token. place ≤ token.start) }
+    ensures begins { IfSome result (λ token. token.start < token.end) }
+    ensures within { IfSome result (λ token. token.end ≤ length line.now.text) }
+{
+    let text = line.text();
+    let mut begin = place;
+    'pieces: while begin < text.len() {
+        let piece = first_piece(&text[begin..]);
+        let end = begin + piece.length;
+        if let Form::Cut(sort) = piece.form {
+            return Some(Token {
+                sort,
+                start: begin as u8,
+                end: end as u8,
+            });
+        }
+        begin = end;
+    }
+    None
 }

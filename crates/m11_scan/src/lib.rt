@@ -14,11 +14,12 @@ mod names;
 mod numbers;
 mod pieces;
 mod radix;
+mod skipped;
 mod sort;
 mod texts;
 
 pub use conditions::{Condition, read_condition};
-pub use cutting::{Token, tokens, tokens_from};
+pub use cutting::{Token, next_token, tokens, tokens_from};
 pub use expressions::{Role, Within, expression_length, role_of};
 pub use laws::{
     nested_brackets_are_read_whole, there_is_one_cut, tokens_lie_in_order,
@@ -30,5 +31,6 @@ pub use names::{read_name, read_packed};
 pub use numbers::{Number, read_number};
 pub use pieces::Piece;
 pub use radix::Radix;
+pub use skipped::skipped_between;
 pub use sort::{Form, Sort};
 pub use texts::{Enclosed, bare_length, bracketed, delimited, separator_length};
