@@ -2,6 +2,7 @@
 
 ghost use Rattle.std.specs.Prelude.{◌≡◌, ◌<◌, ◌≤◌, [], ◌∷◌, length, map, IfSome, MatchOption};
 ghost use Rattle.m11_scan.specs.Cutting.{text_between, tokens_from, tokens_of};
+ghost use Rattle.m11_scan.specs.Lines.{line_limit};
 ghost use Rattle.m11_scan.specs.Views.{lexeme};
 
 use crate::line::{LINE_LIMIT, Line};
@@ -74,6 +75,7 @@ pub fn next_token(line: &Line, place: usize) -> Option<Token>
     ensures place { IfSome result (λ token. place ≤ token.start) }
     ensures begins { IfSome result (λ token. token.start < token.end) }
     ensures within { IfSome result (λ token. token.end ≤ length line.now.text) }
+    ensures limited { IfSome result (λ token. token.end ≤ line_limit) }
 {
     let text = line.text();
     let mut begin = place;

@@ -1,0 +1,45 @@
+-- What a line says. (MACRO-11 Language Reference Manual, "Source program format".)
+use Rattle.std.specs.Prelude.{ℕ, Bool, true, false, if◌then◌else◌, List, length}
+use Rattle.std.specs.List.{list_any}
+use Rattle.std.specs.Int.RustNames.{bit_or}
+use Rattle.m11_scan.specs.Cutting.{tokens_from}
+use Rattle.m11_scan.specs.Letters.{letter_A, letter_I, letter_L}
+use Rattle.m11_scan.specs.Lines.{SourceLine}
+use Rattle.m11_scan.specs.Skipped.{skipped_between}
+use Rattle.m11_statements.specs.Bodies.{body_in, reach}
+use Rattle.m11_statements.specs.Labels.{labels_at, labels_end}
+use Rattle.m11_statements.specs.declared.bodies.Body.{Body}
+use Rattle.m11_statements.specs.declared.labels.Label.{Label}
+use Rattle.m11_statements.specs.declared.labels.LabelKind.{LabelKind}
+use Rattle.m11_statements.specs.declared.labels.LabelKind.TheVariants.{Ordinary, Global, Local, Outside}
+
+-- what stands after a line's labels
+abbrev pub body_of : (ℕ × ℕ → Bool) → List ℕ → Body
+body_of known line = body_in known (tokens_from line (labels_end line))
+
+abbrev pub is_outside : LabelKind → Bool
+is_outside Ordinary = false
+is_outside Global = false
+is_outside (Local number) = false
+is_outside Outside = true
+
+abbrev pub has_outside : List Label → Bool
+has_outside labels = list_any (λ label. is_outside label.kind) labels
+
+abbrev pub letter_if : Bool → ℕ → ℕ
+letter_if holds letter = if holds then letter else 0
+
+-- L for an over-long line, A for a local symbol outside 1 to 65535 among its labels, I for a skipped character up to a place
+abbrev pub letters_of : SourceLine → List Label → ℕ → ℕ
+letters_of line labels end =
+    bit_or (bit_or (letter_if line.is_over_long letter_L) (letter_if (has_outside labels) letter_A))
+    (letter_if (skipped_between line.text 0 end) letter_I)
+
+-- the letters that a line has whatever stands after its labels
+abbrev pub label_letters : SourceLine → ℕ
+label_letters line = letters_of line (labels_at line.text) (labels_end line.text)
+
+-- I for a skipped character after the labels, as far as the line is cut
+abbrev pub body_letters : (ℕ × ℕ → Bool) → List ℕ → ℕ
+body_letters known line =
+    letter_if (skipped_between line (labels_end line) (reach (body_of known line) (length line))) letter_I

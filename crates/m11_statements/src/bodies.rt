@@ -1,0 +1,165 @@
+//! What stands after the labels of a line. (MACRO-11 Language Reference Manual, "Operator field", "Direct assignment statements" and
+//! ".WORD directive".)
+
+ghost use Rattle.std.specs.Prelude.{◌≡◌, ◌≤◌, ℕ, Bool, length};
+ghost use Rattle.m11_scan.specs.Cutting.{tokens_from};
+ghost use Rattle.m11_scan.specs.Views.{lexeme};
+ghost use Rattle.m11_statements.specs.Bodies as spec;
+
+use crate::labels::is_counter;
+use crate::spans::Span;
+use m11_base::Name;
+use m11_scan::{Line, Sort, Token, next_token, read_name};
+
+/// The operators that are known: the names of instructions, of directives and of the macros that are defined.
+pub trait Operators {
+    // Whether a name is one of them.
+    ghost known: { Self → ℕ × ℕ → Bool };
+
+    /// Whether a name is one of them.
+    fn is_known(&self, name: Name) -> bool
+        ensures { result ≡ known self.now name };
+}
+
+/// An assignment to a name.
+#[derive(Clone, Copy, PartialEq, Eq, Debug)]
+pub struct Assignment {
+    /// The name.
+    pub name: Span,
+    /// Whether it is made global, by `==`.
+    pub is_global: bool,
+    /// The place after the `=` or `==`, where the value begins.
+    pub value: u8,
+}
+
+/// What stands after the labels of a line.
+#[derive(Clone, Copy, PartialEq, Eq, Debug)]
+pub enum Body {
+    /// Nothing, or a comment.
+    Nothing,
+    /// `name=e` or `name==e`.
+    Assigns(Assignment),
+    /// `.=e`: the place after the `=`.
+    SetsCounter(u8),
+    /// A known operator. What stands after it is the operator's to cut.
+    Operates(Span),
+    /// Anything else, which counts as the elements of a `.WORD`: the place where they begin.
+    Words(u8),
+}
+
+// What stands in a line from a place on.
+pub(crate) fn body_at<O: Operators>(line: &Line, place: usize, operators: &O) -> Body
+    requires { place ≤ length line.now.text }
+    ensures body { result ≡ spec.body_in (O.known operators.now) (tokens_from line.now.text place) }
+    ensures least { place ≤ spec.reach result (length line.now.text) }
+    ensures most { spec.reach result (length line.now.text) ≤ length line.now.text }
+{
+    match next_token(line, place) {
+        Some(first) => begun_body(line, first, operators),
+        None => Body::Nothing,
+    }
+}
+
+// What begins with a token.
+fn begun_body<O: Operators>(line: &Line, first: Token, operators: &O) -> Body
+    requires ordered { first.start ≤ first.end }
+    requires within { first.end ≤ length line.now.text }
+    ensures body { result ≡ spec.begun_body (O.known operators.now) (lexeme line.now.text first)
+        (tokens_from line.now.text first.end) }
+    ensures least { first.start ≤ spec.reach result (length line.now.text) }
+    ensures most { spec.reach result (length line.now.text) ≤ length line.now.text }
+{
+    match assignment_to(line, first) {
+        Some(body) => body,
+        None => operation(line, first, operators),
+    }
+}
+
+// The assignment to a token, if an `=` stands after it.
+fn assignment_to(line: &Line, target: Token) -> Option<Body>
+    requires { target.end ≤ length line.now.text }
+    ensures { result ≡ spec.assignment_to (lexeme line.now.text target) (tokens_from line.now.text target.end) }
+{
+    let equals = next_token(line, usize::from(target.end))?;
+    assigned(line, target, equals)
+}
+
+fn assigned(line: &Line, target: Token, equals: Token) -> Option<Body>
+    ensures { result ≡ spec.assigned (lexeme line.now.text target) (lexeme line.now.text equals) }
+{
+    match target.sort {
+        Sort::Name if is_counter(target.text(line)) => counter_set(equals),
+        Sort::Name => name_set(target, equals),
+        _ => None,
+    }
+}
+
+fn counter_set(equals: Token) -> Option<Body>
+    ensures { result ≡ spec.counter_set equals.sort equals.end }
+{
+    match equals.sort {
+        Sort::Equals => Some(Body::SetsCounter(equals.end)),
+        _ => None,
+    }
+}
+
+fn name_set(name: Token, equals: Token) -> Option<Body>
+    ensures { result ≡ spec.name_set name.start name.end equals.sort equals.end }
+{
+    let is_global = match equals.sort {
+        Sort::Equals => false,
+        Sort::TwoEquals => true,
+        _ => return None,
+    };
+    Some(Body::Assigns(Assignment {
+        name: Span {
+            start: name.start,
+            end: name.end,
+        },
+        is_global,
+        value: equals.end,
+    }))
+}
+
+// What begins with a token that isn't assigned to.
+fn operation<O: Operators>(line: &Line, first: Token, operators: &O) -> Body
+    ensures { result ≡ spec.operation (O.known operators.now) (lexeme line.now.text first) }
+{
+    if is_operator(line, first, operators) {
+        Body::Operates(Span {
+            start: first.start,
+            end: first.end,
+        })
+    } else {
+        Body::Words(first.start)
+    }
+}
+
+fn is_operator<O: Operators>(line: &Line, token: Token, operators: &O) -> bool
+    ensures { result ≡ spec.is_operator (O.known operators.now) (lexeme line.now.text token) }
+{
+    match token.sort {
+        Sort::Name if is_counter(token.text(line)) => false,
+        Sort::Name => is_known(token.text(line), operators),
+        _ => false,
+    }
+}
+
+fn is_known<O: Operators>(text: &[u8], operators: &O) -> bool
+    ensures { result ≡ spec.is_known (O.known operators.now) text.now }
+{
+    match read_name(text) {
+        Some(name) => operators.is_known(name),
+        None => false,
+    }
+}
+
+// Up to which place a line is cut before its operator is known.
+pub(crate) fn reach(body: Body, size: usize) -> usize
+    ensures { result ≡ spec.reach body size }
+{
+    match body {
+        Body::Operates(name) => usize::from(name.start),
+        _ => size,
+    }
+}

@@ -1,0 +1,145 @@
+//! The labels of a line. (MACRO-11 Language Reference Manual, "Label field" and "Local symbols".)
+
+ghost use Rattle.std.specs.Prelude.{◌≡◌, ◌+◌, ◌≤◌, [], ◌∷◌, length, IfSome, MatchOption};
+ghost use Rattle.m11_scan.specs.Cutting.{tokens_from};
+ghost use Rattle.m11_scan.specs.Lines.{line_limit};
+ghost use Rattle.m11_scan.specs.Views.{lexeme};
+ghost use Rattle.m11_statements.specs.Labels as spec;
+
+use crate::spans::Span;
+use crate::statements::LABEL_LIMIT;
+use arrayvec::ArrayVec;
+use bitflags::Flags;
+use m11_scan::{Letters, Line, Radix, Sort, Token, next_token, read_number};
+
+/// What a label is.
+#[derive(Clone, Copy, PartialEq, Eq, Debug, Default)]
+pub enum LabelKind {
+    /// A name with `:`.
+    #[default]
+    Ordinary,
+    /// A name with `::`, which makes it global.
+    Global,
+    /// A local symbol, by its number. After it `::` is as `:`.
+    Local(u16),
+    /// A local symbol whose number isn't 1 to 65535. It defines nothing.
+    Outside,
+}
+
+/// A label of a line.
+#[derive(Clone, Copy, PartialEq, Eq, Debug, Default)]
+pub struct Label {
+    /// What it is.
+    pub kind: LabelKind,
+    /// Its name or local symbol.
+    pub name: Span,
+    /// The place after its colon.
+    pub end: u8,
+}
+
+// The labels of a line, and the place after the last one.
+#[derive(Drop)]
+pub(crate) struct Labels {
+    pub list: ArrayVec<Label, LABEL_LIMIT>,
+    pub end: usize,
+}
+
+// The labels that a line begins with.
+pub(crate) fn labels_of(line: &Line) -> Labels
+    ensures list { result.list.items ≡ spec.labels_at line.now.text }
+    ensures end { result.end ≡ spec.labels_end line.now.text }
+    ensures within { result.end ≤ length line.now.text }
+{
+    let mut list = ArrayVec::new();
+    let mut end = 0;
+    'labels: while let Some(label) = label_at(line, end) {
+        list.push(label);
+        end = usize::from(label.end);
+    }
+    Labels { list, end }
+}
+
+// The label that stands next in a line from a place on, if one does.
+fn label_at(line: &Line, place: usize) -> Option<Label>
+    requires { place ≤ length line.now.text }
+    ensures label { MatchOption result (spec.labels_in (tokens_from line.now.text place) ≡ [])
+        (λ label. spec.labels_in (tokens_from line.now.text place)
+        ≡ label ∷ spec.labels_in (tokens_from line.now.text label.end)) }
+    ensures after { IfSome result (λ label. place + 2 ≤ label.end) }
+    ensures within { IfSome result (λ label. label.end ≤ length line.now.text) }
+    ensures limited { IfSome result (λ label. label.end ≤ line_limit) }
+{
+    let name = next_token(line, place)?;
+    let colon = next_token(line, usize::from(name.end))?;
+    label_of(line, name, colon)
+}
+
+// The label of a token with the one after it, if they are one.
+fn label_of(line: &Line, name: Token, colon: Token) -> Option<Label>
+    ensures label { result ≡ spec.label_of (lexeme line.now.text name) (lexeme line.now.text colon) }
+    ensures end { IfSome result (λ label. label.end ≡ colon.end) }
+{
+    if name.end != colon.start {
+        return None;
+    }
+    let kind = kind_of(name.sort, colon.sort, name.text(line))?;
+    Some(Label {
+        kind,
+        name: Span {
+            start: name.start,
+            end: name.end,
+        },
+        end: colon.end,
+    })
+}
+
+fn kind_of(sort: Sort, colon: Sort, text: &[u8]) -> Option<LabelKind>
+    ensures { result ≡ spec.kind_of sort colon text.now }
+{
+    match sort {
+        Sort::Name if is_counter(text) => None,
+        Sort::Name => name_kind(colon),
+        Sort::LocalSymbol => local_kind(colon, text),
+        _ => None,
+    }
+}
+
+// Whether a name is the counter `.`, which no line defines.
+pub(crate) fn is_counter(text: &[u8]) -> bool
+    ensures { result ≡ spec.is_counter text.now }
+{
+    matches!(text, [b'.'])
+}
+
+fn name_kind(colon: Sort) -> Option<LabelKind>
+    ensures { result ≡ spec.name_kind colon }
+{
+    match colon {
+        Sort::Colon => Some(LabelKind::Ordinary),
+        Sort::TwoColons => Some(LabelKind::Global),
+        _ => None,
+    }
+}
+
+fn local_kind(colon: Sort, text: &[u8]) -> Option<LabelKind>
+    ensures { result ≡ spec.local_kind colon text.now }
+{
+    match colon {
+        Sort::Colon | Sort::TwoColons => Some(numbered(text)),
+        _ => None,
+    }
+}
+
+// The local symbol of a text: digits and a `$`.
+fn numbered(text: &[u8]) -> LabelKind
+    ensures { result ≡ spec.numbered text.now }
+{
+    let digits = &text[..text.len().saturating_sub(1)];
+    let number = read_number(digits, Radix::Decimal);
+    let is_large = number.letters.contains(Letters::T);
+    if is_large || number.value == 0 {
+        LabelKind::Outside
+    } else {
+        LabelKind::Local(number.value)
+    }
+}
