@@ -75,7 +75,7 @@ pub fn next_token(line: &Line, place: usize) -> Option<Token>
     ensures place { IfSome result (λ token. place ≤ token.start) }
     ensures begins { IfSome result (λ token. token.start < token.end) }
     ensures within { IfSome result (λ token. token.end ≤ length line.now.text) }
-    ensures limited { IfSome result (λ token. token.end ≤ line_limit) }
+    ensures limited { length line.now.text ≤ line_limit }
 {
     let text = line.text();
     let mut begin = place;

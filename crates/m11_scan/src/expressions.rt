@@ -1,6 +1,6 @@
 //! Where an expression ends. (MACRO-11 Language Reference Manual, "Terms" and "Expressions".)
 
-ghost use Rattle.std.specs.Prelude.{◌≡◌, ◌<◌, ◌≤◌, length, map};
+ghost use Rattle.std.specs.Prelude.{◌≡◌, ◌+◌, ◌<◌, ◌≤◌, length, map, IfSome};
 ghost use Rattle.m11_scan.specs.Expressions.{expression_length, goes_on, place_if, role_of, sort_of};
 
 use crate::cutting::Token;
@@ -58,9 +58,10 @@ pub fn expression_length(tokens: &[Token]) -> usize
 }
 
 // The place after a token of a role, if an expression goes on with it.
-fn goes_on(role: Role, place: Within) -> Option<Within>
+pub(crate) fn goes_on(role: Role, place: Within) -> Option<Within>
     requires { place.depth < usize.MAX }
-    ensures { result ≡ goes_on role place }
+    ensures place { result ≡ goes_on role place }
+    ensures deep { IfSome result (λ next. next.depth ≤ place.depth + 1) }
 {
     match role {
         Role::Term => place_if(place.is_due, place.depth, false),

@@ -6,6 +6,7 @@
 mod characters;
 mod conditions;
 mod cutting;
+mod ends;
 mod expressions;
 mod laws;
 mod letters;
@@ -20,6 +21,7 @@ mod texts;
 
 pub use conditions::{Condition, read_condition};
 pub use cutting::{Token, next_token, tokens, tokens_from};
+pub use ends::expression_end;
 pub use expressions::{Role, Within, expression_length, role_of};
 pub use laws::{
     nested_brackets_are_read_whole, there_is_one_cut, tokens_lie_in_order,
@@ -33,4 +35,4 @@ pub use pieces::Piece;
 pub use radix::Radix;
 pub use skipped::skipped_between;
 pub use sort::{Form, Sort};
-pub use texts::{Enclosed, bare_length, bracketed, delimited, separator_length};
+pub use texts::{Enclosed, bare_length, blanks_length, bracketed, delimited, separator_length};

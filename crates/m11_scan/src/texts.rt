@@ -1,7 +1,7 @@
 //! Texts that a directive or a call of a macro takes from its line itself. (MACRO-11 Language Reference Manual, ".ASCII
 //! directive" and "Arguments in macro definitions and macro calls".)
 
-ghost use Rattle.std.specs.Prelude.{◌≡◌, ◌≤◌, length};
+ghost use Rattle.std.specs.Prelude.{◌≡◌, ◌<◌, ◌≤◌, length, true};
 ghost use Rattle.std.specs.List.{prefix_len};
 ghost use Rattle.m11_scan.specs.Characters.{is_blank};
 ghost use Rattle.m11_scan.specs.Texts.{bracketed, delimited, is_bare, separator_length};
@@ -21,6 +21,7 @@ pub struct Enclosed {
 pub fn delimited(text: &[u8], delimiter: u8) -> Enclosed
     ensures text { result ≡ delimited delimiter text.now }
     ensures within { result.length ≤ length text.now }
+    ensures closed { result.is_closed ≡ true → result.length < length text.now }
 {
     let mut count = 0;
     let mut rest = text;
@@ -44,6 +45,7 @@ pub fn delimited(text: &[u8], delimiter: u8) -> Enclosed
 pub fn bracketed(text: &[u8]) -> Enclosed
     ensures text { result ≡ bracketed text.now }
     ensures within { result.length ≤ length text.now }
+    ensures closed { result.is_closed ≡ true → result.length < length text.now }
 {
     let mut depth: usize = 0;
     let mut count = 0;
@@ -92,7 +94,8 @@ fn is_bare(byte: u8) -> bool
     !(is_blank(byte) || byte == b',' || byte == b';')
 }
 
-fn blanks_length(text: &[u8]) -> usize
+/// How many blanks and tabs a text begins with.
+pub fn blanks_length(text: &[u8]) -> usize
     ensures length { result ≡ prefix_len is_blank text.now }
     ensures within { result ≤ length text.now }
 {

@@ -1,1 +1,2 @@
 mod NextLabels
+mod NextParts

@@ -1,3 +1,7 @@
+pub mod Actuals
 pub mod Bodies
+pub mod Formals
 pub mod Labels
+pub mod Listed
+pub mod Parts
 pub mod Statements

@@ -3,14 +3,22 @@
 //! program format".)
 #![tactic(auto)]
 
+mod actuals;
 mod bodies;
+mod formals;
 mod labels;
+mod listed;
+mod parts;
 mod reading;
 mod spans;
 mod statements;
 
+pub use actuals::{Actual, ActualKind, Separator, next_actual, separator_at};
 pub use bodies::{Assignment, Body, Operators};
+pub use formals::{Formal, NextFormal, next_formal};
 pub use labels::{Label, LabelKind};
+pub use listed::{ListedName, listed_name};
+pub use parts::{PART_LIMIT, Part, PartKind, Parts, next_part, parts_from};
 pub use reading::statement;
 pub use spans::Span;
 pub use statements::{LABEL_LIMIT, Statement};

@@ -1,6 +1,7 @@
 //! Places in a line.
 
-ghost use Rattle.std.specs.Prelude.{◌≡◌};
+ghost use Rattle.std.specs.Prelude.{◌≡◌, ◌+◌, ◌≤◌, drop, length};
+ghost use Rattle.m11_scan.specs.Lines.{line_limit};
 ghost use Rattle.m11_scan.specs.Cutting.{text_between};
 
 use m11_scan::Line;
@@ -28,4 +29,14 @@ impl Span {
             &[]
         }
     }
+}
+
+// The characters of a line from a place on.
+pub(crate) fn text_from(line: &Line, place: usize) -> &[u8]
+    requires { place ≤ length line.now.text }
+    ensures text { result.now ≡ drop place line.now.text }
+    ensures size { place + length result.now ≡ length line.now.text }
+    ensures limited { length line.now.text ≤ line_limit }
+{
+    &line.text()[place..]
 }

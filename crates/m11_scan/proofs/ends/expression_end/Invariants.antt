@@ -1,0 +1,15 @@
+use Rattle.std.proofs.Common.{◌≡◌, ◌≤◌, ◌-◌, length}
+use Rattle.m11_scan.specs.Cutting.{tokens_from}
+use Rattle.m11_scan.specs.Ends.{end_of, expression_end}
+use Rattle.m11_scan.proofs.ends.expression_end.Given as goal
+
+abbrev pub invariant-tokens : goal.invariant-tokens
+invariant-tokens l = record {
+  end : end_of l.within l.end (tokens_from l.line.text l.end) ≡ expression_end l.line.text l.place;
+  least : l.place ≤ l.end;
+  most : l.end ≤ length l.line.text;
+  deep : l.within.depth ≤ l.end;
+}
+
+abbrev pub decreases-tokens : goal.decreases-tokens
+decreases-tokens l = length l.line.text - l.end

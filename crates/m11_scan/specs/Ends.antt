@@ -1,0 +1,22 @@
+-- Where an expression of a line ends. (MACRO-11 Language Reference Manual, "Expressions".)
+use Rattle.std.specs.Prelude.{ℕ, List, [], ◌∷◌, map, take}
+use Rattle.m11_scan.specs.declared.expressions.Within.{Within}
+use Rattle.m11_scan.specs.declared.sort.Sort.{Sort}
+use Rattle.m11_scan.specs.Cutting.{Lexeme, tokens_from}
+use Rattle.m11_scan.specs.Expressions.{begin, taken}
+
+abbrev pub sort_in : Lexeme → Sort
+sort_in token = token.sort
+
+-- the place after the last of some tokens, or a place where there is none
+abbrev pub place_after : ℕ → List Lexeme → ℕ
+place_after place [] = place
+place_after place (token ∷ tokens) = place_after token.end tokens
+
+-- the place after the tokens that an expression takes
+abbrev pub end_of : Within → ℕ → List Lexeme → ℕ
+end_of within place tokens = place_after place (take (taken (map sort_in tokens) within) tokens)
+
+-- the place after the expression that begins at a place of a line
+abbrev pub expression_end : List ℕ → ℕ → ℕ
+expression_end line place = end_of begin place (tokens_from line place)
