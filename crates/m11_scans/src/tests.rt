@@ -3,6 +3,7 @@
 mod cuts;
 mod expressions;
 mod lines;
+mod statements;
 mod terms;
 mod texts;
 mod values;

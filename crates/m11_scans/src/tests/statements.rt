@@ -1,0 +1,467 @@
+//! What lines say: labels, assignments, operators and words. (MACRO-11 Language Reference Manual, "Source program format".)
+
+use super::same;
+use m11_base::Name;
+use m11_scan::Line;
+use m11_statements::{Body, Label, LabelKind, Operators, Statement, statement};
+use std::process::Abort;
+
+/// Operators that are known by the first three characters of their names: MOV, NOP, RET, and .AS, .EN, .EV, .RA, .TI, .WO.
+#[derive(Drop)]
+pub(crate) struct Known {
+    words: [u16; 9],
+}
+
+impl Known {
+    pub(crate) fn new() -> Known {
+        Known {
+            words: [
+                0o51656, 0o54750, 0o70534, 0o127473, 0o127726, 0o127736, 0o130721, 0o131051,
+                0o131247,
+            ],
+        }
+    }
+}
+
+impl Operators for Known {
+    ghost use Rattle.std.specs.List.{list_any};
+    ghost use Rattle.std.specs.Prelude.{◌==◌};
+
+    ghost known = { λ s name. list_any (λ word. word == name.0) s.words };
+
+    fn is_known(&self, name: Name) -> bool {
+        let (first, _) = name.words();
+        self.words.iter().any(|word| *word == first)
+    }
+}
+
+// What stands after the labels.
+#[derive(Clone, Copy, PartialEq, Eq, Debug)]
+enum Shape {
+    Nothing,
+    Assigns,
+    AssignsGlobally,
+    SetsCounter,
+    Operates,
+    Words,
+}
+
+use Shape::{Assigns, AssignsGlobally, Nothing, Operates, SetsCounter, Words};
+
+// A line, its labels with the places of their names, what stands after them with its places, the letters of its labels and those of
+// the rest.
+struct Row {
+    line: &'static str,
+    labels: &'static [(LabelKind, u8, u8)],
+    body: (Shape, u8, u8, u8),
+    letters: (&'static str, &'static str),
+}
+
+// Labels, and what has none.
+static LABELS: [Row; 16] = [
+    Row {
+        line: "A: MOV R1,(SP)+ ;x",
+        labels: &[(LabelKind::Ordinary, 0, 1)],
+        body: (Operates, 3, 6, 0),
+        letters: ("", ""),
+    },
+    Row {
+        line: "A: B:: 5$: 1$:: NOP",
+        labels: &[
+            (LabelKind::Ordinary, 0, 1),
+            (LabelKind::Global, 3, 4),
+            (LabelKind::Local(5), 7, 9),
+            (LabelKind::Local(1), 11, 13),
+        ],
+        body: (Operates, 16, 19, 0),
+        letters: ("", ""),
+    },
+    Row {
+        line: "A:B:",
+        labels: &[(LabelKind::Ordinary, 0, 1), (LabelKind::Ordinary, 2, 3)],
+        body: (Nothing, 0, 0, 0),
+        letters: ("", ""),
+    },
+    Row {
+        line: "A : NOP",
+        labels: &[],
+        body: (Words, 0, 0, 0),
+        letters: ("", ""),
+    },
+    Row {
+        line: ".: NOP",
+        labels: &[],
+        body: (Words, 0, 0, 0),
+        letters: ("", ""),
+    },
+    Row {
+        line: "$.: NOP",
+        labels: &[(LabelKind::Ordinary, 0, 2)],
+        body: (Operates, 4, 7, 0),
+        letters: ("", ""),
+    },
+    Row {
+        line: ".ENDM:",
+        labels: &[(LabelKind::Ordinary, 0, 5)],
+        body: (Nothing, 0, 0, 0),
+        letters: ("", ""),
+    },
+    Row {
+        line: "X: .ENDM",
+        labels: &[(LabelKind::Ordinary, 0, 1)],
+        body: (Operates, 3, 8, 0),
+        letters: ("", ""),
+    },
+    Row {
+        line: "L'A: .ENDM",
+        labels: &[],
+        body: (Words, 0, 0, 0),
+        letters: ("", ""),
+    },
+    Row {
+        line: "5A: NOP",
+        labels: &[],
+        body: (Words, 0, 0, 0),
+        letters: ("", ""),
+    },
+    Row {
+        line: "12.: NOP",
+        labels: &[],
+        body: (Words, 0, 0, 0),
+        letters: ("", ""),
+    },
+    Row {
+        line: "65535$: NOP",
+        labels: &[(LabelKind::Local(65535), 0, 6)],
+        body: (Operates, 8, 11, 0),
+        letters: ("", ""),
+    },
+    Row {
+        line: "007$: NOP",
+        labels: &[(LabelKind::Local(7), 0, 4)],
+        body: (Operates, 6, 9, 0),
+        letters: ("", ""),
+    },
+    Row {
+        line: "0$: NOP",
+        labels: &[(LabelKind::Outside, 0, 2)],
+        body: (Operates, 4, 7, 0),
+        letters: ("A", ""),
+    },
+    Row {
+        line: "70000$: A:",
+        labels: &[(LabelKind::Outside, 0, 6), (LabelKind::Ordinary, 8, 9)],
+        body: (Nothing, 0, 0, 0),
+        letters: ("A", ""),
+    },
+    Row {
+        line: "65536$: 131073$:",
+        labels: &[(LabelKind::Outside, 0, 6), (LabelKind::Outside, 8, 15)],
+        body: (Nothing, 0, 0, 0),
+        letters: ("A", ""),
+    },
+];
+
+// What stands after the labels.
+static BODIES: [Row; 21] = [
+    Row {
+        line: "",
+        labels: &[],
+        body: (Nothing, 0, 0, 0),
+        letters: ("", ""),
+    },
+    Row {
+        line: " \t;x",
+        labels: &[],
+        body: (Nothing, 0, 0, 0),
+        letters: ("", ""),
+    },
+    Row {
+        line: "X=",
+        labels: &[],
+        body: (Assigns, 0, 1, 2),
+        letters: ("", ""),
+    },
+    Row {
+        line: "A: X == 5",
+        labels: &[(LabelKind::Ordinary, 0, 1)],
+        body: (AssignsGlobally, 3, 4, 7),
+        letters: ("", ""),
+    },
+    Row {
+        line: "A=:5",
+        labels: &[],
+        body: (Assigns, 0, 1, 2),
+        letters: ("", ""),
+    },
+    Row {
+        line: ".ENDM=5",
+        labels: &[],
+        body: (Assigns, 0, 5, 6),
+        letters: ("", ""),
+    },
+    Row {
+        line: ".ASCII =x=",
+        labels: &[],
+        body: (Assigns, 0, 6, 8),
+        letters: ("", ""),
+    },
+    Row {
+        line: ".=.+4",
+        labels: &[],
+        body: (SetsCounter, 2, 0, 0),
+        letters: ("", ""),
+    },
+    Row {
+        line: ". = 5",
+        labels: &[],
+        body: (SetsCounter, 3, 0, 0),
+        letters: ("", ""),
+    },
+    Row {
+        line: ".==.+4",
+        labels: &[],
+        body: (Words, 0, 0, 0),
+        letters: ("", ""),
+    },
+    Row {
+        line: "=5",
+        labels: &[],
+        body: (Words, 0, 0, 0),
+        letters: ("", ""),
+    },
+    Row {
+        line: "5$=3",
+        labels: &[],
+        body: (Words, 0, 0, 0),
+        letters: ("", ""),
+    },
+    Row {
+        line: " ,5",
+        labels: &[],
+        body: (Words, 1, 0, 0),
+        letters: ("", ""),
+    },
+    Row {
+        line: ")",
+        labels: &[],
+        body: (Words, 0, 0, 0),
+        letters: ("", ""),
+    },
+    Row {
+        line: "#5",
+        labels: &[],
+        body: (Words, 0, 0, 0),
+        letters: ("", ""),
+    },
+    Row {
+        line: "A: 5,6",
+        labels: &[(LabelKind::Ordinary, 0, 1)],
+        body: (Words, 3, 0, 0),
+        letters: ("", ""),
+    },
+    Row {
+        line: "FOO 5",
+        labels: &[],
+        body: (Words, 0, 0, 0),
+        letters: ("", ""),
+    },
+    Row {
+        line: ".ASCII :xy:",
+        labels: &[],
+        body: (Operates, 0, 6, 0),
+        letters: ("", ""),
+    },
+    Row {
+        line: "RETURNS",
+        labels: &[],
+        body: (Operates, 0, 7, 0),
+        letters: ("", ""),
+    },
+    Row {
+        line: ".radixx 10",
+        labels: &[],
+        body: (Operates, 0, 7, 0),
+        letters: ("", ""),
+    },
+    Row {
+        line: "a: mov r1,r2",
+        labels: &[(LabelKind::Ordinary, 0, 1)],
+        body: (Operates, 3, 6, 0),
+        letters: ("", ""),
+    },
+];
+
+// Characters that begin no token, and those that stand where they count.
+static SKIPPED: [Row; 15] = [
+    Row {
+        line: "?",
+        labels: &[],
+        body: (Nothing, 0, 0, 0),
+        letters: ("", "I"),
+    },
+    Row {
+        line: "A: ?",
+        labels: &[(LabelKind::Ordinary, 0, 1)],
+        body: (Nothing, 0, 0, 0),
+        letters: ("", "I"),
+    },
+    Row {
+        line: "? A: NOP",
+        labels: &[(LabelKind::Ordinary, 2, 3)],
+        body: (Operates, 5, 8, 0),
+        letters: ("I", ""),
+    },
+    Row {
+        line: "A:? B: ? NOP",
+        labels: &[(LabelKind::Ordinary, 0, 1), (LabelKind::Ordinary, 4, 5)],
+        body: (Operates, 9, 12, 0),
+        letters: ("I", "I"),
+    },
+    Row {
+        line: "A?: NOP",
+        labels: &[],
+        body: (Words, 0, 0, 0),
+        letters: ("", "I"),
+    },
+    Row {
+        line: "NOP ?",
+        labels: &[],
+        body: (Operates, 0, 3, 0),
+        letters: ("", ""),
+    },
+    Row {
+        line: "? NOP ?",
+        labels: &[],
+        body: (Operates, 2, 5, 0),
+        letters: ("", "I"),
+    },
+    Row {
+        line: ".TITLE X ?",
+        labels: &[],
+        body: (Operates, 0, 6, 0),
+        letters: ("", ""),
+    },
+    Row {
+        line: ".ASCII /?/",
+        labels: &[],
+        body: (Operates, 0, 6, 0),
+        letters: ("", ""),
+    },
+    Row {
+        line: "X=?5",
+        labels: &[],
+        body: (Assigns, 0, 1, 2),
+        letters: ("", "I"),
+    },
+    Row {
+        line: "X ?= 5",
+        labels: &[],
+        body: (Assigns, 0, 1, 4),
+        letters: ("", "I"),
+    },
+    Row {
+        line: ".=5\\",
+        labels: &[],
+        body: (SetsCounter, 2, 0, 0),
+        letters: ("", "I"),
+    },
+    Row {
+        line: "5 ^F1",
+        labels: &[],
+        body: (Words, 0, 0, 0),
+        letters: ("", "I"),
+    },
+    Row {
+        line: "'? \"\\?",
+        labels: &[],
+        body: (Words, 0, 0, 0),
+        letters: ("", ""),
+    },
+    Row {
+        line: "5 ;?",
+        labels: &[],
+        body: (Words, 0, 0, 0),
+        letters: ("", ""),
+    },
+];
+
+fn shape_of(body: Body) -> (Shape, u8, u8, u8) {
+    match body {
+        Body::Nothing => (Nothing, 0, 0, 0),
+        Body::Assigns(assignment) => {
+            let shape = if assignment.is_global {
+                AssignsGlobally
+            } else {
+                Assigns
+            };
+            (
+                shape,
+                assignment.name.start,
+                assignment.name.end,
+                assignment.value,
+            )
+        }
+        Body::SetsCounter(value) => (SetsCounter, value, 0, 0),
+        Body::Operates(name) => (Operates, name.start, name.end, 0),
+        Body::Words(start) => (Words, start, 0, 0),
+    }
+}
+
+fn label_of(label: &Label) -> (LabelKind, u8, u8) {
+    (label.kind, label.name.start, label.name.end)
+}
+
+fn letters_of(statement: &Statement) -> [m11_scan::Letters; 2] {
+    [statement.label_letters, statement.body_letters]
+}
+
+fn check(rt: &impl Abort, rows: &[Row]) {
+    for row in rows {
+        let line = Line::from_bytes(row.line.as_bytes());
+        let found = statement(&line, &Known::new());
+        same(rt, &row.line, &found.labels.len(), &row.labels.len());
+        for (label, wanted) in found.labels.iter().zip(row.labels) {
+            same(rt, &row.line, &label_of(label), wanted);
+        }
+        same(rt, &row.line, &shape_of(found.body), &row.body);
+        let [labels, body] = letters_of(&found);
+        same(
+            rt,
+            &row.line,
+            &labels.text().as_slice(),
+            &row.letters.0.as_bytes(),
+        );
+        same(
+            rt,
+            &row.line,
+            &body.text().as_slice(),
+            &row.letters.1.as_bytes(),
+        );
+    }
+}
+
+#[test]
+fn labels_have_their_colon_directly_after_them(rt: HostRuntime) {
+    check(&rt, &LABELS);
+}
+
+#[test]
+fn what_is_no_assignment_and_no_operator_is_words(rt: HostRuntime) {
+    check(&rt, &BODIES);
+}
+
+#[test]
+fn skipped_characters_have_a_letter_as_far_as_the_line_is_cut(rt: HostRuntime) {
+    check(&rt, &SKIPPED);
+}
+
+#[test]
+fn a_line_over_132_characters_has_l(rt: HostRuntime) {
+    let blanks = [b' '; 133];
+    for (length, letters) in [(131, 0), (132, 0), (133, 1)] {
+        let line = Line::from_bytes(&blanks[..length]);
+        let found = statement(&line, &Known::new());
+        same(&rt, &length, &found.label_letters.text().len(), &letters);
+    }
+}
