@@ -2,7 +2,7 @@ mod NestedBrackets
 mod NextPieces
 mod OneMore
 mod OnlyCut
-mod OrderedTokens
+pub mod OrderedTokens
 mod Packed
 mod Spelling
 mod WrittenExpressions

@@ -5,7 +5,7 @@ use Rattle.std.proofs.lemmas.List.{drop-drop, length-drop, take-append-drop}
 use Rattle.m11_scan.specs.declared.sort.Form.{Form}
 use Rattle.m11_scan.specs.declared.sort.Form.TheVariants.{Cut, Blank, Comment, Skipped}
 use Rattle.m11_scan.specs.declared.pieces.Piece.{Piece}
-use Rattle.m11_scan.specs.Cutting.{Lexeme, lexemes_at, lexemes_from, pieces_of, text_between, tokens_of}
+use Rattle.m11_scan.specs.Cutting.{Lexeme, lexemes_at, lexemes_from, pieces_of, text_between, tokens_from, tokens_of}
 use Rattle.m11_scan.specs.Cuts.{AreOrdered, IsCut, joined_from}
 use Rattle.m11_scan.proofs.OnlyCut.{pieces_of-cut}
 
@@ -68,6 +68,9 @@ joined line place (piece ∷ pieces) le (next, cut) before early =
 
 pub tokens_of-ordered : (line : List ℕ) → AreOrdered (length line) 0 (tokens_of line)
 tokens_of-ordered line = ordered line 0 (pieces_of line) (omega arith) (pieces_of-cut line)
+
+pub tokens_from-ordered : (line : List ℕ) (place : ℕ) → place ≤ length line → AreOrdered (length line) place (tokens_from line place)
+tokens_from-ordered line place le = ordered line place (pieces_of (drop place line)) le (pieces_of-cut (drop place line))
 
 pub tokens_of-joined : (line : List ℕ) → joined_from line 0 (tokens_of line) ≡ line
 tokens_of-joined line = joined line 0 (pieces_of line) (omega arith) (pieces_of-cut line) 0 (omega arith)

@@ -1,2 +1,3 @@
+mod InOrder
 mod NextLabels
 mod NextParts
