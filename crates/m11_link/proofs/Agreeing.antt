@@ -14,9 +14,8 @@ use Rattle.m11_layout.specs.Plan.{IsPlanOf, Planned}
 use Rattle.m11_layout.specs.Sections.{attributes_by}
 use Rattle.m11_link_text.specs.Findings.{Agree, Findings, findings_of, planned}
 use Rattle.m11_link.specs.Front.{front_writes, global_writes, map_writes, name_write, name_writes, section_writes, undefined_by, undefined_names, undefined_write, undefined_writes}
-use Rattle.m11_link_text.specs.Relocation.{following, less, modulo, relocated, replaced, stored_bytes, value_bytes, value_of}
-use Rattle.m11_link.specs.Outputs.{Write}
-use Rattle.m11_link.specs.Written.{PlacedText, defined_names, different_writes, ended_writes, entry_writes, has_ended, link_writes, parts_writes, placed_text, relocations_after, text_writes, with_relocation, with_relocations, writes_at, writes_after, writes_by}
+use Rattle.m11_link_text.specs.Relocation.{modulo, relocated, replaced, stored_bytes, value_bytes, value_of}
+use Rattle.m11_link.specs.Written.{PlacedText, defined_names, different_writes, ended_writes, has_ended, link_writes, parts_writes, placed_text, relocations_after, text_writes, with_relocation, with_relocations, writes_at, writes_after, writes_by}
 
 -- a plan of all parts reports what the definitions give
 pub plan_agrees : (bottom : ℕ) (parts : List Part) (plan : Planned) → IsPlanOf bottom parts plan

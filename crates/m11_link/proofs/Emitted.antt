@@ -24,11 +24,11 @@ use Rattle.m11_layout.specs.declared.fault.LinkFault.TheVariants as fault
 use Rattle.m11_link.specs.Emit.{Emitting, Reporting, Goes, GoesOn, EmitStands, TakesBlock, TakesParts, begin_writes, begun_reporting, bytes_writes, entries_writes, held_text, held_with, held_with_all, held_writes, record_writes, relocated_parts, with_bytes, with_count, with_held, with_record, with_reporting, written}
 use Rattle.m11_link_text.specs.Findings.{planned}
 use Rattle.m11_link.specs.Front.{front_writes}
-use Rattle.m11_link.specs.Outputs.{Outputs, Write, Gains, Stops, StopsBetween, StopsIn, Writes}
+use Rattle.m11_link.specs.Outputs.{Outputs, Write, Gains, Stops, StopsBetween, StopsIn, Writes, link}
 use Rattle.m11_link.specs.Written.{PlacedText, block_at, counted, defined_names, parts_writes}
 use Rattle.m11_link.proofs.Counting.{counted-append}
 use Rattle.m11_link.proofs.Entering.{goes_stopped_alone}
-use Rattle.m11_link.proofs.Writing.{gains_nothing, gains_then, refused_before, stops_after, writes_then}
+use Rattle.m11_writes.proofs.Writing.{gains_nothing, gains_then, refused_between, stops_after, writes_then}
 use Rattle.m11_link.proofs.WritesAfter.{content_defined_is, content_held, content_held_is, content_reported, content_reported_is, file_defined, held_more, parts_more, reported_all}
 
 -- ---- what is held
@@ -312,7 +312,7 @@ module _ {seen : Emitting} (old : Emitting) (is : seen ≡ old) where
         reporting = if b then seen.reporting else with_count front seen.reporting;
         has_begun = true;
       } in x)) in
-      subst P is (subst Q (sym e) (gains_nothing a, ap (λ b. let x : Emitting = record seen { has_begun = b } in x) e))
+      subst P is (subst Q (sym e) (gains_nothing link a, ap (λ b. let x : Emitting = record seen { has_begun = b } in x) e))
 
   pub begin_stopped : (a b : Outputs) (stopped : LinkFault) (state expected : Emitting) (result : Result (Unit {0}) LinkFault)
       → seen.has_begun ≡ false → Stops a b (front_writes (planned seen.reporting.plan)) stopped
@@ -341,8 +341,8 @@ module _ {seen : Emitting} (old : Emitting) (is : seen ≡ old) where
 
 goes_in : {A S T : Type 0} (a b c : Outputs) (xs ys : List Write) (of : T → S) (t u : T) (result : Result A LinkFault)
     → Gains a b xs → Goes b c ys t u result → Goes a c (xs ++ ys) (of t) (of u) result
-goes_in a b c xs ys of t u (Ok x) g h = (gains_then a b c xs ys g h.0, ap of h.1)
-goes_in a b c xs ys of t u (Err stopped) g h = stops_after a b c xs ys stopped g h
+goes_in a b c xs ys of t u (Ok x) g h = (gains_then link a b c xs ys g h.0, ap of h.1)
+goes_in a b c xs ys of t u (Err stopped) g h = stops_after link a b c xs ys stopped g h
 
 -- what is written after it
 pub written_then : {seen : Emitting} (old mid : Emitting) (a b c : Outputs) (ws : Reporting → List Write)
@@ -570,5 +570,5 @@ pub transfer_then : {seen : Emitting} {A : Type 0} (old mid : Emitting) (a b c :
     → Writes b c (ws seen.reporting.plan) result → Writes a c (begin_writes old ++ ws (begun_reporting old).plan) result
 transfer_then {seen} old mid a b c ws result is h k =
     let P : Reporting → Type 0 = λ t. Writes b c (ws t.plan) result in
-    writes_then a b c (begin_writes old) (ws (begun_reporting old).plan) result h.0
+    writes_then link a b c (begin_writes old) (ws (begun_reporting old).plan) result h.0
     (subst P (reporting_after old mid is h.1) k)

@@ -1,6 +1,5 @@
 -- The end of the second pass.
-use Rattle.std.proofs.Common.{◌≡◌, ℕ, Bool, true, false, if◌then◌else◌, List, [], ◌∷◌, ◌++◌, append_assoc, append-nil, Option, Some, None, Result, Ok, Err, IsErrAnd, IfOk, refl, sym, subst, ap, ap₂, ◌∙◌}
-use Rattle.std.specs.Option.{option_or}
+use Rattle.std.proofs.Common.{◌≡◌, Bool, true, false, if◌then◌else◌, List, [], ◌∷◌, ◌++◌, append_assoc, append-nil, None, Result, Ok, Err, IsErrAnd, IfOk, refl, sym, subst, ap, ap₂, ◌∙◌}
 use Rattle.m11_blocks.specs.Tapes.{tape_block}
 use Rattle.m11_modules.specs.Laws.{TakesAfter}
 use Rattle.m11_modules.specs.Parts.{Part, EndOfFile}
@@ -15,14 +14,14 @@ use Rattle.m11_layout.specs.Plan.{Planned}
 use Rattle.m11_layout.specs.declared.fault.LinkFault.{LinkFault}
 use Rattle.m11_layout.specs.declared.fault.LinkFault.TheVariants as fault
 use Rattle.m11_link.specs.declared.emit.LinkDone.{LinkDone}
-use Rattle.m11_link.specs.Emit.{Emitting, Reporting, EmitEnds, GoesOn, EmitStands, begin_writes, begun_reporting, with_count, with_reporting, written}
+use Rattle.m11_link.specs.Emit.{Emitting, EmitEnds, GoesOn, EmitStands, begin_writes, begun_reporting, written}
 use Rattle.m11_link_text.specs.Findings.{planned}
 use Rattle.m11_link.specs.Front.{front_writes}
-use Rattle.m11_link.specs.Outputs.{Outputs, Write, Gains, StopsBetween, StopsIn, Writes, to_tape}
-use Rattle.m11_link.specs.Written.{counted, link_writes, parts_writes}
+use Rattle.m11_link.specs.Outputs.{Outputs, Write, Gains, StopsBetween, StopsIn, Writes, to_tape, link}
+use Rattle.m11_link.specs.Written.{counted, link_writes}
 use Rattle.m11_link.proofs.Counting.{counted-append}
 use Rattle.m11_link.proofs.Emitted.{begun_counts, begun_holds, here, none_written}
-use Rattle.m11_link.proofs.Writing.{refused_before}
+use Rattle.m11_writes.proofs.Writing.{refused_between}
 
 -- ---- the transfer block
 
@@ -105,7 +104,7 @@ module _ {seen : Emitting} (plan : Planned) (before : List Part) (s : Emitting) 
     inside : (a : Outputs) (new : Known) (broken : ModuleFault) → TakesAfter before new (EndOfFile ∷ []) (Err broken)
         → Ended a a seen (Err (of_module broken))
     inside a new rule.BadOrder h = ((end_fault before rule.BadOrder h).1, refl)
-    inside a new rule.NoMemory h = went_on (λ more. StopsBetween a a more) (refused_before a made)
+    inside a new rule.NoMemory h = went_on (λ more. StopsBetween a a more) (refused_between link a made)
     inside a new rule.NoText h = let e = (end_fault before rule.NoText h).0 in absurd cc
     inside a new rule.BadDisplacement h = let e = (end_fault before rule.BadDisplacement h).0 in absurd cc
     inside a new rule.UnknownSection h = let e = (end_fault before rule.UnknownSection h).0 in absurd cc

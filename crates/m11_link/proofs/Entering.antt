@@ -19,25 +19,25 @@ use Rattle.m11_link.specs.Emit.{Goes, EmitKeeps, Reporting, defined_by, defined_
 use Rattle.m11_link_text.specs.Findings.{planned}
 use Rattle.m11_link_text.specs.Lines.{different_line, multiple_line}
 use Rattle.m11_link.specs.Front.{front_writes}
-use Rattle.m11_link.specs.Outputs.{Outputs, Write, Gains, Stops, to_messages, to_tape}
+use Rattle.m11_link.specs.Outputs.{Outputs, Write, Gains, Stops, to_messages, to_tape, link}
 use Rattle.m11_link.specs.Written.{PlacedText, block_at, counted, different_writes, entry_writes, placed_text, symbol_writes, writes_by}
 use Rattle.m11_link.proofs.Counting.{counted-append}
-use Rattle.m11_link.proofs.Writing.{gains_nothing, gains_then, stops_before, stops_after, refused_before}
+use Rattle.m11_writes.proofs.Writing.{gains_nothing, gains_then, stops_before, stops_after, refused_between}
 
 -- ---- calls one after another
 
 module _ {A : Type 0} {S : Type 0} where
   pub goes_then : (a b c : Outputs) (xs ys : List Write) (state expected : S) (result : Result A LinkFault) → Gains a b xs
       → Goes b c ys state expected result → Goes a c (xs ++ ys) state expected result
-  goes_then a b c xs ys state expected (Ok x) g h = (gains_then a b c xs ys g h.0, h.1)
-  goes_then a b c xs ys state expected (Err stopped) g h = stops_after a b c xs ys stopped g h
+  goes_then a b c xs ys state expected (Ok x) g h = (gains_then link a b c xs ys g h.0, h.1)
+  goes_then a b c xs ys state expected (Err stopped) g h = stops_after link a b c xs ys stopped g h
 
   pub goes_stopped : (a b : Outputs) (xs ys : List Write) (state expected : S) (stopped : LinkFault)
       (result : Result A LinkFault) → Stops a b xs stopped → IsErrAnd result (λ f. f ≡ stopped)
       → Goes a b (xs ++ ys) state expected result
   goes_stopped a b xs ys state expected stopped (Ok x) h e = absurd e
   goes_stopped a b xs ys state expected stopped (Err f) h e =
-      let P : LinkFault → Type 0 = λ g. Stops a b (xs ++ ys) g in subst P (sym e) (stops_before a b xs ys stopped h)
+      let P : LinkFault → Type 0 = λ g. Stops a b (xs ++ ys) g in subst P (sym e) (stops_before link a b xs ys stopped h)
 
   pub goes_stopped_alone : (a b : Outputs) (xs : List Write) (state expected : S) (stopped : LinkFault)
       (result : Result A LinkFault) → Stops a b xs stopped → IsErrAnd result (λ f. f ≡ stopped)
@@ -49,7 +49,7 @@ module _ {A : Type 0} {S : Type 0} where
   pub goes_refused : (a : Outputs) (xs : List Write) (state expected : S) (result : Result A LinkFault)
       → IsErrAnd result (λ f. f ≡ fault.NoMemory) → Goes a a xs state expected result
   goes_refused a xs state expected result e =
-      goes_stopped_alone a a xs state expected fault.NoMemory result (refused_before a xs) e
+      goes_stopped_alone a a xs state expected fault.NoMemory result (refused_between link a xs) e
 
 pub ruleset entering = (gains_nothing, goes_then, goes_stopped, goes_stopped_alone, goes_refused)
 
@@ -99,7 +99,7 @@ module _ (index : ℕ) (start now : Outputs) (first state : Reporting) (entries 
       Goes {A = Unit {0}} now later (entries_writes (planned state.plan) index state.defined left) after
       (with_entries index left state) (Err stopped) in
       leads later after (Err stopped) (subst P (sym (drop_at entries at entry e))
-      (stops_before now later (entry_writes (planned state.plan) index state.defined entry)
+      (stops_before link now later (entry_writes (planned state.plan) index state.defined entry)
       (entries_writes (planned state.plan) index (defined_with state.defined entry) (drop (at + 1) entries)) stopped h))
 
   pub entries_went : (done : Unit {0}) → length entries ≤ at
@@ -109,7 +109,7 @@ module _ (index : ℕ) (start now : Outputs) (first state : Reporting) (entries 
       let P : List GsdEntry → Type 0 = λ left.
       Goes {A = Unit {0}} now now (entries_writes (planned state.plan) index state.defined left) state
       (with_entries index left state) (Ok done) in
-      leads now state (Ok done) (subst P (sym (drop_all at entries le)) (gains_nothing now, refl))
+      leads now state (Ok done) (subst P (sym (drop_all at entries le)) (gains_nothing link now, refl))
 
 -- ---- what one call sets
 
@@ -186,7 +186,7 @@ pub section_same : (a : Outputs) (t : Reporting) (index : ℕ) (section : (ℕ �
 section_same a t index section e =
     let P : Bool → Type 0 = λ x. Gains a a (cond x [] (section_reported t index section))
     × (t ≡ with_count (cond x [] (section_reported t index section)) t) in
-    subst P (sym e) (gains_nothing a, refl)
+    subst P (sym e) (gains_nothing link a, refl)
 
 pub section_differs : {A : Type 0} (a b : Outputs) (t s : Reporting) (index : ℕ) (section : (ℕ × ℕ) × ℕ) (result : Result A LinkFault)
     → section_test t section ≡ false
@@ -216,12 +216,12 @@ pub symbol_refers : (a : Outputs) (t : Reporting) (index : ℕ) (entry : GsdEntr
 symbol_refers a t index entry e =
     let m = is_among t.defined entry.name in
     let P : Bool → Type 0 = λ d. Gains a a (reported_by d m t index entry) × (t ≡ kept_by d m t index entry) in
-    subst P (sym e) (gains_nothing a, refl)
+    subst P (sym e) (gains_nothing link a, refl)
 
 kept_or_refused : (a : Outputs) (s expected : Reporting) (xs : List Write) (result : Result (Unit {0}) LinkFault)
     → EmitKeeps s expected result → xs ≡ [] → Goes a a xs s expected result
-kept_or_refused a s expected xs (Ok done) h e = (rw e (gains_nothing a), h)
-kept_or_refused a s expected xs (Err fault.NoMemory) h e = refused_before a xs
+kept_or_refused a s expected xs (Ok done) h e = (rw e (gains_nothing link a), h)
+kept_or_refused a s expected xs (Err fault.NoMemory) h e = refused_between link a xs
 kept_or_refused a s expected xs (Err fault.Read) h e = absurd h
 kept_or_refused a s expected xs (Err (fault.Write output)) h e = absurd h
 kept_or_refused a s expected xs (Err (fault.Block inner)) h e = absurd h
@@ -291,13 +291,13 @@ module _ (a : Outputs) (t : Reporting) (index : ℕ) (entry : GsdEntry) where
   } in n))
 
   pub entry_named : entry.kind ≡ kind.ModuleName → Silent entry.kind
-  entry_named e = subst Silent (sym e) (gains_nothing a, refl)
+  entry_named e = subst Silent (sym e) (gains_nothing link a, refl)
 
   pub entry_internal : entry.kind ≡ kind.InternalSymbol → Silent entry.kind
-  entry_internal e = subst Silent (sym e) (gains_nothing a, refl)
+  entry_internal e = subst Silent (sym e) (gains_nothing link a, refl)
 
   pub entry_transfer : entry.kind ≡ kind.TransferAddress → Silent entry.kind
-  entry_transfer e = subst Silent (sym e) (gains_nothing a, refl)
+  entry_transfer e = subst Silent (sym e) (gains_nothing link a, refl)
 
   pub entry_identified : entry.kind ≡ kind.Identification → Silent entry.kind
-  entry_identified e = subst Silent (sym e) (gains_nothing a, refl)
+  entry_identified e = subst Silent (sym e) (gains_nothing link a, refl)

@@ -9,10 +9,10 @@ use Rattle.m11_layout.specs.declared.planned.PlannedSection.{PlannedSection}
 use Rattle.m11_link_text.specs.Findings.{Findings}
 use Rattle.std.specs.List.{cons_option, filter_map}
 use Rattle.m11_link.specs.Front.{is_empty, written_if, undefined_by, undefined_names, section_write, section_writes, global_write, global_writes, name_write, name_writes, undefined_write, undefined_writes, weak_writes}
-use Rattle.m11_link.specs.Outputs.{Outputs, Write, Gains, Stops, Writes, to_map}
+use Rattle.m11_link.specs.Outputs.{Outputs, Write, Gains, Stops, Writes, to_map, link}
 use Rattle.m11_link.specs.Written.{counted}
 use Rattle.m11_link.proofs.Counting.{counted-append}
-use Rattle.m11_link.proofs.Writing.{gains_nothing, stops_before, writes_then}
+use Rattle.m11_writes.proofs.Writing.{gains_nothing, stops_before, writes_then}
 
 -- what is left to write leads to all writes
 abbrev pub Leads : Type 0 → Outputs → Outputs → List Write → List Write → Type 0
@@ -23,18 +23,18 @@ module _ {A : Type 0} (start now : Outputs) (all : List Write) where
       → Gains now later one → Leads A start later rest all
   wrote_one later one rest left e leads gains = λ new result h.
       let P : List Write → Type 0 = λ ws. Writes now new ws result in
-      leads new result (subst P (sym e) (writes_then now later new one rest result gains h))
+      leads new result (subst P (sym e) (writes_then link now later new one rest result gains h))
 
   pub stopped_there : (new : Outputs) (one rest left : List Write) (stopped : LinkFault) → left ≡ one ++ rest
       → Leads A start now left all → Stops now new one stopped → Stops start new all stopped
   stopped_there new one rest left stopped e leads h =
       let P : List Write → Type 0 = λ ws. Writes {A = A} now new ws (Err stopped) in
-      leads new (Err stopped) (subst P (sym e) (stops_before now new one rest stopped h))
+      leads new (Err stopped) (subst P (sym e) (stops_before link now new one rest stopped h))
 
   pub wrote_all : (left : List Write) (done : A) → left ≡ [] → Leads A start now left all → Gains start now all
   wrote_all left done e leads =
       let P : List Write → Type 0 = λ ws. Writes {A = A} now now ws (Ok done) in
-      leads now (Ok done) (subst P (sym e) (gains_nothing now))
+      leads now (Ok done) (subst P (sym e) (gains_nothing link now))
 
 -- ---- lists that are written
 

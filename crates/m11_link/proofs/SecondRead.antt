@@ -22,13 +22,13 @@ use Rattle.m11_link.specs.declared.emit.LinkDone.{LinkDone}
 use Rattle.m11_link_text.specs.Findings.{planned}
 use Rattle.m11_link.specs.Written.{link_writes}
 use Rattle.m11_link.specs.SecondPass.{Emits, ReadsSecond, Emitted, EmitsObject, IsOfItems, StopsAt, StopsBefore, StopsLink, StopsWithin, WrittenAfter, begun_by}
-use Rattle.m11_link.specs.Outputs.{Outputs, Write, Gains, StopsBetween, StopsIn}
+use Rattle.m11_link.specs.Outputs.{Outputs, Write, Gains, StopsBetween, StopsIn, link}
 use Rattle.m11_base.proofs.FeedsRead.{SoFar, begin, all_read, failed_here, given_more, none_failed, read_more}
 use Rattle.m11_link.proofs.FirstRead.{are_after, one_object}
 use Rattle.m11_link.proofs.Steady.{objects_come}
 use Rattle.m11_link.proofs.ItemsTaken.{fault_after, Answer, Decides, block_taken, decides_more, decides_then, end_decides, end_taken, ends_again, no_record_decides, one_taken, parts_decide, taken_after}
 use Rattle.m11_link.proofs.ObjectsRead.{StopsObject, Walked, walk_begins, walk_ends, walk_more, walk_stops, walk_whole}
-use Rattle.m11_link.proofs.Writing.{gains_nothing, gains_then, stops_after}
+use Rattle.m11_writes.proofs.Writing.{gains_nothing, gains_then, stops_after}
 use Rattle.m11_layout.proofs.Standing.{sound_after}
 
 -- ---- what is written
@@ -37,19 +37,19 @@ gains_on : (first now new : Outputs) (some all : List Write) → Gains first now
     → Gains first new all
 gains_on first now new some all g o =
     let P : List Write → Type 0 = λ these. Gains first new these in
-    subst P (sym o.split) (gains_then first now new some o.more g o.went)
+    subst P (sym o.split) (gains_then link first now new some o.more g o.went)
 
 stops_in_on : (output : LinkOutput) (first now new : Outputs) (some all : List Write) → Gains first now some
     → GoesOn (StopsIn output now new) some all → StopsIn output first new all
 stops_in_on output first now new some all g o =
     let P : List Write → Type 0 = λ these. StopsIn output first new these in
-    subst P (sym o.split) (stops_after first now new some o.more (fault.Write output) g o.went)
+    subst P (sym o.split) (stops_after link first now new some o.more (fault.Write output) g o.went)
 
 stops_between_on : (first now new : Outputs) (some all : List Write) → Gains first now some
     → GoesOn (StopsBetween now new) some all → StopsBetween first new all
 stops_between_on first now new some all g o =
     let P : List Write → Type 0 = λ these. StopsBetween first new these in
-    subst P (sym o.split) (stops_after first now new some o.more fault.NoMemory g o.went)
+    subst P (sym o.split) (stops_after link first now new some o.more fault.NoMemory g o.went)
 
 abbrev Begins : List Write → List Write → Type 0
 Begins some all = (rest : List Write) × (all ≡ some ++ rest)
@@ -528,7 +528,7 @@ module _ {F : Type 0} (text : F → Option FeedText) (faults : F → ℕ) where
 pub nothing_written : (plan : Planned) (old : Outputs) (has_begun : Bool) → has_begun ≡ false
     → Gains old old (written plan has_begun [])
 nothing_written plan old has_begun e =
-    let P : Bool → Type 0 = λ begun. Gains old old (written plan begun []) in subst P (sym e) (gains_nothing old)
+    let P : Bool → Type 0 = λ begun. Gains old old (written plan begun []) in subst P (sym e) (gains_nothing link old)
 
 module _ {F : Type 0} (text : F → Option FeedText) (faults : F → ℕ) (feeds feeds' : List F) (plan : Planned)
     (b : Bool) (fresh : b ≡ false) (old : Outputs) where

@@ -2,22 +2,21 @@
 -- each entry that says otherwise than an earlier one; the transfer block last. (RT-11 Volume and File Formats Manual,
 -- "Object file format", TXT and RLD blocks; "Absolute binary file format". The messages, and the order between
 -- outputs, are this project's own.)
-use Rattle.std.specs.Prelude.{ℕ, ◌+◌, ◌%◌, ◌==◌, ◌&&◌, not, min, Bool, true, false, List, [], ◌∷◌, ◌++◌, length, Option, Some, None, if◌then◌else◌}
+use Rattle.std.specs.Prelude.{ℕ, ◌+◌, ◌==◌, ◌&&◌, min, Bool, true, false, List, [], ◌∷◌, ◌++◌, Option, Some, None, if◌then◌else◌}
 use Rattle.std.specs.Map.{keys_of}
-use Rattle.indexmap.specs.IndexSet.{insert_key}
 use Rattle.m11_blocks.specs.Tapes.{tape_block}
 use Rattle.m11_obj.specs.declared.gsd.GsdEntry.{GsdEntry}
 use Rattle.m11_obj.specs.declared.gsd.GsdKind.{GsdKind}
-use Rattle.m11_obj.specs.declared.gsd.GsdKind.TheVariants.{ControlSection, GlobalSymbol, ProgramSection}
+use Rattle.m11_obj.specs.declared.gsd.GsdKind.TheVariants.{GlobalSymbol}
 use Rattle.m11_obj.specs.declared.relocations.Relocation.{Relocation}
-use Rattle.m11_modules.specs.Names.{is_among, is_name}
+use Rattle.m11_modules.specs.Names.{is_among}
 use Rattle.m11_modules.specs.Parts.{Part, Entry, Text, Relocations, Relocated}
 use Rattle.m11_modules.specs.Places.{current_section, distinct, modules_in, this_module}
 use Rattle.m11_modules.specs.Rules.{defines}
 use Rattle.m11_layout.specs.Globals.{definitions_of}
 use Rattle.m11_layout.specs.Sections.{attributes_by}
 use Rattle.m11_layout.specs.declared.fault.LinkOutput.{LinkOutput}
-use Rattle.m11_layout.specs.declared.fault.LinkOutput.TheVariants.{Tape, Map, Messages}
+use Rattle.m11_layout.specs.declared.fault.LinkOutput.TheVariants.{Messages}
 use Rattle.m11_link_text.specs.Findings.{Findings}
 use Rattle.m11_link_text.specs.Lines.{different_line, multiple_line}
 use Rattle.m11_link.specs.Front.{front_writes}

@@ -9,7 +9,8 @@ ghost use Rattle.m11_layout.specs.Plan.{Planned};
 ghost use Rattle.m11_layout.specs.declared.fault.LinkFault.{LinkFault};
 ghost use Rattle.m11_link.specs.Emit.{EmitEnds, FailsAgain, Goes, KeepsFault, EmitStands, TakesBlock, TakesParts, begin_writes, begun_reporting, bytes_writes, held_with, held_with_all, held_writes, relocated_parts, with_bytes, with_held, with_reporting};
 ghost use Rattle.m11_link_text.specs.Findings.{planned};
-ghost use Rattle.m11_link.specs.Outputs.{Output, Writes, optional_output, output_of, outputs, outputs_of, to_tape};
+ghost use Rattle.m11_writes.specs.Outputs.{Output, optional_output, output_of};
+ghost use Rattle.m11_link.specs.Outputs.{Writes, outputs, outputs_of, to_tape};
 
 use crate::held::ModuleSection;
 use crate::reporting::Reporter;

@@ -3,7 +3,8 @@
 ghost use Rattle.std.specs.Prelude.{◌≡◌, [], ◌∷◌, ◌++◌, true, false, not, codes, IfOk};
 ghost use Rattle.m11_link_text.specs.Findings.{planned};
 ghost use Rattle.m11_link.specs.Front.{front_writes, global_writes, is_empty, last_writes, map_writes, name_write, name_writes, section_writes, undefined_by, undefined_write, undefined_writes, weak_writes, written_if};
-ghost use Rattle.m11_link.specs.Outputs.{Output, Writes, optional_output, output_of, outputs, to_map};
+ghost use Rattle.m11_writes.specs.Outputs.{Output, optional_output, output_of};
+ghost use Rattle.m11_link.specs.Outputs.{Writes, outputs, to_map};
 ghost use Rattle.m11_link.specs.Written.{counted};
 
 use crate::outputs::{put_map, put_message};

@@ -2,7 +2,8 @@
 
 ghost use Rattle.std.specs.Prelude.{◌≡◌, ◌≤◌, [], ◌∷◌, length};
 ghost use Rattle.m11_link_text.specs.Findings.{planned};
-ghost use Rattle.m11_link.specs.Outputs.{Output, Writes, output_of, outputs};
+ghost use Rattle.m11_writes.specs.Outputs.{Output, output_of};
+ghost use Rattle.m11_link.specs.Outputs.{Writes, outputs};
 ghost use Rattle.m11_link.specs.Written.{placed_text, text_writes, with_relocation};
 
 use crate::outputs::put_tape;

@@ -9,7 +9,8 @@ ghost use Rattle.m11_layout.specs.Sections.{attributes_by};
 ghost use Rattle.m11_link.specs.Emit.{Goes, EmitKeeps, bytes_writes, entries_writes, held_with, held_writes, with_bytes, with_count, with_entries, with_entry, with_held, with_name, with_symbol};
 ghost use Rattle.m11_link_text.specs.Findings.{planned};
 ghost use Rattle.m11_link.specs.Front.{front_writes};
-ghost use Rattle.m11_link.specs.Outputs.{Output, Writes, optional_output, output_of, outputs, to_messages, to_tape};
+ghost use Rattle.m11_writes.specs.Outputs.{Output, optional_output, output_of};
+ghost use Rattle.m11_link.specs.Outputs.{Writes, outputs, to_messages, to_tape};
 ghost use Rattle.m11_link.specs.Written.{different_writes, entry_writes, placed_text, symbol_writes};
 
 use crate::front::put_front;

@@ -1,7 +1,6 @@
 -- Texts that no relocation changes are the blocks of the tape.
 use Rattle.std.proofs.Common.{◌≡◌, ℕ, ◌+◌, ◌-◌, Bool, true, false, ◌==◌, ◌&&◌, not, if◌then◌else◌, List, [], ◌∷◌, ◌++◌, map, take, drop, take-append-drop, length, flat_map, append-nil, Option, Some, None, refl, sym, ap, ap₂, ◌∙◌, arith}
 use Rattle.std.specs.List.{list_any}
-use Rattle.std.proofs.lemmas.Grind.{flat_map-append}
 use Rattle.m11_blocks.specs.Tapes.{tape_block}
 use Rattle.m11_obj.specs.declared.gsd.GsdEntry.{GsdEntry}
 use Rattle.m11_obj.specs.declared.gsd.GsdKind.{GsdKind}
@@ -25,25 +24,23 @@ use Rattle.m11_layout.proofs.Walking.{head_none, rest_none}
 use Rattle.m11_link_text.specs.Findings.{Findings}
 use Rattle.m11_link.specs.Front.{front_writes, global_write, global_writes, last_writes, map_writes, name_write, name_writes, section_write, section_writes, undefined_names, undefined_write, undefined_writes, weak_writes}
 use Rattle.m11_link_text.specs.Relocation.{modulo, relocated, replaced, stored_bytes}
-use Rattle.m11_link.specs.Outputs.{Write, gained, gained_by, to_tape}
+use Rattle.m11_writes.specs.Writes.{gained, gained_by}
+use Rattle.m11_writes.proofs.Writing.{gained-append}
+use Rattle.m11_link.specs.Outputs.{Write, link, to_tape}
 use Rattle.m11_link.specs.Written.{PlacedText, block_at, defined_names, different_writes, ended_writes, entry_writes, has_ended, link_writes, parts_writes, placed_text, relocations_after, text_writes, with_relocation, with_relocations, writes_at, writes_after, writes_by}
 use Rattle.m11_link_laws.specs.Texts.{block_of, data_block, only_selects, stores, text_in, texts_of}
 
 -- ---- what goes to the tape
 
-tape_more : (xs ys : List Write) → gained Tape (xs ++ ys) ≡ gained Tape xs ++ gained Tape ys
-unfolding gained
-tape_more xs ys = flat_map-append (λ write. gained_by Tape write.output write.bytes) xs ys
-
 -- writes of which none is to the tape
 abbrev Elsewhere : List Write → Type 0
-Elsewhere writes = gained Tape writes ≡ []
+Elsewhere writes = gained link Tape writes ≡ []
 
 both : (xs ys : List Write) → Elsewhere xs → Elsewhere ys → Elsewhere (xs ++ ys)
-both xs ys e f = tape_more xs ys ∙ ap₂ (λ bytes more. bytes ++ more) e f
+both xs ys e f = gained-append link Tape xs ys ∙ ap₂ (λ bytes more. bytes ++ more) e f
 
 module _ {X : Type 0} (write : X → Write) where
-  each_elsewhere : ((x : X) → gained_by Tape (write x).output (write x).bytes ≡ []) → (xs : List X)
+  each_elsewhere : ((x : X) → gained_by link Tape (write x) ≡ []) → (xs : List X)
       → Elsewhere (map write xs)
   unfolding gained
   each_elsewhere h [] = refl
@@ -75,7 +72,7 @@ last_elsewhere : (found : Findings) → Elsewhere (last_writes found)
 unfolding gained
 last_elsewhere found = refl
 
-headed : (write : Write) (writes : List Write) → gained_by Tape write.output write.bytes ≡ [] → Elsewhere writes
+headed : (write : Write) (writes : List Write) → gained_by link Tape write ≡ [] → Elsewhere writes
     → Elsewhere (write ∷ writes)
 unfolding gained
 headed write writes e f = ap₂ (λ bytes more. bytes ++ more) e f
@@ -95,13 +92,13 @@ front_elsewhere found = both _ _ (undefined_elsewhere found) (map_elsewhere foun
 
 -- ---- entries report messages only
 
-unless : (b : Bool) (write : Write) → gained_by Tape write.output write.bytes ≡ []
+unless : (b : Bool) (write : Write) → gained_by link Tape write ≡ []
     → Elsewhere (if b then [] else write ∷ [])
 unfolding gained
 unless true write e = refl
 unless false write e = headed write [] e refl
 
-only_if : (b : Bool) (write : Write) → gained_by Tape write.output write.bytes ≡ []
+only_if : (b : Bool) (write : Write) → gained_by link Tape write ≡ []
     → Elsewhere (if b then write ∷ [] else [])
 unfolding gained
 only_if true write e = headed write [] e refl
@@ -220,22 +217,22 @@ one_more before part parts =
 
 -- ---- the tape
 
-block_gained : (address : ℕ) (bytes : List ℕ) → gained Tape (block_at address bytes) ≡ data_block address bytes
+block_gained : (address : ℕ) (bytes : List ℕ) → gained link Tape (block_at address bytes) ≡ data_block address bytes
 unfolding gained
 block_gained address [] = refl
 block_gained address (byte ∷ bytes) = append-nil (tape_block address (byte ∷ bytes))
 
 text_gained : (found : Findings) (text : PlacedText) (parts : List Part) → list_any stores parts ≡ false
     → has_ended parts ≡ true
-    → gained Tape (ended_writes found text parts) ≡ data_block text.address text.bytes
+    → gained link Tape (ended_writes found text parts) ≡ data_block text.address text.bytes
 text_gained found text parts n e =
-    ap (λ b. gained Tape (if b then text_writes (with_relocations found text (relocations_after parts)) else [])) e
-    ∙ ap (λ t. gained Tape (text_writes t)) (unchanged found text parts n)
+    ap (λ b. gained link Tape (if b then text_writes (with_relocations found text (relocations_after parts)) else [])) e
+    ∙ ap (λ t. gained link Tape (text_writes t)) (unchanged found text parts n)
     ∙ block_gained text.address text.bytes
 
 -- a part that goes elsewhere, before parts of which the tape is known
-skipped : (xs ys : List Write) (bytes : List ℕ) → Elsewhere xs → gained Tape ys ≡ bytes → gained Tape (xs ++ ys) ≡ bytes
-skipped xs ys bytes e f = tape_more xs ys ∙ ap₂ (λ some more. some ++ more) e f
+skipped : (xs ys : List Write) (bytes : List ℕ) → Elsewhere xs → gained link Tape ys ≡ bytes → gained link Tape (xs ++ ys) ≡ bytes
+skipped xs ys bytes e f = gained-append link Tape xs ys ∙ ap₂ (λ some more. some ++ more) e f
 
 -- a text stands in the body of a module
 text_in_body : (before : List Part) (address : ℕ) (bytes : List ℕ) → fault_of before (Text address bytes) ≡ None
@@ -249,7 +246,7 @@ closed parts e = at_end (stage_after parts) _ e
 
 following : (found : Findings) (before parts : List Part) → first_fault before parts ≡ None
     → stage_from (stage_after before) parts ≡ Between → list_any stores parts ≡ false
-    → gained Tape (writes_after found before parts) ≡ flat_map block_of (reported_after (text_in found) before parts)
+    → gained link Tape (writes_after found before parts) ≡ flat_map block_of (reported_after (text_in found) before parts)
 unfolding writes_at first_fault gained
 following found before [] h s n = refl
 following found before (Text address bytes ∷ parts) h s n =
@@ -259,7 +256,7 @@ following found before (Text address bytes ∷ parts) h s n =
     let text = placed_text found (modules_in before) (current_section (this_module before)) address bytes in
     let e = ended parts
     (ap (λ stage. stage_from stage parts) (sym (text_in_body before address bytes head)) ∙ s) in
-    tape_more (ended_writes found text parts) (writes_after found all parts)
+    gained-append link Tape (ended_writes found text parts) (writes_after found all parts)
     ∙ ap₂ (λ some more. some ++ more) (text_gained found text parts n e)
     (following found all parts rest (one_more before (Text address bytes) parts ∙ s) n)
 following found before (Entry entry ∷ parts) h s n =
@@ -278,17 +275,17 @@ following found before (part ∷ parts) h s n =
     let rest = rest_none (fault_of before part) (first_fault all parts) h in
     following found all parts rest (one_more before part parts ∙ s) n
 
-last_gained : (bytes : List ℕ) → gained Tape (to_tape bytes ∷ []) ≡ bytes
+last_gained : (bytes : List ℕ) → gained link Tape (to_tape bytes ∷ []) ≡ bytes
 unfolding gained
 last_gained bytes = append-nil bytes
 
 pub tape_of_texts : (found : Findings) (parts : List Part) → first_fault [] parts ≡ None
     → fault_of parts EndOfFile ≡ None → list_any stores parts ≡ false
-    → gained Tape (link_writes found parts) ≡ flat_map block_of (texts_of found parts) ++ tape_block found.transfer []
+    → gained link Tape (link_writes found parts) ≡ flat_map block_of (texts_of found parts) ++ tape_block found.transfer []
 unfolding texts_of parts_writes stage_after
 tape_of_texts found parts h e n =
     let last = to_tape (tape_block found.transfer []) ∷ [] in
-    tape_more (front_writes found ++ parts_writes found parts) last
+    gained-append link Tape (front_writes found ++ parts_writes found parts) last
     ∙ ap₂ (λ some more. some ++ more)
     (skipped (front_writes found) (parts_writes found parts) _ (front_elsewhere found)
     (following found [] parts h (closed parts e) n))

@@ -7,7 +7,8 @@ ghost use Rattle.m11_modules.specs.Parts.{Part, EndOfFile};
 ghost use Rattle.m11_modules.specs.Rules.{fault_of, first_fault};
 ghost use Rattle.m11_layout.specs.declared.fault.LinkOutput.TheVariants.{Tape};
 ghost use Rattle.m11_link_text.specs.Findings.{Findings};
-ghost use Rattle.m11_link.specs.Outputs.{gained};
+ghost use Rattle.m11_writes.specs.Writes.{gained};
+ghost use Rattle.m11_link.specs.Outputs.{link};
 ghost use Rattle.m11_link.specs.Written.{link_writes};
 ghost use Rattle.m11_link_laws.specs.Texts.{block_of, stores, texts_of};
 
@@ -18,6 +19,6 @@ ghost use Rattle.m11_link_laws.specs.Texts.{block_of, stores, texts_of};
 pub fn unrelocated_texts_are_the_tape()
     ensures { (found : Findings) (parts : List Part) → first_fault [] parts ≡ None → fault_of parts EndOfFile ≡ None
         → list_any stores parts ≡ false
-        → gained Tape (link_writes found parts)
+        → gained link Tape (link_writes found parts)
         ≡ flat_map block_of (texts_of found parts) ++ tape_block found.transfer [] }
 {}

@@ -1,12 +1,12 @@
 use Rattle.std.proofs.Common.{[], ◌∷◌, codes}
-use Rattle.m11_link.specs.Outputs.{to_map}
-use Rattle.m11_link.proofs.Writing.{stopped_first, writes_then}
+use Rattle.m11_link.specs.Outputs.{to_map, link}
+use Rattle.m11_writes.proofs.Writing.{stopped_first, writes_then}
 use Rattle.m11_link.proofs.front.put_globals.Goals as goal
 
 pub returns-in_err-put_map : goal.returns-in_err-put_map
-returns-in_err-put_map g c = λ tape messages. stopped_first _ _ (to_map (codes "GLOBALS\n") ∷ []) _ _ _
+returns-in_err-put_map g c = λ tape messages. stopped_first link _ _ (to_map (codes "GLOBALS\n") ∷ []) _ _ _
     (c.in_err-put_map.ensures tape messages) c.from_residual.ensures.1
 
 pub returns : goal.returns
-returns g c = λ tape messages. writes_then _ _ _ (to_map (codes "GLOBALS\n") ∷ []) _ _
+returns g c = λ tape messages. writes_then link _ _ _ (to_map (codes "GLOBALS\n") ∷ []) _ _
     (c.in_ok-put_map.ensures tape messages) (c.put_each_global.ensures tape messages)

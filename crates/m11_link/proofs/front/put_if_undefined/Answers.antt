@@ -1,5 +1,8 @@
-use Rattle.std.proofs.Common.{sym}
-use Rattle.m11_link.proofs.Writing.{gains_nothing}
+use Rattle.std.proofs.Common.{ℕ, Option, subst, sym}
+use Rattle.m11_writes.specs.Outputs.{output_of}
+use Rattle.m11_link.specs.Front.{undefined_write, written_if}
+use Rattle.m11_link.specs.Outputs.{Stops, link, outputs}
+use Rattle.m11_writes.proofs.Writing.{gains_nothing}
 use Rattle.m11_link.proofs.front.put_if_undefined.Goals as goal
 
 pub returns-in-Ok-clause-writes : goal.returns-in-Ok-clause-writes
@@ -7,8 +10,10 @@ returns-in-Ok-clause-writes g c = λ tape map. rw (sym c.in-Some.ensures)
     (rw (c.as_slice.ensures.value, c.undefined_line.ensures) at (c.in-Ok.ensures tape map))
 
 pub returns-in-Err-clause-writes : goal.returns-in-Err-clause-writes
-returns-in-Err-clause-writes g c = λ tape map. rw (sym c.in-Some.ensures)
-    (rw (c.as_slice.ensures.value, c.undefined_line.ensures) at (c.in-Err.ensures tape map))
+returns-in-Err-clause-writes g c = λ tape map.
+    let P : Option (ℕ × ℕ) → Type 0 = λ name. Stops (outputs tape map (output_of g.U.Sink c.args.messages.now))
+    (outputs tape map (output_of g.U.Sink c.put_message.new.messages)) (written_if undefined_write name) c.in-Err.fault in
+    subst P c.in-Some.ensures (rw (c.as_slice.ensures.value, c.undefined_line.ensures) at (c.in-Err.ensures tape map))
 
 pub returns-in-None-clause-writes : goal.returns-in-None-clause-writes
-returns-in-None-clause-writes g c = λ tape map. rw (sym c.in-None.ensures) (gains_nothing _)
+returns-in-None-clause-writes g c = λ tape map. rw (sym c.in-None.ensures) (gains_nothing link _)

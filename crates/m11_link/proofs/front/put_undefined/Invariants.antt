@@ -1,7 +1,8 @@
 use Rattle.std.proofs.Common.{◌≡◌, ℕ, drop}
 use Rattle.m11_link_text.specs.Findings.{planned}
 use Rattle.m11_link.specs.Front.{undefined_writes}
-use Rattle.m11_link.specs.Outputs.{Output, output_of, outputs}
+use Rattle.m11_writes.specs.Outputs.{Output, output_of}
+use Rattle.m11_link.specs.Outputs.{outputs}
 use Rattle.m11_link.specs.Written.{counted}
 use Rattle.m11_link.proofs.Looping.{Leads}
 use Rattle.m11_link.proofs.front.put_undefined.Given as goal

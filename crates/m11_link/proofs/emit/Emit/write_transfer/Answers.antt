@@ -1,20 +1,21 @@
 use Rattle.std.proofs.Common.{◌∙◌, ap, [], ◌∷◌, Ok}
 use Rattle.m11_blocks.specs.Tapes.{tape_block}
 use Rattle.m11_link_text.specs.Findings.{planned}
-use Rattle.m11_link.specs.Outputs.{no_output, to_tape}
+use Rattle.m11_writes.specs.Outputs.{no_output}
+use Rattle.m11_link.specs.Outputs.{to_tape, link}
 use Rattle.m11_link.specs.declared.emit.LinkDone.{LinkDone}
 use Rattle.m11_link.proofs.Emitted.{reporting_after, transfer_then}
-use Rattle.m11_link.proofs.Writing.{stopped_first, stopped_alone}
+use Rattle.m11_writes.proofs.Writing.{stopped_first, stopped_alone}
 use Rattle.m11_link.proofs.emit.Emit.write_transfer.Goals as goal
 
 pub returns-in_err-begin-clause-writes : goal.returns-in_err-begin-clause-writes
 returns-in_err-begin-clause-writes g c =
-    stopped_first _ _ _ _ _ _ (c.in_err-begin.ensures _) c.from_residual.ensures.1
+    stopped_first link _ _ _ _ _ _ (c.in_err-begin.ensures _) c.from_residual.ensures.1
 
 pub returns-in_err-put_transfer-clause-writes : goal.returns-in_err-put_transfer-clause-writes
 returns-in_err-put_transfer-clause-writes g c = transfer_then c.args.self.now c.begin.new.self _ _ _
     (λ p. to_tape (tape_block (planned p).transfer []) ∷ []) _ c.self.view_is (c.in_ok-begin.ensures _)
-    (stopped_alone _ _ _ _ _ (c.in_err-put_transfer.ensures _ _) c.from_residual-in_err-put_transfer.ensures.1)
+    (stopped_alone link _ _ _ _ _ (c.in_err-put_transfer.ensures _ _) c.from_residual-in_err-put_transfer.ensures.1)
 
 pub returns-clause-writes : goal.returns-clause-writes
 returns-clause-writes g c =

@@ -1,7 +1,8 @@
 use Rattle.std.proofs.Common.{refl}
 use Rattle.m11_obj.specs.Reading.{record_text}
 use Rattle.m11_link.proofs.Entering.{goes_stopped_alone, text_then}
-use Rattle.m11_link.proofs.Writing.{gains_nothing}
+use Rattle.m11_link.specs.Outputs.{link}
+use Rattle.m11_writes.proofs.Writing.{gains_nothing}
 use Rattle.m11_link.proofs.reporting.Reporter.note.Goals as goal
 
 pub returns-in_err-end_text-in-Text : goal.returns-in_err-end_text-in-Text
@@ -21,7 +22,7 @@ returns-in_ok-end_text-in-Text g c = λ map. rw c.in-Text.ensures.kind
     c.text_address.ensures c.text_bytes.ensures.bytes (c.in_ok-end_text-in-Text.ensures map _) c.hold.ensures)
 
 pub returns-in-InternalSymbols : goal.returns-in-InternalSymbols
-returns-in-InternalSymbols g c = λ map. rw c.in-InternalSymbols.ensures.kind (gains_nothing _, refl)
+returns-in-InternalSymbols g c = λ map. rw c.in-InternalSymbols.ensures.kind (gains_nothing link _, refl)
 
 pub returns-in-EndOfModule : goal.returns-in-EndOfModule
 returns-in-EndOfModule g c = λ map. rw c.in-EndOfModule.ensures.kind (c.end_text-in-EndOfModule.ensures map _)

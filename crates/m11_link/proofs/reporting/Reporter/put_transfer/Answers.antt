@@ -1,9 +1,11 @@
-use Rattle.std.proofs.Common.{sym}
-use Rattle.m11_link.proofs.Writing.{refused_first}
+use Rattle.std.proofs.Common.{sym, refl}
+use Rattle.m11_layout.specs.declared.fault.LinkFault.TheVariants.{NoMemory}
+use Rattle.m11_link.specs.Outputs.{link}
+use Rattle.m11_writes.proofs.Writing.{refused_first}
 use Rattle.m11_link.proofs.reporting.Reporter.put_transfer.Goals as goal
 
 pub returns-in_err-block : goal.returns-in_err-block
-returns-in_err-block g c = λ map messages. refused_first _ _ _ c.from_residual.ensures.1
+returns-in_err-block g c = λ map messages. refused_first link _ _ NoMemory _ refl c.from_residual.ensures.1
 
 pub returns : goal.returns
 returns g c = λ map messages. rw (sym c.self.view_is)

@@ -1,0 +1,8 @@
+//! Writes to several outputs in one order: what each output gains by them, and what is left where they end early.
+#![tactic(auto)]
+
+mod laws;
+mod outputs;
+
+pub use laws::early_ends_leave_beginnings;
+pub use outputs::put_or_fail;

@@ -1,0 +1,16 @@
+//! Writes to one output, each whole or with its fault.
+
+ghost use Rattle.m11_writes.specs.Outputs.{Puts, output_of};
+
+use m11_base::{Sink, put_all};
+
+/// Puts all of `bytes`, in as many calls as it takes. Where the sink fails, a beginning of them was added, and `fault`,
+/// which names the output, is returned. It takes no memory.
+pub fn put_or_fail<S: Sink, E: Copy>(sink: &mut S, bytes: &[u8], fault: E) -> Result<(), E>
+    ensures { Puts (output_of S.Sink sink.old) (output_of S.Sink sink.new) bytes.now fault result }
+{
+    match put_all(sink, bytes) {
+        Ok(()) => Ok(()),
+        Err(_) => Err(fault),
+    }
+}
