@@ -1,23 +1,20 @@
 -- Texts cut from pieces, one piece after another.
-use Rattle.std.proofs.Common.{◌≡◌, ℕ, ◌+◌, ◌<◌, ◌≤◌, ◌%◌, Bool, true, false, cond, List, [], ◌∷◌, ◌++◌, map, length, drop, get_or, Option, Some, None, Result, Ok, Err, refl, sym, ap, ◌∙◌, append_assoc, add-one, arith}
+use Rattle.std.proofs.Common.{◌≡◌, ℕ, ◌+◌, ◌<◌, ◌≤◌, ◌%◌, Bool, true, false, cond, List, [], ◌∷◌, ◌++◌, length, drop, get_or, Result, Ok, Err, IsErrAnd, refl, sym, subst, ap, ◌∙◌, append_assoc, add-one, arith}
 use Rattle.std.specs.Prelude.{◌&&◌}
-use Rattle.std.specs.Io.KnownBytes.{Appends}
-use Rattle.std.proofs.lemmas.Grind.{flat_map-append}
-use Rattle.m11_base.proofs.Known.{Appends-Appends}
 use Rattle.m11_blocks.specs.Frames.{word_bytes}
 use Rattle.m11_obj.specs.Records.{Content}
 use Rattle.m11_asm.specs.Placement.{Piece, pieces_at}
-use Rattle.m11_asm.specs.Object.{head, Placed, place_content, texts_of, text_contents, text_content, content_block, without_last, without_last_after, last_alone, last_after, has_none}
+use Rattle.m11_asm.specs.Object.{head, Placed, place_content, texts_of, text_contents, text_content, content_writes, content_write, without_last, without_last_after, last_alone, last_after, has_none}
 use Rattle.m11_asm.specs.OpenText.{alone, with_piece, takes_in, texts_from, AddsWord, PutsTexts, PutsFront}
 use Rattle.m11_asm.specs.declared.object.LastText.{LastText}
+use Rattle.m11_asm.specs.declared.object.LastText.TheVariants as last
 use Rattle.std.proofs.Math.Seq.{drop-cons}
-use Rattle.std.proofs.lemmas.List.{length-drop, append-nil, map-append}
+use Rattle.std.proofs.lemmas.List.{length-drop, map-append}
 use Rattle.m11_asm.specs.declared.fault.AsmFault.{AsmFault}
-use Rattle.m11_asm.specs.declared.fault.AsmOutput.TheVariants.{Object}
-use Rattle.m11_asm.specs.Writes.{StopsPutting}
-use Rattle.m11_asm.specs.Writes as writes
+use Rattle.m11_asm.specs.Outputs.{Outputs, Gains, Stops, Write, assembly}
+use Rattle.m11_writes.proofs.Writing.{gains_nothing, gains_then, stops_before, stops_after}
 use Rattle.m11_asm.proofs.LongestFronts.{texts_are_longest}
-use Rattle.m11_asm.proofs.Putting.{stops_before, stops_after}
+use Rattle.m11_asm.proofs.Writing.{gained_as, stopped_as}
 use Rattle.std.proofs.Math.Bool.{and-false}
 
 -- a new text of a piece
@@ -25,6 +22,21 @@ pub alone_is : (place : ℕ) (bytes : List ℕ) (piece : Piece) → place ≡ pi
     → record { place = place; bytes = bytes } ≡ alone piece
 alone_is place bytes piece e f = ap (λ (p : ℕ). record { place = p; bytes = bytes }) e
     ∙ ap (λ (b : List ℕ). record { place = piece.place; bytes = b }) f
+
+-- a text with one more piece
+pub with_is : (place : ℕ) (bytes : List ℕ) (text : Placed) (piece : Piece) → place ≡ text.place
+    → bytes ≡ text.bytes ++ word_bytes piece.word
+    → record { place = place; bytes = bytes } ≡ with_piece text piece
+with_is place bytes text piece e f = ap (λ (p : ℕ). record { place = p; bytes = bytes }) e
+    ∙ ap (λ (b : List ℕ). record { place = text.place; bytes = b }) f
+
+pub goes_in : (text next : Placed) (piece : Piece) → takes_in text piece ≡ true → next ≡ with_piece text piece
+    → (pieces : List Piece) → texts_from text (piece ∷ pieces) ≡ texts_from next pieces
+goes_in text next piece e f pieces = rw e (ap (λ (t : Placed). texts_from t pieces) (sym f))
+
+pub still_first : (b : Bool) → b ≡ (b && has_none [])
+still_first true = refl
+still_first false = refl
 
 pub opens_new : (text next : Placed) (piece : Piece) → takes_in text piece ≡ false → next ≡ alone piece
     → (pieces : List Piece)
@@ -90,41 +102,32 @@ some_text text (piece ∷ pieces) =
     (text, texts_from (alone piece) pieces, refl)
 
 -- ---- as far as a loop over the words has come
-pub record TextsSoFar (initial now : Option (List ℕ)) (faults faults' : ℕ) (words left : List ℕ) (place : ℕ)
-    (text : Placed) (is_first : Bool) : Type 0 where
+pub record TextsSoFar (initial now : Outputs) (words left : List ℕ) (place : ℕ) (text : Placed) (is_first : Bool)
+    : Type 0 where
   pub closed : List Placed
   pub whole : texts_of (pieces_at 0 words) ≡ closed ++ texts_from text (pieces_at place left)
   pub first : is_first ≡ has_none closed
-  pub same : faults' ≡ faults
-  pub put : Appends initial now (writes.joined (map content_block (text_contents true closed)))
+  pub put : Gains initial now (content_writes (text_contents true closed))
 
-joined-contents : (xs ys : List Content)
-    → writes.joined (map content_block (xs ++ ys))
-    ≡ writes.joined (map content_block xs) ++ writes.joined (map content_block ys)
-joined-contents xs ys = ap writes.joined (map-append content_block xs ys)
-    ∙ flat_map-append (λ (piece : List ℕ). piece) (map content_block xs) (map content_block ys)
+pub writes_append : (xs ys : List Content) → content_writes (xs ++ ys) ≡ content_writes xs ++ content_writes ys
+writes_append xs ys = map-append content_write xs ys
 
-module _ (initial now : Option (List ℕ)) (faults faults' : ℕ) (words left : List ℕ) (place word : ℕ) (text : Placed)
-    (is_first : Bool)
-    (s : TextsSoFar initial now faults faults' words (word ∷ left) place text is_first) where
-  pub one_more : (next : Option (List ℕ)) (faults'' : ℕ) (text' : Placed) (is_first' : Bool) (place' : ℕ)
-      → place' ≡ (place + 2) % 65536
-      → AddsWord now next faults' faults'' text text' is_first (record { place = place; word = word }) (Ok is_first')
-      → TextsSoFar initial next faults faults'' words left place' text' is_first'
-  one_more next faults'' text' is_first' place' e h = record {
-    closed = s.closed ++ h.1;
-    whole = s.whole ∙ ap (λ (t : List Placed). s.closed ++ t) (h.3 (pieces_at ((place + 2) % 65536) left))
-        ∙ sym (append_assoc s.closed h.1 (texts_from text' (pieces_at ((place + 2) % 65536) left)))
-        ∙ ap (λ p. (s.closed ++ h.1) ++ texts_from text' (pieces_at p left)) (sym e);
-    first = h.4 ∙ ap (λ b. b && has_none h.1) s.first ∙ sym (has_none-append s.closed h.1);
-    same = h.0 ∙ s.same;
-    put = rw (
-      first_contents s.closed h.1,
-      joined-contents (text_contents true s.closed) (text_contents (has_none s.closed) h.1),
-    )
-        (Appends-Appends initial now next (writes.joined (map content_block (text_contents true s.closed)))
-        (writes.joined (map content_block (text_contents (has_none s.closed) h.1)))
-        s.put (rw s.first at h.2));
+module _ (initial now : Outputs) (words left : List ℕ) (place word : ℕ) (text : Placed) (is_first : Bool)
+    (s : TextsSoFar initial now words (word ∷ left) place text is_first) where
+  pub one_more : (next : Outputs) (text' : Placed) (is_first' : Bool) (place' : ℕ) → place' ≡ (place + 2) % 65536
+      → AddsWord now next text text' is_first (record { place = place; word = word }) (Ok is_first')
+      → TextsSoFar initial next words left place' text' is_first'
+  one_more next text' is_first' place' e h = record {
+    closed = s.closed ++ h.0;
+    whole = s.whole ∙ ap (λ (t : List Placed). s.closed ++ t) (h.2 (pieces_at ((place + 2) % 65536) left))
+        ∙ sym (append_assoc s.closed h.0 (texts_from text' (pieces_at ((place + 2) % 65536) left)))
+        ∙ ap (λ p. (s.closed ++ h.0) ++ texts_from text' (pieces_at p left)) (sym e);
+    first = h.3 ∙ ap (λ b. b && has_none h.0) s.first ∙ sym (has_none-append s.closed h.0);
+    put = gained_as initial next _ _
+        (sym (ap content_writes (first_contents s.closed h.0)
+        ∙ writes_append (text_contents true s.closed) (text_contents (has_none s.closed) h.0)))
+        (gains_then assembly initial now next (content_writes (text_contents true s.closed))
+        (content_writes (text_contents (has_none s.closed) h.0)) s.put (rw s.first at h.1));
   }
 
   taken_apart : takes_in text (record { place = place; word = word }) ≡ false → (x : Placed) (xs : List Placed)
@@ -145,64 +148,66 @@ module _ (initial now : Option (List ℕ)) (faults faults' : ℕ) (words left : 
   contents_of_one true more = refl
   contents_of_one false more = refl
 
-  pub stopped_here : (next : Option (List ℕ)) (faults'' : ℕ) (text' : Placed) (fault : AsmFault)
-      → AddsWord now next faults' faults'' text text' is_first (record { place = place; word = word }) (Err fault)
-      → StopsPutting Object initial next faults faults''
-      (map content_block (text_contents true (without_last (texts_of (pieces_at 0 words))))) fault
-  stopped_here next faults'' text' fault h =
+  pub stopped_here : (next : Outputs) (text' : Placed) (fault : AsmFault)
+      → AddsWord now next text text' is_first (record { place = place; word = word }) (Err fault)
+      → Stops initial next (content_writes (text_contents true (without_last (texts_of (pieces_at 0 words))))) fault
+  stopped_here next text' fault h =
       let some = some_text (alone (record { place = place; word = word })) (pieces_at ((place + 2) % 65536) left) in
       let later = without_last_after some.0 some.1 in
-      let parts : map content_block (text_contents true (without_last (texts_of (pieces_at 0 words))))
-      ≡ map content_block (text_contents true s.closed)
-      ++ (map content_block (text_contents is_first (text ∷ [])) ++ map content_block (text_contents false later)) =
-      ap (λ (t : List Placed). map content_block (text_contents true t)) (taken_apart h.0 some.0 some.1 some.2)
-      ∙ ap (map content_block) (first_contents s.closed (text ∷ later))
-      ∙ map-append content_block (text_contents true s.closed) (text_contents (has_none s.closed) (text ∷ later))
-      ∙ ap (λ (b : Bool). map content_block (text_contents true s.closed)
-      ++ map content_block (text_contents b (text ∷ later))) (sym s.first)
-      ∙ ap (λ (t : List Content). map content_block (text_contents true s.closed) ++ map content_block t)
+      let parts : content_writes (text_contents true (without_last (texts_of (pieces_at 0 words))))
+      ≡ content_writes (text_contents true s.closed)
+      ++ (content_writes (text_contents is_first (text ∷ [])) ++ content_writes (text_contents false later)) =
+      ap (λ (t : List Placed). content_writes (text_contents true t)) (taken_apart h.0 some.0 some.1 some.2)
+      ∙ ap content_writes (first_contents s.closed (text ∷ later))
+      ∙ writes_append (text_contents true s.closed) (text_contents (has_none s.closed) (text ∷ later))
+      ∙ ap (λ (b : Bool). content_writes (text_contents true s.closed)
+      ++ content_writes (text_contents b (text ∷ later))) (sym s.first)
+      ∙ ap (λ (t : List Content). content_writes (text_contents true s.closed) ++ content_writes t)
       (contents_of_one is_first later)
-      ∙ ap (λ (t : List (List ℕ)). map content_block (text_contents true s.closed) ++ t)
-      (map-append content_block (text_contents is_first (text ∷ [])) (text_contents false later)) in
-      rw parts (stops_after Object initial now faults faults' (map content_block (text_contents true s.closed)) next
-      faults''
-      (map content_block (text_contents is_first (text ∷ [])) ++ map content_block (text_contents false later)) s.put
-      s.same fault
-      (stops_before Object now next faults' faults'' (map content_block (text_contents is_first (text ∷ [])))
-      (map content_block (text_contents false later)) fault h.1))
+      ∙ ap (λ (t : List Write). content_writes (text_contents true s.closed) ++ t)
+      (writes_append (text_contents is_first (text ∷ [])) (text_contents false later)) in
+      stopped_as initial next _ _ fault (sym parts)
+      (stops_after assembly initial now next (content_writes (text_contents true s.closed))
+      (content_writes (text_contents is_first (text ∷ [])) ++ content_writes (text_contents false later)) fault s.put
+      (stops_before assembly now next (content_writes (text_contents is_first (text ∷ [])))
+      (content_writes (text_contents false later)) fault h.1))
 
-module _ (initial now : Option (List ℕ)) (faults faults' : ℕ) (words : List ℕ) (place : ℕ) (text : Placed)
-    (is_first : Bool)
-    (s : TextsSoFar initial now faults faults' words [] place text is_first) where
-  pub no_more : (faults' ≡ faults)
-      × ((last_alone (texts_of (pieces_at 0 words)) ≡ text ∷ [])
+module _ (initial now : Outputs) (words : List ℕ) (place : ℕ) (text : Placed) (is_first : Bool)
+    (s : TextsSoFar initial now words [] place text is_first) where
+  pub no_more : ((last_alone (texts_of (pieces_at 0 words)) ≡ text ∷ [])
       × (is_first ≡ has_none (without_last (texts_of (pieces_at 0 words)))))
-      × Appends initial now
-      (writes.joined (map content_block (text_contents true (without_last (texts_of (pieces_at 0 words))))))
+      × Gains initial now (content_writes (text_contents true (without_last (texts_of (pieces_at 0 words)))))
   no_more =
       let front : without_last (texts_of (pieces_at 0 words)) ≡ s.closed =
       ap without_last s.whole ∙ without_last-push s.closed text in (
-        s.same,
         (ap last_alone s.whole ∙ last_alone-push s.closed text, s.first ∙ ap has_none (sym front)),
-        rw front s.put,
+        gained_as initial now _ _ (ap (λ t. content_writes (text_contents true t)) (sym front)) s.put,
       )
 
-pub adds_nothing : (t : Option (List ℕ)) → Appends t t []
-adds_nothing None = tt
-adds_nothing (Some bytes) = sym (append-nil bytes)
-
-pub begins : (initial : Option (List ℕ)) (faults word : ℕ) (words rest : List ℕ) (text : Placed) → words ≡ word ∷ rest
+pub begins : (initial : Outputs) (word : ℕ) (words rest : List ℕ) (text : Placed) → words ≡ word ∷ rest
     → text ≡ alone (record { place = 0; word = word })
-    → TextsSoFar initial initial faults faults words rest 2 text true
-begins initial faults word words rest text e f = record {
+    → TextsSoFar initial initial words rest 2 text true
+begins initial word words rest text e f = record {
   closed = [];
   whole = ap (λ (t : List ℕ). texts_of (pieces_at 0 t)) e
       ∙ texts_are_longest (record { place = 0; word = word }) (pieces_at 2 rest)
       ∙ ap (λ (t : Placed). texts_from t (pieces_at 2 rest)) (sym f);
   first = refl;
-  same = refl;
-  put = adds_nothing initial;
+  put = gains_nothing assembly initial;
 }
+
+pub no_words : (a : Outputs) (words : List ℕ) → length words ≡ 0
+    → PutsTexts a a (texts_of (pieces_at 0 words)) (Ok last.None)
+no_words a [] e = (refl, gains_nothing assembly a)
+no_words a (word ∷ words) e = absurd (omega arith)
+
+pub adds_none : (old new : Outputs) (text text' : Placed) (is_first : Bool) (piece : Piece) (fault : AsmFault)
+    (result : Result Bool AsmFault) → takes_in text piece ≡ false
+    → Stops old new (content_writes (text_contents is_first (text ∷ []))) fault → IsErrAnd result (λ f. f ≡ fault)
+    → AddsWord old new text text' is_first piece result
+adds_none old new text text' is_first piece fault (Ok x) refused h e = absurd e
+adds_none old new text text' is_first piece fault (Err f) refused h e =
+    let P : AsmFault → Type 0 = λ g. AddsWord old new text text' is_first piece (Err g) in subst P (sym e) (refused, h)
 
 pub drop_step : (xs : List ℕ) (i : ℕ) → i < length xs → drop i xs ≡ get_or xs i 0 ∷ drop (i + 1) xs
 drop_step xs i h = rw (add-one, drop-cons xs i 0)
@@ -214,33 +219,31 @@ drop_end xs i h = nothing_left (drop i xs) (omega (arith, length-drop i xs))
     nothing_left [] e = refl
     nothing_left (y ∷ ys) e = absurd (omega arith)
 
-pub stops_texts : (initial next : Option (List ℕ)) (faults faults'' : ℕ) (texts : List Placed) (fault : AsmFault)
-    (result : Result LastText AsmFault)
-    → StopsPutting Object initial next faults faults'' (map content_block (text_contents true (without_last texts)))
-    fault → result ≡ Err fault
-    → PutsTexts initial next faults faults'' texts result
-stops_texts initial next faults faults'' texts fault result h e = rw e h
+-- a fault that was passed on
+pub stops_texts : (initial next : Outputs) (texts : List Placed) (fault : AsmFault) (result : Result LastText AsmFault)
+    → Stops initial next (content_writes (text_contents true (without_last texts))) fault
+    → IsErrAnd result (λ f. f ≡ fault) → PutsTexts initial next texts result
+stops_texts initial next texts fault (Ok text) h e = absurd e
+stops_texts initial next texts fault (Err f) h e =
+    let P : AsmFault → Type 0 = λ g. PutsTexts initial next texts (Err g) in subst P (sym e) h
 
 -- the directory, and then the texts
-pub front_stopped : (a b : Option (List ℕ)) (f g : ℕ) (size : ℕ) (texts : List Placed) (fault : AsmFault)
-    (result : Result LastText AsmFault)
-    → StopsPutting Object a b f g (map content_block (head size)) fault → result ≡ Err fault
-    → PutsFront a b f g size texts result
-front_stopped a b f g size texts fault result h e =
-    rw e (stops_before Object a b f g (map content_block (head size))
-    (map content_block (text_contents true (without_last texts))) fault h)
+pub front_stopped : (a b : Outputs) (size : ℕ) (texts : List Placed) (fault : AsmFault)
+    (result : Result LastText AsmFault) → Stops a b (content_writes (head size)) fault
+    → IsErrAnd result (λ f. f ≡ fault) → PutsFront a b size texts result
+front_stopped a b size texts fault (Ok text) h e = absurd e
+front_stopped a b size texts fault (Err f) h e =
+    let P : AsmFault → Type 0 = λ g. PutsFront a b size texts (Err g) in
+    subst P (sym e) (stops_before assembly a b (content_writes (head size))
+    (content_writes (text_contents true (without_last texts))) fault h)
 
-pub front_then : (a b c : Option (List ℕ)) (f g i : ℕ) (size : ℕ) (texts : List Placed)
-    → Appends a b (writes.joined (map content_block (head size))) → g ≡ f
-    → (result : Result LastText AsmFault) → PutsTexts b c g i texts result → PutsFront a c f i size texts result
-front_then a b c f g i size texts whole same (Ok last) h = (
-  h.0 ∙ same,
-  h.1,
-  rw (flat_map-append (λ (piece : List ℕ). piece) (map content_block (head size))
-      (map content_block (text_contents true (without_last texts))))
-      (Appends-Appends a b c (writes.joined (map content_block (head size)))
-      (writes.joined (map content_block (text_contents true (without_last texts)))) whole h.2),
+pub front_then : (a b c : Outputs) (size : ℕ) (texts : List Placed) → Gains a b (content_writes (head size))
+    → (result : Result LastText AsmFault) → PutsTexts b c texts result → PutsFront a c size texts result
+front_then a b c size texts whole (Ok last) h = (
+  h.0,
+  gains_then assembly a b c (content_writes (head size)) (content_writes (text_contents true (without_last texts)))
+      whole h.1,
 )
-front_then a b c f g i size texts whole same (Err fault) h =
-    stops_after Object a b f g (map content_block (head size)) c i
-    (map content_block (text_contents true (without_last texts))) whole same fault h
+front_then a b c size texts whole (Err fault) h =
+    stops_after assembly a b c (content_writes (head size))
+    (content_writes (text_contents true (without_last texts))) fault whole h

@@ -1,6 +1,4 @@
-pub mod Orders
 pub mod Outcomes
-pub mod Putting
 pub mod Readings
 pub mod Cutting
 pub mod Feeds
@@ -12,3 +10,4 @@ pub mod Steps
 pub mod Sizes
 pub mod Texts
 pub mod Whole
+pub mod Writing

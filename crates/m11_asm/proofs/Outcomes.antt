@@ -5,7 +5,7 @@ use Rattle.std.proofs.lemmas.Bool.{le-ltb, cases_lt}
 use Rattle.m11_base.specs.Feed.{Text, GiveAll, NoneFailed}
 use Rattle.m11_asm.specs.declared.fault.AsmFault.{AsmFault}
 use Rattle.m11_asm.specs.declared.fault.AsmFault.TheVariants.{TooMuchSource, NotYet, NoMemory, Read, Write}
-use Rattle.m11_asm.specs.declared.fault.AsmOutput.{AsmOutput}
+use Rattle.m11_asm.specs.declared.fault.AsmOutput.TheVariants.{Object, Listing, Messages}
 use Rattle.m11_asm.specs.declared.reading.Progress.{Progress}
 use Rattle.m11_asm.specs.declared.reading.Progress.TheVariants as progress
 use Rattle.m11_asm.specs.declared.run.AsmDone.{AsmDone}
@@ -15,9 +15,10 @@ use Rattle.m11_asm.specs.Reading.{most_bytes, most_lines}
 use Rattle.m11_asm.specs.Held.{Held, IsProgram, Holds, reading_at, Leads, Decides, GoesTo, FailAt}
 use Rattle.m11_asm.specs.Outcome as outcome
 use Rattle.m11_asm.specs.Outcome.{writes_of, outcome_of, outcome_of_reading}
-use Rattle.m11_asm.specs.Program.{flagged_lines, StopsWriting, WritesProgram}
-use Rattle.m11_asm.specs.Writes.{Gains}
-use Rattle.m11_asm.specs.Run.{AsmRuns, Counted}
+use Rattle.m11_asm.specs.Program.{flagged_lines, WritesProgram}
+use Rattle.m11_asm.specs.Outputs.{Outputs, Gains, Stops}
+use Rattle.m11_asm.specs.Run.{AsmRuns}
+use Rattle.m11_asm.proofs.Whole.{not_in_listing}
 use Rattle.m11_asm.proofs.Readings.{cut_after, following}
 use Rattle.std.proofs.lemmas.List.{append-nil}
 
@@ -100,19 +101,22 @@ program_of sources held progress.Ended h =
     (h.0, h.2, ap outcome_of_reading (decided (input_of sources) (reading.Ended h.0) h.1))
 
 module _ {F : Type 0} (text : F → Option Text) (faults : F → ℕ) (feeds feeds' : List F)
-    (old new : AsmOutput → Option (List ℕ)) where
+    (old new : Outputs) where
   -- all that is written follows from what was read
   runs_by : (lines : List RawLine) (flagged : List (List ℕ)) (sources : List (List ℕ)) → NoneFailed faults feeds feeds'
       → GiveAll text feeds sources
       → outcome_of sources ≡ outcome.Writes (writes_of lines flagged) (length flagged)
       → (result : Result AsmDone AsmFault)
       → MatchResult result (λ done. (done.flagged ≡ length flagged) × Gains old new (writes_of lines flagged))
-      (StopsWriting old new (writes_of lines flagged))
+      (Stops old new (writes_of lines flagged))
       → AsmRuns text faults feeds feeds' old new result
   runs_by lines flagged sources none given is (Ok done) h =
       (none, sources, given, writes_of lines flagged, length flagged, is, h)
-  runs_by lines flagged sources none given is (Err (Write output)) h =
+  runs_by lines flagged sources none given is (Err (Write Object)) h =
       (none, sources, given, writes_of lines flagged, length flagged, is, h)
+  runs_by lines flagged sources none given is (Err (Write Messages)) h =
+      (none, sources, given, writes_of lines flagged, length flagged, is, h)
+  runs_by lines flagged sources none given is (Err (Write Listing)) h = absurd (not_in_listing old new lines flagged h)
   runs_by lines flagged sources none given is (Err NoMemory) h =
       inr (none, sources, given, writes_of lines flagged, length flagged, is, h)
   runs_by lines flagged sources none given is (Err Read) h = absurd h
@@ -139,11 +143,3 @@ module _ {F : Type 0} (text : F → Option Text) (faults : F → ℕ) (feeds fee
   refused_of held NotYet h nothing =
       ((h.0, h.1, h.2, ap outcome_of_reading (decided (input_of h.1) (reading.Refused NotYet) h.3)), nothing)
   refused_of held (Write output) h nothing = absurd h.3
-
-  pub refusal_counted : (held : Held) (f g : ℕ) (fault : AsmFault) → FailAt text faults feeds feeds' [] [] held fault
-      → Counted f f g g (Err fault)
-  refusal_counted held f g Read h = (refl, refl)
-  refusal_counted held f g NoMemory h = (refl, refl)
-  refusal_counted held f g TooMuchSource h = (refl, refl)
-  refusal_counted held f g NotYet h = (refl, refl)
-  refusal_counted held f g (Write output) h = absurd h.3

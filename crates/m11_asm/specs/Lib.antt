@@ -5,6 +5,7 @@ pub mod Messages
 pub mod Object
 pub mod OpenText
 pub mod Outcome
+pub mod Outputs
 pub mod Parsing
 pub mod Placement
 pub mod Program
@@ -12,4 +13,3 @@ pub mod ReaderView
 pub mod Reading
 pub mod Run
 pub mod Statement
-pub mod Writes

@@ -10,6 +10,7 @@ use Rattle.m11_obj.specs.declared.relocations.Target.TheVariants.{LocationCounte
 use Rattle.m11_blocks.specs.Frames.{word_bytes, block}
 use Rattle.m11_obj.specs.Records.{Content, Gsd, EndOfGsd, Text, Relocations, EndOfModule, record_data}
 use Rattle.m11_asm.specs.Lines.{RawLine}
+use Rattle.m11_asm.specs.Outputs.{Write, to_object}
 use Rattle.m11_asm.specs.Placement.{Piece, pieces_of, section_size}
 
 -- ---- the directory
@@ -134,6 +135,9 @@ contents_at_end lines =
     let texts = texts_of (pieces_of lines) in
     text_contents (has_none (without_last texts)) (last_alone texts) ++ EndOfModule ∷ []
 
--- the block of a content
-abbrev pub content_block : Content → List ℕ
-content_block content = block (record_data content)
+-- a content is written as a block
+abbrev pub content_write : Content → Write
+content_write content = to_object (block (record_data content))
+
+abbrev pub content_writes : List Content → List Write
+content_writes contents = map content_write contents

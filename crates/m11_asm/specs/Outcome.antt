@@ -4,9 +4,9 @@ use Rattle.std.specs.Prelude.{ℕ, List, [], ◌∷◌, ◌++◌, length, map, c
 use Rattle.m11_asm.specs.declared.fault.AsmFault.{AsmFault}
 use Rattle.m11_asm.specs.Lines.{RawLine, input_of}
 use Rattle.m11_asm.specs.Reading as reading
-use Rattle.m11_asm.specs.Object.{contents_before_end, contents_at_end, content_block}
+use Rattle.m11_asm.specs.Object.{contents_before_end, contents_at_end, content_writes}
 use Rattle.m11_asm.specs.Messages.{flagged_line, count_line}
-use Rattle.m11_asm.specs.Writes.{Write, to_object, to_messages}
+use Rattle.m11_asm.specs.Outputs.{Write, to_messages}
 
 pub data Outcome : Type 0 where
   Refuses : AsmFault → Outcome
@@ -15,8 +15,8 @@ pub data Outcome : Type 0 where
 
 -- the writes of a program with these lines, the messages of its flagged lines being those
 abbrev pub writes_of : List RawLine → List (List ℕ) → List Write
-writes_of lines flagged = map to_object (map content_block (contents_before_end lines)) ++ map to_messages flagged
-    ++ map to_object (map content_block (contents_at_end lines)) ++ to_messages (count_line (length flagged)) ∷ []
+writes_of lines flagged = content_writes (contents_before_end lines) ++ map to_messages flagged
+    ++ content_writes (contents_at_end lines) ++ to_messages (count_line (length flagged)) ∷ []
 
 abbrev pub missing_end : List RawLine → List ℕ
 missing_end lines = flagged_line (codes "E") (reading.lines_in lines) []

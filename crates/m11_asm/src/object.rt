@@ -2,12 +2,12 @@
 
 ghost use Rattle.std.specs.Prelude.{◌≡◌, ◌≤◌, ◌+◌, ◌++◌, ◌%◌, ◌<◌, ◌==◌, ◌&&◌, nat_le, [], ◌∷◌, map, length, IfOk, IfSome, MatchOption};
 ghost use Rattle.arrayvec.specs.ArrayVec.{array_vec_len};
-ghost use Rattle.m11_asm.specs.declared.fault.AsmOutput.TheVariants.{Object};
-ghost use Rattle.m11_asm.specs.Object.{main_name, absolute_name, blank_name, directory, head, content_block, text_contents, text_content, place_content, texts_of, without_last, last_alone, has_none};
+ghost use Rattle.m11_asm.specs.Object.{main_name, absolute_name, blank_name, directory, head, content_write, content_writes, text_contents, text_content, place_content, texts_of, without_last, last_alone, has_none};
 ghost use Rattle.m11_asm.specs.Placement.{pieces_at};
 ghost use Rattle.m11_asm.specs.OpenText.{placed_of, AddsWord, PutsTexts, PutsFront, last_contents};
-ghost use Rattle.m11_asm.specs.Writes.{Puts};
+ghost use Rattle.m11_asm.specs.Outputs.{Writes, outputs};
 ghost use Rattle.m11_blocks.specs.Frames.{word_bytes};
+ghost use Rattle.m11_writes.specs.Outputs.{Output, output_of};
 ghost use Rattle.m11_obj.specs.Records.{EndOfModule};
 
 use crate::fault::AsmFault;
@@ -131,8 +131,10 @@ fn entry(name: Name, flags: u8, kind: GsdKind, value: u16) -> GsdEntry
 
 /// The records before the texts: the directory and its end.
 pub fn put_head<S: Sink>(alloc: Global, object: &mut S, size: u16) -> Result<(), AsmFault>
-    ensures { Puts Object (S.text object.old) (S.text object.new) (S.faults object.old) (S.faults object.new)
-        (map content_block (head size)) result }
+    ensures { (listing messages : Output) → Writes
+        (outputs (output_of S.Sink object.old) listing messages)
+        (outputs (output_of S.Sink object.new) listing messages)
+        (content_writes (head size)) result }
 {
     put_record(alloc, object, &Record::gsd(&directory(size)))?;
     put_record(alloc, object, &Record::end_of_gsd())
@@ -145,7 +147,9 @@ pub fn put_texts<S: Sink>(
     object: &mut S,
     words: &[u16],
 ) -> Result<LastText, AsmFault>
-    ensures { PutsTexts (S.text object.old) (S.text object.new) (S.faults object.old) (S.faults object.new)
+    ensures { (listing messages : Output) → PutsTexts
+        (outputs (output_of S.Sink object.old) listing messages)
+        (outputs (output_of S.Sink object.new) listing messages)
         (texts_of (pieces_at 0 words.now)) result }
 {
     let Some((first, rest)) = words.split_first() else {
@@ -174,7 +178,9 @@ fn add_word<S: Sink>(
 ) -> Result<bool, AsmFault>
     requires { length text.old.bytes.items ≤ 32 }
     ensures fits { length text.new.bytes.items ≤ 32 }
-    ensures adds { AddsWord (S.text object.old) (S.text object.new) (S.faults object.old) (S.faults object.new)
+    ensures adds { (listing messages : Output) → AddsWord
+        (outputs (output_of S.Sink object.old) listing messages)
+        (outputs (output_of S.Sink object.new) listing messages)
         (placed_of text.old) (placed_of text.new) is_first (record { place = place; word = word }) result }
 {
     if text.takes(place) {
@@ -195,7 +201,9 @@ pub fn put_front<S: Sink>(
     size: u16,
     words: &[u16],
 ) -> Result<LastText, AsmFault>
-    ensures { PutsFront (S.text object.old) (S.text object.new) (S.faults object.old) (S.faults object.new)
+    ensures { (listing messages : Output) → PutsFront
+        (outputs (output_of S.Sink object.old) listing messages)
+        (outputs (output_of S.Sink object.new) listing messages)
         size (texts_of (pieces_at 0 words.now)) result }
 {
     put_head(alloc, object, size)?;
@@ -204,16 +212,20 @@ pub fn put_front<S: Sink>(
 
 /// The last text, if there is one, and the end of the module.
 pub fn put_end<S: Sink>(alloc: Global, object: &mut S, last: &LastText) -> Result<(), AsmFault>
-    ensures { Puts Object (S.text object.old) (S.text object.new) (S.faults object.old) (S.faults object.new)
-        (map content_block (last_contents last.now) ++ content_block EndOfModule ∷ []) result }
+    ensures { (listing messages : Output) → Writes
+        (outputs (output_of S.Sink object.old) listing messages)
+        (outputs (output_of S.Sink object.new) listing messages)
+        (content_writes (last_contents last.now) ++ content_write EndOfModule ∷ []) result }
 {
     put_last(alloc, object, last)?;
     put_record(alloc, object, &Record::end_of_module())
 }
 
 fn put_last<S: Sink>(alloc: Global, object: &mut S, last: &LastText) -> Result<(), AsmFault>
-    ensures { Puts Object (S.text object.old) (S.text object.new) (S.faults object.old) (S.faults object.new)
-        (map content_block (last_contents last.now)) result }
+    ensures { (listing messages : Output) → Writes
+        (outputs (output_of S.Sink object.old) listing messages)
+        (outputs (output_of S.Sink object.new) listing messages)
+        (content_writes (last_contents last.now)) result }
 {
     match last {
         LastText::None => Ok(()),
@@ -228,8 +240,10 @@ pub fn put_text<S: Sink>(
     text: &OpenText,
     is_first: bool,
 ) -> Result<(), AsmFault>
-    ensures { Puts Object (S.text object.old) (S.text object.new) (S.faults object.old) (S.faults object.new)
-        (map content_block (text_contents is_first (placed_of text.now ∷ []))) result }
+    ensures { (listing messages : Output) → Writes
+        (outputs (output_of S.Sink object.old) listing messages)
+        (outputs (output_of S.Sink object.new) listing messages)
+        (content_writes (text_contents is_first (placed_of text.now ∷ []))) result }
 {
     if !is_first {
         return put_bytes(alloc, object, text);
@@ -240,8 +254,10 @@ pub fn put_text<S: Sink>(
 
 // The record that names the section of a text and its place.
 fn put_place<S: Sink>(alloc: Global, object: &mut S, text: &OpenText) -> Result<(), AsmFault>
-    ensures { Puts Object (S.text object.old) (S.text object.new) (S.faults object.old) (S.faults object.new)
-        (content_block (place_content (placed_of text.now)) ∷ []) result }
+    ensures { (listing messages : Output) → Writes
+        (outputs (output_of S.Sink object.old) listing messages)
+        (outputs (output_of S.Sink object.new) listing messages)
+        (content_write (place_content (placed_of text.now)) ∷ []) result }
 {
     let place = Relocation {
         is_byte: false,
@@ -253,8 +269,10 @@ fn put_place<S: Sink>(alloc: Global, object: &mut S, text: &OpenText) -> Result<
 
 // The text record alone.
 fn put_bytes<S: Sink>(alloc: Global, object: &mut S, text: &OpenText) -> Result<(), AsmFault>
-    ensures { Puts Object (S.text object.old) (S.text object.new) (S.faults object.old) (S.faults object.new)
-        (content_block (text_content (placed_of text.now)) ∷ []) result }
+    ensures { (listing messages : Output) → Writes
+        (outputs (output_of S.Sink object.old) listing messages)
+        (outputs (output_of S.Sink object.new) listing messages)
+        (content_write (text_content (placed_of text.now)) ∷ []) result }
 {
     put_record(
         alloc,

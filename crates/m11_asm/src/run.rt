@@ -1,12 +1,12 @@
 //! The run: sources in, object and messages out.
 
-ghost use Rattle.std.specs.Prelude.{◌≡◌, ◌∷◌, [], IfOk, length, ℕ, List, Option};
-ghost use Rattle.m11_asm.specs.declared.fault.AsmOutput.TheVariants.{Messages};
+ghost use Rattle.std.specs.Prelude.{◌≡◌, ◌∷◌, [], IfOk, codes, length, map};
 ghost use Rattle.m11_asm.specs.Messages as text;
 ghost use Rattle.m11_asm.specs.Program.{flagged_lines, WritesProgram};
 ghost use Rattle.m11_asm.specs.ReaderView.{held_of};
-ghost use Rattle.m11_asm.specs.Run.{AsmRuns, Counted};
-ghost use Rattle.m11_asm.specs.Writes.{Puts, texts, text_of};
+ghost use Rattle.m11_asm.specs.Run.{AsmRuns};
+ghost use Rattle.m11_asm.specs.Outputs.{Writes, outputs, outputs_of, to_messages};
+ghost use Rattle.m11_writes.specs.Outputs.{Output, output_of};
 
 use crate::fault::AsmFault;
 use crate::messages::{count_line, missing_end};
@@ -39,10 +39,8 @@ pub fn asm_run<F: Feed, S: Sink, T: Sink, U: Sink>(
     messages: &mut U,
 ) -> Result<AsmDone, AsmFault>
     ensures runs { AsmRuns F.text F.faults first.old first.new
-        (texts (S.text object.old) (text_of T.text listing.old) (U.text messages.old))
-        (texts (S.text object.new) (text_of T.text listing.new) (U.text messages.new)) result }
-    ensures counted { Counted (S.faults object.old) (S.faults object.new)
-        (U.faults messages.old) (U.faults messages.new) result }
+        (outputs_of S.Sink T.Sink U.Sink object.old listing.old messages.old)
+        (outputs_of S.Sink T.Sink U.Sink object.new listing.new messages.new) result }
     ensures second_kept { second.new ≡ second.old }
     ensures listing_kept { listing.new ≡ listing.old }
 {
@@ -61,11 +59,10 @@ fn write_program<S: Sink, U: Sink>(
     object: &mut S,
     messages: &mut U,
 ) -> Result<AsmDone, AsmFault>
-    ensures writes { (listing : Option (List ℕ)) → WritesProgram
-        (texts (S.text object.old) listing (U.text messages.old))
-        (texts (S.text object.new) listing (U.text messages.new)) (held_of reader.now) progress result }
-    ensures counted { Counted (S.faults object.old) (S.faults object.new)
-        (U.faults messages.old) (U.faults messages.new) result }
+    ensures { (listing : Output) → WritesProgram
+        (outputs (output_of S.Sink object.old) listing (output_of U.Sink messages.old))
+        (outputs (output_of S.Sink object.new) listing (output_of U.Sink messages.new))
+        (held_of reader.now) progress result }
 {
     let last = put_front(alloc, object, reader.size(), reader.words())?;
     let flagged = put_flagged(alloc, messages, reader.lines(), progress)?;
@@ -81,13 +78,25 @@ fn put_flagged<U: Sink>(
     lines: u32,
     progress: Progress,
 ) -> Result<u32, AsmFault>
-    ensures puts { Puts Messages (U.text messages.old) (U.text messages.new)
-        (U.faults messages.old) (U.faults messages.new) (flagged_lines progress lines) result }
+    ensures writes { (object listing : Output) → Writes
+        (outputs object listing (output_of U.Sink messages.old))
+        (outputs object listing (output_of U.Sink messages.new)) (map to_messages (flagged_lines progress lines)) result }
     ensures count { IfOk result (λ n. n ≡ length (flagged_lines progress lines)) }
 {
-    if progress == Progress::Ended {
-        return Ok(0);
+    match progress {
+        Progress::Ended => Ok(0),
+        Progress::GoesOn => put_missing_end(alloc, messages, lines),
     }
+}
+
+// The message of a missing `.END`, of which there is one.
+fn put_missing_end<U: Sink>(alloc: Global, messages: &mut U, lines: u32) -> Result<u32, AsmFault>
+    ensures writes { (object listing : Output) → Writes
+        (outputs object listing (output_of U.Sink messages.old))
+        (outputs object listing (output_of U.Sink messages.new))
+        (to_messages (text.flagged_line (codes "E") lines []) ∷ []) result }
+    ensures count { IfOk result (λ n. n ≡ 1) }
+{
     let line = missing_end(alloc, lines)?;
     put_message(messages, line.as_str())?;
     Ok(1)
@@ -95,8 +104,9 @@ fn put_flagged<U: Sink>(
 
 // The last message.
 fn put_count<U: Sink>(alloc: Global, messages: &mut U, flagged: u32) -> Result<(), AsmFault>
-    ensures { Puts Messages (U.text messages.old) (U.text messages.new) (U.faults messages.old) (U.faults messages.new)
-        (text.count_line flagged ∷ []) result }
+    ensures { (object listing : Output) → Writes
+        (outputs object listing (output_of U.Sink messages.old))
+        (outputs object listing (output_of U.Sink messages.new)) (to_messages (text.count_line flagged) ∷ []) result }
 {
     let line = count_line(alloc, flagged)?;
     put_message(messages, line.as_str())

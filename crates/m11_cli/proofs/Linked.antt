@@ -11,7 +11,8 @@ use Rattle.m11_layout.specs.declared.fault.LinkFault.TheVariants as fault
 use Rattle.m11_link.specs.FirstPass.{ReadsFirst}
 use Rattle.m11_link.specs.Objects.{Item, GiveItems, FailAfter}
 use Rattle.m11_link.specs.SecondPass.{ReadsSecond, LinkRuns}
-use Rattle.m11_link.specs.Outputs.{Outputs, optional_output}
+use Rattle.m11_writes.specs.Outputs.{optional_output}
+use Rattle.m11_link.specs.Outputs.{Outputs}
 use Rattle.m11_link.specs.declared.emit.LinkDone.{LinkDone}
 use Rattle.m11_cli.specs.Driver.{known}
 use Rattle.m11_cli.proofs.Sources.{give, none, one, seen}

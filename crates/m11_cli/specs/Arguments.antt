@@ -1,5 +1,5 @@
 -- Words that the system does not give. (This project's own.)
-use Rattle.std.specs.Prelude.{◌≡◌, ◌++◌, ◌⊎◌, List, [], ◌∷◌, ℕ, codes}
+use Rattle.std.specs.Prelude.{◌≡◌, ◌++◌, ◌⊎◌, List, ℕ, codes}
 use Rattle.std.specs.Fmt.{decimal}
 use Rattle.m11_cpu.specs.Dialogue.{Output}
 use Rattle.m11_cli.specs.Driver.{Reports}

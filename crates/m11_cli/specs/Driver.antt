@@ -1,13 +1,13 @@
 -- What a command line makes of the three streams of its process, and of the files of its task. (This project's own.)
-use Rattle.std.specs.Prelude.{◌≡◌, ◌⊎◌, ℕ, List, [], ◌∷◌, Option, None, Result, Ok, Err}
+use Rattle.std.specs.Prelude.{◌≡◌, ◌⊎◌, ℕ, List, [], Option, None, Result, Ok, Err}
 use Rattle.std.specs.Io.KnownBytes.{Appends}
 use Rattle.clap.specs.Words.{Text}
 use Rattle.m11_base.specs.Devices.{Rises}
 use Rattle.m11_base.specs.Feed as feed
 use Rattle.m11_base.specs.Sink.{AppendsBeginning}
 use Rattle.m11_base.specs.declared.sink.Sink.{Ghosts}
-use Rattle.m11_asm.specs.Run.{Counted, AsmRuns}
-use Rattle.m11_asm.specs.Writes.{texts}
+use Rattle.m11_asm.specs.Outputs as assembling
+use Rattle.m11_asm.specs.Run.{AsmRuns}
 use Rattle.m11_asm.specs.declared.fault.AsmFault.{AsmFault}
 use Rattle.m11_asm.specs.declared.fault.AsmFault.TheVariants as asm-fault
 use Rattle.m11_asm.specs.declared.run.AsmDone.{AsmDone}
@@ -89,6 +89,14 @@ RefusesFile inputs outputs old new reported reported' = Rises old.refusals new.r
 
 -- ---- an assembly
 
+-- an output, as the sink that an assembly or a link takes it for
+abbrev pub known : Ghosts Output
+known = record { text = λ output. output.text; faults = λ output. output.faults }
+
+-- the object and the messages of an assembly, which has no listing
+abbrev pub asm_outputs_of : Output → Output → assembling.Outputs
+asm_outputs_of object reported = assembling.outputs_of {T = Output} known known known object None reported
+
 -- the sources are the files of their paths. By their texts the object, which is empty at first, and what is reported
 -- become what an assembly makes of them; the object is created, and kept under its path
 pub record Assembles (asm : AsmTask) (old new : Store) (reported reported' : Output) (answer : Result AsmDone AsmFault)
@@ -100,8 +108,7 @@ pub record Assembles (asm : AsmTask) (old new : Store) (reported reported' : Out
   pub read : AreFiles (λ s. s.text) old.files (asm_inputs asm) sources
   pub emptied : IsEmptied old.files object.text
   pub runs : AsmRuns (λ s. s.text) (λ s. s.faults) sources sources'
-      (texts object.text None reported.text) (texts object'.text None reported'.text) answer
-  pub failures : Counted object.faults object'.faults reported.faults reported'.faults answer
+      (asm_outputs_of object reported) (asm_outputs_of object' reported') answer
   pub kept : new.files ≡ keeping asm.object.now object'.text (creating (asm_outputs asm) old.files)
   pub opened : new.refusals ≡ old.refusals
 
@@ -110,10 +117,6 @@ MayAssemble asm old new reported reported' answer = Assembles asm old new report
     ⊎ ((answer ≡ Err asm-fault.NoMemory) × RunsOutOpening (asm_inputs asm) (asm_outputs asm) old new reported reported')
 
 -- ---- a link
-
--- an output, as the sink that a link takes it for
-abbrev pub known : Ghosts Output
-known = record { text = λ output. output.text; faults = λ output. output.faults }
 
 -- the tape, the map if there is one, and the messages of a link
 abbrev pub outputs : Output → Option Output → Output → Outputs

@@ -1,26 +1,18 @@
-use Rattle.std.proofs.Common.{◌∙◌, ap, map, [], ◌∷◌, Err}
-use Rattle.std.proofs.lemmas.Result.{err_from_is_err_and}
+use Rattle.std.proofs.Common.{[], ◌∷◌}
 use Rattle.m11_obj.specs.Records.{EndOfModule}
-use Rattle.m11_asm.specs.declared.fault.AsmFault.{AsmFault}
-use Rattle.m11_asm.specs.declared.fault.AsmOutput.TheVariants.{Object}
-use Rattle.m11_asm.specs.Object.{content_block}
+use Rattle.m11_asm.specs.Object.{content_write, content_writes}
 use Rattle.m11_asm.specs.OpenText.{last_contents}
-use Rattle.m11_asm.proofs.Putting.{stopped_at, puts_then}
+use Rattle.m11_asm.specs.Outputs.{assembly}
+use Rattle.m11_writes.proofs.Writing.{stopped_first, writes_then}
 use Rattle.m11_asm.proofs.object.put_end.Goals as goal
 
 pub returns-in_err-put_last : goal.returns-in_err-put_last
-returns-in_err-put_last g c =
-    let p = err_from_is_err_and c.from_residual.result c.from_residual.ensures.1 in
-    stopped_at Object (g.S.Sink.text c.args.object.now) (g.S.Sink.text c.put_last.new.object)
-    (g.S.Sink.faults c.args.object.now) (g.S.Sink.faults c.put_last.new.object)
-    (map content_block (last_contents c.args.last.now)) (content_block EndOfModule ∷ []) c.in_err-put_last.field-0.0
-    c.from_residual.result c.in_err-put_last.ensures (p.1 ∙ ap (λ (e : AsmFault). Err e) p.2)
+returns-in_err-put_last g c = λ listing messages.
+    stopped_first assembly _ _ (content_writes (last_contents c.args.last.now)) (content_write EndOfModule ∷ []) _ _
+    (c.in_err-put_last.ensures listing messages) c.from_residual.ensures.1
 
 pub returns : goal.returns
-returns g c =
-    puts_then Object (g.S.Sink.text c.args.object.now) (g.S.Sink.text c.put_last.new.object)
-    (g.S.Sink.faults c.args.object.now) (g.S.Sink.faults c.put_last.new.object)
-    (map content_block (last_contents c.args.last.now)) (g.S.Sink.text c.put_record.new.object)
-    (g.S.Sink.faults c.put_record.new.object) (content_block EndOfModule ∷ [])
-    c.in_ok-put_last.ensures.1 c.in_ok-put_last.ensures.0 c.put_record.result
-    (rw c.end_of_module.ensures.bytes at c.put_record.ensures)
+returns g c = λ listing messages.
+    writes_then assembly _ _ _ (content_writes (last_contents c.args.last.now)) (content_write EndOfModule ∷ []) _
+    (c.in_ok-put_last.ensures listing messages)
+    (rw c.end_of_module.ensures.bytes at (c.put_record.ensures listing messages))
