@@ -1,5 +1,5 @@
 use Rattle.m11_obj.specs.Reading.{record_relocations}
-use Rattle.m11_link.specs.Outputs.{no_output}
+use Rattle.m11_writes.specs.Outputs.{no_output}
 use Rattle.m11_link.proofs.Emitted.{fault_left, relocations_refused, relocations_taken}
 use Rattle.m11_link.proofs.emit.Emit.take_relocations.Goals as goal
 
