@@ -81,7 +81,7 @@ at_depth sort (suc depth) due operator h =
     cc
 
 -- outside brackets
-operator_outside : (sort : Sort) (place : Within) (operator : Operator) → operator_at sort place ≡ Some operator
+pub operator_outside : (sort : Sort) (place : Within) (operator : Operator) → operator_at sort place ≡ Some operator
     → after (role_of sort) place ≡ begin
 operator_outside sort place operator h = at_depth sort place.depth place.is_due operator h
 
@@ -189,7 +189,7 @@ single_value radix term is =
 after_term : Within
 after_term = record { depth = 0; is_due = false }
 
-place-append : (place : Within) (front back : List Sort) → place_after place (front ++ back) ≡ place_after (place_after place front) back
+pub place-append : (place : Within) (front back : List Sort) → place_after place (front ++ back) ≡ place_after (place_after place front) back
 place-append place [] back = refl
 place-append place (sort ∷ front) back = place-append (after (role_of sort) place) front back
 

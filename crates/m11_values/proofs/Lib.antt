@@ -1,5 +1,6 @@
 mod Cases
 mod Exits
+mod FirstOperators
 mod Folds
 mod Groups
 mod LastOperators

@@ -1,5 +1,5 @@
 -- Where operators stand in an expression. (MACRO-11 Language Reference Manual, "Binary operators" and "Expressions".)
-use Rattle.std.specs.Prelude.{ℕ, suc, ◌+◌, ◌-◌, ◌==◌, Bool, true, false, if◌then◌else◌, List, [], ◌∷◌, Option, Some, None}
+use Rattle.std.specs.Prelude.{suc, ◌+◌, ◌-◌, ◌==◌, Bool, true, false, if◌then◌else◌, List, [], ◌∷◌, Option, Some, None}
 use Rattle.m11_scan.specs.Expressions.{role_of}
 use Rattle.m11_scan.specs.declared.expressions.Role.{Role}
 use Rattle.m11_scan.specs.declared.expressions.Role.TheVariants as roles
@@ -46,7 +46,13 @@ abbrev pub last_operator : Within → List Sort → Option Split
 last_operator place [] = None
 last_operator place (sort ∷ sorts) = later (operator_at sort place) (last_operator (after (role_of sort) place) sorts)
 
--- an operator at a place, or the one that was found before it
-abbrev pub found_at : Option Operator → ℕ → Option Split → Option Split
-found_at (Some operator) place found = Some (record { place = place; operator = operator })
-found_at None place found = found
+-- an operator here, or the first one that stands later
+abbrev pub first_or : Option Operator → Option Split → Option Split
+first_or (Some operator) more = Some (record { place = 0; operator = operator })
+first_or None (Some split) = Some (record { place = suc split.place; operator = split.operator })
+first_or None None = None
+
+-- the first operator between two terms that stands outside brackets
+abbrev pub first_operator : Within → List Sort → Option Split
+first_operator place [] = None
+first_operator place (sort ∷ sorts) = first_or (operator_at sort place) (first_operator (after (role_of sort) place) sorts)

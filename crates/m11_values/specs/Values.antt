@@ -6,13 +6,14 @@ use Rattle.m11_scan.specs.Views.{lexeme}
 use Rattle.m11_scan.specs.declared.cutting.Token.{Token}
 use Rattle.m11_scan.specs.declared.radix.Radix.{Radix}
 use Rattle.m11_scan.specs.declared.sort.Sort.{Sort}
+use Rattle.m11_values.specs.declared.expressions.Left.{Left}
 use Rattle.m11_values.specs.declared.expressions.Split.{Split}
 use Rattle.m11_values.specs.declared.names.Symbol.{Symbol}
 use Rattle.m11_values.specs.declared.prefixes.Prefix.{Prefix}
 use Rattle.m11_values.specs.Operations.{combined}
 use Rattle.m11_values.specs.Places.{last_operator}
 use Rattle.m11_values.specs.Prefixes.{applied, prefix_of, radix_under, reach}
-use Rattle.m11_values.specs.Quantities.{Quantity, missing}
+use Rattle.m11_values.specs.Quantities.{Quantity, missing, quantity}
 use Rattle.m11_values.specs.Terms.{Item, atom_value, item}
 
 abbrev pub item_sort : Item → Sort
@@ -58,3 +59,12 @@ items_of stands_for line tokens = map (seen stands_for line) tokens
 -- the expression that tokens begin with
 abbrev pub expression_tokens : List Token → List Token
 expression_tokens tokens = take (expression_length (map sort_of tokens)) tokens
+
+-- the value of tokens that are one term
+abbrev pub value_as_term : Radix → List Item → Quantity
+value_as_term radix items = split_value value_of radix items None
+
+-- a value joined to what stands before it
+abbrev pub carried : Option Left → Quantity → Quantity
+carried None value = value
+carried (Some left) value = combined left.operator (quantity left.value) value

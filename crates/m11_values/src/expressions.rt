@@ -3,9 +3,9 @@
 ghost use Rattle.std.specs.Prelude.{◌≡◌, ◌<◌, ◌≤◌, drop, length, map};
 ghost use Rattle.std.specs.Option.{IfSome};
 ghost use Rattle.m11_scan.specs.Expressions.{begin, expression_length, role_of, sort_of};
-ghost use Rattle.m11_values.specs.Places.{after, found_at, last_operator, operator_at, operator_of};
+ghost use Rattle.m11_values.specs.Places.{after, first_operator, operator_at, operator_of};
 ghost use Rattle.m11_values.specs.Quantities.{quantity};
-ghost use Rattle.m11_values.specs.Values.{expression_tokens, items_of, value_of};
+ghost use Rattle.m11_values.specs.Values.{carried, expression_tokens, items_of, value_as_term, value_of};
 
 use crate::names::Names;
 use crate::operations::combined;
@@ -34,15 +34,37 @@ pub fn value<'a, N: Names>(tokens: &'a [Token], line: &Line, names: &N) -> (Valu
     (value, &tokens[length..])
 }
 
-// The value of an expression that has all of some tokens.
+// What stands before a term: the value so far, and the operator that joins it.
+#[derive(Clone, Copy, PartialEq, Eq, Debug)]
+pub struct Left {
+    pub(crate) value: Value,
+    pub(crate) operator: Operator,
+}
+
+// The value of an expression that has all of some tokens: from left to right, one term after the other.
+#[cycle(expression)]
 fn expression<N: Names>(tokens: &[Token], radix: Radix, line: &Line, names: &N) -> Value
     ensures { quantity result ≡ value_of radix (items_of (N.stands_for names.now) line.now.text tokens.now) }
 {
-    if let Some(split) = last_operator(tokens) {
-        let left = expression(&tokens[..split.place], radix, line, names);
-        let right = expression(&tokens[split.place + 1..], radix, line, names);
-        return combined(split.operator, left, right);
+    let mut left = None;
+    let mut rest = tokens;
+    'operators: while let Some(split) = first_operator(rest) {
+        let value = term(&rest[..split.place], radix, line, names);
+        left = Some(Left {
+            value: joined(left, value),
+            operator: split.operator,
+        });
+        rest = &rest[split.place + 1..];
     }
+    let value = term(rest, radix, line, names);
+    joined(left, value)
+}
+
+// The value of a term, which may be missing.
+#[cycle(expression)]
+fn term<N: Names>(tokens: &[Token], radix: Radix, line: &Line, names: &N) -> Value
+    ensures { quantity result ≡ value_as_term radix (items_of (N.stands_for names.now) line.now.text tokens.now) }
+{
     match tokens {
         [] => Value::missing(),
         [first, rest @ ..] => match prefix_of(first.sort) {
@@ -56,12 +78,21 @@ fn expression<N: Names>(tokens: &[Token], radix: Radix, line: &Line, names: &N) 
     }
 }
 
-// The last operator between two terms that stands outside brackets.
-fn last_operator(tokens: &[Token]) -> Option<Split>
-    ensures last { result ≡ last_operator begin (map sort_of tokens.now) }
+// A term joined to what stands before it, if something does.
+fn joined(left: Option<Left>, value: Value) -> Value
+    ensures { quantity result ≡ carried left (quantity value) }
+{
+    match left {
+        Some(left) => combined(left.operator, left.value, value),
+        None => value,
+    }
+}
+
+// The first operator between two terms that stands outside brackets.
+fn first_operator(tokens: &[Token]) -> Option<Split>
+    ensures first { result ≡ first_operator begin (map sort_of tokens.now) }
     ensures within { IfSome result (λ split. split.place < length tokens.now) }
 {
-    let mut found = None;
     let mut count = 0;
     let mut place = Within {
         depth: 0,
@@ -69,22 +100,17 @@ fn last_operator(tokens: &[Token]) -> Option<Split>
     };
     let mut rest = tokens;
     'tokens: while let [token, others @ ..] = rest {
-        found = found_at(operator_at(token.sort, place), count, found);
+        if let Some(operator) = operator_at(token.sort, place) {
+            return Some(Split {
+                place: count,
+                operator,
+            });
+        }
         place = after(role_of(token.sort), place);
         count += 1;
         rest = others;
     }
-    found
-}
-
-// An operator at a place, or the one that was found before it.
-fn found_at(operator: Option<Operator>, place: usize, found: Option<Split>) -> Option<Split>
-    ensures { result ≡ found_at operator place found }
-{
-    match operator {
-        Some(operator) => Some(Split { place, operator }),
-        None => found,
-    }
+    None
 }
 
 // The operator that a token is at a place, outside brackets.

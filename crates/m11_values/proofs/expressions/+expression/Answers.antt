@@ -1,18 +1,30 @@
-use Rattle.m11_values.proofs.Exits.{atom_exit, joined_exit, missing_exit, prefix_exit}
+use Rattle.std.proofs.Common.{length, ap, arith, refl, ◌+◌}
+use Rattle.std.proofs.lemmas.List.{length-drop, take_rest}
+use Rattle.m11_values.specs.Quantities.{quantity}
+use Rattle.m11_values.proofs.Exits.{last_exit, next_exit, prefix_exit}
+use Rattle.m11_values.proofs.FirstOperators.{Begins}
 use Rattle.m11_values.proofs.expressions.+expression.Goals as goal
 
-pub returns-in-Some : goal.returns-in-Some
-returns-in-Some g t c =
-    joined_exit _ _ _ _ _ _ _ _ c.in-Some.ensures.last c.expression-left.ensures c.expression-right.ensures c.combined.ensures
+pub expression-operators-init : goal.expression-operators-init
+expression-operators-init g t c = record { carries = Begins _; within = omega arith }
 
-pub returns-in-empty : goal.returns-in-empty
-returns-in-empty g t c = missing_exit _ _ _ _ _ c.in-empty.len_below c.missing.ensures
+pub expression-operators-preserved : goal.expression-operators-preserved
+expression-operators-preserved g t c =
+    let rest = ap length (take_rest c.operators.rest.now (c.in-Some.split.place + 1)) in
+    let size = length-drop (c.in-Some.split.place + 1) c.operators.rest.now in
+    let within = c.operators.invariant.within in
+    record {
+      carries =
+          next_exit _ _ _ _ _ _ c.in-Some.split _ (quantity c.term-value.result) c.operators.invariant.carries
+          c.in-Some.ensures.first c.term-value.ensures c.joined.ensures refl;
+      within = omega arith;
+    }
 
-pub returns-in-Some-prefix_of : goal.returns-in-Some-prefix_of
-returns-in-Some-prefix_of g t c =
-    prefix_exit _ _ _ c.args.tokens.now _ _ _ _ _ _ c.in-len1-up.len_at_least c.in_default.ensures.last
-    c.in-Some-prefix_of.ensures c.reach-end.ensures.reach c.radix_under.ensures c.expression-value.ensures c.applied.ensures
+pub expression-returns : goal.expression-returns
+expression-returns g t c =
+    last_exit _ _ _ _ _ _ _ _ c.operators.invariant.carries c.in_default.ensures.first c.term-value-2.ensures c.joined-2.ensures
 
-pub returns-in-None : goal.returns-in-None
-returns-in-None g t c =
-    atom_exit _ _ _ c.args.tokens.now _ _ c.in-len1-up.len_at_least c.in_default.ensures.last c.in-None.ensures c.atom.ensures
+pub term-returns-in-Some : goal.term-returns-in-Some
+term-returns-in-Some g t c =
+    prefix_exit _ _ _ c.args.tokens.now _ _ _ _ _ _ c.in-len1-up.len_at_least c.in-Some.ensures c.reach-end.ensures.reach
+    c.radix_under.ensures c.expression-value.ensures c.applied.ensures
