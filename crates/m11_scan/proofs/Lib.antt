@@ -1,3 +1,4 @@
+pub mod Folding
 mod NestedBrackets
 mod NextPieces
 mod OneMore

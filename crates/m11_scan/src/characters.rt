@@ -25,8 +25,8 @@ pub(crate) fn is_name_character(byte: u8) -> bool
     matches!(byte, b'A'..=b'Z' | b'a'..=b'z' | b'0'..=b'9' | b'$' | b'.')
 }
 
-// The length of the run of digits that a text begins with.
-pub(crate) fn digits_length(text: &[u8]) -> usize
+/// How many digits a text begins with.
+pub fn digits_length(text: &[u8]) -> usize
     ensures run { result ≡ prefix_len is_digit text.now }
     ensures within { result ≤ length text.now }
 {

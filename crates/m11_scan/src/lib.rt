@@ -19,6 +19,7 @@ mod skipped;
 mod sort;
 mod texts;
 
+pub use characters::digits_length;
 pub use conditions::{Condition, read_condition};
 pub use cutting::{Token, next_token, tokens, tokens_from};
 pub use ends::expression_end;

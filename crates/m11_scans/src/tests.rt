@@ -1,8 +1,10 @@
 //! A file a subject; alike calls stand in tables.
 
+mod arguments;
 mod cuts;
 mod expressions;
 mod lines;
+mod random_lines;
 mod statements;
 mod terms;
 mod texts;

@@ -1,3 +1,4 @@
+mod Folded
 mod InOrder
 mod NextLabels
 mod NextParts

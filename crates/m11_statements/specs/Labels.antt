@@ -1,9 +1,11 @@
 -- The labels of a line. (MACRO-11 Language Reference Manual, "Label field" and "Local symbols". That the colon stands directly after
 -- the name, that `.` is no label, and what becomes of a number outside 1 to 65535 is this project's own.)
-use Rattle.std.specs.Prelude.{ℕ, ◌-◌, Bool, false, ◌&&◌, ◌==◌, nat_le, if◌then◌else◌, List, [], ◌∷◌, length, take, Option, Some, None}
+use Rattle.std.specs.Prelude.{ℕ, Bool, false, ◌&&◌, ◌==◌, nat_le, if◌then◌else◌, List, [], ◌∷◌, take, Option, Some, None}
+use Rattle.std.specs.List.{prefix_len}
 use Rattle.m11_scan.specs.declared.radix.Radix.TheVariants.{Decimal}
 use Rattle.m11_scan.specs.declared.sort.Sort.{Sort}
 use Rattle.m11_scan.specs.declared.sort.Sort.TheVariants.{Name, LocalSymbol, Colon, TwoColons}
+use Rattle.m11_scan.specs.Characters.{is_digit}
 use Rattle.m11_scan.specs.Cutting.{Lexeme, tokens_of}
 use Rattle.m11_scan.specs.Numbers.{number_of}
 use Rattle.m11_statements.specs.declared.labels.Label.{Label}
@@ -22,7 +24,7 @@ local_of number = if nat_le 1 number && nat_le number 65535 then Local number el
 
 -- a local symbol is digits and a `$`
 abbrev pub numbered : List ℕ → LabelKind
-numbered text = local_of (number_of Decimal (take (length text - 1) text))
+numbered text = local_of (number_of Decimal (take (prefix_len is_digit text) text))
 
 -- what a name with a colon after it is
 abbrev pub name_kind : Sort → Option LabelKind

@@ -10,7 +10,7 @@ use crate::spans::Span;
 use crate::statements::LABEL_LIMIT;
 use arrayvec::ArrayVec;
 use bitflags::Flags;
-use m11_scan::{Letters, Line, Radix, Sort, Token, next_token, read_number};
+use m11_scan::{Letters, Line, Radix, Sort, Token, digits_length, next_token, read_number};
 
 /// What a label is.
 #[derive(Clone, Copy, PartialEq, Eq, Debug, Default)]
@@ -134,7 +134,7 @@ fn local_kind(colon: Sort, text: &[u8]) -> Option<LabelKind>
 fn numbered(text: &[u8]) -> LabelKind
     ensures { result ≡ spec.numbered text.now }
 {
-    let digits = &text[..text.len().saturating_sub(1)];
+    let digits = &text[..digits_length(text)];
     let number = read_number(digits, Radix::Decimal);
     let is_large = number.letters.contains(Letters::T);
     if is_large || number.value == 0 {

@@ -18,7 +18,7 @@ pub use actuals::{Actual, ActualKind, Separator, next_actual, separator_at};
 pub use bodies::{Assignment, Body, Operators};
 pub use formals::{Formal, NextFormal, next_formal};
 pub use labels::{Label, LabelKind};
-pub use laws::labels_and_body_stand_in_order;
+pub use laws::{case_makes_no_difference, labels_and_body_stand_in_order};
 pub use listed::{ListedName, listed_name};
 pub use parts::{PART_LIMIT, Part, PartKind, Parts, next_part, parts_from};
 pub use reading::statement;

@@ -1,0 +1,161 @@
+//! Lines of awkward characters from a fixed sequence: what is read from them lies in them in order, and nothing is lost.
+
+use super::same;
+use super::statements::Known;
+use m11_scan::{Line, Token, blanks_length, skipped_between, tokens};
+use m11_statements::{Body, Statement, next_actual, parts_from, separator_at, statement};
+use std::process::Abort;
+
+const CHARACTERS: &[u8; 32] = b"'\"<>^\\;:=?AaR$.18,+ \tBD%#(-/!@.:";
+
+/// The next number of a fixed sequence that looks like chance.
+fn next_number(number: u64) -> u64 {
+    number
+        .wrapping_mul(6364136223846793005)
+        .wrapping_add(1442695040888963407)
+}
+
+// A line of some characters that the numbers after one choose.
+fn random_line(seed: u64, length: u8) -> Line {
+    let mut line = Line::new();
+    let mut number = seed;
+    for _ in 0..length {
+        number = next_number(number);
+        line.push(CHARACTERS[(number >> 59) as usize]);
+    }
+    line
+}
+
+// What stands between two places is blanks, the comment, and characters that are skipped.
+fn is_no_token(line: &Line, start: usize, end: usize) -> bool {
+    let text = line.text();
+    if start > end || end > text.len() {
+        return false;
+    }
+    let mut is_skipped = false;
+    for byte in &text[start..end] {
+        match *byte {
+            b';' => break,
+            b' ' | b'\t' => {}
+            _ => is_skipped = true,
+        }
+    }
+    is_skipped == skipped_between(line, start, end)
+}
+
+fn check_tokens(rt: &impl Abort, line: &Line) {
+    let mut place = 0;
+    for token in tokens(line).iter() {
+        let Token { start, end, .. } = *token;
+        same(
+            rt,
+            &"a gap",
+            &is_no_token(line, place, usize::from(start)),
+            &true,
+        );
+        same(rt, &"a token", &(start < end), &true);
+        place = usize::from(end);
+    }
+    same(
+        rt,
+        &"the rest",
+        &is_no_token(line, place, line.text().len()),
+        &true,
+    );
+}
+
+// Where what stands after the labels begins and ends.
+fn ends_of(body: Body, size: u8) -> (u8, u8) {
+    match body {
+        Body::Nothing => (size, size),
+        Body::Assigns(assignment) => (assignment.name.start, assignment.value),
+        Body::SetsCounter(value) => (value, value),
+        Body::Operates(name) => (name.start, name.end),
+        Body::Words(start) => (start, size),
+    }
+}
+
+fn check_statement(rt: &impl Abort, line: &Line, found: &Statement) {
+    let mut place = 0;
+    for label in found.labels.iter() {
+        same(
+            rt,
+            &"a label",
+            &(place <= label.name.start && label.name.start < label.name.end),
+            &true,
+        );
+        same(
+            rt,
+            &"its colon",
+            &(label.name.end < label.end && label.end <= found.labels_end),
+            &true,
+        );
+        place = label.end;
+    }
+    same(rt, &"the labels' end", &found.labels_end, &place);
+    let size = line.text().len() as u8;
+    let (start, end) = ends_of(found.body, size);
+    same(
+        rt,
+        &"the body",
+        &(place <= start && start <= end && end <= size),
+        &true,
+    );
+}
+
+// Actuals go on up to the end of the line or its comment, and each takes a character or more with what separates it.
+fn check_actuals(rt: &impl Abort, line: &Line) {
+    let mut place = 0;
+    for _ in 0..line.text().len() + 1 {
+        if place > line.text().len() {
+            return;
+        }
+        match next_actual(line, place, true) {
+            Some(actual) => {
+                let after = usize::from(separator_at(line, usize::from(actual.end)).end);
+                same(rt, &"an actual", &(place < after), &true);
+                place = after;
+            }
+            None => {
+                let rest = &line.text()[place..];
+                let after = rest.get(blanks_length(rest)).copied();
+                same(rt, &"after the actuals", &after.unwrap_or(b';'), &b';');
+                return;
+            }
+        }
+    }
+}
+
+fn check_line(rt: &impl Abort, line: &Line) {
+    check_tokens(rt, line);
+    check_statement(rt, line, &statement(line, &Known::new()));
+    check_actuals(rt, line);
+    let parts = parts_from(line, 0);
+    let mut place = 0;
+    for part in parts.list.iter() {
+        same(
+            rt,
+            &"a part",
+            &(place < part.inside.start && part.inside.start <= part.inside.end),
+            &true,
+        );
+        same(
+            rt,
+            &"its end",
+            &(part.inside.end <= part.end && part.end <= parts.end),
+            &true,
+        );
+        place = part.end;
+    }
+    same(rt, &"the parts' end", &parts.end, &place);
+}
+
+#[test]
+fn awkward_lines_are_read_in_order_and_whole(rt: HostRuntime) {
+    let mut number = 1;
+    for count in 0..20000_u32 {
+        number = next_number(number);
+        let line = random_line(number, (count % 60) as u8);
+        check_line(&rt, &line);
+    }
+}
