@@ -1,0 +1,2 @@
+pub mod BlockFaults
+pub mod TapeFaults
