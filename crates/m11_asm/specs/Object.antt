@@ -1,13 +1,14 @@
 -- The object that a program's lines make. (RT-11 Volume and File Formats Manual, "Object file format",
 -- for the records. Their order, the cutting of texts, and what stands in a directory when nothing was
 -- said of it, are this project's own.)
-use Rattle.std.specs.Prelude.{ℕ, ◌+◌, ◌*◌, Bool, true, false, zero, suc, ◌==◌, ◌&&◌, nat_le, if◌then◌else◌, List, [], ◌∷◌, ◌++◌, length, take, drop, map, codes, unwrap_or}
+use Rattle.std.specs.Prelude.{ℕ, ◌+◌, ◌*◌, Bool, true, false, zero, suc, ◌==◌, ◌&&◌, nat_le, if◌then◌else◌, List, [], ◌∷◌, ◌++◌, length, take, drop, map, codes}
 use Rattle.std.specs.List.{flat_map}
-use Rattle.m11_base.specs.Rad50.{name_of}
 use Rattle.m11_obj.specs.declared.gsd.GsdEntry.{GsdEntry}
 use Rattle.m11_obj.specs.declared.gsd.GsdKind.TheVariants.{ModuleName, ProgramSection, TransferAddress}
+use Rattle.m11_obj.specs.declared.relocations.Relocation.{Relocation}
 use Rattle.m11_obj.specs.declared.relocations.Target.TheVariants.{LocationCounterDefinition}
 use Rattle.m11_blocks.specs.Frames.{word_bytes, block}
+use Rattle.m11_obj.specs.Names.{absolute_name, name_in_words}
 use Rattle.m11_obj.specs.Records.{Content, Gsd, EndOfGsd, Text, Relocations, EndOfModule, record_data}
 use Rattle.m11_asm.specs.Lines.{RawLine}
 use Rattle.m11_asm.specs.Outputs.{Write, to_object}
@@ -15,15 +16,9 @@ use Rattle.m11_asm.specs.Placement.{Piece, pieces_of, section_size}
 
 -- ---- the directory
 
-abbrev pub name_in_words : List ℕ → ℕ × ℕ
-name_in_words text = unwrap_or (name_of text) (0, 0)
-
--- the name of a module without a title, and the two sections that always exist
+-- the name of a module without a title, and that of the section in which assembly begins
 abbrev pub main_name : ℕ × ℕ
 main_name = name_in_words (codes ".MAIN.")
-
-abbrev pub absolute_name : ℕ × ℕ
-absolute_name = name_in_words (codes ". ABS.")
 
 abbrev pub blank_name : ℕ × ℕ
 blank_name = name_in_words (codes "      ")
@@ -91,12 +86,12 @@ abbrev pub text_content : Placed → Content
 text_content text = Text text.place text.bytes
 
 -- the record before a first text, which names the section and the place
+abbrev pub place_relocation : Placed → Relocation
+place_relocation text =
+    record { is_byte = false; displacement = 0; target = LocationCounterDefinition blank_name text.place }
+
 abbrev pub place_content : Placed → Content
-place_content text = Relocations (record {
-  is_byte = false;
-  displacement = 0;
-  target = LocationCounterDefinition blank_name text.place;
-} ∷ [])
+place_content text = Relocations (place_relocation text ∷ [])
 
 abbrev pub text_contents : Bool → List Placed → List Content
 text_contents is_first [] = []

@@ -2,7 +2,7 @@
 
 ghost use Rattle.std.specs.Prelude.{◌≡◌, ◌≤◌, ◌+◌, ◌++◌, ◌%◌, ◌<◌, ◌==◌, ◌&&◌, nat_le, [], ◌∷◌, map, length, IfOk, IfSome, MatchOption};
 ghost use Rattle.arrayvec.specs.ArrayVec.{array_vec_len};
-ghost use Rattle.m11_asm.specs.Object.{main_name, absolute_name, blank_name, directory, head, content_write, content_writes, text_contents, text_content, place_content, texts_of, without_last, last_alone, has_none};
+ghost use Rattle.m11_asm.specs.Object.{main_name, blank_name, directory, head, content_write, content_writes, text_contents, text_content, place_content, place_relocation, texts_of, without_last, last_alone, has_none};
 ghost use Rattle.m11_asm.specs.Placement.{pieces_at};
 ghost use Rattle.m11_asm.specs.OpenText.{placed_of, AddsWord, PutsTexts, PutsFront, last_contents};
 ghost use Rattle.m11_asm.specs.Outputs.{Writes, outputs};
@@ -16,7 +16,7 @@ use arrayvec::ArrayVec;
 use bitflags::Flags;
 use byteorder::{ByteOrder, LittleEndian};
 use m11_base::{Name, Sink};
-use m11_obj::{GsdEntry, GsdKind, Record, Relocation, SectionFlags, Target};
+use m11_obj::{GsdEntry, GsdKind, Record, Relocation, SectionFlags, Target, absolute_section};
 use std::alloc::Global;
 
 /// The most bytes of one text record.
@@ -80,16 +80,6 @@ fn main_name() -> Name
     }
 }
 
-// The name of the absolute section.
-fn absolute_name() -> Name
-    ensures { result ≡ absolute_name }
-{
-    match Name::pack(b". ABS.") {
-        Some(name) => name,
-        None => unreachable!(),
-    }
-}
-
 // The name of the section in which assembly begins.
 fn blank_name() -> Name
     ensures { result ≡ blank_name }
@@ -107,14 +97,19 @@ fn directory(size: u16) -> [GsdEntry; 4]
     let absolute = SectionFlags::GLOBAL.union(SectionFlags::OVERLAID);
     [
         entry(main_name(), 0, GsdKind::ModuleName, 0),
-        entry(absolute_name(), absolute.bits(), GsdKind::ProgramSection, 0),
+        entry(
+            absolute_section(),
+            absolute.bits(),
+            GsdKind::ProgramSection,
+            0,
+        ),
         entry(
             blank_name(),
             SectionFlags::RELOCATABLE.bits(),
             GsdKind::ProgramSection,
             size,
         ),
-        entry(absolute_name(), 0, GsdKind::TransferAddress, 1),
+        entry(absolute_section(), 0, GsdKind::TransferAddress, 1),
     ]
 }
 
@@ -259,12 +254,21 @@ fn put_place<S: Sink>(alloc: Global, object: &mut S, text: &OpenText) -> Result<
         (outputs (output_of S.Sink object.new) listing messages)
         (content_write (place_content (placed_of text.now)) ∷ []) result }
 {
-    let place = Relocation {
+    put_record(
+        alloc,
+        object,
+        &Record::relocations(&[place_relocation(text)]),
+    )
+}
+
+fn place_relocation(text: &OpenText) -> Relocation
+    ensures { result ≡ place_relocation (placed_of text.now) }
+{
+    Relocation {
         is_byte: false,
         displacement: 0,
         target: Target::LocationCounterDefinition(blank_name(), text.place),
-    };
-    put_record(alloc, object, &Record::relocations(&[place]))
+    }
 }
 
 // The text record alone.

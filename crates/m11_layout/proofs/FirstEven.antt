@@ -2,7 +2,8 @@
 use Rattle.std.proofs.Common.{◌≡◌, ℕ, ◌+◌, nat_eq, nat_lt, Bool, true, false, cond, ◌&&◌, ◌||◌, if◌then◌else◌, List, [], ◌∷◌, ◌++◌, is_some, Option, Some, refl, sym, ap, ◌∙◌, subst, true≢false, arith}
 use Rattle.std.specs.List.{cons_option, find}
 use Rattle.std.proofs.lemmas.Bool.Decides.{nat_tests}
-use Rattle.m11_modules.specs.Names.{absolute_name, is_name}
+use Rattle.m11_obj.specs.Names.{absolute_name}
+use Rattle.m11_modules.specs.Names.{is_name}
 use Rattle.m11_modules.specs.Parts.{Part, EndOfModule}
 use Rattle.m11_modules.specs.Places.{modules_in}
 use Rattle.m11_layout.specs.Tables.{transfer_after}

@@ -7,7 +7,8 @@ use Rattle.m11_obj.specs.declared.gsd.GsdEntry.{GsdEntry}
 use Rattle.m11_obj.specs.declared.gsd.GsdKind.{GsdKind}
 use Rattle.m11_obj.specs.declared.gsd.GsdKind.TheVariants.{ModuleName, ControlSection, InternalSymbol, TransferAddress, GlobalSymbol, ProgramSection, Identification}
 use Rattle.m11_modules.specs.declared.fault.ModuleFault.TheVariants.{UnknownSection}
-use Rattle.m11_modules.specs.Names.{absolute_name, is_name}
+use Rattle.m11_obj.specs.Names.{absolute_name}
+use Rattle.m11_modules.specs.Names.{is_name}
 use Rattle.m11_modules.specs.Parts.{Part, Directory, Entry, EndOfDirectory, Text, Relocations, Relocated, EndOfModule, EndOfFile}
 use Rattle.m11_modules.specs.Places.{global_of, known_of, modules_in, sections_in, this_module}
 use Rattle.m11_modules.specs.Rules.{entry_fault, fault_of, first_there}

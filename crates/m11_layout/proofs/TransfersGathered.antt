@@ -3,7 +3,8 @@ use Rattle.std.proofs.Common.{◌≡◌, ℕ, nat_eq, Bool, true, false, ◌&&�
 use Rattle.std.specs.List.{cons_option, find}
 use Rattle.std.specs.Map.{lookup}
 use Rattle.std.specs.Option.{unwrap_or}
-use Rattle.m11_modules.specs.Names.{absolute_name, is_name}
+use Rattle.m11_obj.specs.Names.{absolute_name}
+use Rattle.m11_modules.specs.Names.{is_name}
 use Rattle.m11_modules.specs.Parts.{Part}
 use Rattle.m11_modules.specs.Places.{modules_in}
 use Rattle.m11_layout.specs.Tables.{Gathered, entered_total, is_contribution, is_even_after, is_relocated}

@@ -4,7 +4,8 @@ use Rattle.std.specs.List.{filter_map}
 use Rattle.std.specs.Map.{lookup}
 use Rattle.std.specs.Option.{option_or, unwrap_or}
 use Rattle.std.proofs.lemmas.Bool.Decides.{nat_tests}
-use Rattle.m11_modules.specs.Names.{absolute_name, is_name}
+use Rattle.m11_obj.specs.Names.{absolute_name}
+use Rattle.m11_modules.specs.Names.{is_name}
 use Rattle.m11_modules.specs.Parts.{Part, EndOfModule}
 use Rattle.m11_modules.specs.Places.{modules_in}
 use Rattle.m11_layout.specs.Sections.{attributes_in, first_attributes, is_relocatable}

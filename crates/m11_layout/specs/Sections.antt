@@ -10,7 +10,8 @@ use Rattle.m11_obj.specs.declared.flags.SectionFlags.{SectionFlags}
 use Rattle.m11_obj.specs.declared.gsd.GsdEntry.{GsdEntry}
 use Rattle.m11_obj.specs.declared.gsd.GsdKind.{GsdKind}
 use Rattle.m11_obj.specs.declared.gsd.GsdKind.TheVariants.{ControlSection, ProgramSection}
-use Rattle.m11_modules.specs.Names.{is_name, absolute_name}
+use Rattle.m11_obj.specs.Names.{absolute_name}
+use Rattle.m11_modules.specs.Names.{is_name}
 use Rattle.m11_modules.specs.Parts.{Part, Entry}
 use Rattle.m11_modules.specs.Places.{sections_in, section_names}
 use Rattle.m11_modules.specs.Rules.{has_bits}

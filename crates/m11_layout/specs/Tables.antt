@@ -9,7 +9,8 @@ use Rattle.indexmap.specs.IndexSet.{insert_key}
 use Rattle.m11_obj.specs.declared.gsd.GsdEntry.{GsdEntry}
 use Rattle.m11_obj.specs.declared.gsd.GsdKind.{GsdKind}
 use Rattle.m11_obj.specs.declared.gsd.GsdKind.TheVariants.{ModuleName, ControlSection, TransferAddress, GlobalSymbol, ProgramSection}
-use Rattle.m11_modules.specs.Names.{absolute_name, is_name, is_among}
+use Rattle.m11_obj.specs.Names.{absolute_name}
+use Rattle.m11_modules.specs.Names.{is_name, is_among}
 use Rattle.m11_modules.specs.Parts.{Part, Entry, Relocated, EndOfModule}
 use Rattle.m11_modules.specs.Places.{global_of}
 use Rattle.m11_modules.specs.Rules.{has_bits, defines}

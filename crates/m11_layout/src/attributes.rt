@@ -7,8 +7,7 @@ ghost use Rattle.m11_layout.specs.Sections.{attributes_by, control_attributes};
 
 use bitflags::Flags;
 use m11_base::Name;
-use m11_modules::absolute_section;
-use m11_obj::{GsdEntry, GsdKind, SectionFlags};
+use m11_obj::{GsdEntry, GsdKind, SectionFlags, absolute_section};
 
 // The bits of a flags byte that are attributes.
 const ATTRIBUTES: u8 = 0o365;

@@ -17,8 +17,9 @@ use crate::definition::{Definition, GlobalPlace, Total, Transfer};
 use bitflags::Flags;
 use indexmap::{IndexMap, IndexSet};
 use m11_base::Name;
-use m11_modules::absolute_section;
-use m11_obj::{GsdEntry, GsdKind, Record, RecordKind, SectionFlags, SymbolFlags, Target};
+use m11_obj::{
+    GsdEntry, GsdKind, Record, RecordKind, SectionFlags, SymbolFlags, Target, absolute_section,
+};
 use std::alloc::{AllocError, Global};
 use std::marker::Model;
 

@@ -11,7 +11,8 @@ use Rattle.indexmap.specs.IndexSet.{insert_key}
 use Rattle.indexmap.proofs.MapLemmas.{insert_entry-absent, absent_from_lookup}
 use Rattle.m11_modules.specs.declared.stage.Stage.{Stage}
 use Rattle.m11_modules.specs.declared.stage.Stage.TheVariants.{Between, InDirectory, InBody}
-use Rattle.m11_modules.specs.Names.{is_name, absolute_name}
+use Rattle.m11_obj.specs.Names.{absolute_name}
+use Rattle.m11_modules.specs.Names.{is_name}
 use Rattle.m11_modules.specs.Parts.{Part, Directory, Entry, EndOfDirectory, Text, Relocations, Relocated, EndOfModule, EndOfFile}
 use Rattle.m11_obj.specs.declared.gsd.GsdEntry.{GsdEntry}
 use Rattle.m11_obj.specs.declared.gsd.GsdKind.{GsdKind}
@@ -66,16 +67,12 @@ this_module_goes_on (first ∷ parts) part e =
 
 -- ---- what is counted and selected
 
-stage_append : (stage : Stage) (parts : List Part) (part : Part) → stage_from stage (parts ++ part ∷ []) ≡ stage_from (stage_from stage parts) (part ∷ [])
-stage_append stage [] part = refl
-stage_append stage (Directory ∷ parts) part = stage_append InDirectory parts part
-stage_append stage (Entry entry ∷ parts) part = stage_append stage parts part
-stage_append stage (EndOfDirectory ∷ parts) part = stage_append InBody parts part
-stage_append stage (Text address bytes ∷ parts) part = stage_append stage parts part
-stage_append stage (Relocations ∷ parts) part = stage_append stage parts part
-stage_append stage (Relocated relocation ∷ parts) part = stage_append stage parts part
-stage_append stage (EndOfModule ∷ parts) part = stage_append Between parts part
-stage_append stage (EndOfFile ∷ parts) part = stage_append stage parts part
+pub stage_append : (stage : Stage) (xs ys : List Part) → stage_from stage (xs ++ ys) ≡ stage_from (stage_from stage xs) ys
+stage_append stage [] ys = refl
+stage_append stage (Directory ∷ xs) ys = stage_append InDirectory xs ys
+stage_append stage (EndOfDirectory ∷ xs) ys = stage_append InBody xs ys
+stage_append stage (EndOfModule ∷ xs) ys = stage_append Between xs ys
+stage_append stage (part ∷ xs) ys = stage_append stage xs ys
 
 add_zero : (n : ℕ) → n + 0 ≡ n
 add_zero n = omega arith
@@ -171,7 +168,7 @@ known_goes_on : (before : List Part) (part : Part) → ends_module part ≡ fals
     → known_of (before ++ part ∷ []) ≡ going_on (known_of before) part
 unfolding known_of stage_after current_section text_length sections_in
 known_goes_on before part e =
-    rw (stage_append Between before part, modules_append before part, section_names_append before part, globals_append before part, this_module_goes_on before part e, sections_append (this_module before) part, section_append absolute_name (this_module before) part, length_append None (this_module before) part)
+    rw (stage_append Between before (part ∷ []), modules_append before part, section_names_append before part, globals_append before part, this_module_goes_on before part e, sections_append (this_module before) part, section_append absolute_name (this_module before) part, length_append None (this_module before) part)
 
 -- what a part leaves alone
 abbrev with_parts : Known → Stage → List (ℕ × ℕ) → List (ℕ × ℕ) → ℕ × ℕ → Option ℕ → ℕ → List ((ℕ × ℕ) × ℕ) → Known
@@ -234,7 +231,7 @@ part_after known EndOfFile e n = enters_none known known.stage known.sections kn
 module_ended : (before : List Part) → known_of (before ++ EndOfModule ∷ []) ≡ with_end (known_of before)
 unfolding known_of stage_after current_section text_length sections_in modules_in
 module_ended before =
-    rw (stage_append Between before EndOfModule, modules_append before EndOfModule, section_names_append before EndOfModule, globals_append before EndOfModule, this_module_ended before)
+    rw (stage_append Between before (EndOfModule ∷ []), modules_append before EndOfModule, section_names_append before EndOfModule, globals_append before EndOfModule, this_module_ended before)
 
 goes : (before : List Part) (part : Part) → ends_module part ≡ false → fault_of before part ≡ None
     → known_of (before ++ part ∷ []) ≡ known_after (known_of before) part

@@ -9,7 +9,3 @@ is_name one other = (one.0 == other.0) && (one.1 == other.1)
 
 abbrev pub is_among : List (ℕ × ℕ) → ℕ × ℕ → Bool
 is_among names name = list_any (is_name name) names
-
--- the section that each module knows, entered or not: octal 127401, 007624
-abbrev pub absolute_name : ℕ × ℕ
-absolute_name = (0o127401, 0o7624)

@@ -5,12 +5,11 @@ ghost use Rattle.m11_modules.specs.Places.{size_known};
 ghost use Rattle.m11_modules.specs.Rules.{answered, entering_fault, entry_fault, is_past, lies_within, opening_fault, place_fault, relocation_fault, section_fault, symbol_fault, global_fault, target_fault, text_fault, defines, defines_relocatable, width_of};
 
 use crate::fault::ModuleFault;
-use crate::names::absolute_section;
 use crate::stage::Stage;
 use bitflags::Flags;
 use indexmap::{IndexMap, IndexSet};
 use m11_base::Name;
-use m11_obj::{GsdEntry, GsdKind, Relocation, SymbolFlags, Target};
+use m11_obj::{GsdEntry, GsdKind, Relocation, SymbolFlags, Target, absolute_section};
 
 /// The most modules of a link.
 pub(crate) const MOST_MODULES: usize = 32;

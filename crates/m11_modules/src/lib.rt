@@ -5,12 +5,10 @@
 mod checks;
 mod fault;
 mod laws;
-mod names;
 mod rules;
 mod stage;
 
 pub use checks::lies_within;
 pub use fault::ModuleFault;
 pub use laws::{files_are_in_order, ordered_records_are_files};
-pub use names::absolute_section;
 pub use rules::Rules;

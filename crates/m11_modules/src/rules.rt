@@ -9,11 +9,10 @@ ghost use Rattle.m11_modules.specs.Steps.{Notes, RulesTake, TakesOne, with_secti
 
 use crate::checks::{check_begin, check_entry, check_relocation, check_text, size_of};
 use crate::fault::ModuleFault;
-use crate::names::absolute_section;
 use crate::stage::Stage;
 use indexmap::{IndexMap, IndexSet};
 use m11_base::Name;
-use m11_obj::{GsdEntry, GsdKind, Record, RecordKind, Relocation, Target};
+use m11_obj::{GsdEntry, GsdKind, Record, RecordKind, Relocation, Target, absolute_section};
 use std::alloc::Global;
 use std::marker::Model;
 

@@ -8,8 +8,8 @@ use super::records::{
 };
 use m11_base::Name;
 use m11_link::LinkFault;
-use m11_modules::{Rules, absolute_section};
-use m11_obj::read_record;
+use m11_modules::Rules;
+use m11_obj::{absolute_section, read_record};
 use std::alloc::Global;
 use std::process::Abort;
 use std::test::Fail;

@@ -1,7 +1,7 @@
-//! Names that each module knows.
+//! Names that stand in objects by themselves.
 
 ghost use Rattle.std.specs.Prelude.{◌≡◌};
-ghost use Rattle.m11_modules.specs.Names.{absolute_name};
+ghost use Rattle.m11_obj.specs.Names.{absolute_name};
 
 use m11_base::Name;
 
@@ -9,8 +9,7 @@ use m11_base::Name;
 pub fn absolute_section() -> Name
     ensures { result ≡ absolute_name }
 {
-    // The words of ". ABS.".
-    match Name::from_words(0o127401, 0o007624) {
+    match Name::pack(b". ABS.") {
         Some(name) => name,
         None => unreachable!(),
     }
