@@ -22,11 +22,12 @@ Name = ℕ × ℕ
 
 -- ---- names that stand once
 
-none_of : (b c : Bool) → b ≡ false → c ≡ false → (b || c) ≡ false
+pub none_of : (b c : Bool) → b ≡ false → c ≡ false → (b || c) ≡ false
 none_of true c e f = search
 none_of false c e f = f
 
-apart_before : (done : List Name) (name : Name) (rest : List Name) → Apart is_name (done ++ name ∷ rest)
+-- none of the names before one is that one
+pub apart_before : (done : List (ℕ × ℕ)) (name : ℕ × ℕ) (rest : List (ℕ × ℕ)) → Apart is_name (done ++ name ∷ rest)
     → list_any (is_name name) done ≡ false
 apart_before [] name rest d = refl
 apart_before (first ∷ done) name rest d =
@@ -42,7 +43,7 @@ apart_before (first ∷ done) name rest d =
         apart_later first done name rest (neither (is_name first other)
         (list_any (is_name first) (done ++ name ∷ rest)) e).1
 
-before_it : (done : List Name) (name : Name) (rest : List Name) → list_any (is_name name) done ≡ false
+pub before_it : (done : List (ℕ × ℕ)) (name : ℕ × ℕ) (rest : List (ℕ × ℕ)) → list_any (is_name name) done ≡ false
     → names_before name (done ++ name ∷ rest) ≡ done
 before_it [] name rest e =
     let P : Bool → Type 0 = λ b. (if b then [] else name ∷ names_before name rest) ≡ [] in

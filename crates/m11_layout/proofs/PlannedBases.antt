@@ -41,7 +41,7 @@ is_section parts sections index name size s e =
     (enters_reported parts index name)
 
 -- what is true of no name of a list is true of none in it
-none_high : (test : ℕ × ℕ → Bool) (names : List (ℕ × ℕ)) (name : ℕ × ℕ) → list_any test names ≡ false
+pub none_high : (test : ℕ × ℕ → Bool) (names : List (ℕ × ℕ)) (name : ℕ × ℕ) → list_any test names ≡ false
     → list_any (is_name name) names ≡ true → test name ≡ false
 none_high test [] name n t = absurd (true≢false (sym t))
 none_high test (first ∷ names) name n t = by (test first) (is_name name first) refl refl n t (none_high test names name)

@@ -50,6 +50,10 @@ inserted_by true names name other e = by (is_name other name) refl
         let t = subst P (sym (is_name_same other name f)) e in
         t ∙ ap (λ b. b || true) (sym t)
 
+pub among_inserted : (names : List (ℕ × ℕ)) (name other : ℕ × ℕ)
+    → is_among (insert_key is_name names name) other ≡ (is_among names other || (is_name other name || false))
+among_inserted names name other = inserted_by (is_among names name) names name other refl
+
 weak_kept : (before : List Part) (part : Part) (weak : List (ℕ × ℕ)) (reported : Option (ℕ × ℕ)) → ends_module part ≡ false
     → filter_map weak_in (part ∷ []) ≡ cons_option reported [] → reported ≡ None → WeakOf before weak
     → WeakOf (before ++ part ∷ []) weak
@@ -65,7 +69,7 @@ weak_noted : (before : List Part) (part : Part) (weak : List (ℕ × ℕ)) (repo
     → filter_map weak_in (part ∷ []) ≡ cons_option reported [] → reported ≡ Some noted → WeakOf before weak
     → WeakOf (before ++ part ∷ []) (insert_key is_name weak noted)
 weak_noted before part weak reported noted e t n w name =
-    inserted_by (is_among weak noted) weak noted name refl
+    among_inserted weak noted name
     ∙ ap (λ b. b || (is_name name noted || false)) (w name)
     ∙ ap (λ names. is_among (weak_names (this_module before)) name || is_among names name)
     (sym (t ∙ ap (λ o. cons_option o []) n))

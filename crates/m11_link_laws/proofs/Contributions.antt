@@ -15,6 +15,7 @@ use Rattle.m11_modules.specs.Parts.{Part}
 use Rattle.m11_modules.specs.Places.{distinct, distinct_after, modules_in, section_in, section_names, sections_in}
 use Rattle.m11_layout.specs.Modules.{module_at, modules_before}
 use Rattle.m11_layout.specs.Sections.{base_entered, contribution_base, ends_too_high, first_attributes, greatest, is_overlaid, is_relocatable, is_too_large, module_base, offset_after, rounded, section_base, section_size, size_under, sizes_of}
+use Rattle.m11_layout.proofs.PlannedBases.{none_high}
 use Rattle.m11_layout.proofs.Finding.{is_name_same, lookup_append, or_true}
 use Rattle.m11_layout.proofs.ModulesOfParts.{modules_are}
 use Rattle.m11_layout.proofs.Offsets.{earlier_sizes_more, entered_at, entered_more, reported_where}
@@ -301,20 +302,6 @@ is_section : (parts : List Part) (index : ℕ) (name : Name) (size : ℕ) → en
 unfolding section_names distinct
 is_section parts index name size e = distinct_found name [] (keys_of (sections_in parts))
     (sym (is_some-lookup (is_name name) (sections_in parts)) ∙ (within parts index name size e).1)
-
--- what is true of no name of a list
-none_high : (test : Name → Bool) (names : List Name) (name : Name) → list_any test names ≡ false
-    → list_any (is_name name) names ≡ true → test name ≡ false
-none_high test [] name n t = absurd (true≢false (sym t))
-none_high test (first ∷ names) name n t =
-    by (test first) (is_name name first) refl refl n t (none_high test names name)
-  where
-    by : (b c : Bool) → test first ≡ b → is_name name first ≡ c → (b || list_any test names) ≡ false
-        → (c || list_any (is_name name) names) ≡ true
-        → (list_any test names ≡ false → list_any (is_name name) names ≡ true → test name ≡ false) → test name ≡ false
-    by true c e f n t h = absurd (true≢false n)
-    by false true e f n t h = ap test (is_name_same name first f) ∙ e
-    by false false e f n t h = h n t
 
 -- ---- bases, where nothing is too large
 

@@ -1,9 +1,9 @@
 -- Names that stand once are no more than the names that they are among.
-use Rattle.std.proofs.Common.{◌≡◌, ℕ, ◌+◌, ◌≤◌, Bool, true, false, ◌||◌, if◌then◌else◌, List, [], ◌∷◌, ◌++◌, length, refl, sym, ap, ◌∙◌, subst, arith, true≢false}
-use Rattle.std.proofs.lemmas.List.Folds.{list_any-append}
+use Rattle.std.proofs.Common.{◌≡◌, ℕ, ◌+◌, ◌≤◌, Bool, true, false, ◌||◌, if◌then◌else◌, List, [], ◌∷◌, length, refl, sym, ap, ◌∙◌, subst, arith, true≢false}
 use Rattle.indexmap.specs.IndexSet.{insert_key}
 use Rattle.m11_modules.specs.Names.{is_among, is_name}
 use Rattle.m11_modules.specs.Places.{distinct, distinct_after}
+use Rattle.m11_layout.proofs.ReferenceSteps.{among_inserted}
 use Rattle.m11_layout.proofs.Finding.{Apart, apart_distinct, is_name_itself, is_name_same, or_true}
 
 abbrev Name : Type 0
@@ -87,22 +87,6 @@ no_more (name ∷ names) others d w =
 or_false : (b : Bool) → (b || false) ≡ b
 or_false true = refl
 or_false false = refl
-
-inserted_by : (b : Bool) (names : List Name) (name other : Name) → is_among names name ≡ b
-    → is_among (if b then names else names ++ name ∷ []) other ≡ (is_among names other || (is_name other name || false))
-inserted_by false names name other e = list_any-append (is_name other) names (name ∷ [])
-inserted_by true names name other e = by (is_name other name) refl
-  where
-    by : (c : Bool) → is_name other name ≡ c → is_among names other ≡ (is_among names other || (c || false))
-    by false f = sym (or_false (is_among names other))
-    by true f =
-        let P : Name → Type 0 = λ n. is_among names n ≡ true in
-        let t = subst P (sym (is_name_same other name f)) e in
-        t ∙ ap (λ b. b || true) (sym t)
-
-pub among_inserted : (names : List (ℕ × ℕ)) (name other : ℕ × ℕ)
-    → is_among (insert_key is_name names name) other ≡ (is_among names other || (is_name other name || false))
-among_inserted names name other = inserted_by (is_among names name) names name other refl
 
 moved_or : (a b c : Bool) → ((a || (b || false)) || c) ≡ (a || (b || c))
 moved_or true b c = refl

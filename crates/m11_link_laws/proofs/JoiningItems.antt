@@ -7,11 +7,12 @@ use Rattle.std.proofs.lemmas.List.Concat.{flat_map-append}
 use Rattle.m11_obj.specs.Reading.{content_of}
 use Rattle.m11_obj.specs.Records.{Content}
 use Rattle.m11_obj.specs.declared.fault.RecordFault.{RecordFault}
+use Rattle.m11_modules.proofs.KnownAfter.{stage_append}
 use Rattle.m11_modules.specs.declared.fault.ModuleFault.{ModuleFault}
 use Rattle.m11_modules.specs.declared.fault.ModuleFault.TheVariants.{BadOrder}
 use Rattle.m11_modules.specs.declared.stage.Stage.{Stage}
-use Rattle.m11_modules.specs.declared.stage.Stage.TheVariants.{Between, InDirectory, InBody}
-use Rattle.m11_modules.specs.Parts.{Part, Directory, EndOfDirectory, EndOfModule, EndOfFile, parts_in, parts_of}
+use Rattle.m11_modules.specs.declared.stage.Stage.TheVariants.{Between}
+use Rattle.m11_modules.specs.Parts.{Part, EndOfFile, parts_in, parts_of}
 use Rattle.m11_modules.specs.Places.{known_of, stage_after, stage_from}
 use Rattle.m11_modules.specs.Rules.{fault_in_order, fault_known, fault_of, first_fault, may_stand}
 use Rattle.m11_modules.specs.Steps.{first_known_fault}
@@ -30,13 +31,6 @@ use Rattle.m11_link_laws.proofs.JoiningFindings.{too_large_same}
 use Rattle.m11_link_laws.proofs.JoiningWrites.{InOrder, written_alike}
 
 -- ---- the order of parts
-
-stage_append : (stage : Stage) (xs ys : List Part) → stage_from stage (xs ++ ys) ≡ stage_from (stage_from stage xs) ys
-stage_append stage [] ys = refl
-stage_append stage (Directory ∷ xs) ys = stage_append InDirectory xs ys
-stage_append stage (EndOfDirectory ∷ xs) ys = stage_append InBody xs ys
-stage_append stage (EndOfModule ∷ xs) ys = stage_append Between xs ys
-stage_append stage (part ∷ xs) ys = stage_append stage xs ys
 
 order_then : (stage : Stage) (xs ys : List Part) → InOrder stage xs → InOrder (stage_from stage xs) ys
     → InOrder stage (xs ++ ys)

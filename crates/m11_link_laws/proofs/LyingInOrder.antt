@@ -1,5 +1,5 @@
 -- Relocatable sections lie one after another, from the bottom to the top.
-use Rattle.std.proofs.Common.{◌≡◌, ℕ, ◌+◌, ◌≤◌, sum_by, Bool, true, false, ◌||◌, cond, if◌then◌else◌, List, [], ◌∷◌, ◌++◌, map, append-nil, refl, sym, ap, ◌∙◌, subst, arith}
+use Rattle.std.proofs.Common.{◌≡◌, ℕ, ◌+◌, ◌≤◌, sum_by, Bool, true, false, cond, if◌then◌else◌, List, [], ◌∷◌, ◌++◌, map, append-nil, refl, sym, ap, ◌∙◌, subst, arith}
 use Rattle.std.specs.List.{filter, list_any}
 use Rattle.std.proofs.Math.Seq.{append_snoc}
 use Rattle.std.proofs.lemmas.List.Sums.{sum_by_push}
@@ -7,45 +7,12 @@ use Rattle.m11_modules.specs.Names.{is_name}
 use Rattle.m11_modules.specs.Parts.{Part}
 use Rattle.m11_modules.specs.Places.{section_names}
 use Rattle.m11_layout.specs.Sections.{names_before, section_base, section_size, top}
-use Rattle.m11_layout.proofs.Finding.{Apart, apart_distinct, is_name_itself, is_name_same, neither, turned}
+use Rattle.m11_layout.proofs.BasesPlaced.{apart_before, before_it}
+use Rattle.m11_layout.proofs.Finding.{Apart, apart_distinct}
 use Rattle.m11_link_laws.specs.Places.{LieInOrder, Nothing, Section, Span, lies_from_bottom, relocatable_names, span_of}
 
 abbrev Name : Type 0
 Name = ℕ × ℕ
-
--- ---- names that stand once
-
-none_of : (b c : Bool) → b ≡ false → c ≡ false → (b || c) ≡ false
-none_of true c e f = search
-none_of false c e f = f
-
--- none of the names before one is that one
-apart_before : (done : List Name) (name : Name) (rest : List Name) → Apart is_name (done ++ (name ∷ rest))
-    → list_any (is_name name) done ≡ false
-apart_before [] name rest d = refl
-apart_before (first ∷ done) name rest d =
-    none_of (is_name name first) (list_any (is_name name) done)
-    (turned is_name is_name_same is_name_itself name first (is_name name first) refl
-    (apart_later first done name rest d.0))
-    (apart_before done name rest d.1)
-  where
-    apart_later : (first : Name) (done : List Name) (name : Name) (rest : List Name)
-        → list_any (is_name first) (done ++ (name ∷ rest)) ≡ false → is_name first name ≡ false
-    apart_later first [] name rest e = (neither (is_name first name) (list_any (is_name first) rest) e).0
-    apart_later first (other ∷ done) name rest e =
-        apart_later first done name rest (neither (is_name first other)
-        (list_any (is_name first) (done ++ (name ∷ rest))) e).1
-
-before_it : (done : List Name) (name : Name) (rest : List Name) → list_any (is_name name) done ≡ false
-    → names_before name (done ++ (name ∷ rest)) ≡ done
-before_it [] name rest e =
-    let P : Bool → Type 0 = λ b. (if b then [] else name ∷ names_before name rest) ≡ [] in
-    subst P (sym (is_name_itself name)) refl
-before_it (first ∷ done) name rest e =
-    let n = neither (is_name name first) (list_any (is_name name) done) e in
-    let P : Bool → Type 0 = λ b. (if b then [] else first ∷ names_before name (done ++ (name ∷ rest)))
-    ≡ first ∷ done in
-    subst P (sym n.0) (ap (λ names. first ∷ names) (before_it done name rest n.1))
 
 -- ---- sections, of which some lie from the bottom on, with these sizes
 

@@ -15,6 +15,7 @@ use Rattle.m11_modules.specs.Parts.{Part}
 use Rattle.m11_modules.specs.Places.{distinct, distinct_after, modules_in, section_in, section_names, sections_in}
 use Rattle.m11_layout.specs.Modules.{module_at, modules_before}
 use Rattle.m11_layout.specs.Sections.{base_entered, contribution_base, ends_too_high, first_attributes, greatest, is_overlaid, is_relocatable, is_too_large, module_base, rounded, section_base, section_size, size_under, sizes_of}
+use Rattle.m11_layout.proofs.PlannedBases.{none_high}
 use Rattle.m11_layout.proofs.Finding.{is_name_same, lookup_append}
 use Rattle.m11_layout.proofs.Offsets.{earlier_sizes_more, entered_at, entered_more, reported_where}
 use Rattle.m11_layout.proofs.Sizing.{sizes_more}
@@ -126,21 +127,6 @@ is_section parts index name e =
     (sym (is_some-lookup (is_name name) (filter_map section_in parts))
     ∙ entered_somewhere (lookup (is_name name) (filter_map section_in parts)) (entered_at parts index name)
     (unentered parts index name) e)
-
--- what is true of no name of a list is true of none in it
-none_high : (test : Name → Bool) (names : List Name) (name : Name) → list_any test names ≡ false
-    → list_any (is_name name) names ≡ true → test name ≡ false
-none_high test [] name n t = absurd (true≢false (sym t))
-none_high test (first ∷ names) name n t =
-    by (test first) (is_name name first) refl refl n t (λ m s. none_high test names name m s)
-  where
-    by : (b c : Bool) → test first ≡ b → is_name name first ≡ c → (b || list_any test names) ≡ false
-        → (c || list_any (is_name name) names) ≡ true
-        → (list_any test names ≡ false → list_any (is_name name) names ≡ true → test name ≡ false)
-        → test name ≡ false
-    by true c e f n t h = absurd (true≢false n)
-    by false true e f n t h = ap test (is_name_same name first f) ∙ e
-    by false false e f n t h = h n t
 
 -- ---- a contribution begins within its section
 

@@ -8,6 +8,7 @@ use Rattle.m11_obj.specs.declared.gsd.GsdKind.TheVariants as kind
 use Rattle.m11_obj.specs.declared.relocations.Relocation.{Relocation}
 use Rattle.m11_obj.specs.declared.relocations.Target.{Target}
 use Rattle.m11_obj.specs.declared.relocations.Target.TheVariants as target
+use Rattle.m11_modules.proofs.KnownAfter.{stage_append}
 use Rattle.m11_modules.specs.declared.fault.ModuleFault.{ModuleFault}
 use Rattle.m11_modules.specs.declared.fault.ModuleFault.TheVariants.{BadOrder}
 use Rattle.m11_modules.specs.declared.stage.Stage.{Stage}
@@ -192,14 +193,6 @@ ended (Relocations ∷ parts) e = ended parts e
 ended (Relocated relocation ∷ parts) e = ended parts e
 ended (part ∷ parts) e = refl
 
-stage_append : (stage : Stage) (parts : List Part) (part : Part)
-    → stage_from stage (parts ++ part ∷ []) ≡ stage_from (stage_from stage parts) (part ∷ [])
-stage_append stage [] part = refl
-stage_append stage (Directory ∷ parts) part = stage_append InDirectory parts part
-stage_append stage (EndOfDirectory ∷ parts) part = stage_append InBody parts part
-stage_append stage (EndOfModule ∷ parts) part = stage_append Between parts part
-stage_append stage (part' ∷ parts) part = stage_append stage parts part
-
 stage_moves : (stage : Stage) (part : Part) (parts : List Part)
     → stage_from (stage_from stage (part ∷ [])) parts ≡ stage_from stage (part ∷ parts)
 stage_moves stage Directory parts = refl
@@ -212,7 +205,7 @@ one_more : (before : List Part) (part : Part) (parts : List Part)
     → stage_from (stage_after (before ++ part ∷ [])) parts ≡ stage_from (stage_after before) (part ∷ parts)
 unfolding stage_after
 one_more before part parts =
-    ap (λ stage. stage_from stage parts) (stage_append Between before part)
+    ap (λ stage. stage_from stage parts) (stage_append Between before (part ∷ []))
     ∙ stage_moves (stage_from Between before) part parts
 
 -- ---- the tape
