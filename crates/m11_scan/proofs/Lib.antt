@@ -1,7 +1,6 @@
 pub mod Folding
 mod NestedBrackets
 mod NextPieces
-mod OneMore
 mod OnlyCut
 pub mod OrderedTokens
 mod Packed

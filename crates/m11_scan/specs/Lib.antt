@@ -3,7 +3,6 @@ pub mod Ends
 pub mod Expressions
 pub mod Grammar
 pub mod Letters
-pub mod Lines
 pub mod Names
 pub mod Numbers
 pub mod Pieces

@@ -5,10 +5,10 @@ ghost use Rattle.m11_scan.specs.Cutting.{text_between, tokens_from, tokens_of};
 ghost use Rattle.m11_scan.specs.Lines.{line_limit};
 ghost use Rattle.m11_scan.specs.Views.{lexeme};
 
-use crate::line::{LINE_LIMIT, Line};
 use crate::pieces::first_piece;
 use crate::sort::{Form, Sort};
 use arrayvec::ArrayVec;
+use m11_lines::{LINE_LIMIT, Line};
 
 /// A token of a line.
 #[derive(Clone, Copy, PartialEq, Eq, Debug, Default)]

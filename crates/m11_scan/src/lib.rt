@@ -10,7 +10,6 @@ mod ends;
 mod expressions;
 mod laws;
 mod letters;
-mod line;
 mod names;
 mod numbers;
 mod pieces;
@@ -29,7 +28,7 @@ pub use laws::{
     written_expressions_are_taken_whole,
 };
 pub use letters::Letters;
-pub use line::{LINE_LIMIT, Line};
+pub use m11_lines::{LINE_LIMIT, Line};
 pub use names::{read_name, read_packed};
 pub use numbers::{Number, read_number};
 pub use pieces::Piece;

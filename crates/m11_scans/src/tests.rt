@@ -6,6 +6,7 @@ mod expressions;
 mod lines;
 mod random_lines;
 mod statements;
+mod readers;
 mod terms;
 mod texts;
 mod values;

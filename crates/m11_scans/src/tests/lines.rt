@@ -12,10 +12,7 @@ fn a_line_has_132_characters(rt: HostRuntime) {
         (133, 132, true),
         (200, 132, true),
     ] {
-        let mut line = Line::new();
-        for _ in 0..count {
-            line.push(b'+');
-        }
+        let line = Line::from_bytes(&[b'+'; 200][..count]);
         same(&rt, &count, &line.text().len(), &kept);
         same(&rt, &count, &line.is_over_long(), &is_over_long);
         same(&rt, &count, &tokens(&line).len(), &kept);

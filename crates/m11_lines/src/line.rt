@@ -1,7 +1,7 @@
 //! A line of a source. (MACRO-11 Language Reference Manual, "Source program format".)
 
 ghost use Rattle.std.specs.Prelude.{◌≡◌, ◌≤◌, length};
-ghost use Rattle.m11_scan.specs.Lines.{line_limit, line_of, no_line, with_byte};
+ghost use Rattle.m11_lines.specs.Line.{line_limit, line_of, no_line, with_bytes};
 
 use arrayvec::ArrayVec;
 use std::marker::Model;
@@ -18,7 +18,7 @@ pub struct Line {
 
 impl Model for Line {
     ghost use Rattle.std.specs.Prelude.{◌≤◌, length};
-    ghost use Rattle.m11_scan.specs.Lines.{SourceLine};
+    ghost use Rattle.m11_lines.specs.Line.{SourceLine};
 
     ghost Value = { SourceLine };
 
@@ -39,25 +39,24 @@ impl Line {
     }
 
     /// The line of some characters.
-    #[tactic(auto, using(crate::proofs::OneMore::steps))]
     pub fn from_bytes(bytes: &[u8]) -> Line
         ensures { result ≡ line_of bytes.now }
     {
         let mut line = Line::new();
-        'bytes: for byte in bytes {
-            line.push(*byte);
-        }
+        line.push_all(bytes);
         line
     }
 
-    /// One more character; what is past the limit is dropped.
-    pub fn push(&mut self, byte: u8)
-        ensures { self.new ≡ with_byte self.old byte }
+    /// More characters; those past the limit are dropped.
+    pub fn push_all(&mut self, bytes: &[u8])
+        ensures { self.new ≡ with_bytes self.old bytes.now }
     {
-        if self.bytes.is_full() {
+        let room = LINE_LIMIT - self.bytes.len();
+        if bytes.len() > room {
+            self.bytes.try_extend_from_slice(&bytes[..room]).unwrap();
             self.is_over_long = true;
         } else {
-            self.bytes.push(byte);
+            self.bytes.try_extend_from_slice(bytes).unwrap();
         }
     }
 

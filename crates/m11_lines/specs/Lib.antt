@@ -1,0 +1,5 @@
+pub mod Lines
+pub mod Line
+pub mod OpenLine
+pub mod Sources
+pub mod Reader

@@ -1,0 +1,15 @@
+//! The lines of sources: what a line is, what is kept of it, and the reader that takes lines from feeds one after
+//! another. (MACRO-11 Language Reference Manual, "Source program format".)
+#![tactic(auto)]
+
+mod fault;
+mod laws;
+mod line;
+mod open_line;
+mod reader;
+mod sources;
+
+pub use fault::LineFault;
+pub use laws::lines_of_parts_are_those_of_the_whole;
+pub use line::{LINE_LIMIT, Line};
+pub use reader::LineReader;

@@ -1,0 +1,107 @@
+//! Reads the lines of sources. (MACRO-11 Language Reference Manual, "Source program format".)
+
+ghost use Rattle.std.specs.Prelude.{◌≡◌, Some, None, Err};
+ghost use Rattle.m11_lines.specs.Lines.{most_bytes, most_lines};
+ghost use Rattle.m11_lines.specs.Reader.{fault_of, place, ReadsNext};
+
+use crate::fault::LineFault;
+use crate::line::Line;
+use crate::open_line::OpenLine;
+use crate::sources::{LineEnd, read_source};
+use m11_base::Feed;
+use std::marker::Model;
+
+/// The most bytes that all sources have together.
+const MOST_BYTES: u32 = 4_194_304;
+
+/// The most lines that all sources have together.
+const MOST_LINES: u32 = 65_535;
+
+/// Reads the lines of sources, in order, from their feeds. It takes no memory.
+#[derive(Drop)]
+pub struct LineReader {
+    source: usize,
+    bytes_left: u32,
+    lines_left: u32,
+    fault: Option<LineFault>,
+}
+
+impl Model for LineReader {
+    ghost use Rattle.m11_lines.specs.Reader.{LineReading};
+
+    ghost Value = { LineReading };
+
+    ghost view = { λ reader. record {
+      source = reader.source;
+      bytes_left = reader.bytes_left;
+      lines_left = reader.lines_left;
+      fault = reader.fault;
+    } };
+}
+
+impl LineReader {
+    /// A reader at the start of the first source.
+    pub fn new() -> LineReader
+        ensures { result ≡ record { source = 0; bytes_left = most_bytes; lines_left = most_lines; fault = None } }
+    {
+        LineReader {
+            source: 0,
+            bytes_left: MOST_BYTES,
+            lines_left: MOST_LINES,
+            fault: None,
+        }
+    }
+
+    /// The next line of the sources, or `None` after the end of the last. The feeds have to be those of the calls
+    /// before. A fault is the first one in the order of the bytes; after it each call returns the same and reads
+    /// nothing.
+    pub fn next<F: Feed>(&mut self, feeds: &mut [F]) -> Result<Option<Line>, LineFault>
+        ensures reads { self.old.fault ≡ None
+            → ReadsNext (place F.text F.faults feeds.old self.old) (place F.text F.faults feeds.new self.new) result }
+        ensures failed { (fault : LineFault) → self.old.fault ≡ Some fault
+            → (result ≡ Err fault) × (self.new ≡ self.old) × (feeds.new ≡ feeds.old) }
+        ensures keeps { self.new.fault ≡ fault_of result }
+    {
+        if let Some(fault) = self.fault {
+            return Err(fault);
+        }
+        match self.read_line(feeds) {
+            Ok(answer) => Ok(answer),
+            Err(fault) => {
+                self.fault = Some(fault);
+                Err(fault)
+            }
+        }
+    }
+
+    fn read_line<F: Feed>(&mut self, feeds: &mut [F]) -> Result<Option<Line>, LineFault>
+        ensures reads { ReadsNext (place F.text F.faults feeds.old self.old) (place F.text F.faults feeds.new self.new) result }
+        ensures keeps { self.new.fault ≡ self.old.fault }
+    {
+        let mut line = OpenLine::new();
+        'sources: while self.source < feeds.len() {
+            let may_begin = self.lines_left > 0;
+            match read_source(
+                &mut feeds[self.source],
+                &mut self.bytes_left,
+                may_begin,
+                &mut line,
+            ) {
+                Err(fault) => return Err(fault),
+                Ok(LineEnd::LineFeed) => {
+                    self.lines_left -= 1;
+                    return Ok(Some(line.into_line()));
+                }
+                Ok(LineEnd::SourceEnd) => {
+                    self.source += 1;
+                    if !line.is_unbegun() {
+                        self.lines_left -= 1;
+                        line.keep_return();
+                        return Ok(Some(line.into_line()));
+                    }
+                }
+            }
+        }
+        Ok(None)
+    }
+}
