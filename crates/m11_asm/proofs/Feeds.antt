@@ -7,7 +7,7 @@ use Rattle.m11_base.proofs.FeedsRead as feeds
 use Rattle.m11_asm.specs.declared.fault.AsmFault.{AsmFault}
 use Rattle.m11_asm.specs.declared.fault.AsmFault.TheVariants.{TooMuchSource, NotYet, NoMemory, Read, Write}
 use Rattle.m11_asm.specs.declared.reading.Progress.TheVariants as progress
-use Rattle.m11_asm.specs.Lines.{RawLine, input_of}
+use Rattle.m11_lines.specs.Lines.{RawLine, input_of}
 use Rattle.m11_asm.specs.Held.{Held, Holds, Leads, GoesTo, StopsAt, symbols, FailsAt, FailAt}
 use Rattle.m11_asm.proofs.Joined.{leads_then, goes_then, stops_then, ended_more, stops_more}
 

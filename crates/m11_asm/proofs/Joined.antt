@@ -7,7 +7,7 @@ use Rattle.m11_asm.specs.declared.fault.AsmFault.{AsmFault}
 use Rattle.m11_asm.specs.declared.fault.AsmFault.TheVariants.{TooMuchSource, NotYet, NoMemory, Read, Write}
 use Rattle.m11_asm.specs.declared.reading.Progress.{Progress}
 use Rattle.m11_asm.specs.declared.reading.Progress.TheVariants as progress
-use Rattle.m11_asm.specs.Lines.{RawLine}
+use Rattle.m11_lines.specs.Lines.{RawLine}
 use Rattle.m11_asm.specs.Reading.{SourceReading}
 use Rattle.m11_asm.specs.Held.{Held, Holds, reading_at, Leads, Decides, GoesTo, StopsAt, symbols, FailsAt}
 use Rattle.std.proofs.lemmas.List.{append-nil}

@@ -9,9 +9,8 @@ use Rattle.m11_asm.specs.declared.fault.AsmOutput.TheVariants.{Object, Listing, 
 use Rattle.m11_asm.specs.declared.reading.Progress.{Progress}
 use Rattle.m11_asm.specs.declared.reading.Progress.TheVariants as progress
 use Rattle.m11_asm.specs.declared.run.AsmDone.{AsmDone}
-use Rattle.m11_asm.specs.Lines.{RawLine, Cut, cut, in_front, cleaned, is_empty, input_of}
+use Rattle.m11_lines.specs.Lines.{RawLine, Cut, cut, in_front, cleaned, is_empty, input_of, most_bytes, most_lines, bytes_in, lines_in}
 use Rattle.m11_asm.specs.Reading as reading
-use Rattle.m11_asm.specs.Reading.{most_bytes, most_lines}
 use Rattle.m11_asm.specs.Held.{Held, IsProgram, Holds, reading_at, Leads, Decides, GoesTo, FailAt}
 use Rattle.m11_asm.specs.Outcome as outcome
 use Rattle.m11_asm.specs.Outcome.{writes_of, outcome_of, outcome_of_reading}
@@ -52,17 +51,17 @@ no_turn : (before : List RawLine) (unclosed : List ℕ) (held : Held) → Holds 
     → reading.unclosed_turn before unclosed ≡ reading.GoesOn
 no_turn before unclosed held holds =
     elim (cases_lt 0 (length (cleaned unclosed))) [
-      | inl some ↦ let room : reading.lines_in before + 1
+      | inl some ↦ let room : lines_in before + 1
           ≤ most_lines = omega (arith, holds.program.lines-is, holds.room_for_line some) in
           rw (
-            le-ltb most_bytes (reading.bytes_in before + length unclosed)
+            le-ltb most_bytes (bytes_in before + length unclosed)
                 (omega (arith, holds.bytes-is, holds.few_bytes)),
-            le-ltb most_lines (reading.lines_in before + 1) room,
+            le-ltb most_lines (lines_in before + 1) room,
           )
           (both (not (is_empty (cleaned unclosed))))
       | inr none ↦ let empty : is_empty (cleaned unclosed) ≡ true = not_begun (cleaned unclosed) (omega arith) in
           rw (
-            le-ltb most_bytes (reading.bytes_in before + length unclosed)
+            le-ltb most_bytes (bytes_in before + length unclosed)
                 (omega (arith, holds.bytes-is, holds.few_bytes)),
             empty,
           ) refl
@@ -93,8 +92,8 @@ decided input r h = ap reading.reading_of (sym (append-nil input)) ∙ h []
 pub program_of : (sources : List (List ℕ)) (held : Held) (p : Progress) → GoesTo [] [] (input_of sources) held p
     → (lines : List RawLine) × IsProgram lines held
     × (outcome_of sources
-    ≡ outcome.Writes (writes_of lines (flagged_lines p (reading.lines_in lines)))
-    (length (flagged_lines p (reading.lines_in lines))))
+    ≡ outcome.Writes (writes_of lines (flagged_lines p (lines_in lines)))
+    (length (flagged_lines p (lines_in lines))))
 program_of sources held progress.GoesOn h =
     (h.0, h.3.program, ap outcome_of_reading (undecided (input_of sources) h.0 h.1 held h.2 h.3))
 program_of sources held progress.Ended h =
@@ -129,7 +128,7 @@ module _ {F : Type 0} (text : F → Option Text) (faults : F → ℕ) (feeds fee
       → AsmRuns text faults feeds feeds' old new result
   runs_of sources held p none given goes result h =
       let program = program_of sources held p goes in
-      runs_by program.0 (flagged_lines p (reading.lines_in program.0)) sources none given program.2 result
+      runs_by program.0 (flagged_lines p (lines_in program.0)) sources none given program.2 result
       (h program.0 program.1)
 
   -- what stopped the reading

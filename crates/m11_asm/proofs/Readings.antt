@@ -4,9 +4,9 @@ use Rattle.std.specs.Prelude.{◌==◌}
 use Rattle.std.proofs.lemmas.Bool.{lt-ltb}
 use Rattle.std.proofs.lemmas.List.{length-append}
 use Rattle.m11_asm.specs.declared.fault.AsmFault.TheVariants.{TooMuchSource}
-use Rattle.m11_asm.specs.Lines.{RawLine, Cut, cut, closed_by, in_front, cleaned, as_read, is_empty, is_line, size_of}
-use Rattle.m11_asm.specs.Reading.{Refused, Unended, Turn, Refuses, turn_at, unclosed_turn, reading_from, read_on, bytes_in, lines_in, most_bytes, most_lines}
-use Rattle.m11_asm.specs.Held.{reading_at, HasNoLineFeed}
+use Rattle.m11_lines.specs.Lines.{RawLine, Cut, cut, closed_by, in_front, cleaned, as_read, is_empty, is_line, size_of, HasNoLineFeed, bytes_in, lines_in, most_bytes, most_lines}
+use Rattle.m11_asm.specs.Reading.{Refused, Unended, Turn, Refuses, turn_at, unclosed_turn, reading_from, read_on}
+use Rattle.m11_asm.specs.Held.{reading_at}
 use Rattle.m11_asm.proofs.Texts.{either}
 
 abbrev pub raw : List ℕ → Bool → RawLine

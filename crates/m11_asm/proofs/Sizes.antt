@@ -3,8 +3,7 @@ use Rattle.std.proofs.Common.{◌≡◌, ℕ, ◌+◌, ◌*◌, ◌%◌, ◌≤�
 use Rattle.std.proofs.lemmas.Grind.{flat_map-append}
 use Rattle.std.proofs.lemmas.List.{length-append, append-nil}
 use Rattle.std.proofs.lemmas.List.Sums.{sum_by-append, sum_by-cons}
-use Rattle.m11_asm.specs.Lines.{RawLine, is_line, size_of}
-use Rattle.m11_asm.specs.Reading.{bytes_in, lines_in}
+use Rattle.m11_lines.specs.Lines.{RawLine, is_line, size_of, bytes_in, lines_in}
 use Rattle.m11_asm.specs.Placement.{line_words, words_in, bytes_placed, place_after, greatest_place, section_size}
 
 pub bytes_in-push : (lines : List RawLine) (line : RawLine)

@@ -7,9 +7,9 @@ use Rattle.m11_asm.specs.declared.fault.AsmFault.{AsmFault}
 use Rattle.m11_asm.specs.declared.fault.AsmFault.TheVariants.{TooMuchSource, NotYet, NoMemory, Read, Write}
 use Rattle.m11_asm.specs.declared.reading.Progress.{Progress}
 use Rattle.m11_asm.specs.declared.reading.Progress.TheVariants as progress
-use Rattle.m11_asm.specs.Lines.{RawLine, cut, closed_by, cleaned, as_read, is_empty, is_line, line_text, size_of, without_return}
+use Rattle.m11_lines.specs.Lines.{RawLine, cut, closed_by, cleaned, as_read, is_empty, is_line, line_text, size_of, without_return, bytes_in, lines_in, most_bytes, most_lines}
 use Rattle.m11_asm.specs.Statement.{statement_of, words_of}
-use Rattle.m11_asm.specs.Reading.{Refused, Turn, GoesOn, Ends, Refuses, turn_at, line_turn, read_on, bytes_in, lines_in, most_bytes, most_lines}
+use Rattle.m11_asm.specs.Reading.{Refused, Turn, GoesOn, Ends, Refuses, turn_at, line_turn, read_on}
 use Rattle.m11_asm.specs.Placement.{words_in, line_words, place_after, section_size}
 use Rattle.m11_asm.specs.Held.{Held, Holds, reading_at, Decides, GoesTo, StopsAt, TakesLine, with_line}
 use Rattle.m11_asm.proofs.Readings.{raw, line_ends, byte_goes_on, past_bytes, past_lines, no_line_feed_push, cleaned-nul, cleaned-push}

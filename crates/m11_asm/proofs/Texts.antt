@@ -6,7 +6,7 @@ use Rattle.std.proofs.lemmas.Bool.{cases_lt, lt-ltb, le-ltb}
 use Rattle.std.proofs.lemmas.List.Sums.{prefix_len-le-length}
 use Rattle.std.proofs.lemmas.List.Folds.{length-prefix_len}
 use Rattle.std.proofs.lemmas.List.{drop-drop, length-drop}
-use Rattle.m11_asm.specs.Lines.{is_empty, without_return}
+use Rattle.m11_lines.specs.Lines.{is_empty, without_return}
 use Rattle.m11_base.specs.Mnemonics.{folded, is_name_character}
 use Rattle.m11_asm.specs.Statement.{elements_of, onto_first, is_blank, without_blanks_after, statement_in, directive_of}
 use Rattle.std.proofs.Math.Bool.{and-false}

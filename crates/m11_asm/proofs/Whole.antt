@@ -12,14 +12,13 @@ use Rattle.m11_asm.specs.declared.object.LastText.{LastText}
 use Rattle.m11_asm.specs.declared.object.LastText.TheVariants as last
 use Rattle.m11_asm.specs.declared.reading.Progress.{Progress}
 use Rattle.m11_asm.specs.declared.run.AsmDone.{AsmDone}
-use Rattle.m11_asm.specs.Lines.{RawLine}
+use Rattle.m11_lines.specs.Lines.{RawLine, lines_in}
 use Rattle.m11_asm.specs.Placement.{Piece, line_words, words_in, bytes_placed, place_after, pieces_at, pieces_after, pieces_of, section_size}
 use Rattle.m11_asm.specs.Object.{Placed, head, texts_of, text_contents, without_last, last_alone, has_none, contents_before_end, contents_at_end, content_write, content_writes}
 use Rattle.m11_asm.specs.OpenText.{IsLast, last_contents}
 use Rattle.m11_asm.specs.Messages.{count_line}
 use Rattle.m11_asm.specs.Held.{Held, IsProgram}
 use Rattle.m11_asm.specs.Program.{flagged_lines}
-use Rattle.m11_asm.specs.Reading as reading
 use Rattle.m11_asm.specs.Outcome.{writes_of}
 use Rattle.m11_asm.specs.Outputs.{Outputs, Gains, Stops, StopsIn, Write, assembly, is_output, to_messages}
 use Rattle.m11_writes.proofs.Writing.{gains_then, stops_before, stops_after}
@@ -91,7 +90,7 @@ module _ (lines : List RawLine) (held : Held) (is : IsProgram lines held) where
       (ap (pieces_at 0) f ∙ pieces_are)
 
   pub flagged_are : (progress : Progress) (n : ℕ) → n ≡ held.lines
-      → flagged_lines progress n ≡ flagged_lines progress (reading.lines_in lines)
+      → flagged_lines progress n ≡ flagged_lines progress (lines_in lines)
   flagged_are progress n e = ap (flagged_lines progress) (e ∙ is.lines-is)
 
 -- ---- the four lists of writes

@@ -1,13 +1,13 @@
 -- What the reader of sources holds between two symbols of the input, and what a symbol leads to.
 -- (This project's own.)
-use Rattle.std.specs.Prelude.{◌≡◌, ◌==◌, false, ℕ, ◌+◌, ◌<◌, ◌≤◌, List, [], ◌∷◌, ◌++◌, length, map, Option, Some, None, Result, Ok, Err, MatchResult, ⊤, ◌*◌, ◌%◌, max}
+use Rattle.std.specs.Prelude.{◌≡◌, ℕ, ◌+◌, ◌<◌, ◌≤◌, List, [], ◌∷◌, ◌++◌, length, map, Option, Some, None, Result, Ok, Err, MatchResult, ⊤, ◌*◌, ◌%◌, max}
 use Rattle.m11_asm.specs.declared.fault.AsmFault.{AsmFault}
 use Rattle.m11_asm.specs.declared.fault.AsmFault.TheVariants.{NoMemory, TooMuchSource, NotYet, Read}
 use Rattle.m11_asm.specs.declared.reading.Progress.{Progress}
 use Rattle.m11_asm.specs.declared.reading.Progress.TheVariants.{GoesOn, Ended}
 use Rattle.m11_base.specs.Devices.{Rises}
 use Rattle.m11_base.specs.Feed.{Text, HasBytes, BeginsWith, GiveAll, NoneFailed, OneFailed}
-use Rattle.m11_asm.specs.Lines.{RawLine, cleaned, cut, input_of}
+use Rattle.m11_lines.specs.Lines.{RawLine, cleaned, cut, input_of, HasNoLineFeed, bytes_in, lines_in, most_bytes, most_lines}
 use Rattle.m11_asm.specs.Reading as reading
 use Rattle.m11_asm.specs.Placement.{words_in, section_size}
 use Rattle.m11_asm.specs.Statement.{statement_of, words_of}
@@ -22,22 +22,18 @@ pub record Held : Type 0 where
 
 -- it is that of a program with these lines
 pub record IsProgram (before : List RawLine) (held : Held) : Type 0 where
-  pub lines-is : held.lines ≡ reading.lines_in before
+  pub lines-is : held.lines ≡ lines_in before
   pub words-is : held.words ≡ words_in before
   pub size-is : held.size ≡ section_size before
 
-abbrev pub HasNoLineFeed : List ℕ → Type 0
-HasNoLineFeed [] = ⊤
-HasNoLineFeed (byte ∷ bytes) = ((byte == 10) ≡ false) × HasNoLineFeed bytes
-
 -- it stands after these lines and these bytes of one more, and no limit has been passed
 pub record Holds (before : List RawLine) (unclosed : List ℕ) (held : Held) : Type 0 where
-  pub bytes-is : held.bytes ≡ reading.bytes_in before + length unclosed
+  pub bytes-is : held.bytes ≡ bytes_in before + length unclosed
   pub line-is : held.line ≡ cleaned unclosed
   pub in_line : HasNoLineFeed unclosed
-  pub few_bytes : held.bytes ≤ reading.most_bytes
-  pub few_lines : held.lines ≤ reading.most_lines
-  pub room_for_line : 0 < length (cleaned unclosed) → held.lines < reading.most_lines
+  pub few_bytes : held.bytes ≤ most_bytes
+  pub few_lines : held.lines ≤ most_lines
+  pub room_for_line : 0 < length (cleaned unclosed) → held.lines < most_lines
   pub program : IsProgram before held
 
 -- the reading of an input after lines and bytes of one more

@@ -1,6 +1,5 @@
 pub mod Fault
 pub mod Held
-pub mod Lines
 pub mod Messages
 pub mod Object
 pub mod OpenText

@@ -10,7 +10,7 @@ use Rattle.m11_obj.specs.declared.relocations.Target.TheVariants.{LocationCounte
 use Rattle.m11_blocks.specs.Frames.{word_bytes, block}
 use Rattle.m11_obj.specs.Names.{absolute_name, name_in_words}
 use Rattle.m11_obj.specs.Records.{Content, Gsd, EndOfGsd, Text, Relocations, EndOfModule, record_data}
-use Rattle.m11_asm.specs.Lines.{RawLine}
+use Rattle.m11_lines.specs.Lines.{RawLine}
 use Rattle.m11_asm.specs.Outputs.{Write, to_object}
 use Rattle.m11_asm.specs.Placement.{Piece, pieces_of, section_size}
 

@@ -2,7 +2,7 @@
 -- own. A source without `.END` has an empty line added, which is flagged E.)
 use Rattle.std.specs.Prelude.{ℕ, List, [], ◌∷◌, ◌++◌, length, map, codes}
 use Rattle.m11_asm.specs.declared.fault.AsmFault.{AsmFault}
-use Rattle.m11_asm.specs.Lines.{RawLine, input_of}
+use Rattle.m11_lines.specs.Lines.{RawLine, input_of, lines_in}
 use Rattle.m11_asm.specs.Reading as reading
 use Rattle.m11_asm.specs.Object.{contents_before_end, contents_at_end, content_writes}
 use Rattle.m11_asm.specs.Messages.{flagged_line, count_line}
@@ -19,7 +19,7 @@ writes_of lines flagged = content_writes (contents_before_end lines) ++ map to_m
     ++ content_writes (contents_at_end lines) ++ to_messages (count_line (length flagged)) ∷ []
 
 abbrev pub missing_end : List RawLine → List ℕ
-missing_end lines = flagged_line (codes "E") (reading.lines_in lines) []
+missing_end lines = flagged_line (codes "E") (lines_in lines) []
 
 abbrev pub outcome_of_reading : reading.SourceReading → Outcome
 outcome_of_reading (reading.Refused fault) = Refuses fault

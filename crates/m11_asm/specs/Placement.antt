@@ -3,7 +3,7 @@
 -- of its counter after a line, is this project's own.)
 use Rattle.std.specs.Prelude.{ℕ, ◌+◌, ◌*◌, ◌%◌, max, List, [], ◌∷◌, ◌++◌, length, sum_by}
 use Rattle.std.specs.List.{flat_map}
-use Rattle.m11_asm.specs.Lines.{RawLine, line_text}
+use Rattle.m11_lines.specs.Lines.{RawLine, line_text}
 use Rattle.m11_asm.specs.Statement.{statement_of, words_of}
 
 -- the words of a line, and of lines

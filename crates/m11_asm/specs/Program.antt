@@ -4,8 +4,7 @@ use Rattle.m11_asm.specs.declared.fault.AsmFault.{AsmFault}
 use Rattle.m11_asm.specs.declared.reading.Progress.{Progress}
 use Rattle.m11_asm.specs.declared.reading.Progress.TheVariants.{GoesOn, Ended}
 use Rattle.m11_asm.specs.declared.run.AsmDone.{AsmDone}
-use Rattle.m11_asm.specs.Lines.{RawLine}
-use Rattle.m11_asm.specs.Reading as reading
+use Rattle.m11_lines.specs.Lines.{RawLine, lines_in}
 use Rattle.m11_asm.specs.Messages.{flagged_line}
 use Rattle.m11_asm.specs.Held.{Held, IsProgram}
 use Rattle.m11_asm.specs.Outcome.{writes_of}
@@ -20,6 +19,6 @@ flagged_lines Ended lines = []
 abbrev pub WritesProgram : Outputs → Outputs → Held → Progress → Result AsmDone AsmFault → Type 0
 WritesProgram old new held progress result = (lines : List RawLine) → IsProgram lines held
     → MatchResult result
-    (λ done. (done.flagged ≡ length (flagged_lines progress (reading.lines_in lines)))
-    × Gains old new (writes_of lines (flagged_lines progress (reading.lines_in lines))))
-    (Stops old new (writes_of lines (flagged_lines progress (reading.lines_in lines))))
+    (λ done. (done.flagged ≡ length (flagged_lines progress (lines_in lines)))
+    × Gains old new (writes_of lines (flagged_lines progress (lines_in lines))))
+    (Stops old new (writes_of lines (flagged_lines progress (lines_in lines))))

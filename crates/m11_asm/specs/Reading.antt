@@ -1,28 +1,15 @@
 -- What the lines of sources yield: a program, or the first refusal in the order of the input.
 -- (The limits, and what is refused because it is not assembled yet, are this project's own; that
 -- `.END` ends a program is the MACRO-11 Language Reference Manual's ".END directive".)
-use Rattle.std.specs.Prelude.{ℕ, ◌+◌, not, ◌&&◌, nat_lt, if◌then◌else◌, List, [], ◌∷◌, ◌++◌, length, sum_by, count_by, Option}
+use Rattle.std.specs.Prelude.{ℕ, ◌+◌, not, ◌&&◌, nat_lt, if◌then◌else◌, List, [], ◌∷◌, ◌++◌, length, Option}
 use Rattle.m11_asm.specs.declared.fault.AsmFault.{AsmFault}
 use Rattle.m11_asm.specs.declared.fault.AsmFault.TheVariants.{TooMuchSource, NotYet}
-use Rattle.m11_asm.specs.Lines.{RawLine, cleaned, is_empty, is_line, line_text, size_of, cut}
+use Rattle.m11_lines.specs.Lines.{RawLine, cleaned, is_empty, is_line, line_text, size_of, cut, bytes_in, lines_in, most_bytes, most_lines}
 use Rattle.m11_asm.specs.Statement.{Statement, Blank, Words, End, Other, statement_of}
 
--- the most bytes of all sources together, the most lines, the most characters of a line
-abbrev pub most_bytes : ℕ
-most_bytes = 4194304
-
-abbrev pub most_lines : ℕ
-most_lines = 65535
-
+-- the most characters of a line
 abbrev pub most_characters : ℕ
 most_characters = 132
-
--- the bytes and the lines before a place
-abbrev pub bytes_in : List RawLine → ℕ
-bytes_in lines = sum_by size_of lines
-
-abbrev pub lines_in : List RawLine → ℕ
-lines_in lines = count_by is_line lines
 
 -- what one line does to the reading: it goes on, ends, or is refused
 pub data Turn : Type 0 where

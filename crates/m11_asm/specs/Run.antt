@@ -5,7 +5,7 @@ use Rattle.m11_asm.specs.declared.fault.AsmFault.{AsmFault}
 use Rattle.m11_asm.specs.declared.fault.AsmFault.TheVariants.{Read, Write, NoMemory}
 use Rattle.m11_asm.specs.declared.fault.AsmOutput.TheVariants.{Listing}
 use Rattle.m11_asm.specs.declared.run.AsmDone.{AsmDone}
-use Rattle.m11_asm.specs.Lines.{RawLine, input_of}
+use Rattle.m11_lines.specs.Lines.{RawLine, input_of}
 use Rattle.m11_asm.specs.Reading as reading
 use Rattle.m11_asm.specs.Outcome as outcome
 use Rattle.m11_asm.specs.Outputs as writes

@@ -1,7 +1,7 @@
 //! Takes sources symbol by symbol: into a program, or to their first refusal.
 
 ghost use Rattle.std.specs.Prelude.{◌≡◌, ◌∷◌, [], Some, None, ◌<◌, ◌≤◌, vec_len, take};
-ghost use Rattle.m11_asm.specs.Lines.{as_read, without_return};
+ghost use Rattle.m11_lines.specs.Lines.{as_read, without_return};
 ghost use Rattle.m11_asm.specs.Held.{HeldTakes, TakesLine};
 
 use crate::fault::AsmFault;

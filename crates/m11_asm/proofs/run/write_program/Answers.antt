@@ -1,9 +1,9 @@
 use Rattle.std.proofs.Common.{[], ◌∷◌, ◌∙◌, ap, length, map}
 use Rattle.m11_writes.specs.Outputs.{output_of}
 use Rattle.m11_asm.specs.Messages.{count_line}
+use Rattle.m11_lines.specs.Lines.{lines_in}
 use Rattle.m11_asm.specs.Outputs.{to_messages}
 use Rattle.m11_asm.specs.Program.{flagged_lines}
-use Rattle.m11_asm.specs.Reading.{lines_in}
 use Rattle.m11_asm.specs.ReaderView.{held_of}
 use Rattle.m11_asm.proofs.Whole.{front_is, flagged_are, end_is, stops_in_front, stops_in_flagged, stops_in_end, stops_in_count, all_written}
 use Rattle.m11_asm.proofs.Writing.{gained_as, stopped_as}

@@ -1,5 +1,5 @@
 use Rattle.std.proofs.Common.{◌≡◌, ℕ, List, map, Some}
-use Rattle.m11_asm.specs.Lines.{RawLine}
+use Rattle.m11_lines.specs.Lines.{RawLine}
 use Rattle.m11_asm.specs.Held.{Holds, Leads}
 use Rattle.m11_asm.specs.ReaderView.{held_of}
 use Rattle.m11_asm.proofs.Joined.{Gave}
