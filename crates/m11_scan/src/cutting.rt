@@ -2,7 +2,7 @@
 
 ghost use Rattle.std.specs.Prelude.{◌≡◌, ◌<◌, ◌≤◌, [], ◌∷◌, length, map, IfSome, MatchOption};
 ghost use Rattle.m11_scan.specs.Cutting.{text_between, tokens_from, tokens_of};
-ghost use Rattle.m11_scan.specs.Lines.{line_limit};
+ghost use Rattle.m11_lines.specs.Line.{line_limit};
 ghost use Rattle.m11_scan.specs.Views.{lexeme};
 
 use crate::pieces::first_piece;

@@ -2,11 +2,11 @@
 
 ghost use Rattle.std.specs.Prelude.{◌≡◌, ◌≤◌, length};
 ghost use Rattle.m11_scan.specs.Ends.{expression_end};
-ghost use Rattle.m11_scan.specs.Lines.{line_limit};
+ghost use Rattle.m11_lines.specs.Line.{line_limit};
 
 use crate::cutting::next_token;
 use crate::expressions::{Within, goes_on, role_of};
-use crate::line::Line;
+use m11_lines::Line;
 
 /// The place after the expression that begins at a place of a line, or that place where no token of an expression stands there.
 pub fn expression_end(line: &Line, place: usize) -> usize

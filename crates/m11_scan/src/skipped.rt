@@ -3,9 +3,9 @@
 ghost use Rattle.std.specs.Prelude.{◌≡◌, ◌≤◌, length};
 ghost use Rattle.m11_scan.specs.Skipped.{has_skipped, is_skipped, skipped_between};
 
-use crate::line::Line;
 use crate::pieces::first_piece;
 use crate::sort::Form;
+use m11_lines::Line;
 
 /// Whether some character between two places of a line begins no token, and is part of none. Such a character is skipped, and
 /// its line has I.

@@ -4,7 +4,7 @@ use Rattle.std.specs.List.{list_any}
 use Rattle.std.specs.Int.RustNames.{bit_or}
 use Rattle.m11_scan.specs.Cutting.{tokens_from}
 use Rattle.m11_scan.specs.Letters.{letter_A, letter_I, letter_L}
-use Rattle.m11_scan.specs.Lines.{SourceLine}
+use Rattle.m11_lines.specs.Line.{SourceLine}
 use Rattle.m11_scan.specs.Skipped.{skipped_between}
 use Rattle.m11_statements.specs.Bodies.{body_in, reach}
 use Rattle.m11_statements.specs.Labels.{labels_at, labels_end}

@@ -2,7 +2,7 @@
 
 ghost use Rattle.std.specs.Prelude.{◌≡◌, ◌+◌, ◌≤◌, [], ◌∷◌, length, IfSome, MatchOption};
 ghost use Rattle.m11_scan.specs.Cutting.{tokens_from};
-ghost use Rattle.m11_scan.specs.Lines.{line_limit};
+ghost use Rattle.m11_lines.specs.Line.{line_limit};
 ghost use Rattle.m11_scan.specs.Views.{lexeme};
 ghost use Rattle.m11_statements.specs.Labels as spec;
 

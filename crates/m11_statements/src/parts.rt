@@ -2,7 +2,7 @@
 
 ghost use Rattle.std.specs.Prelude.{◌≡◌, ◌+◌, ◌<◌, ◌≤◌, length, true, IfSome};
 ghost use Rattle.std.specs.List.{prefix_len};
-ghost use Rattle.m11_scan.specs.Lines.{line_limit};
+ghost use Rattle.m11_lines.specs.Line.{line_limit};
 ghost use Rattle.m11_scan.specs.Views.{bits_of};
 ghost use Rattle.m11_statements.specs.Parts as spec;
 

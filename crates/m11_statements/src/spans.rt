@@ -1,7 +1,7 @@
 //! Places in a line.
 
 ghost use Rattle.std.specs.Prelude.{◌≡◌, ◌+◌, ◌≤◌, drop, length};
-ghost use Rattle.m11_scan.specs.Lines.{line_limit};
+ghost use Rattle.m11_lines.specs.Line.{line_limit};
 ghost use Rattle.m11_scan.specs.Cutting.{text_between};
 
 use m11_scan::Line;
