@@ -142,8 +142,9 @@ fn plain_length(bytes: &[u8]) -> usize
     bytes.len()
 }
 
+// Most bytes are past those that aren't kept, and need one comparison.
 fn is_plain(byte: u8) -> bool
     ensures { result ≡ is_plain byte }
 {
-    !matches!(byte, 0 | b'\n' | 0x0c | b'\r')
+    byte > b'\r' || !matches!(byte, 0 | b'\n' | 0x0c | b'\r')
 }
