@@ -21,6 +21,5 @@ pub use laws::{
 };
 pub use m11_scan::Radix;
 pub use names::{Names, Symbol};
-pub use operators::Operator;
 pub use symbols::next_symbol;
 pub use values::Value;

@@ -155,13 +155,15 @@ static OPERATORS: [Row; 24] = [
     (".+2", 0o102, From::First, ""),
 ];
 
-static BRACKETS: [Row; 12] = [
+static BRACKETS: [Row; 14] = [
     ("1+<2*3>", 7, From::Zero, ""),
     ("<1+2>*3", 9, From::Zero, ""),
     ("<<A>>+1", 9, From::First, ""),
     ("-<1+2>", 0o177775, From::Zero, ""),
     ("<1+<2", 3, From::Zero, "Q"),
     ("<5", 5, From::Zero, "Q"),
+    ("<<5>", 5, From::Zero, "Q"),
+    ("<1+<2>", 3, From::Zero, "Q"),
     ("<>", 0, From::Zero, "Q"),
     ("1+", 1, From::Zero, "Q"),
     ("*5", 0, From::Zero, "Q"),
