@@ -22,8 +22,8 @@ pub struct Split {
     pub(crate) operator: Operator,
 }
 
-/// The value of the expression that tokens of a line begin with, and the tokens after it. A term may be missing, and so may a `>`; both
-/// are flagged. That tokens are left over isn't.
+/// The value of the expression that tokens of a line begin with, and the tokens after it. A term may be missing, and so
+/// may a `>`; both are flagged. Tokens that are left over aren't.
 pub fn value<'a, N: Names>(tokens: &'a [Token], line: &Line, names: &N) -> (Value, &'a [Token])
     ensures value { quantity result.0
         ≡ value_of (N.base names.now) (items_of (N.stands_for names.now) line.now.text (expression_tokens tokens.now)) }

@@ -31,7 +31,8 @@ pub fn operators_apply_from_left_to_right()
         → value_of radix (first ∷ written steps) ≡ left_fold radix (atom_value radix first.atom) steps }
 {}
 
-/// Brackets round an expression of which nothing is left over, and whose own brackets are closed, make a term of its value and its letters.
+/// Brackets round an expression of which nothing is left over, and whose own brackets are closed, make a term of its
+/// value and its letters.
 #[tactic(auto, using(crate::proofs::Groups::bracketed_value))]
 pub fn brackets_keep_the_value()
     ensures { (radix : Radix) (less greater : Item) (items : List Item) → less.sort ≡ Less → greater.sort ≡ Greater
