@@ -50,7 +50,7 @@ impl Part {
 }
 
 /// The parts that stand one after the other.
-#[derive(Drop, Debug)]
+#[derive(Drop)]
 pub struct Parts {
     /// The parts, in order.
     pub list: ArrayVec<Part, PART_LIMIT>,

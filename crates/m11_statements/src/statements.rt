@@ -9,7 +9,7 @@ use m11_scan::Letters;
 pub const LABEL_LIMIT: usize = 66;
 
 /// What a line says. It names places of the line that it was read from.
-#[derive(Drop, Debug)]
+#[derive(Drop)]
 pub struct Statement {
     /// The labels, in order.
     pub labels: ArrayVec<Label, LABEL_LIMIT>,
