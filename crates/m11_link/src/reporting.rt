@@ -124,9 +124,13 @@ impl Reporter {
             (outputs (output_of S.Sink tape.new) map messages)
             (held_writes self.old.held) self.new (with_held None self.old) result }
     {
-        self.put_held(tape)?;
-        self.held = None;
-        Ok(())
+        match self.put_held(tape) {
+            Ok(()) => {
+                self.held = None;
+                Ok(())
+            }
+            Err(fault) => Err(fault),
+        }
     }
 
     // The text that is held, as a block of the tape.
