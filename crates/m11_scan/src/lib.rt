@@ -1,4 +1,4 @@
-//! What one line of a source says: its tokens, its numbers and names, and the letters that flag it. No symbol has a
+//! What one line of a source is cut into: its tokens, its numbers and names, and the letters that flag it. No symbol has a
 //! value here, and nothing takes memory. (MACRO-11 Language Reference Manual, "Source program format" and "Symbols and
 //! expressions".)
 #![tactic(auto)]

@@ -11,7 +11,7 @@ use arrayvec::ArrayVec;
 use m11_scan::{Enclosed, Letters, Line, Sort, delimited, expression_end, next_token};
 
 /// The most parts of a line: each has two characters or more, but for the last one, which may lack its end.
-pub const PART_LIMIT: usize = 67;
+pub const PART_LIMIT: usize = 66;
 
 /// How a part is written.
 #[derive(Clone, Copy, PartialEq, Eq, Debug, Default)]
