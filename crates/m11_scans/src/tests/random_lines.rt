@@ -21,7 +21,7 @@ fn random_line(seed: u64, length: u8) -> Line {
     let mut number = seed;
     for _ in 0..length {
         number = next_number(number);
-        line.push(CHARACTERS[(number >> 59) as usize]);
+        line.push_all(&[CHARACTERS[(number >> 59) as usize]]);
     }
     line
 }
