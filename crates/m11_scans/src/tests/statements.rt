@@ -2,7 +2,7 @@
 
 use super::same;
 use m11_base::Name;
-use m11_scan::Line;
+use m11_scan::{Line, skipped_between};
 use m11_statements::{Body, Label, LabelKind, Operators, Statement, statement};
 use std::process::Abort;
 
@@ -463,5 +463,28 @@ fn a_line_over_132_characters_has_l(rt: HostRuntime) {
         let line = Line::from_bytes(&blanks[..length]);
         let found = statement(&line, &Known::new());
         same(&rt, &length, &found.label_letters.text().len(), &letters);
+    }
+}
+
+// A line, a place up to which its directive took what it takes, and whether a character after it begins no token.
+static LEFT_OVER: [(&str, usize, bool); 9] = [
+    (".RADIX 16 ?", 9, true),
+    (".REPT ?", 5, true),
+    (".PSECT 5 ?", 6, true),
+    (".EVEN ?", 5, true),
+    (".WORD 1?2", 7, true),
+    (".ASCII /?/", 10, false),
+    (".IF IDN ?,?", 11, false),
+    (".EVEN ;?", 5, false),
+    (".WORD '? ", 5, false),
+];
+
+#[test]
+fn what_is_left_over_may_have_skipped_characters(rt: HostRuntime) {
+    for (text, place, is_skipped) in &LEFT_OVER {
+        let line = Line::from_bytes(text.as_bytes());
+        let end = line.text().len();
+        let found = *place <= end && skipped_between(&line, *place, end);
+        same(&rt, text, &found, is_skipped);
     }
 }
