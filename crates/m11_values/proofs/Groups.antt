@@ -1,8 +1,8 @@
--- The value of an expression in brackets.
+-- The value in brackets of an expression whose own brackets are closed.
 use Rattle.std.proofs.Common.{◌≡◌, ℕ, zero, suc, ◌+◌, ◌-◌, Bool, true, false, List, [], ◌∷◌, ◌++◌, length, take, Option, Some, None, nat_lt, refl, sym, ap, ◌∙◌, arith, eqb, if◌then◌else◌}
 use Rattle.std.proofs.lemmas.List.{length-append}
 use Rattle.std.proofs.lemmas.Bool.{ne_eqb, lt-ltb}
-use Rattle.m11_scan.specs.Expressions.{begin, count_from, goes_on, role_of, taken}
+use Rattle.m11_scan.specs.Expressions.{begin, count_from, expression_length, goes_on, role_of, taken}
 use Rattle.m11_scan.specs.declared.expressions.Role.{Role}
 use Rattle.m11_scan.specs.declared.expressions.Role.TheVariants.{Term, Prefix, Sign, Operator, Opens, Closes, Foreign}
 use Rattle.m11_scan.specs.declared.expressions.Within.{Within}
@@ -11,7 +11,7 @@ use Rattle.m11_scan.specs.declared.sort.Sort.{Sort}
 use Rattle.m11_scan.specs.declared.sort.Sort.TheVariants.{Less, Greater}
 use Rattle.m11_values.specs.declared.expressions.Split.{Split}
 use Rattle.m11_values.specs.declared.prefixes.Prefix.TheVariants.{Bracket}
-use Rattle.m11_values.specs.Laws.{IsWhole, place_after}
+use Rattle.m11_values.specs.Laws.{place_after}
 use Rattle.m11_values.specs.Places.{after, last_operator, later, operator_at, operator_of}
 use Rattle.m11_values.specs.Prefixes.{applied, bracket_length, depth_after, one_more, prefix_of}
 use Rattle.m11_values.specs.Terms.{Item}
@@ -19,14 +19,14 @@ use Rattle.m11_values.specs.Values.{sorts_of, split_value, term_value, value_of}
 use Rattle.m11_values.proofs.Parts.{value_by_parts}
 use Rattle.m11_values.proofs.Folds.{front_is, size_of, sorts-append}
 
-abbrev at : ℕ → Bool → Within
+abbrev pub at : ℕ → Bool → Within
 at depth due = record { depth = depth; is_due = due }
 
 -- a place in one bracket more
-abbrev deeper : Within → Within
+abbrev pub deeper : Within → Within
 deeper place = at (suc place.depth) place.is_due
 
-not_zero : (depth : ℕ) → eqb (suc depth) 0 ≡ false
+pub not_zero : (depth : ℕ) → eqb (suc depth) 0 ≡ false
 not_zero depth = ne_eqb (suc depth) 0 (λ e. omega arith)
 
 -- where an expression goes on, no outer bracket is closed, and it goes on after that token
@@ -45,7 +45,7 @@ close_goes depth due count more h =
       rest = omega arith;
     }
 
-goes : (role : Role) (depth : ℕ) (due : Bool) (count : Within → ℕ) (more : ℕ)
+pub goes : (role : Role) (depth : ℕ) (due : Bool) (count : Within → ℕ) (more : ℕ)
     → count_from (goes_on role (at depth due)) count ≡ suc more → Goes role (at depth due) count more
 goes Term depth true count more h = record { stays = refl; rest = omega arith }
 goes Term depth false count more h = absurd (omega arith)
@@ -60,7 +60,7 @@ goes Closes (suc depth) due count more h = close_goes depth due count more h
 goes Foreign depth due count more h = absurd (omega arith)
 
 -- in one bracket more it goes the same way
-at_depth : (a b : ℕ) (due : Bool) → a ≡ b → at a due ≡ at b due
+pub at_depth : (a b : ℕ) (due : Bool) → a ≡ b → at a due ≡ at b due
 at_depth a b due e = ap (λ (n : ℕ). at n due) e
 
 deeper_after : (role : Role) (depth : ℕ) (due : Bool) → depth_after role depth ≡ Some (after role (at depth due)).depth
@@ -89,7 +89,7 @@ none_inside place (sort ∷ sorts) rest whole none =
     (deeper_after (role_of sort) place.depth place.is_due g.stays)
     ∙ ap (λ (m : Option Split). later None m) (none_inside (after (role_of sort) place) sorts rest g.rest none)
 
-length_inside : (place : Within) (sorts rest : List Sort) → taken sorts place ≡ length sorts
+pub length_inside : (place : Within) (sorts rest : List Sort) → taken sorts place ≡ length sorts
     → bracket_length place.depth (sorts ++ rest) ≡ length sorts + bracket_length (place_after place sorts).depth rest
 length_inside place [] rest whole = omega arith
 length_inside place (sort ∷ sorts) rest whole =
@@ -102,14 +102,14 @@ one_token : (greater : Sort) (place : Within) → greater ≡ Greater → last_o
 one_token greater place is = ap (λ h. later h None) (no_operator_in greater place)
 
 module _ (radix : Radix) (less greater : Item) (items : List Item) (opens : less.sort ≡ Less) (closes : greater.sort ≡ Greater)
-    (whole : IsWhole items) where
-  is_taken : taken (sorts_of items) begin ≡ length (sorts_of items)
-  is_taken = whole.taken ∙ sym (size_of items)
+    (whole : expression_length (sorts_of items) ≡ length items) where
+  pub is_taken : taken (sorts_of items) begin ≡ length (sorts_of items)
+  is_taken = whole ∙ sym (size_of items)
 
-  sorts_are : sorts_of (items ++ greater ∷ []) ≡ sorts_of items ++ greater.sort ∷ []
+  pub sorts_are : sorts_of (items ++ greater ∷ []) ≡ sorts_of items ++ greater.sort ∷ []
   sorts_are = sorts-append items (greater ∷ [])
 
-  none_outside : last_operator begin (less.sort ∷ sorts_of (items ++ greater ∷ [])) ≡ None
+  pub none_outside : last_operator begin (less.sort ∷ sorts_of (items ++ greater ∷ [])) ≡ None
   none_outside =
       ap (λ (s : Sort). last_operator begin (s ∷ sorts_of (items ++ greater ∷ []))) opens
       ∙ ap (λ (s : List Sort). later None (last_operator (deeper begin) s)) sorts_are
@@ -117,11 +117,11 @@ module _ (radix : Radix) (less greater : Item) (items : List Item) (opens : less
       (none_inside begin (sorts_of items) (greater.sort ∷ []) is_taken
       (one_token greater.sort (place_after begin (sorts_of items)) closes))
 
-  reaches : bracket_length 0 (sorts_of (items ++ greater ∷ [])) ≡ length items
-  reaches =
+  reaches : (place_after begin (sorts_of items)).depth ≡ 0 → bracket_length 0 (sorts_of (items ++ greater ∷ [])) ≡ length items
+  reaches closed =
       let last : bracket_length (place_after begin (sorts_of items)).depth (greater.sort ∷ []) ≡ 0 =
       ap (λ (s : Sort). bracket_length (place_after begin (sorts_of items)).depth (s ∷ [])) closes
-      ∙ ap (λ (d : ℕ). bracket_length d (Greater ∷ [])) whole.closed in
+      ∙ ap (λ (d : ℕ). bracket_length d (Greater ∷ [])) closed in
       let size = size_of items in
       let all = length_inside begin (sorts_of items) (greater.sort ∷ []) is_taken in
       ap (λ (s : List Sort). bracket_length 0 s) sorts_are ∙ omega arith
@@ -131,12 +131,13 @@ module _ (radix : Radix) (less greater : Item) (items : List Item) (opens : less
       let size = length-append items (greater ∷ []) in
       lt-ltb (length items) (length (items ++ greater ∷ [])) (omega arith)
 
-  pub bracketed_value : value_of radix (less ∷ (items ++ greater ∷ [])) ≡ value_of radix items
-  bracketed_value =
+  pub closed_value : (place_after begin (sorts_of items)).depth ≡ 0
+      → value_of radix (less ∷ (items ++ greater ∷ [])) ≡ value_of radix items
+  closed_value closed =
       value_by_parts radix (less ∷ (items ++ greater ∷ []))
       ∙ ap (λ (s : Option Split). split_value value_of radix (less ∷ (items ++ greater ∷ [])) s) none_outside
       ∙ ap (λ (s : Sort). term_value value_of radix less (items ++ greater ∷ []) (prefix_of s)) opens
       ∙ ap (λ (n : ℕ). applied Bracket (nat_lt n (length (items ++ greater ∷ []))) (value_of radix (take n (items ++ greater ∷ []))))
-      reaches
+      (reaches closed)
       ∙ ap (λ (b : Bool). applied Bracket b (value_of radix (take (length items) (items ++ greater ∷ [])))) is_closed
       ∙ ap (λ (l : List Item). value_of radix l) (front_is items (greater ∷ []))

@@ -2,7 +2,9 @@ mod Cases
 mod Exits
 mod FirstOperators
 mod Folds
+mod FurtherLetters
 mod Groups
 mod LastOperators
 mod Meanings
+mod OpenBrackets
 mod Parts

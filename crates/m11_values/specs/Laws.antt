@@ -1,7 +1,6 @@
--- What is meant by an operator between two parts of an expression, by terms of one token with operators between them, by an
--- expression in brackets, by the symbols of an expression, and by tokens that differ in case alone.
-use Rattle.std.specs.Prelude.{◌≡◌, false, List, [], ◌∷◌, length, Some, None}
-use Rattle.m11_scan.specs.Expressions.{begin, expression_length, role_of}
+-- What is meant by an operator between two parts of an expression, and by terms of one token with operators between them.
+use Rattle.std.specs.Prelude.{◌≡◌, false, List, [], ◌∷◌, Some, None}
+use Rattle.m11_scan.specs.Expressions.{begin, role_of}
 use Rattle.m11_scan.specs.declared.expressions.Role.TheVariants.{Term}
 use Rattle.m11_scan.specs.declared.expressions.Within.{Within}
 use Rattle.m11_scan.specs.declared.radix.Radix.{Radix}
@@ -48,8 +47,3 @@ abbrev pub left_fold : Radix → Quantity → List Step → Quantity
 left_fold radix value [] = value
 left_fold radix value (step ∷ steps) =
     left_fold radix (combined step.operator value (atom_value radix step.term.atom)) steps
-
--- nothing of some tokens is left over after the expression that they begin with, and each bracket is closed
-pub record IsWhole (items : List Item) : Type 0 where
-  pub taken : expression_length (sorts_of items) ≡ length items
-  pub closed : (place_after begin (sorts_of items)).depth ≡ 0

@@ -1,20 +1,20 @@
 //! Laws of the values of expressions. Each is the contract of a function that does nothing.
 
-ghost use Rattle.std.specs.Prelude.{◌≡◌, ◌∷◌, ◌++◌, [], ℕ, List, map};
+ghost use Rattle.std.specs.Prelude.{◌≡◌, ◌∷◌, ◌++◌, [], ℕ, List, length, map};
 ghost use Rattle.m11_scan.specs.Cutting.{Lexeme};
-ghost use Rattle.m11_scan.specs.Expressions.{role_of};
+ghost use Rattle.m11_scan.specs.Expressions.{expression_length, role_of};
 ghost use Rattle.m11_scan.specs.declared.expressions.Role.TheVariants.{Term};
 ghost use Rattle.m11_scan.specs.declared.radix.Radix.{Radix};
 ghost use Rattle.m11_scan.specs.declared.sort.Sort.TheVariants.{Greater, Less};
 ghost use Rattle.m11_values.specs.declared.operators.Operator.{Operator};
-ghost use Rattle.m11_values.specs.Laws.{AreSteps, IsOperator, IsTerm, IsWhole, Step, left_fold, written};
+ghost use Rattle.m11_values.specs.Laws.{AreSteps, IsOperator, IsTerm, Step, left_fold, written};
 ghost use Rattle.m11_values.specs.Operations.{combined};
 ghost use Rattle.m11_scan.specs.declared.cutting.Token.{Token};
 ghost use Rattle.m11_values.specs.declared.names.Symbol.{Symbol};
 ghost use Rattle.m11_values.specs.Quantities.{Quantity};
 ghost use Rattle.m11_values.specs.Symbols.{AgreeOn, AreSame, symbols_of};
 ghost use Rattle.m11_values.specs.Terms.{Item, atom_value, item};
-ghost use Rattle.m11_values.specs.Values.{items_of, value_of};
+ghost use Rattle.m11_values.specs.Values.{items_of, sorts_of, value_of};
 
 /// An operator outside brackets with one term after it joins the values of what stands before it and of that term.
 #[tactic(auto, using(crate::proofs::Folds::joined_value))]
@@ -31,12 +31,13 @@ pub fn operators_apply_from_left_to_right()
         → value_of radix (first ∷ written steps) ≡ left_fold radix (atom_value radix first.atom) steps }
 {}
 
-/// Brackets round an expression of which nothing is left over, and whose own brackets are closed, make a term of its
-/// value and its letters.
-#[tactic(auto, using(crate::proofs::Groups::bracketed_value))]
+/// Brackets round an expression of which nothing is left over make a term of its value and its letters. Where one of its own
+/// brackets isn't closed, the `>` closes that one, and the outer one isn't closed.
+#[tactic(auto, using(crate::proofs::OpenBrackets::bracketed_value))]
 pub fn brackets_keep_the_value()
     ensures { (radix : Radix) (less greater : Item) (items : List Item) → less.sort ≡ Less → greater.sort ≡ Greater
-        → IsWhole items → value_of radix (less ∷ (items ++ greater ∷ [])) ≡ value_of radix items }
+        → expression_length (sorts_of items) ≡ length items
+        → value_of radix (less ∷ (items ++ greater ∷ [])) ≡ value_of radix items }
 {}
 
 /// Two meanings of symbols that agree on those which an expression reads give it the same value in the same radix.
