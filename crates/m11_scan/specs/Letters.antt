@@ -4,14 +4,27 @@ use Rattle.std.specs.Prelude.{ℕ, ◌==◌, if◌then◌else◌, List, [], ◌�
 use Rattle.std.specs.Int.RustNames.{bit_and}
 use Rattle.m11_scan.specs.declared.letters.Row.{Row}
 
-abbrev pub row : ℕ → ℕ → Row
-row letter bit = record { letter = letter; bit = bit }
+abbrev pub with_bit : ℕ → ℕ → Row
+with_bit letter bit = record { letter = letter; bit = bit }
 
 -- the letters in the order of the alphabet, each with its bit
 abbrev pub letter_rows : List Row
 letter_rows =
-    row 65 1 ∷ row 66 2 ∷ row 68 4 ∷ row 69 8 ∷ row 73 16 ∷ row 76 32 ∷ row 77 64 ∷ row 78 128 ∷ row 79 256 ∷ row 80 512
-    ∷ row 81 1024 ∷ row 82 2048 ∷ row 84 4096 ∷ row 85 8192 ∷ []
+    with_bit 65 1
+    ∷ with_bit 66 2
+    ∷ with_bit 68 4
+    ∷ with_bit 69 8
+    ∷ with_bit 73 16
+    ∷ with_bit 76 32
+    ∷ with_bit 77 64
+    ∷ with_bit 78 128
+    ∷ with_bit 79 256
+    ∷ with_bit 80 512
+    ∷ with_bit 81 1024
+    ∷ with_bit 82 2048
+    ∷ with_bit 84 4096
+    ∷ with_bit 85 8192
+    ∷ []
 
 -- those letters of rows that are in a set
 abbrev pub letters_in : List Row → ℕ → List ℕ

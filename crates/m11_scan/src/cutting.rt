@@ -26,14 +26,21 @@ impl Token {
     pub fn text<'a>(&self, line: &'a Line) -> &'a [u8]
         ensures { result.now ≡ text_between line.now.text self.now.start self.now.end }
     {
-        let start = usize::from(self.start);
-        let end = usize::from(self.end);
-        let text = line.text();
-        if start <= end && end <= text.len() {
-            &text[start..end]
-        } else {
-            &[]
-        }
+        text_between(line, self.start, self.end)
+    }
+}
+
+/// The characters of a line between two places, if both are in it and in this order.
+pub fn text_between(line: &Line, start: u8, end: u8) -> &[u8]
+    ensures { result.now ≡ text_between line.now.text start end }
+{
+    let start = usize::from(start);
+    let end = usize::from(end);
+    let text = line.text();
+    if start <= end && end <= text.len() {
+        &text[start..end]
+    } else {
+        &[]
     }
 }
 

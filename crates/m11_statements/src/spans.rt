@@ -4,7 +4,7 @@ ghost use Rattle.std.specs.Prelude.{◌≡◌, ◌+◌, ◌≤◌, drop, length}
 ghost use Rattle.m11_lines.specs.Line.{line_limit};
 ghost use Rattle.m11_scan.specs.Cutting.{text_between};
 
-use m11_scan::Line;
+use m11_scan::{Line, text_between};
 
 /// Some characters of a line that stand together.
 #[derive(Clone, Copy, PartialEq, Eq, Debug, Default)]
@@ -20,14 +20,7 @@ impl Span {
     pub fn text<'a>(&self, line: &'a Line) -> &'a [u8]
         ensures { result.now ≡ text_between line.now.text self.now.start self.now.end }
     {
-        let start = usize::from(self.start);
-        let end = usize::from(self.end);
-        let text = line.text();
-        if start <= end && end <= text.len() {
-            &text[start..end]
-        } else {
-            &[]
-        }
+        text_between(line, self.start, self.end)
     }
 }
 
