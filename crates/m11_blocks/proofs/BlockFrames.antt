@@ -242,7 +242,7 @@ summed_within xs (byte ∷ bytes) e =
       | inr miss ↦ (let bad = miss.1 in cc)
     ]
 
-start_within : (bytes : List ℕ) → after_start (tt, bytes) ≡ Err Between → ⊥
+pub start_within : (bytes : List ℕ) → after_start (tt, bytes) ≡ Err Between → ⊥
 start_within bytes e =
     elim (bind_err (second bytes) after_second Between e) [
       | inl early ↦ second_within bytes early

@@ -1,82 +1,18 @@
 -- The bytes of files one after another hold the blocks of each in order.
-use Rattle.std.proofs.Common.{◌≡◌, ◌∙◌, ℕ, ◌+◌, ◌*◌, ◌-◌, ◌≤◌, cond, ltb, eqb, List, [], ◌∷◌, ◌++◌, length, take, drop, append_assoc, append-nil, Ok, Err, refl, sym, ap, subst, arith, inl, inr}
+use Rattle.std.proofs.Common.{◌≡◌, ◌∙◌, ℕ, ◌+◌, ◌-◌, ◌≤◌, List, [], ◌∷◌, ◌++◌, length, append_assoc, append-nil, Ok, Err, refl, sym, ap, subst, arith, inl, inr}
 use Rattle.std.specs.List.{AllByRecursion, concat}
 use Rattle.std.proofs.lemmas.List.{map-append}
-use Rattle.m11_blocks.specs.declared.block_fault.BlockFault.{BlockFault}
-use Rattle.m11_blocks.specs.declared.block_fault.BlockFault.TheVariants as fault
-use Rattle.m11_blocks.specs.Frames.{content_limit, header, sum_byte}
-use Rattle.m11_blocks.specs.Limited.{Between, Inside, Read, ◌>>=◌, most_bytes}
-use Rattle.m11_blocks.specs.Blocks.{AreRead, content_of, count, count_of, first_block, second, summed}
-use Rattle.m11_blocks.proofs.BlockFrames.{begun, nothing_read, zero_in_front}
-use Rattle.m11_blocks.proofs.BlockParts.{after_content, after_count, after_second, after_start}
-use Rattle.m11_blocks.proofs.ReadSteps.{bind_err, chosen, done}
+use Rattle.m11_blocks.specs.Limited.{Between, most_bytes}
+use Rattle.m11_blocks.specs.Blocks.{AreRead, first_block}
+use Rattle.m11_blocks.proofs.BlockFrames.{begun, nothing_read, start_within, zero_in_front}
 use Rattle.m11_modules.specs.Parts.{Part}
 use Rattle.m11_link.specs.Objects.{AreItems, BlockOf, Item, ObjectEnds, ObjectItems, outcome, taken, taken_item}
 use Rattle.m11_link.specs.Objects as objects
 use Rattle.m11_link.proofs.ItemsTaken.{bind_ok}
 use Rattle.m11_link.proofs.Sole.{objects_same}
-use Rattle.m11_link.proofs.Steady.{block_shorter, block_steady, refuse}
+use Rattle.m11_link.proofs.Steady.{block_shorter, block_steady}
 use Rattle.m11_link_laws.specs.Joining.{AreModules, LinkAlike}
 use Rattle.m11_link_laws.proofs.JoiningItems.{IsWhole, blocks, files_alike, files_items, joined_items}
-
--- ---- inside a block the bytes don't end between blocks
-
-abbrev Begun : {A : Type 0} → (List ℕ → Read BlockFault A) → Type 0
-Begun read = (bytes : List ℕ) → read bytes ≡ Err Between → ⊥
-
-begun_then : {A B : Type 0} (first : List ℕ → Read BlockFault A) (then : A × List ℕ → Read BlockFault B)
-    → Begun first → ((x : A) → Begun (λ rest. then (x, rest))) → Begun (λ bytes. first bytes >>= then)
-begun_then first then f t bytes e =
-    elim (bind_err (first bytes) then Between e) [
-      | inl early ↦ f bytes early
-      | inr x ↦ t x.0.0 x.0.1 x.2
-    ]
-
-second_begun : Begun second
-second_begun [] e = cc
-second_begun (byte ∷ bytes) e =
-    elim (chosen (eqb byte 0) (done tt bytes) (refuse fault.BadStart bytes) (Err Between) e) [
-      | inl hit ↦ (let bad = hit.1 in cc)
-      | inr miss ↦ (let bad = miss.1 in cc)
-    ]
-
-count_of_begun : (n : ℕ) → Begun (count_of n)
-count_of_begun n bytes e =
-    elim (chosen (ltb n 4) (refuse fault.TooShort bytes)
-    (cond (ltb (content_limit + 4) n) (refuse fault.TooLong bytes) (done (n - 4) bytes)) (Err Between) e) [
-      | inl short ↦ (let bad = short.1 in cc)
-      | inr enough ↦ elim (chosen (ltb (content_limit + 4) n) (refuse fault.TooLong bytes) (done (n - 4) bytes)
-          (Err Between) enough.1) [
-            | inl long ↦ (let bad = long.1 in cc)
-            | inr fits ↦ (let bad = fits.1 in cc)
-          ]
-    ]
-
-count_begun : Begun count
-count_begun [] e = cc
-count_begun (low ∷ []) e = cc
-count_begun (low ∷ high ∷ bytes) e = count_of_begun (low + 256 * high) bytes e
-
-content_begun : (n : ℕ) → Begun (content_of n)
-content_begun n bytes e =
-    elim (chosen (ltb (length bytes) n) (Err Inside) (done (take n bytes) (drop n bytes)) (Err Between) e) [
-      | inl short ↦ (let bad = short.1 in cc)
-      | inr enough ↦ (let bad = enough.1 in cc)
-    ]
-
-summed_begun : (content : List ℕ) → Begun (summed content)
-summed_begun content [] e = cc
-summed_begun content (byte ∷ bytes) e =
-    elim (chosen (eqb byte (sum_byte (header (length content) ++ content))) (done content bytes)
-    (refuse fault.BadSum bytes) (Err Between) e) [
-      | inl hit ↦ (let bad = hit.1 in cc)
-      | inr miss ↦ (let bad = miss.1 in cc)
-    ]
-
-start_begun : Begun (λ rest. after_start (tt, rest))
-start_begun = begun_then second after_second second_begun
-    (λ x. begun_then count after_count count_begun
-    (λ n. begun_then (content_of n) after_content (content_begun n) summed_begun))
 
 -- ---- bytes after others
 
@@ -89,7 +25,7 @@ skipped (byte ∷ bytes) following e =
           let P : ℕ → Type 0 = λ first. first_block (first ∷ (bytes ++ following)) ≡ first_block following in
           subst P (sym nul.0) (zero_in_front (bytes ++ following) ∙ skipped bytes following (sym nul.1 ∙ e))
       | inr other ↦ elim other [
-        | inl one ↦ absurd (start_begun bytes (sym one.1 ∙ e))
+        | inl one ↦ absurd (start_within bytes (sym one.1 ∙ e))
         | inr refused ↦ absurd (let bad = sym refused ∙ e in cc)
       ]
     ]
