@@ -1,48 +1,22 @@
 -- The first fault of blocks is what the bytes show.
-use Rattle.std.proofs.Common.{◌≡◌, ◌≢◌, ◌∙◌, ℕ, zero, suc, ◌+◌, ◌*◌, ◌-◌, ◌<◌, ◌≤◌, false, cond, ltb, eqb, List, [], ◌∷◌, ◌++◌, length, take, drop, replicate, Ok, Err, refl, sym, ap, subst, append_assoc, arith, inl, inr, ◌⊎◌}
+use Rattle.std.proofs.Common.{◌≡◌, ◌≢◌, ◌∙◌, ℕ, zero, suc, ◌+◌, ◌*◌, ◌-◌, ◌<◌, ◌≤◌, false, cond, ltb, eqb, List, [], ◌∷◌, ◌++◌, length, sum, take, drop, replicate, Ok, Err, refl, sym, ap, subst, append_assoc, arith, inl, inr, ◌⊎◌}
 use Rattle.std.proofs.Math.Seq.{take-append_seam, drop-append_seam}
-use Rattle.std.proofs.lemmas.Bool.{le-ltb, lt-ltb, ltb-true, ne_eqb, true≢false}
+use Rattle.std.proofs.lemmas.Bool.{le-ltb, lt-ltb, ltb-true, ne_eqb}
 use Rattle.std.proofs.lemmas.Bool.Decides.{eqb_tells}
 use Rattle.std.proofs.lemmas.List.{length-append}
 use Rattle.m11_blocks.specs.declared.block_fault.BlockFault.{BlockFault}
 use Rattle.m11_blocks.specs.declared.block_fault.BlockFault.TheVariants as fault
 use Rattle.m11_blocks.specs.Frames.{word_bytes, sum_byte, header, content_limit}
 use Rattle.m11_blocks.specs.Limited.{Inside, Refused, Read, ◌>>=◌}
-use Rattle.m11_blocks.specs.Blocks.{second, count_of, count, content_of, summed, first_block}
+use Rattle.m11_blocks.specs.Blocks.{second, count_of, count, content_of, first_block}
 use Rattle.m11_blocks.proofs.ReadSteps.{Bytes, bind_err, chosen, done}
 use Rattle.m11_blocks.proofs.BlockParts.{after_start, after_second, after_count, after_content}
-use Rattle.m11_blocks.proofs.BlockFrames.{count_again, second_takes, count_takes, content_takes, zero_in_front, nothing_read}
+use Rattle.m11_blocks.proofs.FrameReads.{second_takes}
+use Rattle.m11_blocks.proofs.BlockFrames.{count_again, count_takes, content_takes, zero_in_front, nothing_read}
 use Rattle.m11_block_laws.specs.Faults.{Shows, ShowsAfterZeros}
-
-pub differs : (x y : ℕ) → eqb x y ≡ false → x ≢ y
-differs x y e same = elim (eqb_tells x y) [ inl hit ↦ true≢false (sym hit.0 ∙ e) | inr miss ↦ miss.1 same ]
+use Rattle.m11_block_laws.proofs.FrameFaults.{refusal, one_fault, one_rest, second_refuses, closed_refuses, wrong_byte}
 
 -- ---- what a part refuses
-
-abbrev refusal : {A : Type 0} → BlockFault → List ℕ → Read BlockFault A
-refusal said rest = Err (Refused said rest)
-
-one_fault : {A : Type 0} (f g : BlockFault) (xs ys : List ℕ) → refusal {A = A} f xs ≡ refusal g ys → f ≡ g
-one_fault f g xs ys e = cc
-
-one_rest : {A : Type 0} (f g : BlockFault) (xs ys : List ℕ) → refusal {A = A} f xs ≡ refusal g ys → xs ≡ ys
-one_rest f g xs ys e = cc
-
-second_refuses : (said : BlockFault) (bytes rest : List ℕ) → second bytes ≡ Err (Refused said rest)
-    → (fault.BadStart ≡ said) × ((byte : ℕ) × (byte ≢ 0) × (bytes ≡ byte ∷ rest))
-second_refuses said [] rest e = absurd cc
-second_refuses said (byte ∷ bytes) rest e =
-    elim (chosen (eqb byte 0) (done tt bytes) (refusal fault.BadStart bytes) (refusal said rest) e) [
-      | inl hit ↦ absurd (let bad = hit.1 in cc)
-      | inr miss ↦ (
-        one_fault {A = Unit {0}} fault.BadStart said bytes rest miss.1,
-        (
-          byte,
-          differs byte 0 miss.0,
-          ap (λ (xs : List ℕ). byte ∷ xs) (one_rest {A = Unit {0}} fault.BadStart said bytes rest miss.1),
-        ),
-      )
-    ]
 
 abbrev Lengths : BlockFault → ℕ → Type 0
 Lengths said n = ((fault.TooShort ≡ said) × (n < 4)) ⊎ ((fault.TooLong ≡ said) × (516 < n))
@@ -81,23 +55,6 @@ content_refuses said n bytes rest e =
       | inr enough ↦ (let bad = enough.1 in cc)
     ]
 
-summed_refuses : (said : BlockFault) (xs bytes rest : List ℕ) → summed xs bytes ≡ Err (Refused said rest)
-    → (fault.BadSum ≡ said) × ((byte : ℕ) × (byte ≢ sum_byte (header (length xs) ++ xs)) × (bytes ≡ byte ∷ rest))
-summed_refuses said xs [] rest e = absurd cc
-summed_refuses said xs (byte ∷ bytes) rest e =
-    let s : ℕ = sum_byte (header (length xs) ++ xs) in
-    elim (chosen (eqb byte s) (done xs bytes) (refusal fault.BadSum bytes) (refusal said rest) e) [
-      | inl hit ↦ absurd (let bad = hit.1 in cc)
-      | inr miss ↦ (
-        one_fault {A = List ℕ} fault.BadSum said bytes rest miss.1,
-        (
-          byte,
-          differs byte s miss.0,
-          ap (λ (ys : List ℕ). byte ∷ ys) (one_rest {A = List ℕ} fault.BadSum said bytes rest miss.1),
-        ),
-      )
-    ]
-
 -- ---- what is refused is shown
 
 lengths_show : (said : BlockFault) (low high : ℕ) (bytes rest : List ℕ) → bytes ≡ 1 ∷ 0 ∷ low ∷ high ∷ rest
@@ -113,10 +70,10 @@ after_shows said bytes rest small e =
     let P : BlockFault → Type 0 = λ f. Shows f (1 ∷ bytes) rest in
     elim (bind_err (second bytes) after_second (Refused said rest) e) [
       | inl early ↦
-          let s = second_refuses said bytes rest early in
+          let s = second_refuses fault.BadStart said bytes rest early in
           subst P s.0 (inr (s.1.0, s.1.1, ap (λ (xs : List ℕ). 1 ∷ xs) s.1.2))
       | inr s ↦
-          let second_is : bytes ≡ 0 ∷ s.0.1 = second_takes bytes s.0.1 s.1 in
+          let second_is : bytes ≡ 0 ∷ s.0.1 = second_takes fault.BadStart bytes s.0.1 s.1 in
           let small' : Bytes (0 ∷ s.0.1) = subst Bytes second_is small in
           elim (bind_err (count s.0.1) after_count (Refused said rest) s.2) [
             | inl early ↦
@@ -128,7 +85,7 @@ after_shows said bytes rest small e =
               | inr xs ↦
                   let counted = count_takes n.0.0 s.0.1 n.0.1 small'.1 n.1 in
                   let held = content_takes n.0.0 n.0.1 xs.0.0 xs.0.1 xs.1 in
-                  let wrong = summed_refuses said xs.0.0 xs.0.1 rest xs.2 in
+                  let wrong = closed_refuses fault.BadSum said xs.0.0 (sum (header (length xs.0.0) ++ xs.0.0)) xs.0.1 rest xs.2 in
                   let content : List ℕ = xs.0.0 in
                   let tail : bytes ≡ 0 ∷ (word_bytes (length content + 4) ++ (content ++ wrong.1.0 ∷ rest)) =
                   second_is ∙ ap (λ (ys : List ℕ). 0 ∷ ys) (counted.1
@@ -226,10 +183,6 @@ content_there xs rest =
     let long : ltb (length (xs ++ rest)) (length xs) ≡ false = le-ltb _ _ (omega (arith, length-append xs rest)) in
     rw (long, take-append_seam xs rest, drop-append_seam xs rest) refl
 
-wrong_sum : (xs : List ℕ) (byte : ℕ) (rest : List ℕ) → byte ≢ sum_byte (header (length xs) ++ xs)
-    → summed xs (byte ∷ rest) ≡ Err (Refused fault.BadSum rest)
-wrong_sum xs byte rest other = rw (ne_eqb byte (sum_byte (header (length xs) ++ xs)) other) refl
-
 sum_refused : (content : List ℕ) (byte : ℕ) (rest : List ℕ) → length content ≤ content_limit
     → byte ≢ sum_byte (header (length content) ++ content)
     → first_block (header (length content) ++ (content ++ byte ∷ rest)) ≡ Err (Refused fault.BadSum rest)
@@ -237,7 +190,7 @@ unfolding first_block
 sum_refused content byte rest fits other =
     ap (λ (r : Read BlockFault ℕ). r >>= after_count) (count_again (length content) (content ++ byte ∷ rest) fits)
     ∙ ap (λ (r : Read BlockFault (List ℕ)). r >>= after_content) (content_there content (byte ∷ rest))
-    ∙ wrong_sum content byte rest other
+    ∙ wrong_byte fault.BadSum content (sum (header (length content) ++ content)) byte rest other
 
 following_refused : (said : BlockFault) (bytes rest : List ℕ) → Shows said bytes rest
     → first_block bytes ≡ Err (Refused said rest)

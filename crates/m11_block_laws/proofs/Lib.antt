@@ -1,2 +1,3 @@
+pub mod FrameFaults
 pub mod BlockFaults
 pub mod TapeFaults

@@ -1,75 +1,26 @@
 -- The first fault of a part of a tape is what the bytes show.
-use Rattle.std.proofs.Common.{◌≡◌, ◌≢◌, ◌∙◌, ℕ, ◌+◌, ◌*◌, ◌-◌, ◌/◌, ◌%◌, ◌<◌, cond, ltb, eqb, List, [], ◌∷◌, ◌++◌, length, Ok, Err, refl, sym, ap, subst, arith, inl, inr}
-use Rattle.std.proofs.lemmas.Bool.{lt-ltb, ltb-true, ltb-false, ne_eqb, eqb-true}
+use Rattle.std.proofs.Common.{◌≡◌, ◌≢◌, ◌∙◌, ℕ, ◌+◌, ◌*◌, ◌-◌, ◌<◌, cond, ltb, eqb, List, [], ◌∷◌, ◌++◌, length, Ok, Err, refl, sym, ap, subst, inl, inr}
+use Rattle.std.proofs.lemmas.Bool.{lt-ltb, ltb-true, ne_eqb, eqb-true}
 use Rattle.std.proofs.lemmas.Bool.Decides.{eqb_tells}
 use Rattle.m11_blocks.specs.declared.tape_fault.TapeFault.{TapeFault}
 use Rattle.m11_blocks.specs.declared.tape_fault.TapeFault.TheVariants as fault
 use Rattle.m11_blocks.specs.declared.tape_part.TapePart.{TapePart}
 use Rattle.m11_blocks.specs.declared.tape_part.TapePart.TheVariants.{Data, Start}
-use Rattle.m11_blocks.specs.Frames.{word_bytes}
+use Rattle.m11_blocks.specs.Frames.{word_bytes, word, closing}
 use Rattle.m11_blocks.specs.Limited.{Between, Refused, Read, ◌>>=◌}
-use Rattle.m11_blocks.specs.Tapes.{tape_header, second, word, count, summed, total_of, transfer, part_of, first_part, next_part}
-use Rattle.m11_blocks.proofs.ReadSteps.{Bytes, bind_err, chosen, done, rest_is, value_is}
+use Rattle.m11_blocks.specs.Tapes.{tape_header, second, count, summed, total_of, transfer, part_of, first_part, next_part}
+use Rattle.m11_blocks.proofs.FrameReads.{second_takes, second_within, word_again, word_takes, word_within, closed_again, closed_takes, closed_within}
+use Rattle.m11_blocks.proofs.TapeFrames.{count_takes}
+use Rattle.m11_blocks.proofs.ReadSteps.{Bytes, bind_err, chosen, done}
 use Rattle.m11_blocks.proofs.TapeParts.{after_start, after_second, after_count, after_address, after_sum}
 use Rattle.m11_block_laws.specs.TapeFaults.{AreSkipped, IsWrong, Shows, ShowsAfterData, ShowsAfterSkipped}
 use Rattle.m11_block_laws.specs.TapeFaults.ShowsAfterData.{Right, Wrong}
-use Rattle.m11_block_laws.proofs.BlockFaults.{differs}
-
-abbrev refusal : {A : Type 0} → TapeFault → List ℕ → Read TapeFault A
-refusal said rest = Err (Refused said rest)
-
-one_fault : {A : Type 0} (f g : TapeFault) (xs ys : List ℕ) → refusal {A = A} f xs ≡ refusal g ys → f ≡ g
-one_fault f g xs ys e = cc
-
-one_rest : {A : Type 0} (f g : TapeFault) (xs ys : List ℕ) → refusal {A = A} f xs ≡ refusal g ys → xs ≡ ys
-one_rest f g xs ys e = cc
-
--- ---- what a part takes
-
-second_takes : (bytes rest : List ℕ) → second bytes ≡ Ok (tt, rest) → bytes ≡ 0 ∷ rest
-second_takes [] rest e = absurd cc
-second_takes (byte ∷ bytes) rest e =
-    elim (chosen (eqb byte 0) (done tt bytes) (refusal fault.BadStart bytes) (Ok (tt, rest)) e) [
-      | inl hit ↦ let zero_is : byte ≡ 0 = eqb-true byte 0 hit.0 in rw (zero_is, rest_is tt tt bytes rest hit.1) refl
-      | inr miss ↦ absurd (let bad = miss.1 in cc)
-    ]
-
-word_takes : (n : ℕ) (bytes rest : List ℕ) → Bytes bytes → word bytes ≡ Ok (n, rest)
-    → (bytes ≡ word_bytes n ++ rest) × Bytes rest × (n < 65536)
-word_takes n [] rest small e = absurd cc
-word_takes n (low ∷ []) rest small e = absurd cc
-word_takes n (low ∷ high ∷ bytes) rest small e =
-    let is : low + 256 * high ≡ n = value_is (low + 256 * high) n bytes rest e in
-    let low_is : low ≡ n % 256 = omega (arith, is, small.0, small.1.0) in
-    let high_is : high ≡ n / 256 % 256 = omega (arith, is, small.0, small.1.0) in
-    let same : bytes ≡ rest = rest_is (low + 256 * high) n bytes rest e in
-    (rw (← low_is, ← high_is, same) refl, subst Bytes same small.1.1, omega (arith, is, small.0, small.1.0))
+use Rattle.m11_block_laws.proofs.FrameFaults.{refusal, one_fault, one_rest, second_refuses, word_refuses, closed_refuses}
 
 abbrev counted : ℕ × List ℕ → Read TapeFault ℕ
 counted length = cond (ltb length.0 6) (Err (Refused fault.TooShort length.1)) (Ok (length.0 - 6, length.1))
 
 -- ---- what a part refuses
-
-second_refuses : (said : TapeFault) (bytes rest : List ℕ) → second bytes ≡ Err (Refused said rest)
-    → (fault.BadStart ≡ said) × ((byte : ℕ) × (byte ≢ 0) × (bytes ≡ byte ∷ rest))
-second_refuses said [] rest e = absurd cc
-second_refuses said (byte ∷ bytes) rest e =
-    elim (chosen (eqb byte 0) (done tt bytes) (refusal fault.BadStart bytes) (refusal said rest) e) [
-      | inl hit ↦ absurd (let bad = hit.1 in cc)
-      | inr miss ↦ (
-        one_fault {A = Unit {0}} fault.BadStart said bytes rest miss.1,
-        (
-          byte,
-          differs byte 0 miss.0,
-          ap (λ (xs : List ℕ). byte ∷ xs) (one_rest {A = Unit {0}} fault.BadStart said bytes rest miss.1),
-        ),
-      )
-    ]
-
-word_refuses : (said : TapeFault) (bytes rest : List ℕ) → word bytes ≡ Err (Refused said rest) → ⊥
-word_refuses said [] rest e = cc
-word_refuses said (low ∷ []) rest e = cc
-word_refuses said (low ∷ high ∷ bytes) rest e = cc
 
 count_refuses : (said : TapeFault) (bytes rest : List ℕ) → count bytes ≡ Err (Refused said rest)
     → (fault.TooShort ≡ said) × ((low high : ℕ) × (low + 256 * high < 6) × (bytes ≡ low ∷ high ∷ rest))
@@ -91,41 +42,7 @@ count_refuses said (low ∷ high ∷ bytes) rest e =
       | inr enough ↦ absurd (let bad = enough.1 in cc)
     ]
 
-count_takes : (n : ℕ) (bytes rest : List ℕ) → Bytes bytes → count bytes ≡ Ok (n, rest)
-    → (bytes ≡ word_bytes (n + 6) ++ rest) × Bytes rest
-unfolding count
-count_takes n [] rest small e = absurd cc
-count_takes n (low ∷ []) rest small e = absurd cc
-count_takes n (low ∷ high ∷ bytes) rest small e =
-    let m : ℕ = low + 256 * high in
-    elim (chosen (ltb m 6) (refusal fault.TooShort bytes) (done (m - 6) bytes) (Ok (n, rest)) e) [
-      | inl short ↦ absurd (let bad = short.1 in cc)
-      | inr enough ↦
-          let least = ltb-false m 6 enough.0 in
-          let is : m - 6 ≡ n = value_is (m - 6) n bytes rest enough.1 in
-          let same : bytes ≡ rest = rest_is (m - 6) n bytes rest enough.1 in
-          let low_is : low ≡ (n + 6) % 256 = omega (arith, is, least, small.0, small.1.0) in
-          let high_is : high ≡ (n + 6) / 256 % 256 = omega (arith, is, least, small.0, small.1.0) in
-          (rw (← low_is, ← high_is, same) refl, subst Bytes same small.1.1)
-    ]
-
-summed_refuses : (said : TapeFault) (total : ℕ) (bytes rest : List ℕ) → summed total bytes ≡ Err (Refused said rest)
-    → (fault.BadSum ≡ said) × ((byte : ℕ) × IsWrong total byte × (bytes ≡ byte ∷ rest))
-summed_refuses said total [] rest e = absurd cc
-summed_refuses said total (byte ∷ bytes) rest e =
-    elim (chosen (eqb ((total + byte) % 256) 0) (done tt bytes) (refusal fault.BadSum bytes) (refusal said rest) e) [
-      | inl hit ↦ absurd (let bad = hit.1 in cc)
-      | inr miss ↦ (
-        one_fault {A = Unit {0}} fault.BadSum said bytes rest miss.1,
-        (
-          byte,
-          differs ((total + byte) % 256) 0 miss.0,
-          ap (λ (xs : List ℕ). byte ∷ xs) (one_rest {A = Unit {0}} fault.BadSum said bytes rest miss.1),
-        ),
-      )
-    ]
-
-abbrev after_last : ℕ → Unit {0} × List ℕ → Read TapeFault TapePart
+abbrev pub after_last : ℕ → Unit {0} × List ℕ → Read TapeFault TapePart
 after_last address last = Ok (Start address, last.1)
 
 never_started : (said : TapeFault) (address : ℕ) (x : Unit {0} × List ℕ) (rest : List ℕ)
@@ -137,7 +54,7 @@ transfer_refuses : (said : TapeFault) (address : ℕ) (bytes rest : List ℕ) �
 unfolding transfer
 transfer_refuses said address bytes rest e =
     elim (bind_err (summed (total_of address []) bytes) (after_last address) (Refused said rest) e) [
-      | inl early ↦ summed_refuses said (total_of address []) bytes rest early
+      | inl early ↦ closed_refuses fault.BadSum said tt (total_of address []) bytes rest early
       | inr last ↦ absurd (never_started said address last.0 rest last.2)
     ]
 
@@ -157,10 +74,10 @@ after_shows said bytes rest small e =
     let P : TapeFault → Type 0 = λ f. Shows f (1 ∷ bytes) rest in
     elim (bind_err (second bytes) after_second (Refused said rest) e) [
       | inl early ↦
-          let s = second_refuses said bytes rest early in
+          let s = second_refuses fault.BadStart said bytes rest early in
           subst P s.0 (s.1.0, s.1.1, ap (λ (xs : List ℕ). 1 ∷ xs) s.1.2)
       | inr s ↦
-          let second_is : bytes ≡ 0 ∷ s.0.1 = second_takes bytes s.0.1 s.1 in
+          let second_is : bytes ≡ 0 ∷ s.0.1 = second_takes fault.BadStart bytes s.0.1 s.1 in
           let small' : Bytes (0 ∷ s.0.1) = subst Bytes second_is small in
           elim (bind_err (count s.0.1) after_count (Refused said rest) s.2) [
             | inl early ↦
@@ -176,17 +93,17 @@ after_shows said bytes rest small e =
                 elim (bind_err (word n.0.1) (after_address n.0.0) (Refused said rest) n.2) [
                   | inl early ↦ absurd (word_refuses said n.0.1 rest early)
                   | inr a ↦
-                      let address_is = word_takes a.0.0 n.0.1 a.0.1 counted_is.1 a.1 in
+                      let address_is = word_takes a.0.0 n.0.1 a.0.1 counted_is.2 a.1 in
                       let wrong = part_refuses said n.0.0 a.0.0 a.0.1 rest a.2 in
                       let tail : bytes ≡ 0 ∷ (word_bytes 6 ++ (word_bytes a.0.0 ++ wrong.1.1.0 ∷ rest)) =
-                      second_is ∙ ap (λ (ys : List ℕ). 0 ∷ ys) (counted_is.0
+                      second_is ∙ ap (λ (ys : List ℕ). 0 ∷ ys) (counted_is.1
                       ∙ ap (λ (m : ℕ). word_bytes (m + 6) ++ n.0.1) wrong.0
                       ∙ ap (λ (ys : List ℕ). word_bytes 6 ++ ys)
-                      (address_is.0 ∙ ap (λ (ys : List ℕ). word_bytes a.0.0 ++ ys) wrong.1.1.2)) in
+                      (address_is.1 ∙ ap (λ (ys : List ℕ). word_bytes a.0.0 ++ ys) wrong.1.1.2)) in
                       subst P wrong.1.0 (
                         a.0.0,
                         wrong.1.1.0,
-                        address_is.2,
+                        address_is.0,
                         wrong.1.1.1,
                         ap (λ (ys : List ℕ). 1 ∷ ys) tail,
                       )
@@ -202,7 +119,7 @@ other_in_front : (byte : ℕ) (bytes : List ℕ) → byte ≢ 1 → first_part (
 unfolding first_part
 other_in_front byte bytes other = rw (ne_eqb byte 1 other) refl
 
-nothing_read : first_part [] ≡ Err Between
+pub nothing_read : first_part [] ≡ Err Between
 unfolding first_part
 nothing_read = refl
 
@@ -233,7 +150,7 @@ refused_shows said (byte ∷ bytes) rest small e =
 
 -- ---- what is shown is refused
 
-skipped_in_front : (skipped bytes : List ℕ) → AreSkipped skipped → first_part (skipped ++ bytes) ≡ first_part bytes
+pub skipped_in_front : (skipped bytes : List ℕ) → AreSkipped skipped → first_part (skipped ++ bytes) ≡ first_part bytes
 skipped_in_front [] bytes are = refl
 skipped_in_front (byte ∷ skipped) bytes are =
     other_in_front byte (skipped ++ bytes) are.0 ∙ skipped_in_front skipped bytes are.1
@@ -247,15 +164,10 @@ too_short : (low high : ℕ) (rest : List ℕ) → low + 256 * high < 6
 unfolding first_part count
 too_short low high rest lt = rw (lt-ltb (low + 256 * high) 6 lt) refl
 
-word_again : (address : ℕ) (rest : List ℕ) → address < 65536 → word (word_bytes address ++ rest) ≡ Ok (address, rest)
-word_again address rest lt =
-    let is : address % 256 + 256 * (address / 256 % 256) ≡ address = omega arith in
-    ap (λ (w : ℕ). Ok (w, rest)) is
-
 transfer_refused : (address byte : ℕ) (rest : List ℕ) → IsWrong (total_of address []) byte
     → transfer address (byte ∷ rest) ≡ Err (Refused fault.BadSum rest)
 unfolding transfer
-transfer_refused address byte rest wrong = rw (ne_eqb ((total_of address [] + byte) % 256) 0 wrong) refl
+transfer_refused address byte rest wrong = rw (ne_eqb byte (closing (total_of address [])) wrong) refl
 
 sum_refused : (address byte : ℕ) (rest : List ℕ) → address < 65536 → IsWrong (total_of address []) byte
     → first_part (tape_header address 0 ++ byte ∷ rest) ≡ Err (Refused fault.BadSum rest)
@@ -264,7 +176,7 @@ sum_refused address byte rest lt wrong =
     ap (λ (r : Read TapeFault ℕ). r >>= after_address 0) (word_again address (byte ∷ rest) lt)
     ∙ transfer_refused address byte rest wrong
 
-following_refused : (said : TapeFault) (bytes rest : List ℕ) → Shows said bytes rest
+pub following_refused : (said : TapeFault) (bytes rest : List ℕ) → Shows said bytes rest
     → first_part bytes ≡ Err (Refused said rest)
 following_refused fault.BadStart bytes rest h = ap first_part h.2 ∙ second_wrong h.0 rest h.1
 following_refused fault.TooShort bytes rest h = ap first_part h.3 ∙ too_short h.0 h.1 rest h.2
@@ -283,19 +195,6 @@ shows_refused said bytes rest s =
 
 -- ---- after the data of a block
 
-summed_takes : (total : ℕ) (bytes rest : List ℕ) → summed total bytes ≡ Ok (tt, rest)
-    → (byte : ℕ) × ((total + byte) % 256 ≡ 0) × (bytes ≡ byte ∷ rest)
-summed_takes total [] rest e = absurd cc
-summed_takes total (byte ∷ bytes) rest e =
-    elim (chosen (eqb ((total + byte) % 256) 0) (done tt bytes) (refusal fault.BadSum bytes) (Ok (tt, rest)) e) [
-      | inl hit ↦ (
-        byte,
-        eqb-true ((total + byte) % 256) 0 hit.0,
-        ap (λ (xs : List ℕ). byte ∷ xs) (rest_is tt tt bytes rest hit.1),
-      )
-      | inr miss ↦ absurd (let bad = miss.1 in cc)
-    ]
-
 pub data_shows : (total : ℕ) (said : TapeFault) (bytes rest : List ℕ) → Bytes bytes
     → next_part total bytes ≡ Err (Refused said rest) → ShowsAfterData total said rest bytes
 unfolding next_part
@@ -303,46 +202,33 @@ data_shows total said bytes rest small e =
     let P : List ℕ → Type 0 = λ xs. ShowsAfterData total said rest xs in
     elim (bind_err (summed total bytes) after_sum (Refused said rest) e) [
       | inl early ↦
-          let s = summed_refuses said total bytes rest early in
+          let s = closed_refuses fault.BadSum said tt total bytes rest early in
           subst P (sym s.1.2) (Wrong s.1.0 s.1.1 (sym s.0))
       | inr last ↦
-          let t = summed_takes total bytes last.0.1 last.1 in
-          let small' : Bytes (t.0 ∷ last.0.1) = subst Bytes t.2 small in
-          subst P (sym t.2) (Right t.0 t.1 (refused_shows said last.0.1 rest small'.1 last.2))
+          let t = closed_takes fault.BadSum tt total tt bytes last.0.1 last.1 in
+          let small' : Bytes (closing total ∷ last.0.1) = subst Bytes t.1 small in
+          subst P (sym t.1) (Right (refused_shows said last.0.1 rest small'.1 last.2))
     ]
 
-wrong_after : (total byte : ℕ) (rest : List ℕ) → IsWrong total byte
+pub wrong_after : (total byte : ℕ) (rest : List ℕ) → IsWrong total byte
     → next_part total (byte ∷ rest) ≡ Err (Refused fault.BadSum rest)
 unfolding next_part
-wrong_after total byte rest wrong = rw (ne_eqb ((total + byte) % 256) 0 wrong) refl
+wrong_after total byte rest wrong = rw (ne_eqb byte (closing total) wrong) refl
 
-right_after : (total byte : ℕ) (bytes : List ℕ) → (total + byte) % 256 ≡ 0
-    → next_part total (byte ∷ bytes) ≡ first_part bytes
+pub right_after : (total : ℕ) (bytes : List ℕ) → next_part total (closing total ∷ bytes) ≡ first_part bytes
 unfolding next_part
-right_after total byte bytes e = rw e refl
+right_after total bytes =
+    ap (λ (r : Read TapeFault (Unit {0})). r >>= after_sum) (closed_again fault.BadSum tt total bytes)
 
 pub data_refused : (total : ℕ) (said : TapeFault) (bytes rest : List ℕ) → ShowsAfterData total said rest bytes
     → next_part total bytes ≡ Err (Refused said rest)
 data_refused total said _ rest (Wrong byte wrong is) =
     let P : TapeFault → Type 0 = λ f. next_part total (byte ∷ rest) ≡ Err (Refused f rest) in
     subst P (sym is) (wrong_after total byte rest wrong)
-data_refused total said _ rest (Right byte {bytes = bytes} e s) =
-    right_after total byte bytes e ∙ shows_refused said bytes rest s
+data_refused total said _ rest (Right {bytes = bytes} s) =
+    right_after total bytes ∙ shows_refused said bytes rest s
 
 -- ---- no block begins
-
-second_within : (bytes : List ℕ) → second bytes ≡ Err Between → ⊥
-second_within [] e = cc
-second_within (byte ∷ bytes) e =
-    elim (chosen (eqb byte 0) (done tt bytes) (refusal fault.BadStart bytes) (Err Between) e) [
-      | inl hit ↦ (let bad = hit.1 in cc)
-      | inr miss ↦ (let bad = miss.1 in cc)
-    ]
-
-word_within : (bytes : List ℕ) → word bytes ≡ Err Between → ⊥
-word_within [] e = cc
-word_within (low ∷ []) e = cc
-word_within (low ∷ high ∷ bytes) e = cc
 
 count_within : (bytes : List ℕ) → count bytes ≡ Err Between → ⊥
 unfolding count
@@ -355,14 +241,6 @@ count_within (low ∷ high ∷ bytes) e =
       | inr enough ↦ (let bad = enough.1 in cc)
     ]
 
-summed_within : (total : ℕ) (bytes : List ℕ) → summed total bytes ≡ Err Between → ⊥
-summed_within total [] e = cc
-summed_within total (byte ∷ bytes) e =
-    elim (chosen (eqb ((total + byte) % 256) 0) (done tt bytes) (refusal fault.BadSum bytes) (Err Between) e) [
-      | inl hit ↦ (let bad = hit.1 in cc)
-      | inr miss ↦ (let bad = miss.1 in cc)
-    ]
-
 started_within : (address : ℕ) (x : Unit {0} × List ℕ) → after_last address x ≡ Err Between → ⊥
 started_within address x e = cc
 
@@ -370,7 +248,7 @@ transfer_within : (address : ℕ) (bytes : List ℕ) → transfer address bytes 
 unfolding transfer
 transfer_within address bytes e =
     elim (bind_err (summed (total_of address []) bytes) (after_last address) Between e) [
-      | inl early ↦ summed_within (total_of address []) bytes early
+      | inl early ↦ closed_within fault.BadSum tt (total_of address []) bytes early
       | inr last ↦ started_within address last.0 last.2
     ]
 
@@ -384,7 +262,7 @@ part_within n address bytes e =
 start_within : (bytes : List ℕ) → after_start (tt, bytes) ≡ Err Between → ⊥
 start_within bytes e =
     elim (bind_err (second bytes) after_second Between e) [
-      | inl early ↦ second_within bytes early
+      | inl early ↦ second_within fault.BadStart bytes early
       | inr s ↦ elim (bind_err (count s.0.1) after_count Between s.2) [
         | inl early ↦ count_within s.0.1 early
         | inr n ↦ elim (bind_err (word n.0.1) (after_address n.0.0) Between n.2) [

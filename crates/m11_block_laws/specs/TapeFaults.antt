@@ -1,14 +1,15 @@
 -- Bytes that are no tape, by what they are. (RT-11 Volume and File Formats Manual, "Absolute binary file format". That any
 -- bytes but 001 are skipped before a block, and the names of the faults, are this project's own.)
-use Rattle.std.specs.Prelude.{◌≡◌, ◌≢◌, ℕ, ◌+◌, ◌*◌, ◌%◌, ◌<◌, List, [], ◌∷◌, ◌++◌}
+use Rattle.std.specs.Prelude.{◌≡◌, ◌≢◌, ℕ, ◌+◌, ◌*◌, ◌<◌, List, [], ◌∷◌, ◌++◌}
 use Rattle.std.specs.List.{AllByRecursion}
+use Rattle.m11_blocks.specs.Frames.{closing}
 use Rattle.m11_blocks.specs.Tapes.{tape_header, total_of}
 use Rattle.m11_blocks.specs.declared.tape_fault.TapeFault.{TapeFault}
 use Rattle.m11_blocks.specs.declared.tape_fault.TapeFault.TheVariants as fault
 
--- a byte that doesn't close the sum of the bytes before it
+-- a byte that doesn't make the sum of the bytes before it a multiple of 256
 abbrev pub IsWrong : ℕ → ℕ → Type 0
-IsWrong total byte = (total + byte) % 256 ≢ 0
+IsWrong total byte = byte ≢ closing total
 
 -- bytes show a fault by one of them, and these stand after it
 abbrev pub Shows : TapeFault → List ℕ → List ℕ → Type 0
@@ -35,5 +36,4 @@ pub record ShowsAfterSkipped (fault : TapeFault) (bytes rest : List ℕ) : Type 
 -- after the data of a block, whose bytes so far have this sum: a wrong byte, or the right one, and the fault after it
 pub data ShowsAfterData (total : ℕ) (said : TapeFault) (rest : List ℕ) : List ℕ → Type 0 where
   Wrong : (byte : ℕ) → IsWrong total byte → said ≡ fault.BadSum → ShowsAfterData total said rest (byte ∷ rest)
-  Right : (byte : ℕ) {bytes : List ℕ} → (total + byte) % 256 ≡ 0 → ShowsAfterSkipped said bytes rest
-      → ShowsAfterData total said rest (byte ∷ bytes)
+  Right : {bytes : List ℕ} → ShowsAfterSkipped said bytes rest → ShowsAfterData total said rest (closing total ∷ bytes)

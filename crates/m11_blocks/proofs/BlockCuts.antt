@@ -1,16 +1,17 @@
 -- The bytes end inside a block exactly where they are a block's beginning after zeros.
-use Rattle.std.proofs.Common.{◌≡◌, ◌∙◌, ℕ, zero, suc, ◌+◌, ◌*◌, ◌-◌, ◌/◌, ◌%◌, ◌<◌, ◌≤◌, cond, ltb, eqb, List, [], ◌∷◌, ◌++◌, length, take, drop, replicate, Err, refl, sym, ap, subst, append_assoc, arith, inl, inr, ◌⊎◌}
+use Rattle.std.proofs.Common.{◌≡◌, ◌∙◌, ℕ, zero, suc, ◌+◌, ◌-◌, ◌/◌, ◌%◌, ◌<◌, ◌≤◌, cond, ltb, List, [], ◌∷◌, ◌++◌, length, sum, take, drop, replicate, Err, refl, sym, ap, subst, append_assoc, arith, inl, inr, ◌⊎◌}
 use Rattle.std.proofs.Math.Seq.{drop-length}
 use Rattle.std.proofs.lemmas.Bool.{le-ltb, lt-ltb, ltb-true, cases_lt}
 use Rattle.std.proofs.lemmas.List.{length-append, length-replicate, append-nil}
 use Rattle.m11_blocks.specs.declared.block_fault.BlockFault.{BlockFault}
 use Rattle.m11_blocks.specs.declared.block_fault.BlockFault.TheVariants as fault
-use Rattle.m11_blocks.specs.Frames.{word_bytes, sum_byte, header, block, content_limit}
+use Rattle.m11_blocks.specs.Frames.{word_bytes, word, sum_byte, header, block, content_limit}
 use Rattle.m11_blocks.specs.Limited.{Inside, Refused, Read, ◌>>=◌}
-use Rattle.m11_blocks.specs.Blocks.{second, count_of, count, content_of, summed, first_block, IsCut}
+use Rattle.m11_blocks.specs.Blocks.{second, count_of, count, content_of, first_block, IsCut}
 use Rattle.m11_blocks.proofs.BlockParts.{after_start, after_second, after_count, after_content}
 use Rattle.m11_blocks.proofs.ReadSteps.{Bytes, bind_err, chosen, done}
-use Rattle.m11_blocks.proofs.BlockFrames.{count_again, block_parts, second_takes, count_takes, content_takes, zero_in_front, nothing_read, begun}
+use Rattle.m11_blocks.proofs.FrameReads.{second_takes, second_inside, word_inside, closed_inside}
+use Rattle.m11_blocks.proofs.BlockFrames.{count_again, block_parts, count_takes, content_takes, zero_in_front, nothing_read, begun}
 
 -- ---- a block's beginning ends inside it
 
@@ -84,14 +85,6 @@ cut_read bytes c =
 
 -- ---- what ends inside a block is a block's beginning
 
-second_inside : (bytes : List ℕ) → second bytes ≡ Err Inside → bytes ≡ []
-second_inside [] e = refl
-second_inside (byte ∷ bytes) e =
-    elim (chosen (eqb byte 0) (done tt bytes) (Err (Refused fault.BadStart bytes)) (Err Inside) e) [
-      | inl hit ↦ absurd (let bad = hit.1 in cc)
-      | inr miss ↦ absurd (let bad = miss.1 in cc)
-    ]
-
 count_of_inside : (length : ℕ) (bytes : List ℕ) → count_of length bytes ≡ Err Inside → ⊥
 count_of_inside length bytes e =
     elim (chosen (ltb length 4) (Err (Refused fault.TooShort bytes))
@@ -105,23 +98,17 @@ count_of_inside length bytes e =
     ]
 
 count_inside : (bytes : List ℕ) → count bytes ≡ Err Inside → (bytes ≡ []) ⊎ ((low : ℕ) × (bytes ≡ low ∷ []))
-count_inside [] e = inl refl
-count_inside (low ∷ []) e = inr (low, refl)
-count_inside (low ∷ high ∷ bytes) e = absurd (count_of_inside (low + 256 * high) bytes e)
+count_inside bytes e =
+    elim (bind_err (word bytes) (λ length. count_of length.0 length.1) Inside e) [
+      | inl early ↦ word_inside bytes early
+      | inr w ↦ absurd (count_of_inside w.0.0 w.0.1 w.2)
+    ]
 
 content_inside : (n : ℕ) (bytes : List ℕ) → content_of n bytes ≡ Err Inside → length bytes < n
 content_inside n bytes e =
     elim (chosen (ltb (length bytes) n) (Err Inside) (done (take n bytes) (drop n bytes)) (Err Inside) e) [
       | inl short ↦ ltb-true (length bytes) n short.0
       | inr enough ↦ absurd (let bad = enough.1 in cc)
-    ]
-
-summed_inside : (xs bytes : List ℕ) → summed xs bytes ≡ Err Inside → bytes ≡ []
-summed_inside xs [] e = refl
-summed_inside xs (byte ∷ bytes) e =
-    elim (chosen (eqb byte (last_of xs)) (done xs bytes) (Err (Refused fault.BadSum bytes)) (Err Inside) e) [
-      | inl hit ↦ absurd (let bad = hit.1 in cc)
-      | inr miss ↦ absurd (let bad = miss.1 in cc)
     ]
 
 cut_by : (content part missing : List ℕ) → length content ≤ content_limit → 0 < length part → 0 < length missing
@@ -178,10 +165,10 @@ cut_after : (bytes : List ℕ) → Bytes bytes → after_start (tt, bytes) ≡ E
 cut_after bytes small e =
     let P : List ℕ → Type 0 = λ xs. IsCut (1 ∷ xs) in
     elim (bind_err (second bytes) after_second Inside e) [
-      | inl early ↦ subst P (sym (second_inside bytes early))
+      | inl early ↦ subst P (sym (second_inside fault.BadStart bytes early))
           (cut_by [] (1 ∷ []) (0 ∷ 4 ∷ 0 ∷ 251 ∷ []) (omega arith) (omega arith) (omega arith) refl)
       | inr s ↦
-          let second_is : bytes ≡ 0 ∷ s.0.1 = second_takes bytes s.0.1 s.1 in
+          let second_is : bytes ≡ 0 ∷ s.0.1 = second_takes fault.BadStart bytes s.0.1 s.1 in
           let small' : Bytes (0 ∷ s.0.1) = subst Bytes second_is small in
           subst P (sym second_is) (after_count_byte s.0.1 small'.1 s.2)
     ]
@@ -193,7 +180,7 @@ cut_after bytes small e =
           | inl early ↦ cut_content n tail (content_inside n tail early) fits
           | inr xs ↦
               let t = content_takes n tail xs.0.0 xs.0.1 xs.1 in
-              let none : xs.0.1 ≡ [] = summed_inside xs.0.0 xs.0.1 xs.2 in
+              let none : xs.0.1 ≡ [] = closed_inside fault.BadSum xs.0.0 (sum (header (length xs.0.0) ++ xs.0.0)) xs.0.1 xs.2 in
               let whole : tail ≡ xs.0.0 = t.1 ∙ ap (λ (rest : List ℕ). xs.0.0 ++ rest) none ∙ append-nil xs.0.0 in
               cut_tail n xs.0.0 tail (last_of xs.0.0 ∷ []) t.0 fits (omega arith)
               (ap (λ (ys : List ℕ). ys ++ last_of xs.0.0 ∷ []) (sym whole))

@@ -1,21 +1,19 @@
 -- What is read is a block of the format, and what is a block is read.
-use Rattle.std.proofs.Common.{◌≡◌, ◌∙◌, ℕ, ◌+◌, ◌*◌, ◌-◌, ◌/◌, ◌%◌, ◌<◌, ◌≤◌, false, cond, ltb, eqb, List, [], ◌∷◌, ◌++◌, length, take, drop, Ok, Err, refl, sym, ap, subst, append_assoc, arith, inl, inr, ◌⊎◌}
+use Rattle.std.proofs.Common.{◌≡◌, ◌∙◌, ℕ, ◌+◌, ◌-◌, ◌≤◌, false, cond, ltb, List, [], ◌∷◌, ◌++◌, length, sum, take, drop, Ok, Err, refl, sym, ap, subst, append_assoc, arith, inl, inr, ◌⊎◌}
 use Rattle.std.proofs.Math.Seq.{take-append_seam, drop-append_seam}
-use Rattle.std.proofs.lemmas.Bool.{le-ltb, ltb-false, eqb-true}
+use Rattle.std.proofs.lemmas.Bool.{le-ltb, ltb-false}
 use Rattle.std.proofs.lemmas.Bool.Decides.{eqb_tells}
 use Rattle.std.proofs.lemmas.List.{take-append-drop, length-append, length-take-le}
 use Rattle.m11_blocks.specs.declared.block_fault.BlockFault.{BlockFault}
 use Rattle.m11_blocks.specs.declared.block_fault.BlockFault.TheVariants as fault
-use Rattle.m11_blocks.specs.Frames.{word_bytes, sum_byte, header, block, content_limit, AreBlocks, Nothing, Zero, Block}
+use Rattle.m11_blocks.specs.Frames.{word_bytes, word, sum_byte, header, block, content_limit, AreBlocks, Nothing, Zero, Block}
 use Rattle.m11_blocks.specs.Limited.{Between, Inside, Refused, Read, ◌>>=◌}
 use Rattle.m11_blocks.specs.Blocks.{second, count_of, count, content_of, summed, first_block, AreRead}
-use Rattle.m11_blocks.proofs.ReadSteps.{Bytes, bytes_after, same_eqb, bind_ok, bind_err, chosen, done, rest_is, value_is}
+use Rattle.m11_blocks.proofs.FrameReads.{second_takes, second_within, word_again, word_takes, word_within, closed_again, closed_takes, closed_within}
+use Rattle.m11_blocks.proofs.ReadSteps.{Bytes, bytes_after, bind_ok, bind_err, chosen, done, rest_is, value_is}
 use Rattle.m11_blocks.proofs.BlockParts.{after_start, after_second, after_count, after_content}
 
 -- ---- a block is read
-
-word_number : (word : ℕ) → word < 65536 → word % 256 + 256 * (word / 256 % 256) ≡ word
-word_number word lt = omega arith
 
 count_of_again : (n : ℕ) (rest : List ℕ) → n ≤ content_limit → count_of (n + 4) rest ≡ Ok (n, rest)
 count_of_again n rest fits =
@@ -26,7 +24,8 @@ count_of_again n rest fits =
 
 pub count_again : (n : ℕ) (rest : List ℕ) → n ≤ content_limit → count (word_bytes (n + 4) ++ rest) ≡ Ok (n, rest)
 count_again n rest fits =
-    ap (λ (word : ℕ). count_of word rest) (word_number (n + 4) (omega arith)) ∙ count_of_again n rest fits
+    ap (λ (r : Read BlockFault ℕ). r >>= λ length. count_of length.0 length.1) (word_again (n + 4) rest (omega arith))
+    ∙ count_of_again n rest fits
 
 content_again : (xs rest : List ℕ) → content_of (length xs) (xs ++ rest) ≡ Ok (xs, rest)
 content_again xs rest =
@@ -34,7 +33,7 @@ content_again xs rest =
     rw (long, take-append_seam xs rest, drop-append_seam xs rest) refl
 
 summed_again : (xs rest : List ℕ) → summed xs (sum_byte (header (length xs) ++ xs) ∷ rest) ≡ Ok (xs, rest)
-summed_again xs rest = rw (same_eqb (sum_byte (header (length xs) ++ xs))) refl
+summed_again xs rest = closed_again fault.BadSum xs (sum (header (length xs) ++ xs)) rest
 
 parts_again : (xs rest : List ℕ) → length xs ≤ content_limit
     → first_block (1 ∷ 0 ∷ (word_bytes (length xs + 4) ++ (xs ++ sum_byte (header (length xs) ++ xs) ∷ rest)))
@@ -60,14 +59,6 @@ block_again content rest fits = ap first_block (block_parts content rest) ∙ pa
 
 -- ---- what is read is a block
 
-pub second_takes : (bytes rest : List ℕ) → second bytes ≡ Ok (tt, rest) → bytes ≡ 0 ∷ rest
-second_takes [] rest e = absurd cc
-second_takes (byte ∷ bytes) rest e =
-    elim (chosen (eqb byte 0) (done tt bytes) (Err (Refused fault.BadStart bytes)) (Ok (tt, rest)) e) [
-      | inl hit ↦ let zero : byte ≡ 0 = eqb-true byte 0 hit.0 in rw (zero, rest_is tt tt bytes rest hit.1) refl
-      | inr miss ↦ absurd (let bad = miss.1 in cc)
-    ]
-
 count_of_takes : (length n : ℕ) (bytes rest : List ℕ) → count_of length bytes ≡ Ok (n, rest)
     → (n ≤ content_limit) × (length ≡ n + 4) × (bytes ≡ rest)
 count_of_takes length n bytes rest e =
@@ -87,13 +78,11 @@ count_of_takes length n bytes rest e =
 
 pub count_takes : (n : ℕ) (bytes rest : List ℕ) → Bytes bytes → count bytes ≡ Ok (n, rest)
     → (n ≤ content_limit) × (bytes ≡ word_bytes (n + 4) ++ rest)
-count_takes n [] rest small e = absurd cc
-count_takes n (low ∷ []) rest small e = absurd cc
-count_takes n (low ∷ high ∷ bytes) rest small e =
-    let t = count_of_takes (low + 256 * high) n bytes rest e in
-    let low_is : low ≡ (n + 4) % 256 = omega (arith, t.1, small.0, small.1.0) in
-    let high_is : high ≡ (n + 4) / 256 % 256 = omega (arith, t.1, small.0, small.1.0) in
-    (t.0, rw (← low_is, ← high_is, t.2) refl)
+count_takes n bytes rest small e =
+    let w = bind_ok (word bytes) (λ length. count_of length.0 length.1) (n, rest) e in
+    let is = word_takes w.0.0 bytes w.0.1 small w.1 in
+    let t = count_of_takes w.0.0 n w.0.1 rest w.2 in
+    (t.0, is.1 ∙ rw (t.1, t.2) refl)
 
 pub content_takes : (n : ℕ) (bytes xs rest : List ℕ) → content_of n bytes ≡ Ok (xs, rest)
     → (length xs ≡ n) × (bytes ≡ xs ++ rest)
@@ -109,17 +98,6 @@ content_takes n bytes xs rest e =
           )
     ]
 
-summed_takes : (xs ys bytes rest : List ℕ) → summed xs bytes ≡ Ok (ys, rest)
-    → (xs ≡ ys) × (bytes ≡ sum_byte (header (length xs) ++ xs) ∷ rest)
-summed_takes xs ys [] rest e = absurd cc
-summed_takes xs ys (byte ∷ bytes) rest e =
-    let s : ℕ = sum_byte (header (length xs) ++ xs) in
-    elim (chosen (eqb byte s) (done xs bytes) (Err (Refused fault.BadSum bytes)) (Ok (ys, rest)) e) [
-      | inl hit ↦ let same : byte ≡ s = eqb-true byte s hit.0 in
-          (value_is xs ys bytes rest hit.1, rw (same, rest_is xs ys bytes rest hit.1) refl)
-      | inr miss ↦ absurd (let bad = miss.1 in cc)
-    ]
-
 -- after the 001 of a block
 block_after : (bytes content rest : List ℕ) → Bytes bytes → after_start (tt, bytes) ≡ Ok (content, rest)
     → (length content ≤ content_limit) × (1 ∷ bytes ≡ block content ++ rest)
@@ -127,11 +105,11 @@ block_after bytes content rest small e =
     let s = bind_ok (second bytes) after_second (content, rest) e in
     let n = bind_ok (count s.0.1) after_count (content, rest) s.2 in
     let xs = bind_ok (content_of n.0.0 n.0.1) after_content (content, rest) n.2 in
-    let second_is : bytes ≡ 0 ∷ s.0.1 = second_takes bytes s.0.1 s.1 in
+    let second_is : bytes ≡ 0 ∷ s.0.1 = second_takes fault.BadStart bytes s.0.1 s.1 in
     let small' : Bytes (0 ∷ s.0.1) = subst Bytes second_is small in
     let count_is = count_takes n.0.0 s.0.1 n.0.1 small'.1 n.1 in
     let content_is = content_takes n.0.0 n.0.1 xs.0.0 xs.0.1 xs.1 in
-    let sum_is = summed_takes xs.0.0 content xs.0.1 rest xs.2 in
+    let sum_is = closed_takes fault.BadSum xs.0.0 (sum (header (length xs.0.0) ++ xs.0.0)) content xs.0.1 rest xs.2 in
     let same : xs.0.0 ≡ content = sum_is.0 in
     let long : length content ≡ n.0.0 = ap length (sym same) ∙ content_is.0 in
     let tail : n.0.1 ≡ content ++ sum_byte (header (length content) ++ content) ∷ rest =
@@ -201,14 +179,6 @@ framed (byte ∷ bytes) content rest small e =
 
 -- ---- the end after a block's first byte is inside it
 
-second_within : (bytes : List ℕ) → second bytes ≡ Err Between → ⊥
-second_within [] e = cc
-second_within (byte ∷ bytes) e =
-    elim (chosen (eqb byte 0) (done tt bytes) (Err (Refused fault.BadStart bytes)) (Err Between) e) [
-      | inl hit ↦ (let bad = hit.1 in cc)
-      | inr miss ↦ (let bad = miss.1 in cc)
-    ]
-
 count_of_within : (length : ℕ) (bytes : List ℕ) → count_of length bytes ≡ Err Between → ⊥
 count_of_within length bytes e =
     elim (chosen (ltb length 4) (Err (Refused fault.TooShort bytes))
@@ -222,9 +192,11 @@ count_of_within length bytes e =
     ]
 
 count_within : (bytes : List ℕ) → count bytes ≡ Err Between → ⊥
-count_within [] e = cc
-count_within (low ∷ []) e = cc
-count_within (low ∷ high ∷ bytes) e = count_of_within (low + 256 * high) bytes e
+count_within bytes e =
+    elim (bind_err (word bytes) (λ length. count_of length.0 length.1) Between e) [
+      | inl early ↦ word_within bytes early
+      | inr w ↦ count_of_within w.0.0 w.0.1 w.2
+    ]
 
 content_within : (n : ℕ) (bytes : List ℕ) → content_of n bytes ≡ Err Between → ⊥
 content_within n bytes e =
@@ -233,24 +205,15 @@ content_within n bytes e =
       | inr enough ↦ (let bad = enough.1 in cc)
     ]
 
-summed_within : (xs bytes : List ℕ) → summed xs bytes ≡ Err Between → ⊥
-summed_within xs [] e = cc
-summed_within xs (byte ∷ bytes) e =
-    elim (chosen (eqb byte (sum_byte (header (length xs) ++ xs))) (done xs bytes) (Err (Refused fault.BadSum bytes))
-    (Err Between) e) [
-      | inl hit ↦ (let bad = hit.1 in cc)
-      | inr miss ↦ (let bad = miss.1 in cc)
-    ]
-
 pub start_within : (bytes : List ℕ) → after_start (tt, bytes) ≡ Err Between → ⊥
 start_within bytes e =
     elim (bind_err (second bytes) after_second Between e) [
-      | inl early ↦ second_within bytes early
+      | inl early ↦ second_within fault.BadStart bytes early
       | inr s ↦ elim (bind_err (count s.0.1) after_count Between s.2) [
         | inl early ↦ count_within s.0.1 early
         | inr n ↦ elim (bind_err (content_of n.0.0 n.0.1) after_content Between n.2) [
           | inl early ↦ content_within n.0.0 n.0.1 early
-          | inr xs ↦ summed_within xs.0.0 xs.0.1 xs.2
+          | inr xs ↦ closed_within fault.BadSum xs.0.0 (sum (header (length xs.0.0) ++ xs.0.0)) xs.0.1 xs.2
         ]
       ]
     ]

@@ -1,21 +1,21 @@
 -- A block is read part by part.
-use Rattle.std.proofs.Common.{◌≡◌, ◌≢◌, ◌<◌, ◌∙◌, ℕ, List, [], ◌∷◌, ◌++◌, length, length-append, Ok, Err, refl, ap, append_assoc, arith}
+use Rattle.std.proofs.Common.{◌≡◌, ◌≢◌, ◌<◌, ℕ, List, [], ◌∷◌, ◌++◌, length, length-append, Ok, Err, refl, arith}
 use Rattle.std.proofs.lemmas.Bool.{lt-ltb, ne_eqb}
 use Rattle.m11_blocks.specs.declared.limited.Lack.{Lack}
 use Rattle.m11_blocks.specs.declared.limited.Lack.TheVariants as lack
 use Rattle.m11_blocks.specs.declared.block_fault.BlockFault.{BlockFault}
 use Rattle.m11_blocks.specs.declared.block_fault.BlockFault.TheVariants as fault
-use Rattle.m11_blocks.specs.Limited.{Place, Took, TookInto, Lacks, TookThenLacks, Inside, Refused, Read, ◌>>=◌, Why, EndsBetween, Reads, Stops}
+use Rattle.m11_blocks.specs.Limited.{Place, Took, TookInto, Lacks, TookThenLacks, Inside, Refused, Read, ◌>>=◌, Why, Reads, Stops}
 use Rattle.m11_blocks.specs.Blocks.{start, second, count, content_of, summed, first_block, missing, why_of}
-use Rattle.m11_blocks.proofs.Limits.{took_nothing, took_then, reads_after, stops_after, first_stops, then_reads, then_stops}
+use Rattle.m11_blocks.proofs.Limits.{took_nothing, took_then, first_stops, then_reads, then_stops}
+use Rattle.m11_blocks.proofs.Limits.{missing_stops as stops_missing}
 
 -- a byte is missing inside a block
 pub missing_stops : {A : Type 0} (read : List ℕ → Read BlockFault A) (a b : Place) (given : List ℕ) (why : Lack)
     → TookThenLacks a b given why → read given ≡ Err Inside → Stops read a b (why_of (missing why))
-missing_stops {A} read a b given lack.Device lacks e =
-    (given, lacks, rw e tt)
-missing_stops read a b given lack.End lacks e = (given, lacks, e)
-missing_stops read a b given lack.TooMuch lacks e = (given, lacks, rw e tt)
+missing_stops read a b given lack.Device lacks e = stops_missing read a b given lack.Device lacks e
+missing_stops read a b given lack.End lacks e = stops_missing read a b given lack.End lacks e
+missing_stops read a b given lack.TooMuch lacks e = stops_missing read a b given lack.TooMuch lacks e
 
 -- its first byte is
 pub first_missing : {A : Type 0} (read : List ℕ → Read BlockFault A) (a b : Place) (why : Lack) → Lacks a b why
@@ -39,45 +39,15 @@ content_missing count taken a b c d content after why took short none into lacks
 
 -- ---- zeros and the start of a block
 
-zero_front : (byte : ℕ) (rest : List ℕ) → byte ≡ 0 → start (byte ∷ rest) ≡ start rest
-zero_front byte rest e = rw e refl
+pub zero_front : (byte : ℕ) → byte ≡ 0 → (rest : List ℕ) → start (byte ∷ rest) ≡ start rest
+zero_front byte e rest = rw e refl
 
-one_front : (byte : ℕ) (rest : List ℕ) → byte ≡ 1 → start (byte ∷ rest) ≡ Ok (tt, rest)
-one_front byte rest e = rw e refl
+pub one_front : (byte : ℕ) → byte ≡ 1 → (rest : List ℕ) → start (byte ∷ rest) ≡ Ok (tt, rest)
+one_front byte e rest = rw e refl
 
-other_front : (byte : ℕ) (rest : List ℕ) → byte ≢ 0 → byte ≢ 1 → start (byte ∷ rest) ≡ Err (Refused fault.BadStart rest)
-other_front byte rest not_zero not_one = rw (ne_eqb byte 0 not_zero, ne_eqb byte 1 not_one) refl
-
-module _ (a b c : Place) (zeros : List ℕ) (took : Took a b zeros)
-    (leads : (rest : List ℕ) → start (zeros ++ rest) ≡ start rest) where
-  pub zero_skipped : (byte : ℕ) → byte ≡ 0 → Took b c (byte ∷ [])
-      → (more : List ℕ) × Took a c more × ((rest : List ℕ) → start (more ++ rest) ≡ start rest)
-  zero_skipped byte e next = (
-    zeros ++ byte ∷ [],
-    took_then a b c zeros (byte ∷ []) took next,
-    λ rest. ap start (append_assoc zeros (byte ∷ []) rest) ∙ leads (byte ∷ rest) ∙ zero_front byte rest e,
-  )
-
-  pub start_read : (byte : ℕ) → byte ≡ 1 → Took b c (byte ∷ []) → Reads start a c tt
-  start_read byte e next =
-      reads_after start start a b c zeros took leads tt
-      (record { given = byte ∷ []; took = next; is = λ rest. one_front byte rest e })
-
-  pub start_refused : (byte : ℕ) → byte ≢ 0 → byte ≢ 1 → Took b c (byte ∷ []) → Stops start a c (why_of fault.BadStart)
-  start_refused byte not_zero not_one next =
-      stops_after start start a b c zeros took leads (why_of fault.BadStart)
-      (byte ∷ [], next, λ rest. other_front byte rest not_zero not_one)
-
-  pub start_ends : Lacks b c lack.End → Stops start a c EndsBetween
-  start_ends lacks = stops_after start start a b c zeros took leads EndsBetween ([], (b, took_nothing b, lacks), refl)
-
-  pub start_fails : Lacks b c lack.Device → Stops start a c (why_of fault.Device)
-  start_fails lacks =
-      stops_after start start a b c zeros took leads (why_of fault.Device) ([], (b, took_nothing b, lacks), tt)
-
-  pub start_passes : Lacks b c lack.TooMuch → Stops start a c (why_of fault.TooMuch)
-  start_passes lacks =
-      stops_after start start a b c zeros took leads (why_of fault.TooMuch) ([], (b, took_nothing b, lacks), tt)
+pub other_front : (byte : ℕ) → byte ≢ 0 → byte ≢ 1 → (rest : List ℕ)
+    → start (byte ∷ rest) ≡ Err (Refused fault.BadStart rest)
+other_front byte not_zero not_one rest = rw (ne_eqb byte 0 not_zero, ne_eqb byte 1 not_one) refl
 
 -- ---- the parts of a block
 

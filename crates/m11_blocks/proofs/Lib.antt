@@ -1,5 +1,7 @@
 pub mod Limits
 pub mod ReadSteps
+pub mod FrameReads
+pub mod StartReads
 pub mod BlockParts
 pub mod BlockFrames
 pub mod TapeParts

@@ -94,3 +94,17 @@ module _ {Fault A B : Type 0} (first : List ℕ → Read Fault A) (then : A × L
 
     pub then_stops : (why : Why Fault) → Stops (λ rest. then (x, rest)) b c why → Stops both a c why
     then_stops why s = stops_after both (λ rest. then (x, rest)) a b c part.given part.took leads_on why s
+
+-- ---- a byte is missing
+
+-- why a call gives no value where one of its bytes doesn't come
+abbrev pub why_missing : {Fault : Type 0} → Lack → Why Fault
+why_missing lack.Device = Fails
+why_missing lack.End = EndsInside
+why_missing lack.TooMuch = Passes
+
+pub missing_stops : {Fault A : Type 0} (read : List ℕ → Read Fault A) (a b : Place) (given : List ℕ) (why : Lack)
+    → TookThenLacks a b given why → read given ≡ Err Inside → Stops read a b (why_missing why)
+missing_stops read a b given lack.Device lacks e = (given, lacks, rw e tt)
+missing_stops read a b given lack.End lacks e = (given, lacks, e)
+missing_stops read a b given lack.TooMuch lacks e = (given, lacks, rw e tt)

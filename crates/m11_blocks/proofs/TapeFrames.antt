@@ -1,5 +1,5 @@
 -- What is read is a tape of the format, and what is a tape is read.
-use Rattle.std.proofs.Common.{◌≡◌, ◌≢◌, ◌∙◌, ℕ, ◌+◌, ◌*◌, ◌-◌, ◌/◌, ◌%◌, ◌<◌, ◌≤◌, false, cond, ltb, eqb, List, [], ◌∷◌, ◌++◌, length, sum, Ok, Err, refl, sym, ap, subst, append_assoc, arith, inl, inr, ◌⊎◌}
+use Rattle.std.proofs.Common.{◌≡◌, ◌≢◌, ◌∙◌, ℕ, ◌+◌, ◌-◌, ◌%◌, ◌<◌, ◌≤◌, false, cond, ltb, eqb, List, [], ◌∷◌, ◌++◌, length, sum, Ok, Err, refl, sym, ap, subst, append_assoc, arith, inl, inr, ◌⊎◌}
 use Rattle.std.proofs.lemmas.Bool.{le-ltb, ltb-false, ne_eqb, eqb-true}
 use Rattle.std.proofs.lemmas.Bool.Decides.{eqb_tells}
 use Rattle.m11_blocks.specs.declared.tape_fault.TapeFault.{TapeFault}
@@ -9,39 +9,36 @@ use Rattle.m11_blocks.specs.declared.tape_part.TapePart.TheVariants.{Data, Start
 use Rattle.std.proofs.lemmas.List.Sums.{sum_by-append}
 use Rattle.std.proofs.lemmas.List.{length-append}
 use Rattle.m11_blocks.specs.declared.tape_part.TapeStage.TheVariants.{InBlock}
-use Rattle.m11_blocks.specs.Frames.{word_bytes, sum_byte, with_sum}
+use Rattle.m11_blocks.specs.Frames.{word_bytes, word, closing, sum_byte, with_sum}
 use Rattle.m11_blocks.specs.Limited.{Refused, Read, ◌>>=◌}
-use Rattle.m11_blocks.specs.Tapes.{tape_header, tape_block, data_limit, IsTape, Transfer, Skipped, Block, start, second, word, count, summed, total_of, transfer, part_of, first_part, next_part, AreRead, IsReadAgain, opened, stage_within}
+use Rattle.m11_blocks.specs.Tapes.{tape_header, tape_block, data_limit, IsTape, Transfer, Skipped, Block, start, second, count, summed, total_of, transfer, part_of, first_part, next_part, AreRead, IsReadAgain, opened, stage_within}
+use Rattle.m11_blocks.proofs.FrameReads.{second_takes, word_again, word_takes, closed_again, closed_takes}
 use Rattle.m11_blocks.proofs.ReadSteps.{Bytes, bytes_after, bind_ok, chosen, done, rest_is, value_is}
 use Rattle.m11_blocks.proofs.TapeParts.{after_start, after_second, after_count, after_address, after_sum}
 
 -- ---- a tape is read
 
-word_number : (n : ℕ) → n < 65536 → n % 256 + 256 * (n / 256 % 256) ≡ n
-word_number n lt = omega arith
-
-word_again : (n : ℕ) (rest : List ℕ) → n < 65536 → word (word_bytes n ++ rest) ≡ Ok (n, rest)
-word_again n rest lt = ap (λ (w : ℕ). Ok (w, rest)) (word_number n lt)
-
 abbrev counted : ℕ × List ℕ → Read TapeFault ℕ
 counted length = cond (ltb length.0 6) (Err (Refused fault.TooShort length.1)) (Ok (length.0 - 6, length.1))
 
-count_again : (n : ℕ) (rest : List ℕ) → n ≤ data_limit → count (word_bytes (n + 6) ++ rest) ≡ Ok (n, rest)
+pub count_again : (n : ℕ) (rest : List ℕ) → n ≤ data_limit → count (word_bytes (n + 6) ++ rest) ≡ Ok (n, rest)
 unfolding count
 count_again n rest fits =
     let least : ltb (n + 6) 6 ≡ false = le-ltb (n + 6) 6 (omega arith) in
     let same : n + 6 - 6 ≡ n = omega arith in
     ap (λ (r : Read TapeFault ℕ). r >>= counted) (word_again (n + 6) rest (omega arith)) ∙ rw (least, same) refl
 
--- a sum and its sum byte add up to a multiple of 256
-sum_closes : (s : ℕ) → (s % 256 + (256 - s % 256) % 256) % 256 ≡ 0
-sum_closes s = omega arith
+-- a total and its remainder have the same last byte
+pub same_closing : (total : ℕ) → closing (total % 256) ≡ closing total
+same_closing total = omega arith
 
 summed_again : (xs rest : List ℕ) → summed (sum xs % 256) (sum_byte xs ∷ rest) ≡ Ok (tt, rest)
-summed_again xs rest = rw (sum_closes (sum xs)) refl
+summed_again xs rest =
+    ap (λ (last : ℕ). summed (sum xs % 256) (last ∷ rest)) (sym (same_closing (sum xs)))
+    ∙ closed_again fault.BadSum tt (sum xs % 256) rest
 
 -- the bytes of a block, and the header read of them
-block_parts : (address : ℕ) (xs rest : List ℕ) → tape_block address xs ++ rest
+pub block_parts : (address : ℕ) (xs rest : List ℕ) → tape_block address xs ++ rest
     ≡ 1 ∷ 0 ∷ (word_bytes (length xs + 6)
     ++ (word_bytes address ++ (xs ++ sum_byte (tape_header address (length xs) ++ xs) ∷ rest)))
 unfolding tape_block
@@ -50,14 +47,14 @@ block_parts address xs rest =
     append_assoc (tape_header address (length xs) ++ xs) last rest
     ∙ append_assoc (tape_header address (length xs)) xs (last ++ rest)
 
-header_again : (address n : ℕ) (rest : List ℕ) → address < 65536 → n ≤ data_limit
+pub header_again : (address n : ℕ) (rest : List ℕ) → address < 65536 → n ≤ data_limit
     → first_part (1 ∷ 0 ∷ (word_bytes (n + 6) ++ (word_bytes address ++ rest))) ≡ part_of n address rest
 unfolding first_part
 header_again address n rest lt fits =
     ap (λ (r : Read TapeFault ℕ). r >>= after_count) (count_again n (word_bytes address ++ rest) fits)
     ∙ ap (λ (r : Read TapeFault ℕ). r >>= after_address n) (word_again address rest lt)
 
-some_again : (n address : ℕ) (rest : List ℕ) → 0 < n → part_of n address rest ≡ Ok (Data address n, rest)
+pub some_again : (n address : ℕ) (rest : List ℕ) → 0 < n → part_of n address rest ≡ Ok (Data address n, rest)
 some_again n address rest some = rw (ne_eqb n 0 (λ e. absurd (omega arith))) refl
 
 pub block_again : (address : ℕ) (content rest : List ℕ) → address < 65536 → 0 < length content
@@ -107,7 +104,7 @@ pub written_again : (address : ℕ) (content : List ℕ) → address < 65536 →
 unfolding tape_block
 written_again address content lt some fits written is rest = rw is (read_again address content rest lt some fits)
 
-other_skipped : (byte : ℕ) (bytes : List ℕ) → byte ≢ 1 → first_part (byte ∷ bytes) ≡ first_part bytes
+pub other_skipped : (byte : ℕ) (bytes : List ℕ) → byte ≢ 1 → first_part (byte ∷ bytes) ≡ first_part bytes
 unfolding first_part
 other_skipped byte bytes other = rw (ne_eqb byte 1 other) refl
 
@@ -135,26 +132,7 @@ tape_read _ start _ (Block {blocks = blocks} {bytes = bytes} address content lt 
 
 -- ---- what is read is a tape
 
-second_takes : (bytes rest : List ℕ) → second bytes ≡ Ok (tt, rest) → bytes ≡ 0 ∷ rest
-second_takes [] rest e = absurd cc
-second_takes (byte ∷ bytes) rest e =
-    elim (chosen (eqb byte 0) (done tt bytes) (Err (Refused fault.BadStart bytes)) (Ok (tt, rest)) e) [
-      | inl hit ↦ let zero : byte ≡ 0 = eqb-true byte 0 hit.0 in rw (zero, rest_is tt tt bytes rest hit.1) refl
-      | inr miss ↦ absurd (let bad = miss.1 in cc)
-    ]
-
-word_takes : (n : ℕ) (bytes rest : List ℕ) → Bytes bytes → word bytes ≡ Ok (n, rest)
-    → (n < 65536) × (bytes ≡ word_bytes n ++ rest) × Bytes rest
-word_takes n [] rest small e = absurd cc
-word_takes n (low ∷ []) rest small e = absurd cc
-word_takes n (low ∷ high ∷ bytes) rest small e =
-    let is : low + 256 * high ≡ n = value_is (low + 256 * high) n bytes rest e in
-    let low_is : low ≡ n % 256 = omega (arith, is, small.0, small.1.0) in
-    let high_is : high ≡ n / 256 % 256 = omega (arith, is, small.0, small.1.0) in
-    let same : bytes ≡ rest = rest_is (low + 256 * high) n bytes rest e in
-    (omega (arith, is, small.0, small.1.0), rw (← low_is, ← high_is, same) refl, subst Bytes same small.1.1)
-
-count_takes : (n : ℕ) (bytes rest : List ℕ) → Bytes bytes → count bytes ≡ Ok (n, rest)
+pub count_takes : (n : ℕ) (bytes rest : List ℕ) → Bytes bytes → count bytes ≡ Ok (n, rest)
     → (n ≤ data_limit) × (bytes ≡ word_bytes (n + 6) ++ rest) × Bytes rest
 unfolding count
 count_takes n bytes rest small e =
@@ -170,26 +148,15 @@ count_takes n bytes rest small e =
           (omega (arith, t.0, full), t.1 ∙ rw (full, same) refl, subst Bytes same t.2)
     ]
 
--- the sum byte of some bytes, where it closes their sum
-closing : (s byte : ℕ) → byte < 256 → (s % 256 + byte) % 256 ≡ 0 → byte ≡ (256 - s % 256) % 256
-closing s byte small e = omega arith
-
 summed_takes : (xs bytes rest : List ℕ) → Bytes bytes → summed (sum xs % 256) bytes ≡ Ok (tt, rest)
     → (bytes ≡ sum_byte xs ∷ rest) × Bytes rest
-summed_takes xs [] rest small e = absurd cc
-summed_takes xs (byte ∷ bytes) rest small e =
-    let s : ℕ = sum xs % 256 in
-    elim (chosen (eqb ((sum xs % 256 + byte) % 256) 0) (done tt bytes) (Err (Refused fault.BadSum bytes))
-    (Ok (tt, rest)) e) [
-      | inl hit ↦
-          let same : bytes ≡ rest = rest_is tt tt bytes rest hit.1 in
-          let last : byte ≡ sum_byte xs =
-          closing (sum xs) byte small.0 (eqb-true ((sum xs % 256 + byte) % 256) 0 hit.0) in
-          (rw (last, same) refl, subst Bytes same small.1)
-      | inr miss ↦ absurd (let bad = miss.1 in cc)
-    ]
+summed_takes xs bytes rest small e =
+    let t = closed_takes fault.BadSum tt (sum xs % 256) tt bytes rest e in
+    let is : bytes ≡ sum_byte xs ∷ rest = t.1 ∙ ap (λ (last : ℕ). last ∷ rest) (same_closing (sum xs)) in
+    let small' : Bytes (sum_byte xs ∷ rest) = subst Bytes is small in
+    (is, small'.1)
 
-next_takes : (address : ℕ) (content bytes : List ℕ) (x : TapePart × List ℕ) → Bytes bytes
+pub next_takes : (address : ℕ) (content bytes : List ℕ) (x : TapePart × List ℕ) → Bytes bytes
     → next_part (total_of address content) bytes ≡ Ok x
     → (rest : List ℕ) × (bytes ≡ sum_byte (tape_header address (length content) ++ content) ∷ rest) × Bytes rest
     × (first_part rest ≡ Ok x)
@@ -212,7 +179,7 @@ after_takes address content (block ∷ blocks) start bytes small h =
     (t.0, t.1, t.2, (h.0, t.3, h.2))
 
 -- how the first byte is taken
-begun : (byte : ℕ) (bytes : List ℕ) → ((byte ≡ 1) × (first_part (byte ∷ bytes) ≡ after_start (tt, bytes)))
+pub begun : (byte : ℕ) (bytes : List ℕ) → ((byte ≡ 1) × (first_part (byte ∷ bytes) ≡ after_start (tt, bytes)))
     ⊎ ((byte ≢ 1) × (first_part (byte ∷ bytes) ≡ first_part bytes))
 unfolding first_part
 begun byte bytes =
@@ -232,13 +199,13 @@ pub record Heads (bytes : List ℕ) (part : TapePart) (rest : List ℕ) : Type 0
   pub small : Bytes following
   pub part_is : part_of count address following ≡ Ok (part, rest)
 
-heads : (bytes : List ℕ) (part : TapePart) (rest : List ℕ) → Bytes bytes → after_start (tt, bytes) ≡ Ok (part, rest)
+pub heads : (bytes : List ℕ) (part : TapePart) (rest : List ℕ) → Bytes bytes → after_start (tt, bytes) ≡ Ok (part, rest)
     → Heads bytes part rest
 heads bytes part rest small e =
     let s = bind_ok (second bytes) after_second (part, rest) e in
     let n = bind_ok (count s.0.1) after_count (part, rest) s.2 in
     let a = bind_ok (word n.0.1) (after_address n.0.0) (part, rest) n.2 in
-    let second_is : bytes ≡ 0 ∷ s.0.1 = second_takes bytes s.0.1 s.1 in
+    let second_is : bytes ≡ 0 ∷ s.0.1 = second_takes fault.BadStart bytes s.0.1 s.1 in
     let small' : Bytes (0 ∷ s.0.1) = subst Bytes second_is small in
     let count_is = count_takes n.0.0 s.0.1 n.0.1 small'.1 n.1 in
     let address_is = word_takes a.0.0 n.0.1 a.0.1 count_is.2 a.1 in
@@ -259,7 +226,7 @@ nothing_read : (part : TapePart) (rest : List ℕ) → first_part [] ≡ Ok (par
 unfolding first_part
 nothing_read part rest e = cc
 
-transfer_takes : (address : ℕ) (part : TapePart) (bytes rest : List ℕ) → Bytes bytes
+pub transfer_takes : (address : ℕ) (part : TapePart) (bytes rest : List ℕ) → Bytes bytes
     → transfer address bytes ≡ Ok (part, rest)
     → (bytes ≡ sum_byte (tape_header address 0 ++ []) ∷ rest) × (part ≡ Start address)
 unfolding transfer

@@ -1,22 +1,23 @@
 -- A tape is read part by part.
-use Rattle.std.proofs.Common.{◌≡◌, ◌≢◌, ◌∙◌, ℕ, List, [], ◌∷◌, ◌++◌, Result, Ok, Err, refl, ap, append_assoc}
+use Rattle.std.proofs.Common.{◌≡◌, ◌≢◌, ℕ, List, [], ◌∷◌, Result, Ok, Err, refl}
 use Rattle.std.proofs.lemmas.Bool.{ne_eqb}
 use Rattle.m11_blocks.specs.declared.limited.Lack.{Lack}
 use Rattle.m11_blocks.specs.declared.limited.Lack.TheVariants as lack
 use Rattle.m11_blocks.specs.declared.tape_fault.TapeFault.{TapeFault}
-use Rattle.m11_blocks.specs.declared.tape_fault.TapeFault.TheVariants as fault
 use Rattle.m11_blocks.specs.declared.tape_part.TapePart.{TapePart}
 use Rattle.m11_blocks.specs.declared.tape_part.TapePart.TheVariants.{Data, Start}
-use Rattle.m11_blocks.specs.Limited.{Place, Took, Lacks, TookThenLacks, Inside, Read, ◌>>=◌, Why, Reads, Stops}
-use Rattle.m11_blocks.specs.Tapes.{start, second, word, count, summed, total_of, transfer, part_of, first_part, next_part, missing, why_of, ReadsPart}
-use Rattle.m11_blocks.proofs.Limits.{took_nothing, took_then, reads_after, stops_after, first_stops, then_reads, then_stops}
+use Rattle.m11_blocks.specs.Frames.{word}
+use Rattle.m11_blocks.specs.Limited.{Place, Lacks, TookThenLacks, Inside, Read, ◌>>=◌, Why, Reads, Stops}
+use Rattle.m11_blocks.specs.Tapes.{start, second, count, summed, total_of, transfer, part_of, first_part, next_part, missing, why_of, ReadsPart}
+use Rattle.m11_blocks.proofs.Limits.{took_nothing, first_stops, then_reads, then_stops}
+use Rattle.m11_blocks.proofs.Limits.{missing_stops as stops_missing}
 
 -- a byte is missing inside a block
-pub missing_stops : {A : Type 0} (read : List ℕ → Read TapeFault A) (a b : Place) (given : List ℕ) (why : Lack)
+missing_stops : {A : Type 0} (read : List ℕ → Read TapeFault A) (a b : Place) (given : List ℕ) (why : Lack)
     → TookThenLacks a b given why → read given ≡ Err Inside → Stops read a b (why_of (missing why))
-missing_stops read a b given lack.Device lacks e = (given, lacks, rw e tt)
-missing_stops read a b given lack.End lacks e = (given, lacks, e)
-missing_stops read a b given lack.TooMuch lacks e = (given, lacks, rw e tt)
+missing_stops read a b given lack.Device lacks e = stops_missing read a b given lack.Device lacks e
+missing_stops read a b given lack.End lacks e = stops_missing read a b given lack.End lacks e
+missing_stops read a b given lack.TooMuch lacks e = stops_missing read a b given lack.TooMuch lacks e
 
 -- its first byte is
 pub first_missing : {A : Type 0} (read : List ℕ → Read TapeFault A) (a b : Place) (why : Lack) → Lacks a b why
@@ -25,38 +26,11 @@ first_missing read a b why lacks e = missing_stops read a b [] why (a, took_noth
 
 -- ---- other bytes and the start of a block
 
-one_front : (byte : ℕ) (rest : List ℕ) → byte ≡ 1 → start (byte ∷ rest) ≡ Ok (tt, rest)
-one_front byte rest e = rw e refl
+pub one_front : (byte : ℕ) → byte ≡ 1 → (rest : List ℕ) → start (byte ∷ rest) ≡ Ok (tt, rest)
+one_front byte e rest = rw e refl
 
-other_front : (byte : ℕ) (rest : List ℕ) → byte ≢ 1 → start (byte ∷ rest) ≡ start rest
-other_front byte rest other = rw (ne_eqb byte 1 other) refl
-
-module _ (a b c : Place) (others : List ℕ) (took : Took a b others)
-    (leads : (rest : List ℕ) → start (others ++ rest) ≡ start rest) where
-  pub other_skipped : (byte : ℕ) → byte ≢ 1 → Took b c (byte ∷ [])
-      → (more : List ℕ) × Took a c more × ((rest : List ℕ) → start (more ++ rest) ≡ start rest)
-  other_skipped byte other next = (
-    others ++ byte ∷ [],
-    took_then a b c others (byte ∷ []) took next,
-    λ rest. ap start (append_assoc others (byte ∷ []) rest) ∙ leads (byte ∷ rest) ∙ other_front byte rest other,
-  )
-
-  pub start_read : (byte : ℕ) → byte ≡ 1 → Took b c (byte ∷ []) → Reads start a c tt
-  start_read byte e next =
-      reads_after start start a b c others took leads tt
-      (record { given = byte ∷ []; took = next; is = λ rest. one_front byte rest e })
-
-  pub start_ends : Lacks b c lack.End → Stops start a c (why_of fault.NoTransfer)
-  start_ends lacks =
-      stops_after start start a b c others took leads (why_of fault.NoTransfer) ([], (b, took_nothing b, lacks), refl)
-
-  pub start_fails : Lacks b c lack.Device → Stops start a c (why_of fault.Device)
-  start_fails lacks =
-      stops_after start start a b c others took leads (why_of fault.Device) ([], (b, took_nothing b, lacks), tt)
-
-  pub start_passes : Lacks b c lack.TooMuch → Stops start a c (why_of fault.TooMuch)
-  start_passes lacks =
-      stops_after start start a b c others took leads (why_of fault.TooMuch) ([], (b, took_nothing b, lacks), tt)
+pub other_front : (byte : ℕ) → byte ≢ 1 → (rest : List ℕ) → start (byte ∷ rest) ≡ start rest
+other_front byte other rest = rw (ne_eqb byte 1 other) refl
 
 -- ---- the parts of a transfer block
 
@@ -113,7 +87,7 @@ module _ (a b : Place) where
             (then_stops second after_second b c e tt begun why
             (then_stops count after_count c d e n counted why (first_stops word (after_address n) d e why s)))
 
-        module _ (address : ℕ) (placed : Reads word d e address) (f : Place) where
+        module _ (address : ℕ) (placed : Reads {Fault = TapeFault} word d e address) (f : Place) where
           part_after : (answer : Result TapePart TapeFault) → ReadsPart (λ part. part) (part_of n address) e f answer
               → ReadsPart (λ part. part) first_part a f answer
           unfolding first_part
@@ -130,7 +104,7 @@ module _ (a b : Place) where
               → ReadsPart (λ part. part) (transfer address) e f answer → ReadsPart (λ part. part) first_part a f answer
           part_transfer none answer r = part_after answer (rw none r)
 
-        pub part_data : n ≢ 0 → (address : ℕ) → Reads word d e address → Reads first_part a e (Data address n)
+        pub part_data : n ≢ 0 → (address : ℕ) → Reads {Fault = TapeFault} word d e address → Reads first_part a e (Data address n)
         part_data some address placed = part_after address placed e (Ok (Data address n))
             (record { given = []; took = took_nothing e; is = λ rest. rw (ne_eqb n 0 some) refl })
 

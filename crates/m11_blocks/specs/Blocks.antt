@@ -1,12 +1,12 @@
 -- Reading the blocks of an object one after another: the block in front of some bytes, or the first
 -- fault in their order. (RT-11 Volume and File Formats Manual, "Object file format", formatted binary
 -- blocks.) The zeros before a block, the limits and which faults there are, are this project's own.
-use Rattle.std.specs.Prelude.{◌≡◌, replicate, ◌≤◌, ◌<◌, ◌==◌, ℕ, ◌+◌, ◌-◌, ◌*◌, Bool, true, false, List, [], ◌∷◌, ◌++◌, length, take, drop, codes, Option, Some, None, Result, Ok, Err, nat_lt, if◌then◌else◌}
+use Rattle.std.specs.Prelude.{◌≡◌, replicate, ◌≤◌, ◌<◌, ◌==◌, ℕ, ◌+◌, ◌-◌, Bool, true, false, List, [], ◌∷◌, ◌++◌, length, sum, take, drop, codes, Option, Some, None, Result, Ok, Err, nat_lt, if◌then◌else◌}
 use Rattle.m11_blocks.specs.declared.block_fault.BlockFault.{BlockFault}
 use Rattle.m11_blocks.specs.declared.block_fault.BlockFault.TheVariants as fault
 use Rattle.m11_blocks.specs.declared.limited.Lack.{Lack}
 use Rattle.m11_blocks.specs.declared.limited.Lack.TheVariants as lack
-use Rattle.m11_blocks.specs.Frames.{sum_byte, header, block, content_limit}
+use Rattle.m11_blocks.specs.Frames.{second_byte, word, closed, header, block, content_limit}
 use Rattle.m11_blocks.specs.Limited.{Place, Between, Inside, Refused, Read, ◌>>=◌, Why, Fails, EndsBetween, EndsInside, Passes, Refuses, Never, Reads, Stops}
 
 -- the 001 that begins a block, after zeros
@@ -17,8 +17,7 @@ start (byte ∷ rest) =
 
 -- the 000 after it
 abbrev pub second : List ℕ → Read BlockFault (Unit {0})
-second [] = Err Inside
-second (byte ∷ rest) = if byte == 0 then Ok (tt, rest) else Err (Refused fault.BadStart rest)
+second bytes = second_byte fault.BadStart bytes
 
 -- the count of the content, where the length says one that a block may have
 abbrev pub count_of : ℕ → List ℕ → Read BlockFault ℕ
@@ -26,11 +25,10 @@ count_of length rest =
     if nat_lt length 4 then Err (Refused fault.TooShort rest)
     else if nat_lt (content_limit + 4) length then Err (Refused fault.TooLong rest) else Ok (length - 4, rest)
 
--- the two bytes of the length
 abbrev pub count : List ℕ → Read BlockFault ℕ
-count [] = Err Inside
-count (low ∷ []) = Err Inside
-count (low ∷ high ∷ rest) = count_of (low + 256 * high) rest
+count bytes = do
+  length ← word bytes
+  count_of length.0 length.1
 
 -- n bytes
 abbrev pub content_of : ℕ → List ℕ → Read BlockFault (List ℕ)
@@ -38,10 +36,7 @@ content_of count bytes = if nat_lt (length bytes) count then Err Inside else Ok 
 
 -- the content before the right sum byte
 abbrev pub summed : List ℕ → List ℕ → Read BlockFault (List ℕ)
-summed content [] = Err Inside
-summed content (byte ∷ rest) =
-    if byte == sum_byte (header (length content) ++ content) then Ok (content, rest)
-    else Err (Refused fault.BadSum rest)
+summed content bytes = closed fault.BadSum content (sum (header (length content) ++ content)) bytes
 
 -- the content of the first block
 unfoldable pub first_block : List ℕ → Read BlockFault (List ℕ)

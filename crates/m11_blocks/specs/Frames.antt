@@ -1,24 +1,55 @@
--- Formatted binary: the blocks of an object. (RT-11 Volume and File Formats Manual, "Object file
--- format", formatted binary blocks.) That zero bytes may stand before, between and after blocks, and
--- that a block has at most 512 bytes of content, is this project's own.
-use Rattle.std.specs.Prelude.{ℕ, ◌+◌, ◌-◌, ◌%◌, ◌≤◌, List, [], ◌∷◌, ◌++◌, length, sum}
+-- Formatted binary: what the blocks of objects and of tapes have in common, and the blocks of an object. (RT-11 Volume
+-- and File Formats Manual, "Object file format", formatted binary blocks, and "Absolute binary file format".) That zero
+-- bytes may stand before, between and after the blocks of an object, and that each has at most 512 bytes of content, is
+-- this project's own.
+use Rattle.std.specs.Prelude.{ℕ, ◌+◌, ◌-◌, ◌*◌, ◌%◌, ◌≤◌, ◌==◌, List, [], ◌∷◌, ◌++◌, length, sum, Ok, Err, if◌then◌else◌}
 use Rattle.byteorder.specs.Endian.{little_bytes}
+use Rattle.m11_blocks.specs.Limited.{Inside, Refused, Read}
+
+-- ---- what blocks of objects and of tapes have in common
 
 -- a word as two bytes, the low byte first
 abbrev pub word_bytes : ℕ → List ℕ
 word_bytes word = little_bytes 2 word
 
+-- 001, 000 and a length, which counts all the bytes of the block but the last
+abbrev pub front : ℕ → List ℕ
+front length = 1 ∷ 0 ∷ word_bytes length
+
+-- the byte that makes this total a multiple of 256
+abbrev pub closing : ℕ → ℕ
+closing total = (256 - total % 256) % 256
+
 -- the byte that makes the sum of bytes a multiple of 256
 abbrev pub sum_byte : List ℕ → ℕ
-sum_byte bytes = (256 - sum bytes % 256) % 256
+sum_byte bytes = closing (sum bytes)
 
 -- bytes and their sum byte
 abbrev pub with_sum : List ℕ → List ℕ
 with_sum bytes = bytes ++ sum_byte bytes ∷ []
 
+-- the 000 after the 001 is read, else this fault is found
+abbrev pub second_byte : {Fault : Type 0} → Fault → List ℕ → Read Fault (Unit {0})
+second_byte bad_start [] = Err Inside
+second_byte bad_start (byte ∷ rest) = if byte == 0 then Ok (tt, rest) else Err (Refused bad_start rest)
+
+-- a word is read
+abbrev pub word : {Fault : Type 0} → List ℕ → Read Fault ℕ
+word [] = Err Inside
+word (low ∷ []) = Err Inside
+word (low ∷ high ∷ rest) = Ok (low + 256 * high, rest)
+
+-- the last byte of a block is read, before which its bytes have this sum, and yields a value; else this fault is found
+abbrev pub closed : {Fault A : Type 0} → Fault → A → ℕ → List ℕ → Read Fault A
+closed bad_sum value total [] = Err Inside
+closed bad_sum value total (byte ∷ rest) =
+    if byte == closing total then Ok (value, rest) else Err (Refused bad_sum rest)
+
+-- ---- the blocks of an object
+
 -- what stands before the content: the length counts these four bytes too
 abbrev pub header : ℕ → List ℕ
-header content_length = 1 ∷ 0 ∷ word_bytes (content_length + 4)
+header content_length = front (content_length + 4)
 
 -- a block: its header, its content, and the byte that makes the sum of all its bytes a multiple of 256
 unfoldable pub block : List ℕ → List ℕ

@@ -2,7 +2,7 @@
 -- the order of the bytes. (RT-11 Volume and File Formats Manual, "Absolute binary file format".) That
 -- any byte but 001 is skipped before a block, the limits and which faults there are, are this
 -- project's own.
-use Rattle.std.specs.Prelude.{◌≡◌, ◌≢◌, ◌==◌, ℕ, ◌+◌, ◌-◌, ◌*◌, ◌%◌, ◌<◌, ◌≤◌, List, [], ◌∷◌, ◌++◌, length, sum, codes, ⊤, Result, Ok, Err, nat_lt, if◌then◌else◌}
+use Rattle.std.specs.Prelude.{◌≡◌, ◌≢◌, ◌==◌, ℕ, ◌+◌, ◌-◌, ◌%◌, ◌<◌, ◌≤◌, List, [], ◌∷◌, ◌++◌, length, sum, codes, ⊤, Result, Ok, Err, nat_lt, if◌then◌else◌}
 use Rattle.m11_blocks.specs.declared.limited.Lack.{Lack}
 use Rattle.m11_blocks.specs.declared.limited.Lack.TheVariants as lack
 use Rattle.m11_blocks.specs.declared.tape_fault.TapeFault.{TapeFault}
@@ -11,14 +11,14 @@ use Rattle.m11_blocks.specs.declared.tape_part.TapePart.{TapePart}
 use Rattle.m11_blocks.specs.declared.tape_part.TapePart.TheVariants.{Data, Start}
 use Rattle.m11_blocks.specs.declared.tape_part.TapeStage.{TapeStage}
 use Rattle.m11_blocks.specs.declared.tape_part.TapeStage.TheVariants.{BeforeBlock, InBlock, AtEnd, AfterFault}
-use Rattle.m11_blocks.specs.Frames.{word_bytes, with_sum}
+use Rattle.m11_blocks.specs.Frames.{word_bytes, front, with_sum, second_byte, word, closed}
 use Rattle.m11_blocks.specs.Limited.{Place, Between, Inside, Refused, Read, ◌>>=◌, Why, Fails, EndsBetween, EndsInside, Passes, Refuses, Never, Reads, Stops}
 
 -- ---- the format
 
 -- what stands before the data: the count counts these six bytes too
 abbrev pub tape_header : ℕ → ℕ → List ℕ
-tape_header address count = 1 ∷ 0 ∷ (word_bytes (count + 6) ++ word_bytes address)
+tape_header address count = front (count + 6) ++ word_bytes address
 
 -- a block: its header, its data, and the byte that makes the sum of all its bytes a multiple of 256
 unfoldable pub tape_block : ℕ → List ℕ → List ℕ
@@ -47,13 +47,7 @@ start (byte ∷ rest) = if byte == 1 then Ok (tt, rest) else start rest
 
 -- the 000 after it
 abbrev pub second : List ℕ → Read TapeFault (Unit {0})
-second [] = Err Inside
-second (byte ∷ rest) = if byte == 0 then Ok (tt, rest) else Err (Refused fault.BadStart rest)
-
-abbrev pub word : List ℕ → Read TapeFault ℕ
-word [] = Err Inside
-word (low ∷ []) = Err Inside
-word (low ∷ high ∷ rest) = Ok (low + 256 * high, rest)
+second bytes = second_byte fault.BadStart bytes
 
 -- the count of the data
 unfoldable pub count : List ℕ → Read TapeFault ℕ
@@ -63,8 +57,7 @@ count bytes = do
 
 -- the sum byte after bytes of this sum
 abbrev pub summed : ℕ → List ℕ → Read TapeFault (Unit {0})
-summed total [] = Err Inside
-summed total (byte ∷ rest) = if (total + byte) % 256 == 0 then Ok (tt, rest) else Err (Refused fault.BadSum rest)
+summed total bytes = closed fault.BadSum tt total bytes
 
 -- the sum of a block's bytes as a byte
 abbrev pub total_of : ℕ → List ℕ → ℕ

@@ -2,12 +2,13 @@
 
 ghost use Rattle.std.specs.Prelude.{◌≡◌, ◌+◌, ◌-◌, ◌<◌, ◌≤◌, ◌∷◌, ◌++◌, ◌%◌, ℕ, List, [], length, sum, IfOk, MatchResult, Ok, Err};
 ghost use Rattle.std.specs.List.{AllByRecursion};
+ghost use Rattle.m11_blocks.specs.Frames.{word};
 ghost use Rattle.m11_blocks.specs.Limited.{place, most_bytes};
 ghost use Rattle.m11_blocks.specs.declared.tape_part.TapeStage.TheVariants.{BeforeBlock, InBlock, AfterFault};
 ghost use Rattle.m11_blocks.specs.declared.tape_part.TapePart.TheVariants.{Start};
-ghost use Rattle.m11_blocks.specs.Tapes.{tape_header, tape_block, data_limit, total_of, IsTape, AreRead, opened, IsReadAgain, ReadsPart, start, second, word, count, summed, transfer, first_part, next_part, stage_after, stage_within, data_byte, PartFits, left_of, count_of, HasStopped, ReadsNext, ReadsByte};
+ghost use Rattle.m11_blocks.specs.Tapes.{tape_header, tape_block, data_limit, total_of, IsTape, AreRead, opened, IsReadAgain, ReadsPart, start, second, count, summed, transfer, first_part, next_part, stage_after, stage_within, data_byte, PartFits, left_of, count_of, HasStopped, ReadsNext, ReadsByte};
 
-use crate::frames::{sum_byte, summed_bytes};
+use crate::frames::{closing_byte, front, sum_of, summed_bytes};
 use crate::limited::{Lack, MOST_BYTES, next_byte, next_word};
 use crate::tape_fault::TapeFault;
 use crate::tape_part::{TapePart, TapeStage};
@@ -21,11 +22,10 @@ fn header(address: u16, count: u16) -> [u8; 6]
     requires { count ≤ data_limit }
     ensures { result ≡ tape_header address count }
 {
-    let mut length = [0; 2];
-    LittleEndian::write_u16(&mut length, count + 6);
+    let [one, zero, low, high] = front(count + 6);
     let mut place = [0; 2];
     LittleEndian::write_u16(&mut place, address);
-    [1, 0, length[0], length[1], place[0], place[1]]
+    [one, zero, low, high, place[0], place[1]]
 }
 
 /// The block of a tape that puts bytes, 1 to 65,529, at an address and the places after it.
@@ -109,7 +109,7 @@ fn read_sum<F: Feed>(feed: &mut F, room: &mut u32, total: u8) -> Result<(), Tape
         (place (F.text feed.new) (F.faults feed.new) room.new) result }
 {
     let byte = next_byte(feed, room)?;
-    if total.wrapping_add(byte) != 0 {
+    if byte != closing_byte(total) {
         return Err(TapeFault::BadSum);
     }
     Ok(())
@@ -120,7 +120,7 @@ fn header_total(address: u16, count: u16) -> u8
     requires { count ≤ data_limit }
     ensures { result ≡ sum (tape_header address count) % 256 }
 {
-    0u8.wrapping_sub(sum_byte(&header(address, count)))
+    sum_of(&header(address, count))
 }
 
 fn read_transfer<F: Feed>(feed: &mut F, room: &mut u32, address: u16) -> Result<TapePart, TapeFault>
