@@ -1,6 +1,6 @@
 -- Sources of bytes, read one byte a call, or passed by many where they are there without a read. (This project's own.)
 use Rattle.std.specs.Prelude.{◌≡◌, ◌≢◌, ℕ, List, [], ◌∷◌, ◌++◌, length, take, ◌⊎◌, ⊤, Option, Some, None, MatchOption, Result, MatchResult, if◌then◌else◌, nat_lt, ◌==◌, option_map, option_and_then}
-use Rattle.m11_base.specs.Devices.{Rises, last_count}
+use Rattle.m11_base.specs.Devices.{Bytes, Rises, last_count}
 
 -- how a text ends: at its end, at a failure, or perhaps at a failure before its end
 pub data Ending : Type 0 where
@@ -10,7 +10,7 @@ pub data Ending : Type 0 where
 
 -- the bytes still to come, and how they end
 pub record Text : Type 0 where
-  pub bytes : List ℕ
+  pub bytes : Bytes
   pub ending : Ending
 
 -- the text's end may be returned
@@ -18,7 +18,7 @@ abbrev pub MayEnd : Text → Type 0
 MayEnd t = (t.bytes ≡ []) × (t.ending ≢ Fails)
 
 -- a failure may come, the bytes left being these
-abbrev pub MayFailBefore : List ℕ → Ending → Type 0
+abbrev pub MayFailBefore : Bytes → Ending → Type 0
 MayFailBefore bytes Ends = ⊥
 MayFailBefore bytes Fails = bytes ≡ []
 MayFailBefore bytes MayFail = ⊤
@@ -27,17 +27,17 @@ MayFailBefore bytes MayFail = ⊤
 abbrev pub GivesByte : Option Text → Option Text → ℕ → Type 0
 GivesByte None new byte = ⊤
 GivesByte (Some t) new byte =
-    (rest : List ℕ) × (t.bytes ≡ byte ∷ rest) × (new ≡ Some (record { bytes = rest; ending = t.ending }))
+    (rest : Bytes) × (t.bytes ≡ byte ∷ rest) × (new ≡ Some (record { bytes = rest; ending = t.ending }))
 
 -- more bytes were given
-abbrev pub GivesBytes : Option Text → Option Text → List ℕ → Type 0
+abbrev pub GivesBytes : Option Text → Option Text → Bytes → Type 0
 GivesBytes None new bytes = ⊤
 GivesBytes (Some t) new bytes =
-    (rest : List ℕ) × (t.bytes ≡ bytes ++ rest) × (new ≡ Some (record { bytes = rest; ending = t.ending }))
+    (rest : Bytes) × (t.bytes ≡ bytes ++ rest) × (new ≡ Some (record { bytes = rest; ending = t.ending }))
 
 -- of the bytes that are there without a read, those that are ready: no more than may still come, and none once the
 -- count of failures stands at its last value
-abbrev pub ready_within : ℕ → ℕ → List ℕ → List ℕ
+abbrev pub ready_within : ℕ → ℕ → Bytes → Bytes
 ready_within most count bytes = if count == last_count then [] else take most bytes
 
 -- the end was returned
@@ -59,18 +59,18 @@ Gives old new count answer = MatchResult answer
     (λ _. GivesFailure old new count)
 
 -- the text of a reader: each read may fail
-abbrev pub text_of_reader : Option (List ℕ) → Option Text
+abbrev pub text_of_reader : Option Bytes → Option Text
 text_of_reader known = option_map (λ bytes. record { bytes = bytes; ending = MayFail }) known
 
 -- the text that comes through a fuse of n calls: where it does not blow before the end, it
 -- may do so at the calls that find the end; of a text whose own failures may come anywhere nothing
 -- is said, since each of them takes a call
-abbrev pub bytes_through_fuse : ℕ → List ℕ → Ending → Ending → Text
+abbrev pub bytes_through_fuse : ℕ → Bytes → Ending → Ending → Text
 bytes_through_fuse calls bytes blown whole =
     if nat_lt calls (length bytes) then record { bytes = take calls bytes; ending = blown }
     else record { bytes = bytes; ending = whole }
 
-abbrev pub known_through_fuse : ℕ → List ℕ → Ending → Option Text
+abbrev pub known_through_fuse : ℕ → Bytes → Ending → Option Text
 known_through_fuse calls bytes Ends = Some (bytes_through_fuse calls bytes Fails MayFail)
 known_through_fuse calls bytes Fails = Some (bytes_through_fuse calls bytes Fails Fails)
 known_through_fuse calls bytes MayFail = None
@@ -81,16 +81,16 @@ text_through_fuse calls known = option_and_then (λ t. known_through_fuse calls 
 -- ---- feeds that are read one after another
 
 -- the text is these bytes, or begins with them, where it is known
-abbrev pub HasBytes : Option Text → List ℕ → Type 0
+abbrev pub HasBytes : Option Text → Bytes → Type 0
 HasBytes None bytes = ⊤
 HasBytes (Some t) bytes = t.bytes ≡ bytes
 
-abbrev pub BeginsWith : Option Text → List ℕ → Type 0
+abbrev pub BeginsWith : Option Text → Bytes → Type 0
 BeginsWith None bytes = ⊤
-BeginsWith (Some t) bytes = (rest : List ℕ) × (t.bytes ≡ bytes ++ rest)
+BeginsWith (Some t) bytes = (rest : Bytes) × (t.bytes ≡ bytes ++ rest)
 
 -- each feed's text is the list of bytes at its place
-abbrev pub GiveAll : {F : Type 0} → (F → Option Text) → List F → List (List ℕ) → Type 0
+abbrev pub GiveAll : {F : Type 0} → (F → Option Text) → List F → List Bytes → Type 0
 GiveAll text [] [] = ⊤
 GiveAll text [] (source ∷ sources) = ⊥
 GiveAll text (feed ∷ feeds) [] = ⊥
@@ -104,7 +104,7 @@ NoneFailed faults (old ∷ olds) [] = ⊥
 NoneFailed faults (old ∷ olds) (new ∷ news) = (faults new ≡ faults old) × NoneFailed faults olds news
 
 -- one failed after a beginning of its text, after the feeds before it had given theirs
-abbrev pub OneFailed : {F : Type 0} → (F → Option Text) → (F → ℕ) → List F → List F → List (List ℕ) → List ℕ → Type 0
+abbrev pub OneFailed : {F : Type 0} → (F → Option Text) → (F → ℕ) → List F → List F → List Bytes → Bytes → Type 0
 OneFailed text faults [] news sources beginning = ⊥
 OneFailed text faults (old ∷ olds) [] sources beginning = ⊥
 OneFailed text faults (old ∷ olds) (new ∷ news) [] beginning =

@@ -44,20 +44,24 @@ unpacked word = if nat_lt word word_limit then Some (characters_of word) else No
 abbrev pub HasNoPercent : List ℕ → Type 0
 HasNoPercent text = All (λ character. character ≢ 37) text
 
--- a name: two words that have characters
-abbrev pub IsName : ℕ × ℕ → Type 0
+-- a name, by the words of its first and its last three characters
+abbrev pub Name : Type 0
+Name = ℕ × ℕ
+
+-- both words have characters
+abbrev pub IsName : Name → Type 0
 IsName name = (name.0 < word_limit) × (name.1 < word_limit)
 
 -- the name of two words, if there are two
-abbrev pub name_of_words : Option ℕ → Option ℕ → Option (ℕ × ℕ)
+abbrev pub name_of_words : Option ℕ → Option ℕ → Option Name
 name_of_words (Some first) (Some second) = Some (first, second)
 name_of_words (Some first) None = None
 name_of_words None second = None
 
 -- the name of a text of six characters, if each has a code
-abbrev pub name_of : List ℕ → Option (ℕ × ℕ)
+abbrev pub name_of : List ℕ → Option Name
 name_of text = name_of_words (packed_at text 0) (packed_at text 3)
 
 -- the six characters of a name
-abbrev pub name_text : ℕ × ℕ → List ℕ
+abbrev pub name_text : Name → List ℕ
 name_text name = characters_of name.0 ++ characters_of name.1

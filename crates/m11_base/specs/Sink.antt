@@ -2,10 +2,10 @@
 -- a known text is `Appends` of the standard library, which says nothing of an unknown one.
 use Rattle.std.specs.Prelude.{◌≡◌, ℕ, zero, suc, List, [], ◌++◌, length, take, Option, Result, MatchResult}
 use Rattle.std.specs.Io.KnownBytes.{Appends}
-use Rattle.m11_base.specs.Devices.{Rises}
+use Rattle.m11_base.specs.Devices.{Bytes, Rises}
 
 -- one call of a sink: it added as many bytes, from the front, as it returned, and none at an error
-abbrev pub Takes : {E : Type 0} → Option (List ℕ) → Option (List ℕ) → Result ℕ E → List ℕ → Type 0
+abbrev pub Takes : {E : Type 0} → Option Bytes → Option Bytes → Result ℕ E → Bytes → Type 0
 Takes old new answer bytes =
     MatchResult answer (λ n. Appends old new (take n bytes)) (λ _. Appends old new [])
 
@@ -15,10 +15,10 @@ CountsAt old new zero zero = new ≡ old
 CountsAt old new zero (suc n) = Rises old new
 CountsAt old new (suc n) m = new ≡ old
 
-abbrev pub Counts : {E : Type 0} → ℕ → ℕ → Result ℕ E → List ℕ → Type 0
+abbrev pub Counts : {E : Type 0} → ℕ → ℕ → Result ℕ E → Bytes → Type 0
 Counts old new answer bytes =
     MatchResult answer (λ n. CountsAt old new n (length bytes)) (λ _. Rises old new)
 
 -- a known text grew by a beginning of the bytes, perhaps by none or by all of them
-abbrev pub AppendsBeginning : Option (List ℕ) → Option (List ℕ) → List ℕ → Type 0
-AppendsBeginning old new bytes = (part : List ℕ) × (rest : List ℕ) × (bytes ≡ part ++ rest) × Appends old new part
+abbrev pub AppendsBeginning : Option Bytes → Option Bytes → Bytes → Type 0
+AppendsBeginning old new bytes = (part : Bytes) × (rest : Bytes) × (bytes ≡ part ++ rest) × Appends old new part

@@ -2,6 +2,7 @@
 -- fault in their order. (RT-11 Volume and File Formats Manual, "Object file format", formatted binary
 -- blocks.) The zeros before a block, the limits and which faults there are, are this project's own.
 use Rattle.std.specs.Prelude.{◌≡◌, replicate, ◌≤◌, ◌<◌, ◌==◌, ℕ, ◌+◌, ◌-◌, Bool, true, false, List, [], ◌∷◌, ◌++◌, length, sum, take, drop, codes, Option, Some, None, Result, Ok, Err, nat_lt, if◌then◌else◌}
+use Rattle.m11_base.specs.Devices.{Bytes}
 use Rattle.m11_blocks.specs.declared.block_fault.BlockFault.{BlockFault}
 use Rattle.m11_blocks.specs.declared.block_fault.BlockFault.TheVariants as fault
 use Rattle.m11_blocks.specs.declared.limited.Lack.{Lack}
@@ -10,36 +11,36 @@ use Rattle.m11_blocks.specs.Frames.{second_byte, word, closed, header, block, co
 use Rattle.m11_blocks.specs.Limited.{Place, Between, Inside, Refused, Read, ◌>>=◌, Why, Fails, EndsBetween, EndsInside, Passes, Refuses, Never, Reads, Stops}
 
 -- the 001 that begins a block, after zeros
-abbrev pub start : List ℕ → Read BlockFault (Unit {0})
+abbrev pub start : Bytes → Read BlockFault (Unit {0})
 start [] = Err Between
 start (byte ∷ rest) =
     if byte == 0 then start rest else if byte == 1 then Ok (tt, rest) else Err (Refused fault.BadStart rest)
 
 -- the 000 after it
-abbrev pub second : List ℕ → Read BlockFault (Unit {0})
+abbrev pub second : Bytes → Read BlockFault (Unit {0})
 second bytes = second_byte fault.BadStart bytes
 
 -- the count of the content, where the length says one that a block may have
-abbrev pub count_of : ℕ → List ℕ → Read BlockFault ℕ
+abbrev pub count_of : ℕ → Bytes → Read BlockFault ℕ
 count_of length rest =
     if nat_lt length 4 then Err (Refused fault.TooShort rest)
     else if nat_lt (content_limit + 4) length then Err (Refused fault.TooLong rest) else Ok (length - 4, rest)
 
-abbrev pub count : List ℕ → Read BlockFault ℕ
+abbrev pub count : Bytes → Read BlockFault ℕ
 count bytes = do
   length ← word bytes
   count_of length.0 length.1
 
 -- n bytes
-abbrev pub content_of : ℕ → List ℕ → Read BlockFault (List ℕ)
+abbrev pub content_of : ℕ → Bytes → Read BlockFault Bytes
 content_of count bytes = if nat_lt (length bytes) count then Err Inside else Ok (take count bytes, drop count bytes)
 
 -- the content before the right sum byte
-abbrev pub summed : List ℕ → List ℕ → Read BlockFault (List ℕ)
+abbrev pub summed : Bytes → Bytes → Read BlockFault Bytes
 summed content bytes = closed fault.BadSum content (sum (header (length content) ++ content)) bytes
 
 -- the content of the first block
-unfoldable pub first_block : List ℕ → Read BlockFault (List ℕ)
+unfoldable pub first_block : Bytes → Read BlockFault Bytes
 first_block bytes = do
   start ← start bytes
   second ← second start.1
@@ -48,17 +49,17 @@ first_block bytes = do
   summed content.0 content.1
 
 -- blocks of these contents are read one after another, and after the last there is none
-abbrev pub AreRead : List (List ℕ) → List ℕ → Type 0
+abbrev pub AreRead : List Bytes → Bytes → Type 0
 AreRead [] bytes = first_block bytes ≡ Err Between
 AreRead (content ∷ contents) bytes =
-    (rest : List ℕ) × (first_block bytes ≡ Ok (content, rest)) × AreRead contents rest
+    (rest : Bytes) × (first_block bytes ≡ Ok (content, rest)) × AreRead contents rest
 
 -- zeros, and then the beginning of a block, with some of its bytes and not with all of them
-pub record IsCut (bytes : List ℕ) : Type 0 where
+pub record IsCut (bytes : Bytes) : Type 0 where
   pub zeros : ℕ
-  pub content : List ℕ
-  pub part : List ℕ
-  pub missing : List ℕ
+  pub content : Bytes
+  pub part : Bytes
+  pub missing : Bytes
   pub fits : length content ≤ content_limit
   pub split : block content ≡ part ++ missing
   pub some : 0 < length part
@@ -83,7 +84,7 @@ missing lack.End = fault.Truncated
 missing lack.TooMuch = fault.TooMuch
 
 -- a part of a block was read, or why it was not
-abbrev pub ReadsPart : {X A : Type 0} → (X → A) → (List ℕ → Read BlockFault A) → Place → Place → Result X BlockFault
+abbrev pub ReadsPart : {X A : Type 0} → (X → A) → (Bytes → Read BlockFault A) → Place → Place → Result X BlockFault
     → Type 0
 ReadsPart view read old new (Ok x) = Reads read old new (view x)
 ReadsPart view read old new (Err e) = Stops read old new (why_of e)
@@ -95,13 +96,13 @@ ReadsStart old new (Ok false) = Stops start old new EndsBetween
 ReadsStart old new (Err e) = Stops start old new (why_of e)
 
 -- a block was read, or the bytes ended before one, or why it was not
-abbrev pub ReadsBlock : {X : Type 0} → (X → List ℕ) → Place → Place → Result (Option X) BlockFault → Type 0
+abbrev pub ReadsBlock : {X : Type 0} → (X → Bytes) → Place → Place → Result (Option X) BlockFault → Type 0
 ReadsBlock view old new (Ok (Some block)) = Reads first_block old new (view block)
 ReadsBlock view old new (Ok None) = Stops first_block old new EndsBetween
 ReadsBlock view old new (Err e) = Stops first_block old new (why_of e)
 
 -- a block of this content was read, or the bytes ended before one, or why it was not
-abbrev pub ReadsInto : List ℕ → Place → Place → Result Bool BlockFault → Type 0
+abbrev pub ReadsInto : Bytes → Place → Place → Result Bool BlockFault → Type 0
 ReadsInto content old new (Ok true) = Reads first_block old new content
 ReadsInto content old new (Ok false) = Stops first_block old new EndsBetween
 ReadsInto content old new (Err e) = Stops first_block old new (why_of e)
@@ -122,7 +123,7 @@ block_fault_number fault.TooShort = 6
 block_fault_number fault.Failed = 7
 block_fault_number fault.TooMuch = 8
 
-abbrev pub block_fault_name : BlockFault → List ℕ
+abbrev pub block_fault_name : BlockFault → Bytes
 block_fault_name fault.Device = codes "Device"
 block_fault_name fault.Truncated = codes "Truncated"
 block_fault_name fault.BadSum = codes "BadSum"

@@ -2,7 +2,7 @@
 -- given, why no more came, and what a function on lists says of it. (This project's own.)
 use Rattle.std.specs.Prelude.{◌≡◌, ℕ, ◌+◌, ◌<◌, List, ◌++◌, length, ⊤, Option, Result, Ok, Err}
 use Rattle.std.specs.List.{AllByRecursion}
-use Rattle.m11_base.specs.Devices.{Rises}
+use Rattle.m11_base.specs.Devices.{Bytes, Rises}
 use Rattle.m11_base.specs.Feed.{Text, GivesByte, GivesBytes, GivesEnd, GivesFailure}
 use Rattle.m11_blocks.specs.declared.limited.Lack.{Lack}
 use Rattle.m11_blocks.specs.declared.limited.Lack.TheVariants as lack
@@ -23,15 +23,15 @@ abbrev pub place : Option Text → ℕ → ℕ → Place
 place text faults room = record { text = text; faults = faults; room = room }
 
 -- bytes were given, all within the limit, and the feed did not fail
-pub record Took (old new : Place) (given : List ℕ) : Type 0 where
+pub record Took (old new : Place) (given : Bytes) : Type 0 where
   pub gave : GivesBytes old.text new.text given
   pub faults : new.faults ≡ old.faults
   pub room : old.room ≡ length given + new.room
   pub bytes : AllByRecursion (λ byte. byte < 256) given
 
 -- n bytes were given, and put to the end of a content
-pub record TookInto (old new : Place) (before after : List ℕ) (count : ℕ) : Type 0 where
-  pub given : List ℕ
+pub record TookInto (old new : Place) (before after : Bytes) (count : ℕ) : Type 0 where
+  pub given : Bytes
   pub took : Took old new given
   pub added : after ≡ before ++ given
   pub counted : length given ≡ count
@@ -45,7 +45,7 @@ Lacks old new lack.TooMuch =
     (byte : ℕ) × GivesByte old.text new.text byte × (new.faults ≡ old.faults) × (old.room ≡ 0) × (new.room ≡ 0)
 
 -- bytes were given, and then no byte came
-abbrev pub TookThenLacks : Place → Place → List ℕ → Lack → Type 0
+abbrev pub TookThenLacks : Place → Place → Bytes → Lack → Type 0
 TookThenLacks old new given why = (middle : Place) × Took old middle given × Lacks middle new why
 
 -- ---- what a function on lists says of it
@@ -55,11 +55,11 @@ TookThenLacks old new given why = (middle : Place) × Took old middle given × L
 pub data Stop (Fault : Type 0) : Type 0 where
   Between : Stop Fault
   Inside : Stop Fault
-  Refused : Fault → List ℕ → Stop Fault
+  Refused : Fault → Bytes → Stop Fault
 
 -- the value in front and the bytes after it
 abbrev pub Read : Type 0 → Type 0 → Type 0
-Read Fault A = Result (A × List ℕ) (Stop Fault)
+Read Fault A = Result (A × Bytes) (Stop Fault)
 
 infixl 10 ◌>>=◌
 abbrev pub ◌>>=◌ : {A B E : Type 0} → Result A E → (A → Result B E) → Result B E
@@ -83,18 +83,18 @@ pub data Why (Fault : Type 0) : Type 0 where
   Never : Why Fault
 
 -- a call took the bytes of a value and no others, whatever follows them
-pub record Reads {Fault A : Type 0} (read : List ℕ → Read Fault A) (old new : Place) (value : A) : Type 0 where
-  pub given : List ℕ
+pub record Reads {Fault A : Type 0} (read : Bytes → Read Fault A) (old new : Place) (value : A) : Type 0 where
+  pub given : Bytes
   pub took : Took old new given
-  pub is : (rest : List ℕ) → read (given ++ rest) ≡ Ok (value, rest)
+  pub is : (rest : Bytes) → read (given ++ rest) ≡ Ok (value, rest)
 
 -- a call gives no value: the feed failed, ended or passed the limit after bytes that are too few, or
 -- it gave bytes that are refused, whatever follows them
-abbrev pub Stops : {Fault A : Type 0} → (List ℕ → Read Fault A) → Place → Place → Why Fault → Type 0
-Stops read old new Fails = (given : List ℕ) × TookThenLacks old new given lack.Device × IsShort (read given)
-Stops read old new EndsBetween = (given : List ℕ) × TookThenLacks old new given lack.End × (read given ≡ Err Between)
-Stops read old new EndsInside = (given : List ℕ) × TookThenLacks old new given lack.End × (read given ≡ Err Inside)
-Stops read old new Passes = (given : List ℕ) × TookThenLacks old new given lack.TooMuch × IsShort (read given)
+abbrev pub Stops : {Fault A : Type 0} → (Bytes → Read Fault A) → Place → Place → Why Fault → Type 0
+Stops read old new Fails = (given : Bytes) × TookThenLacks old new given lack.Device × IsShort (read given)
+Stops read old new EndsBetween = (given : Bytes) × TookThenLacks old new given lack.End × (read given ≡ Err Between)
+Stops read old new EndsInside = (given : Bytes) × TookThenLacks old new given lack.End × (read given ≡ Err Inside)
+Stops read old new Passes = (given : Bytes) × TookThenLacks old new given lack.TooMuch × IsShort (read given)
 Stops read old new (Refuses fault) =
-    (given : List ℕ) × Took old new given × ((rest : List ℕ) → read (given ++ rest) ≡ Err (Refused fault rest))
+    (given : Bytes) × Took old new given × ((rest : Bytes) → read (given ++ rest) ≡ Err (Refused fault rest))
 Stops read old new Never = ⊥

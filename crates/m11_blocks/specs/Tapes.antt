@@ -3,6 +3,7 @@
 -- any byte but 001 is skipped before a block, the limits and which faults there are, are this
 -- project's own.
 use Rattle.std.specs.Prelude.{◌≡◌, ◌≢◌, ◌==◌, ℕ, ◌+◌, ◌-◌, ◌%◌, ◌<◌, ◌≤◌, List, [], ◌∷◌, ◌++◌, length, sum, codes, ⊤, Result, Ok, Err, nat_lt, if◌then◌else◌}
+use Rattle.m11_base.specs.Devices.{Bytes}
 use Rattle.m11_blocks.specs.declared.limited.Lack.{Lack}
 use Rattle.m11_blocks.specs.declared.limited.Lack.TheVariants as lack
 use Rattle.m11_blocks.specs.declared.tape_fault.TapeFault.{TapeFault}
@@ -17,11 +18,11 @@ use Rattle.m11_blocks.specs.Limited.{Place, Between, Inside, Refused, Read, ◌>
 -- ---- the format
 
 -- what stands before the data: the count counts these six bytes too
-abbrev pub tape_header : ℕ → ℕ → List ℕ
+abbrev pub tape_header : ℕ → ℕ → Bytes
 tape_header address count = front (count + 6) ++ word_bytes address
 
 -- a block: its header, its data, and the byte that makes the sum of all its bytes a multiple of 256
-unfoldable pub tape_block : ℕ → List ℕ → List ℕ
+unfoldable pub tape_block : ℕ → Bytes → Bytes
 tape_block address content = with_sum (tape_header address (length content) ++ content)
 
 -- the most data of a block
@@ -30,51 +31,51 @@ data_limit = 65529
 
 -- bytes that hold blocks of data, in order, each with its address, and after them the transfer block,
 -- which has no data. Before each block any bytes but 001 may stand, and after the last all bytes
-pub data IsTape : List (ℕ × List ℕ) → ℕ → List ℕ → Type 0 where
-  Transfer : (address : ℕ) (rest : List ℕ) → address < 65536 → IsTape [] address (tape_block address [] ++ rest)
-  Skipped : {blocks : List (ℕ × List ℕ)} {address : ℕ} {bytes : List ℕ} (byte : ℕ) → byte ≢ 1
+pub data IsTape : List (ℕ × Bytes) → ℕ → Bytes → Type 0 where
+  Transfer : (address : ℕ) (rest : Bytes) → address < 65536 → IsTape [] address (tape_block address [] ++ rest)
+  Skipped : {blocks : List (ℕ × Bytes)} {address : ℕ} {bytes : Bytes} (byte : ℕ) → byte ≢ 1
       → IsTape blocks address bytes → IsTape blocks address (byte ∷ bytes)
-  Block : {blocks : List (ℕ × List ℕ)} {start : ℕ} {bytes : List ℕ} (address : ℕ) (content : List ℕ) → address < 65536
+  Block : {blocks : List (ℕ × Bytes)} {start : ℕ} {bytes : Bytes} (address : ℕ) (content : Bytes) → address < 65536
       → 0 < length content → length content ≤ data_limit → IsTape blocks start bytes
       → IsTape ((address, content) ∷ blocks) start (tape_block address content ++ bytes)
 
 -- ---- what one call reads
 
 -- the 001 that begins a block, after any other bytes
-abbrev pub start : List ℕ → Read TapeFault (Unit {0})
+abbrev pub start : Bytes → Read TapeFault (Unit {0})
 start [] = Err Between
 start (byte ∷ rest) = if byte == 1 then Ok (tt, rest) else start rest
 
 -- the 000 after it
-abbrev pub second : List ℕ → Read TapeFault (Unit {0})
+abbrev pub second : Bytes → Read TapeFault (Unit {0})
 second bytes = second_byte fault.BadStart bytes
 
 -- the count of the data
-unfoldable pub count : List ℕ → Read TapeFault ℕ
+unfoldable pub count : Bytes → Read TapeFault ℕ
 count bytes = do
   length ← word bytes
   if nat_lt length.0 6 then Err (Refused fault.TooShort length.1) else Ok (length.0 - 6, length.1)
 
 -- the sum byte after bytes of this sum
-abbrev pub summed : ℕ → List ℕ → Read TapeFault (Unit {0})
+abbrev pub summed : ℕ → Bytes → Read TapeFault (Unit {0})
 summed total bytes = closed fault.BadSum tt total bytes
 
 -- the sum of a block's bytes as a byte
-abbrev pub total_of : ℕ → List ℕ → ℕ
+abbrev pub total_of : ℕ → Bytes → ℕ
 total_of address content = sum (tape_header address (length content) ++ content) % 256
 
 -- the transfer block ends with its header
-unfoldable pub transfer : ℕ → List ℕ → Read TapeFault TapePart
+unfoldable pub transfer : ℕ → Bytes → Read TapeFault TapePart
 transfer address bytes = do
   last ← summed (total_of address []) bytes
   Ok (Start address, last.1)
 
 -- the part that a header describes
-abbrev pub part_of : ℕ → ℕ → List ℕ → Read TapeFault TapePart
+abbrev pub part_of : ℕ → ℕ → Bytes → Read TapeFault TapePart
 part_of count address bytes = if count == 0 then transfer address bytes else Ok (Data address count, bytes)
 
 -- the first part: the header of a block of data, or the whole transfer block
-unfoldable pub first_part : List ℕ → Read TapeFault TapePart
+unfoldable pub first_part : Bytes → Read TapeFault TapePart
 first_part bytes = do
   start ← start bytes
   second ← second start.1
@@ -83,13 +84,12 @@ first_part bytes = do
   part_of count.0 address.0 address.1
 
 -- the part after the data of a block
-unfoldable pub next_part : ℕ → List ℕ → Read TapeFault TapePart
+unfoldable pub next_part : ℕ → Bytes → Read TapeFault TapePart
 next_part total bytes = do
   last ← summed total bytes
   first_part last.1
 
--- a byte of data
-abbrev pub data_byte : List ℕ → Read TapeFault ℕ
+abbrev pub data_byte : Bytes → Read TapeFault ℕ
 data_byte [] = Err Inside
 data_byte (byte ∷ rest) = Ok (byte, rest)
 
@@ -100,16 +100,16 @@ PartFits (Start address) = ⊤
 
 -- the parts and bytes of a tape come one after another: the header of each block, its bytes, and after
 -- them the next part; at last the transfer block
-abbrev pub AreRead : (List ℕ → Read TapeFault TapePart) → List (ℕ × List ℕ) → ℕ → List ℕ → Type 0
-AreRead read [] address bytes = (rest : List ℕ) × (read bytes ≡ Ok (Start address, rest))
+abbrev pub AreRead : (Bytes → Read TapeFault TapePart) → List (ℕ × Bytes) → ℕ → Bytes → Type 0
+AreRead read [] address bytes = (rest : Bytes) × (read bytes ≡ Ok (Start address, rest))
 AreRead read (block ∷ blocks) address bytes =
-    (rest : List ℕ) × (read bytes ≡ Ok (Data block.0 (length block.1), block.1 ++ rest))
+    (rest : Bytes) × (read bytes ≡ Ok (Data block.0 (length block.1), block.1 ++ rest))
     × AreRead (next_part (total_of block.0 block.1)) blocks address rest
 
 -- a block of data in front of some bytes is read again: its header, its bytes, and after them the part
 -- that is read of those bytes alone
-abbrev pub IsReadAgain : ℕ → List ℕ → List ℕ → List ℕ → Type 0
-IsReadAgain address content block rest = (following : List ℕ)
+abbrev pub IsReadAgain : ℕ → Bytes → Bytes → Bytes → Type 0
+IsReadAgain address content block rest = (following : Bytes)
     × (first_part (block ++ rest) ≡ Ok (Data address (length content), content ++ following))
     × (next_part (total_of address content) following ≡ first_part rest)
 
@@ -121,7 +121,7 @@ pub record TapeReading : Type 0 where
   pub stage : TapeStage
 
 -- a block is open of which these bytes were read
-abbrev pub opened : ℕ → ℕ → List ℕ → TapeStage
+abbrev pub opened : ℕ → ℕ → Bytes → TapeStage
 opened address count taken = InBlock (count - length taken) (sum (tape_header address count ++ taken) % 256)
 
 -- after a part, and after a byte of the open block
@@ -169,7 +169,7 @@ missing lack.End = fault.Truncated
 missing lack.TooMuch = fault.TooMuch
 
 -- something was read, or why it was not
-abbrev pub ReadsPart : {X A : Type 0} → (X → A) → (List ℕ → Read TapeFault A) → Place → Place → Result X TapeFault
+abbrev pub ReadsPart : {X A : Type 0} → (X → A) → (Bytes → Read TapeFault A) → Place → Place → Result X TapeFault
     → Type 0
 ReadsPart view read old new (Ok x) = Reads read old new (view x)
 ReadsPart view read old new (Err e) = Stops read old new (why_of e)
@@ -203,7 +203,7 @@ tape_fault_number fault.Failed = 7
 tape_fault_number fault.NoTransfer = 8
 tape_fault_number fault.TooMuch = 9
 
-abbrev pub tape_fault_name : TapeFault → List ℕ
+abbrev pub tape_fault_name : TapeFault → Bytes
 tape_fault_name fault.Device = codes "Device"
 tape_fault_name fault.Truncated = codes "Truncated"
 tape_fault_name fault.BadSum = codes "BadSum"

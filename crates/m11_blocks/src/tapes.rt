@@ -161,7 +161,6 @@ fn read_next<F: Feed>(feed: &mut F, room: &mut u32, total: u8) -> Result<TapePar
     read_part(feed, room)
 }
 
-// A byte of data.
 fn read_byte<F: Feed>(feed: &mut F, room: &mut u32) -> Result<u8, TapeFault>
     ensures { ReadsPart (λ byte. byte) data_byte
         (place (F.text feed.old) (F.faults feed.old) room.old)
