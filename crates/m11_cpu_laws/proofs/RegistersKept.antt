@@ -42,7 +42,7 @@ use Rattle.m11_cpu.specs.declared.abort.Abort.{Abort}
 use Rattle.m11_cpu.specs.declared.machine.Machine.{Machine}
 use Rattle.m11_cpu.specs.declared.addressing.OperandLocation.{OperandLocation}
 use Rattle.m11_cpu.specs.declared.addressing.OperandLocation.TheVariants.{InRegister, InMemory}
-use Rattle.m11_cpu_laws.specs.Registers.{by_destination, changed_by, is_direct, stepped, stepped_or_stored}
+use Rattle.m11_cpu_laws.specs.Registers.{by_destination, by_extended, changed_by, is_direct, stepped, stepped_or_stored}
 use Rattle.m11_cpu_laws.specs.Returns.{is_stepping}
 use Rattle.m11_cpu_laws.specs.Writes.{IsNoneOf, stores_double, stores_single}
 use Rattle.m11_cpu_laws.proofs.Loads.{byte_keeps, next_word_keeps, place_keeps, target_keeps, word_keeps}
@@ -402,26 +402,25 @@ module _ (r : Register) (held : ℕ) (counts : register_number r ≢ register_nu
   division_held register (Refused codes) m ne ne' i = i
 
   by_extended_held : (operation : ExtendedOp) (register : Register) (source : ℕ) (m : Machine)
-      → register_number r ≢ register_number register → register_number r ≢ register_number (low_word_of register)
-      → Holds m → Holds (extended_by operation register source m)
-  by_extended_held Mul register source m ne ne' i = put_both register (low_word_of register) _ _ m ne ne' i
-  by_extended_held Div register source m ne ne' i =
+      → IsNoneOf (register_number r) (by_extended operation register) → Holds m
+      → Holds (extended_by operation register source m)
+  by_extended_held Mul register source m h i = put_both register (low_word_of register) _ _ m h.0 h.1.0 i
+  by_extended_held Div register source m h i =
       division_held register
-      (division_of (register_of register m) (register_of (low_word_of register) m) source) m ne ne' i
-  by_extended_held Ash register source m ne ne' i = put register _ m ne i
-  by_extended_held Ashc register source m ne ne' i = put_both register (low_word_of register) _ _ m ne ne' i
+      (division_of (register_of register m) (register_of (low_word_of register) m) source) m h.0 h.1.0 i
+  by_extended_held Ash register source m h i = put register _ m h.0 i
+  by_extended_held Ashc register source m h i = put_both register (low_word_of register) _ _ m h.0 h.1.0 i
 
   extended_held : (operation : ExtendedOp) (register : Register) (source : Operand) (m : Machine)
-      → IsNoneOf (register_number r)
-      (stepped source ++ (register_number register ∷ register_number (low_word_of register) ∷ []))
+      → IsNoneOf (register_number r) (stepped source ++ by_extended operation register)
       → Holds m → Keeps Holds (extended operation register source m)
   unfolding extended
   extended_held operation register source m h i =
-      let others = register_number register ∷ register_number (low_word_of register) ∷ [] in
+      let others = by_extended operation register in
       let rest = none_right (register_number r) (stepped source) others h in
       keeps_bind Holds (fetch_operand source Word) _ m
       (source_held source Word m (none_left (register_number r) (stepped source) others h) i)
-      (λ value n j. at_comes (by_extended_held operation register value n rest.0 rest.1.0 j))
+      (λ value n j. at_comes (by_extended_held operation register value n rest j))
 
   branched_held : (operation : BranchOp) (words : ℤ) (m : Machine) → Holds m → Holds (branched operation words m)
   branched_held operation words m i =

@@ -1,19 +1,19 @@
 -- Which registers a trap and a step leave.
-use Rattle.std.proofs.Common.{◌≡◌, ◌≢◌, ℕ, Bool, true, false, cond, List, [], ◌∷◌, ◌++◌, Option, Some, None, Result, Ok, Err, refl}
+use Rattle.std.proofs.Common.{◌≡◌, ◌≢◌, ℕ, Bool, true, false, cond, List, [], ◌∷◌, ◌++◌, Option, None, Result, Ok, Err, refl, ◌∙◌, subst}
 use Rattle.m11_base.specs.Instructions.{instruction_of}
 use Rattle.m11_base.specs.Operand.{register_number}
 use Rattle.m11_base.specs.declared.instruction.Insn.{Insn}
 use Rattle.m11_base.specs.declared.operand.Register.{Register}
 use Rattle.m11_base.specs.declared.operand.Register.TheVariants.{Pc, Sp}
 use Rattle.m11_cpu.specs.Acts.{unless_aborted, ◌>>=◌}
-use Rattle.m11_cpu.specs.Dialogue.{after, Asked, Asks, Comes, Dialogue, Exchange, Leads, Sends, Sent}
+use Rattle.m11_cpu.specs.Dialogue.{Comes, Exchange, Leads}
 use Rattle.m11_cpu.specs.Execution.{execute}
 use Rattle.m11_cpu.specs.Jumps.{push}
 use Rattle.m11_cpu.specs.Machine.{register_of}
 use Rattle.m11_cpu.specs.Addressing.{next_word}
 use Rattle.m11_cpu.specs.Status.{psw_of}
 use Rattle.m11_cpu.specs.Steps.{ended, instruction, step, step_unless, turned}
-use Rattle.m11_cpu.specs.Traps.{push_state, trap, trap_pushed}
+use Rattle.m11_cpu.specs.Traps.{push_state, stopped_by, trap, trap_pushed}
 use Rattle.m11_cpu.specs.declared.abort.Abort.{Abort}
 use Rattle.m11_cpu.specs.declared.abort.Abort.TheVariants.{Traps, Stops}
 use Rattle.m11_cpu.specs.declared.abort.Vector.{Vector}
@@ -22,27 +22,15 @@ use Rattle.m11_cpu.specs.declared.execution.Ending.{Ending}
 use Rattle.m11_cpu.specs.declared.execution.Ending.TheVariants as ending
 use Rattle.m11_cpu.specs.declared.machine.Machine.{Machine}
 use Rattle.m11_cpu.specs.declared.stop.LastingStop.{LastingStop}
+use Rattle.m11_cpu.specs.declared.stop.Stop.TheVariants.{Halt, Wait}
 use Rattle.m11_cpu.specs.declared.stop.Turn.{Turn}
-use Rattle.m11_cpu.specs.declared.stop.Turn.TheVariants.{Next}
-use Rattle.m11_cpu_laws.specs.Registers.{changed_by, RegistersStay, StepRegisters}
-use Rattle.m11_cpu_laws.specs.Writes.{IsNoneOf}
+use Rattle.m11_cpu.specs.declared.stop.Turn.TheVariants.{Next, Stopped}
+use Rattle.m11_cpu_laws.specs.Registers.{changed_after, changed_by, changed_by_code, RegistersStay, StepRegisters}
 use Rattle.m11_cpu_laws.proofs.Exchanging.{once}
-use Rattle.m11_cpu_laws.proofs.Parts.{Always, at_after, at_comes, Keeps, keeps_bind}
+use Rattle.m11_cpu_laws.proofs.Following.{within_more}
+use Rattle.m11_cpu_laws.proofs.MemoryKept.{none_left, none_right}
+use Rattle.m11_cpu_laws.proofs.Parts.{Always, at_after, at_comes, Keeps, keeps_bind, parts}
 use Rattle.m11_cpu_laws.proofs.RegistersKept.{code_held, execute_held, Holds, push_held, put}
-use Rattle.m11_cpu_laws.proofs.TracesFollow.{leads_rest}
-
--- one after the other, and a third after both
-leads_nested : {A B C : Type 0} (d : Dialogue A) (next : A → Dialogue B) (last : B → Dialogue C) (es : List Exchange)
-    (y : C) → Leads (after (after d next) last) es y → Leads (after d (λ x. after (next x) last)) es y
-unfolding Leads
-leads_nested (Comes x) next last es y h = h
-leads_nested (Asks by) next last [] y h = absurd h
-leads_nested (Asks by) next last (Asked reply ∷ es) y h = leads_nested (by reply) next last es y h
-leads_nested (Asks by) next last (Sent byte taken ∷ es) y h = absurd h
-leads_nested (Sends byte by) next last [] y h = absurd h
-leads_nested (Sends byte by) next last (Asked reply ∷ es) y h = absurd h
-leads_nested (Sends byte by) next last (Sent sent taken ∷ es) y h =
-    (h.0, leads_nested (by taken) next last es y h.1)
 
 -- a register that is neither the program counter nor the stack pointer
 module _ (r : Register) (held : ℕ) (counts : register_number r ≢ register_number Pc)
@@ -66,21 +54,6 @@ module _ (r : Register) (held : ℕ) (counts : register_number r ≢ register_nu
       at_after (push_state m) (λ pushed. trap_pushed v pushed.0 pushed.1) (λ y. Holds r held counts y.1)
       (λ y. Holds r held counts y.1) (state_held m i) (λ pushed j. pushed_held v pushed.0 pushed.1 j)
 
-  traced_held : (trace : Bool) (m : Machine) → Holds r held counts m
-      → Always (cond trace (trap Breakpoint m) (Comes (Next, m))) (λ y. Holds r held counts y.1)
-  traced_held true m i = trap_held Breakpoint m i
-  traced_held false m i = at_comes i
-
-  turned_held : (x : Result Ending Abort) (m : Machine) → Holds r held counts m
-      → Always (turned x m) (λ y. Holds r held counts y.1)
-  unfolding turned ended
-  turned_held (Ok ending.Next) m i = traced_held m.status.trace m i
-  turned_held (Ok ending.Untraced) m i = at_comes i
-  turned_held (Ok ending.Halts) m i = at_comes i
-  turned_held (Ok ending.Waits) m i = at_comes i
-  turned_held (Err (Traps v)) m i = trap_held v m i
-  turned_held (Err (Stops stop)) m i = at_comes i
-
 -- ---- laws
 
 pub execute_stays : (code : Insn) (m m' : Machine) (came : Result Ending Abort) (es : List Exchange)
@@ -101,37 +74,78 @@ trap_stays v m m' turn es h = record {
   stays = λ r none. (trap_held r (register_of r m) none.0 none.1.0 v m refl).each es (turn, m') h;
 }
 
-going_stays : (m fetched m' : Machine) (word : ℕ) (turn : Turn) (first rest : List Exchange)
-    → Leads (next_word m) first (Ok word, fetched) → Leads (step_unless None m) (first ++ rest) (turn, m')
-    → (r : Register)
-    → IsNoneOf (register_number r) (register_number Pc ∷ register_number Sp ∷ changed_by (instruction_of word))
-    → register_of r m' ≡ register_of r m
+-- ---- a step, part by part
+
+both_stay : (first second : List ℕ) (m n o : Machine) → RegistersStay first m n → RegistersStay second n o
+    → RegistersStay (first ++ second) m o
+both_stay first second m n o s t = record {
+  stays = λ r none.
+      let k = register_number r in
+      t.stays r (none.0, none_right k first second none.1) ∙ s.stays r (none.0, none_left k first second none.1);
+}
+
+nothing_stays : {A : Type 0} (x came : A) (m m' : Machine) (es : List Exchange)
+    → Leads {A = A × Machine} (Comes (x, m)) es (came, m') → RegistersStay [] m m'
+nothing_stays {A = A} x came m m' es h =
+    once {A = A × Machine} (λ fs y. RegistersStay [] m y.1) (x, m) es (came, m') (record { stays = λ r none. refl }) h
+
+-- what comes after the code was read, or could not be
+code_stays : (read : Result ℕ Abort) (m n left : Machine) (came : Result Ending Abort) (first es : List Exchange)
+    → Leads (next_word m) first (read, n)
+    → Leads (unless_aborted (λ word. execute (instruction_of word)) read n) es (came, left)
+    → RegistersStay (changed_by_code read) m left
+code_stays (Ok word) m n left came first es fetch h =
+    both_stay [] (changed_by (instruction_of word)) m n left (fetch_stays m n (Ok word) first fetch)
+    (execute_stays (instruction_of word) n left came es h)
+code_stays (Err abort) m n left came first es fetch h =
+    both_stay [] [] m n left (fetch_stays m n (Err abort) first fetch) (nothing_stays (Err abort) came n left es h)
+
+stopped_stays : (stop : LastingStop) (left m' : Machine) (turn : Turn) (es : List Exchange)
+    → Leads {A = Turn × Machine} (Comes (stopped_by stop left)) es (turn, m') → RegistersStay [] left m'
+stopped_stays stop left m' turn es h =
+    once {A = Turn × Machine} (λ fs y. RegistersStay [] left y.1) (stopped_by stop left) es (turn, m')
+    (record { stays = λ r none. refl }) h
+
+traced_stays : (trace : Bool) (left m' : Machine) (turn : Turn) (es : List Exchange)
+    → Leads {A = Turn × Machine} (cond trace (trap Breakpoint left) (Comes (Next, left))) es (turn, m')
+    → RegistersStay (cond trace (register_number Sp ∷ []) []) left m'
+traced_stays true left m' turn es h = trap_stays Breakpoint left m' turn es h
+traced_stays false left m' turn es h = nothing_stays Next turn left m' es h
+
+turned_stays : (came : Result Ending Abort) (left m' : Machine) (turn : Turn) (es : List Exchange)
+    → Leads (turned came left) es (turn, m') → RegistersStay (changed_after came left) left m'
+unfolding turned ended
+turned_stays (Ok ending.Next) left m' turn es h = traced_stays left.status.trace left m' turn es h
+turned_stays (Ok ending.Untraced) left m' turn es h = nothing_stays Next turn left m' es h
+turned_stays (Ok ending.Halts) left m' turn es h = nothing_stays (Stopped Halt) turn left m' es h
+turned_stays (Ok ending.Waits) left m' turn es h = nothing_stays (Stopped Wait) turn left m' es h
+turned_stays (Err (Traps vector)) left m' turn es h = trap_stays vector left m' turn es h
+turned_stays (Err (Stops stop)) left m' turn es h = stopped_stays stop left m' turn es h
+
+going_stays : (m m' : Machine) (turn : Turn) (es : List Exchange) → Leads (step_unless None m) es (turn, m')
+    → StepRegisters m es m'
 unfolding instruction ◌>>=◌
-going_stays m fetched m' word turn first rest fetch stepped r none =
-    let code = instruction_of word in
-    let held = register_of r m in
-    let next : Result ℕ Abort × Machine → Dialogue (Result Ending Abort × Machine) =
-    λ came. unless_aborted (λ w. execute (instruction_of w)) came.0 came.1 in
-    let last : Result Ending Abort × Machine → Dialogue (Turn × Machine) = λ came. turned came.0 came.1 in
-    let flat = leads_nested (next_word m) next last (first ++ rest) (turn, m') stepped in
-    let left = leads_rest (next_word m) first rest (Ok word, fetched) (λ x. after (next x) last) (turn, m') fetch flat
-    in
-    (at_after (execute code fetched) last (λ y. Holds r held none.0 y.1) (λ y. Holds r held none.0 y.1)
-    (execute_held r held none.0 code fetched none.1.1 ((fetch_stays m fetched (Ok word) first fetch).stays r (none.0, tt)))
-    (λ came i. turned_held r held none.0 none.1.0 came.0 came.1 i)).each rest (turn, m') left
+going_stays m m' turn es h =
+    let q = parts (instruction m) (λ came. turned came.0 came.1) es (turn, m') h in
+    let f = parts (next_word m) (λ came. unless_aborted (λ word. execute (instruction_of word)) came.0 came.1)
+    q.within.first q.value q.within.leads in
+    let executed = code_stays f.value.0 m f.value.1 q.value.1 q.value.0 f.within.first f.within.rest f.within.leads
+    f.goes_on in
+    let after_it = turned_stays q.value.0 q.value.1 m' turn q.within.rest q.goes_on in
+    record {
+      fetched = f.value;
+      executed = q.value;
+      is_fetched = within_more (next_word m) es q.within.first q.within.rest f.value q.within.joined f.within;
+      is_executed = q.within;
+      by_instruction = executed;
+      by_trap = after_it;
+      by_step = both_stay (changed_by_code f.value.0) (changed_after q.value.0 q.value.1) m q.value.1 m' executed
+          after_it;
+    }
 
-unless_stays : (stands : Option LastingStop) (m fetched m' : Machine) (word : ℕ) (turn : Turn)
-    (first rest : List Exchange) → Leads (next_word m) first (Ok word, fetched)
-    → Leads (step_unless stands m) (first ++ rest) (turn, m')
-    → RegistersStay (register_number Sp ∷ changed_by (instruction_of word)) m m'
-unless_stays None m fetched m' word turn first rest fetch stepped = record {
-  stays = λ r none. going_stays m fetched m' word turn first rest fetch stepped r none;
-}
-unless_stays (Some stop) m fetched m' word turn first rest fetch stepped = record {
-  stays = λ r none. once (λ es y. register_of r y.1 ≡ register_of r m) _ (first ++ rest) (turn, m') refl stepped;
-}
-
-pub step_stays : (m : Machine) → StepRegisters m
+pub step_stays : (m m' : Machine) (turn : Turn) (es : List Exchange) → m.stopped ≡ None
+    → Leads (step m) es (turn, m') → StepRegisters m es m'
 unfolding step
-step_stays m word fetched m' turn first rest fetch stepped =
-    unless_stays m.stopped m fetched m' word turn first rest fetch stepped
+step_stays m m' turn es e h =
+    let P : Option LastingStop → Type 0 = λ s. Leads (step_unless s m) es (turn, m') in
+    going_stays m m' turn es (subst P e h)

@@ -1,9 +1,11 @@
 -- Which registers an instruction and its traps may change; each other register stays. (PDP-11/40 Processor Handbook,
 -- "Addressing modes", "Instruction set", "Processor traps".)
-use Rattle.std.specs.Prelude.{◌≡◌, ℕ, Bool, true, false, ◌||◌, if◌then◌else◌, List, [], ◌∷◌, ◌++◌, Ok}
+use Rattle.std.specs.Prelude.{◌≡◌, ℕ, Bool, true, false, ◌||◌, if◌then◌else◌, List, [], ◌∷◌, ◌++◌, Result, Ok, Err}
 use Rattle.m11_base.specs.Instructions.{instruction_of}
 use Rattle.m11_base.specs.Operand.{register_number}
 use Rattle.m11_base.specs.declared.instruction.BareOp.TheVariants.{Rti, Rtt}
+use Rattle.m11_base.specs.declared.instruction.ExtendedOp.{ExtendedOp}
+use Rattle.m11_base.specs.declared.instruction.ExtendedOp.TheVariants.{Mul, Div, Ash, Ashc}
 use Rattle.m11_base.specs.declared.instruction.Insn.{Insn}
 use Rattle.m11_base.specs.declared.instruction.Insn.TheVariants as insn
 use Rattle.m11_base.specs.declared.instruction.NumberOp.TheVariants.{Mark}
@@ -13,13 +15,17 @@ use Rattle.m11_base.specs.declared.operand.Mode.TheVariants as mode
 use Rattle.m11_base.specs.declared.operand.Operand.{Operand}
 use Rattle.m11_base.specs.declared.operand.Register.{Register}
 use Rattle.m11_base.specs.declared.operand.Register.TheVariants.{Pc, R5, Sp}
-use Rattle.m11_cpu.specs.Dialogue.{Exchange, Leads}
+use Rattle.m11_cpu.specs.Dialogue.{Exchange}
 use Rattle.m11_cpu.specs.Extended.{low_word_of}
 use Rattle.m11_cpu.specs.Machine.{register_of}
 use Rattle.m11_cpu.specs.Addressing.{next_word}
-use Rattle.m11_cpu.specs.Steps.{step}
+use Rattle.m11_cpu.specs.Steps.{instruction}
+use Rattle.m11_cpu.specs.declared.abort.Abort.{Abort}
+use Rattle.m11_cpu.specs.declared.abort.Abort.TheVariants.{Traps, Stops}
+use Rattle.m11_cpu.specs.declared.execution.Ending.{Ending}
+use Rattle.m11_cpu.specs.declared.execution.Ending.TheVariants as ending
 use Rattle.m11_cpu.specs.declared.machine.Machine.{Machine}
-use Rattle.m11_cpu.specs.declared.stop.Turn.{Turn}
+use Rattle.m11_cpu_laws.specs.Exchanges.{ComesWithin}
 use Rattle.m11_cpu_laws.specs.Returns.{is_stepping}
 use Rattle.m11_cpu_laws.specs.Writes.{IsNoneOf, stores_double, stores_single}
 
@@ -44,12 +50,17 @@ stepped_or_stored operand =
 abbrev pub by_destination : Bool → Operand → List ℕ
 by_destination stores operand = if stores then stepped_or_stored operand else stepped operand
 
--- the register of the low word is the same or the next one: R or 1
+-- the register of the low word is the same or the next one: R or 1. ASH has no second one
+abbrev pub by_extended : ExtendedOp → Register → List ℕ
+by_extended Mul register = register_number register ∷ register_number (low_word_of register) ∷ []
+by_extended Div register = register_number register ∷ register_number (low_word_of register) ∷ []
+by_extended Ash register = register_number register ∷ []
+by_extended Ashc register = register_number register ∷ register_number (low_word_of register) ∷ []
+
 abbrev pub changed_by : Insn → List ℕ
 changed_by (insn.Double operation size source destination) =
     stepped source ++ by_destination (stores_double operation) destination
-changed_by (insn.Extended operation register source) =
-    stepped source ++ (register_number register ∷ register_number (low_word_of register) ∷ [])
+changed_by (insn.Extended operation register source) = stepped source ++ by_extended operation register
 changed_by (insn.Register Jsr register operand) =
     stepped operand ++ (register_number register ∷ register_number Sp ∷ [])
 changed_by (insn.Register Xor register operand) = stepped_or_stored operand
@@ -61,8 +72,26 @@ changed_by (insn.Bare Rti) = register_number Sp ∷ []
 changed_by (insn.Bare Rtt) = register_number Sp ∷ []
 changed_by other = []
 
--- a step of the instruction that was fetched: a trap steps the stack pointer too
-abbrev pub StepRegisters : Machine → Type 0
-StepRegisters m = (word : ℕ) (fetched m' : Machine) (turn : Turn) (first rest : List Exchange)
-    → Leads (next_word m) first (Ok word, fetched) → Leads (step m) (first ++ rest) (turn, m')
-    → RegistersStay (register_number Sp ∷ changed_by (instruction_of word)) m m'
+-- those of the instruction whose code was read; where no code could be read there are none
+abbrev pub changed_by_code : Result ℕ Abort → List ℕ
+changed_by_code (Ok word) = changed_by (instruction_of word)
+changed_by_code (Err abort) = []
+
+-- the stack pointer, where a trap follows: an instruction that traps, and a trace trap where T is then set
+abbrev pub changed_after : Result Ending Abort → Machine → List ℕ
+changed_after (Ok ending.Next) m = if m.status.trace then register_number Sp ∷ [] else []
+changed_after (Ok ending.Untraced) m = []
+changed_after (Ok ending.Halts) m = []
+changed_after (Ok ending.Waits) m = []
+changed_after (Err (Traps vector)) m = register_number Sp ∷ []
+changed_after (Err (Stops stop)) m = []
+
+-- a step changes at most what its instruction changes, up to an abort too, and then what its trap changes
+pub record StepRegisters (m : Machine) (exchanges : List Exchange) (m' : Machine) : Type 0 where
+  pub fetched : Result ℕ Abort × Machine
+  pub executed : Result Ending Abort × Machine
+  pub is_fetched : ComesWithin (next_word m) exchanges fetched
+  pub is_executed : ComesWithin (instruction m) exchanges executed
+  pub by_instruction : RegistersStay (changed_by_code fetched.0) m executed.1
+  pub by_trap : RegistersStay (changed_after executed.0 executed.1) executed.1 m'
+  pub by_step : RegistersStay (changed_by_code fetched.0 ++ changed_after executed.0 executed.1) m m'

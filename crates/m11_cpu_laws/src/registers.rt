@@ -7,6 +7,7 @@ ghost use Rattle.m11_base.specs.declared.operand.Register.TheVariants.{Sp};
 ghost use Rattle.m11_cpu.specs.Dialogue.{Exchange, Leads};
 ghost use Rattle.m11_cpu.specs.Execution.{execute};
 ghost use Rattle.m11_cpu.specs.Addressing.{next_word};
+ghost use Rattle.m11_cpu.specs.Steps.{step};
 ghost use Rattle.m11_cpu.specs.Traps.{trap};
 ghost use Rattle.m11_cpu.specs.declared.abort.Abort.{Abort};
 ghost use Rattle.m11_cpu.specs.declared.abort.Vector.{Vector};
@@ -14,12 +15,14 @@ ghost use Rattle.m11_cpu.specs.declared.execution.Ending.{Ending};
 ghost use Rattle.m11_cpu.specs.declared.machine.Machine.{Machine};
 ghost use Rattle.m11_cpu.specs.declared.stop.Turn.{Turn};
 ghost use Rattle.m11_cpu_laws.specs.Registers.{changed_by, RegistersStay, StepRegisters};
+ghost use Rattle.m11_cpu_laws.specs.Writes.{MakesSteps};
 
-/// Each register stays but these. The fetch of a word changes at most the program counter. An instruction, also one that is aborted, changes at most the program counter; the
-/// registers that the modes of its operands step; a register that it stores to; R and R or 1 of the extended set; the
-/// register of SOB; register and stack pointer of JSR and RTS; register 5 and the stack pointer of MARK; and the stack
-/// pointer of RTI and RTT. A trap changes the program counter and the stack pointer, and a step at most what its
-/// instruction and a trap change. (PDP-11/40 Processor Handbook, "Addressing modes", "Instruction set".)
+/// Each register stays but these. The fetch of a word changes at most the program counter. An instruction, also one that is
+/// aborted, changes at most the program counter; the registers that the modes of its operands step; a register that it
+/// stores to; R and R or 1 of MUL, DIV and ASHC, R of ASH; the register of SOB; register and stack pointer of JSR and
+/// RTS; register 5 and the stack pointer of MARK; and the stack pointer of RTI and RTT. A trap changes the program counter
+/// and the stack pointer. A step changes at most what its instruction changes, up to an abort too, and then the stack
+/// pointer where a trap follows, the trace trap too. (PDP-11/40 Processor Handbook, "Addressing modes", "Instruction set".)
 #[tactic(auto, using(crate::proofs::StepsKeepRegisters::execute_stays, crate::proofs::StepsKeepRegisters::trap_stays, crate::proofs::StepsKeepRegisters::step_stays, crate::proofs::StepsKeepRegisters::fetch_stays))]
 pub fn registers_stay()
     ensures fetch { (m m' : Machine) (came : Result ℕ Abort) (exchanges : List Exchange)
@@ -28,5 +31,6 @@ pub fn registers_stay()
         → Leads (execute code m) exchanges (came, m') → RegistersStay (changed_by code) m m' }
     ensures trap { (vector : Vector) (m m' : Machine) (turn : Turn) (exchanges : List Exchange)
         → Leads (trap vector m) exchanges (turn, m') → RegistersStay (register_number Sp ∷ []) m m' }
-    ensures step { (m : Machine) → StepRegisters m }
+    ensures step { (m m' : Machine) (turn : Turn) (exchanges : List Exchange) → MakesSteps m
+        → Leads (step m) exchanges (turn, m') → StepRegisters m exchanges m' }
 {}
