@@ -1,5 +1,5 @@
--- One machine that makes a call: JSR R5,(R1) stands at address 0, R1 is 6, and the stack pointer is 4.
-use Rattle.std.proofs.Common.{◌<◌, false, [], ◌∷◌, None, refl, arith}
+-- One machine that makes each call: JSR R5,(R1) or JSR PC,(R1) stands at address 0, R1 is 6, and the stack pointer is 4.
+use Rattle.std.proofs.Common.{ℕ, ◌<◌, false, [], ◌∷◌, None, refl, arith}
 use Rattle.m11_base.specs.Instructions.{row_of, rows}
 use Rattle.m11_base.specs.declared.operand.Mode.TheVariants as mode
 use Rattle.m11_base.specs.declared.operand.Register.{Register}
@@ -10,11 +10,12 @@ use Rattle.m11_cpu.specs.Machine.{advanced, register_of}
 use Rattle.m11_cpu.specs.Addressing.{place_of}
 use Rattle.m11_cpu.specs.Status.{status_of}
 use Rattle.m11_cpu.specs.declared.machine.Machine.{Machine}
-use Rattle.m11_cpu_laws.specs.Returns.{CallIsMade}
+use Rattle.m11_cpu_laws.specs.Returns.{CallIsMade, PlainCallIsMade}
 
-abbrev calling : Machine
-calling = record {
-  memory = 0o111 ∷ 0o11 ∷ 0 ∷ 0 ∷ [];
+-- by the low byte of the code
+abbrev calling : ℕ → Machine
+calling low = record {
+  memory = low ∷ 0o11 ∷ 0 ∷ 0 ∷ [];
   registers = 0 ∷ 6 ∷ 0 ∷ 0 ∷ 0 ∷ 0 ∷ 4 ∷ 0 ∷ [];
   status = status_of 0;
   receiver = record { byte = 0; is_done = false; is_enabled = false; has_ended = false };
@@ -22,29 +23,45 @@ calling = record {
   stopped = None;
 }
 
-words : (register : Register) → register_of register calling < 0o200000
-words R0 = omega arith
-words R1 = omega arith
-words R2 = omega arith
-words R3 = omega arith
-words R4 = omega arith
-words R5 = omega arith
-words Sp = omega arith
-words Pc = omega arith
+words : (low : ℕ) (register : Register) → register_of register (calling low) < 0o200000
+words low R0 = omega arith
+words low R1 = omega arith
+words low R2 = omega arith
+words low R3 = omega arith
+words low R4 = omega arith
+words low R5 = omega arith
+words low Sp = omega arith
+words low Pc = omega arith
 
 pub call_made : CallIsMade
 unfolding target place_of ◌>>=◌ row_of rows
 call_made = record {
   register = R5;
   operand = record { mode = mode.RegisterDeferred; register = R1 };
-  machine = calling;
+  machine = calling 0o111;
   address = 6;
-  formed = advanced Pc 2 calling;
+  formed = advanced Pc 2 (calling 0o111);
   is_call = record {
-    running = record { not_stopped = refl; not_traced = refl; registers = refl; words = words };
+    running = record { not_stopped = refl; not_traced = refl; registers = refl; words = words 0o111 };
     code = ((refl, omega arith), refl);
     linked = omega arith;
     keeps_link = refl;
+    keeps_stack = refl;
+    pushed = (refl, omega arith);
+  };
+  target_formed = refl;
+}
+
+pub plain_call_made : PlainCallIsMade
+unfolding target place_of ◌>>=◌ row_of rows
+plain_call_made = record {
+  operand = record { mode = mode.RegisterDeferred; register = R1 };
+  machine = calling 0o311;
+  address = 6;
+  formed = advanced Pc 2 (calling 0o311);
+  is_call = record {
+    running = record { not_stopped = refl; not_traced = refl; registers = refl; words = words 0o311 };
+    code = ((refl, omega arith), refl);
     keeps_stack = refl;
     pushed = (refl, omega arith);
   };

@@ -70,17 +70,17 @@ return_steps register called count runs untraced linked is_at inside =
 
 -- ---- JSR
 
-abbrev entered : Register → ℕ → Machine → Machine
+abbrev pub entered : Register → ℕ → Machine → Machine
 entered register address n = with_register Pc address (with_register register (register_of Pc n) n)
 
-enters : (register : Register) (address : ℕ) (formed : Machine) → IsWordInside (push_address formed) formed
+pub enters : (register : Register) (address : ℕ) (formed : Machine) → IsWordInside (push_address formed) formed
     → enter register address formed ≡ Comes
     (Ok tt, entered register address (pushed (register_of register formed) formed))
 unfolding enter
 enters register address formed inside =
     bind_at (push (register_of register formed)) _ formed _ tt (push_inside (register_of register formed) formed inside)
 
-call_leads : (register : Register) (operand : Operand) (m formed called : Machine) (es : List Exchange) (address : ℕ)
+pub call_leads : (register : Register) (operand : Operand) (m formed called : Machine) (es : List Exchange) (address : ℕ)
     → m.stopped ≡ None → IsAt (insn.Register Jsr register operand) m
     → Leads (target operand (advanced Pc 2 m)) es (Ok address, formed)
     → enter register address formed ≡ Comes (Ok tt, called) → called.status.trace ≡ false
@@ -147,7 +147,9 @@ called_back register operand m formed es address c f k h =
 
 pub calls_back : (register : Register) (operand : Operand) (m : Machine) → CallsReturn register operand m
 calls_back register operand m es address formed c h =
-    let f : Formed register m formed = (call_forms register operand m c).each es (Ok address, formed) h in
+    let not_counter : register_number register ≢ register_number Pc = λ e. let l = c.linked in omega arith in
+    let f : Formed register m formed =
+    (call_forms register operand m c.running not_counter c.keeps_link c.keeps_stack).each es (Ok address, formed) h in
     let k : CounterAt ((register_of Pc m + call_length operand) % 0o200000) formed =
     (call_counts operand m c.running).each es (Ok address, formed) h in
     called_back register operand m formed es address c f k h

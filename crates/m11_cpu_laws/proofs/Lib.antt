@@ -12,6 +12,7 @@ pub mod MemoryKept
 pub mod Parts
 pub mod PartsTell
 pub mod PlacesStored
+pub mod PlainCallsBack
 pub mod RegistersKept
 pub mod RunsJoined
 pub mod StackFaults

@@ -12,7 +12,7 @@ use Rattle.m11_cpu.specs.Access.{load_word}
 use Rattle.m11_cpu.specs.Jumps.{address_of, target}
 use Rattle.m11_cpu.specs.Machine.{advanced, register_of, with_register}
 use Rattle.m11_cpu.specs.Addressing.{deferred, indexed, next_word, place_by, place_of}
-use Rattle.m11_cpu_laws.specs.Returns.{call_length, IsCall, IsRunning, length_by, over_back, over_forward}
+use Rattle.m11_cpu_laws.specs.Returns.{call_length, IsRunning, length_by, over_back, over_forward, steps}
 use Rattle.m11_cpu.specs.declared.abort.Abort.{Abort}
 use Rattle.m11_cpu.specs.declared.console.Receiver.{Receiver}
 use Rattle.m11_cpu.specs.declared.machine.Machine.{Machine}
@@ -59,25 +59,25 @@ unstepped : (stepping : Bool) (a b : ℕ) → (stepping && (a == b)) ≡ false �
 unstepped true a b e f g = true≢false (sym (eq-eqb _ _ (sym g)) ∙ e)
 unstepped false a b e f g = true≢false (sym f)
 
-pub call_forms : (register : Register) (operand : Operand) (m : Machine) → IsCall register operand m
+pub call_forms : (register : Register) (operand : Operand) (m : Machine) → IsRunning m
+    → register_number register ≢ register_number Pc → steps operand register ≡ false → steps operand Sp ≡ false
     → Keeps (Formed register m) (target operand (advanced Pc 2 m))
 unfolding target
-call_forms register operand m c =
-    let not_counter : register_number register ≢ register_number Pc = λ e. let l = c.linked in omega arith in
+call_forms register operand m running not_counter keeps_link keeps_stack =
     let apart : register_number Sp ≢ register_number Pc = λ e. omega arith in
     let begun : Formed register m m = record {
-      count = c.running.registers;
+      count = running.registers;
       link = refl;
       stack = refl;
       memory = refl;
-      untraced = c.running.not_traced;
-      runs = c.running.not_stopped;
+      untraced = running.not_traced;
+      runs = running.not_stopped;
     } in
     target_keeps (Formed register m) operand Word (advanced Pc 2 m)
     (place_keeps (Formed register m) (formed_receives register m)
     (λ n v f. formed_puts register Pc m n v not_counter apart f) operand Word (advanced Pc 2 m)
-    (λ s n v f. formed_puts register operand.register m n v (unstepped _ _ _ c.keeps_link s)
-    (unstepped _ _ _ c.keeps_stack s) f)
+    (λ s n v f. formed_puts register operand.register m n v (unstepped _ _ _ keeps_link s)
+    (unstepped _ _ _ keeps_stack s) f)
     (formed_puts register Pc m m _ not_counter apart begun))
 
 -- where it leaves the program counter

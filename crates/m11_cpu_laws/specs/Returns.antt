@@ -122,6 +122,40 @@ pub record CallIsMade : Type 0 where
   pub is_call : IsCall register operand machine
   pub target_formed : target operand (advanced Pc 2 machine) ≡ Comes (Ok address, formed)
 
+-- a call that keeps no register: JSR PC, whose operand doesn't step the stack pointer, and whose push goes to memory
+pub record IsPlainCall (operand : Operand) (m : Machine) : Type 0 where
+  pub running : IsRunning m
+  pub code : IsAt (insn.Register Jsr Pc operand) m
+  pub keeps_stack : steps operand Sp ≡ false
+  pub pushed : IsWordInside (push_address m) m
+
+-- one more step leads after the call, and the stack pointer is as before
+pub record PlainCallIsOver (operand : Operand) (m called : Machine) : Type 0 where
+  pub returned : Machine
+  pub in_one_step : step called ≡ Comes (Next, returned)
+  pub counter : register_of Pc returned ≡ (register_of Pc m + call_length operand) % 0o200000
+  pub stack : register_of Sp returned ≡ register_of Sp m
+
+-- the call goes to the address, and comes back where RTS PC stands there after the push
+pub record PlainCallReturns (operand : Operand) (m : Machine) (exchanges : List Exchange) (address : ℕ) : Type 0 where
+  pub called : Machine
+  pub in_one_step : Leads (step m) exchanges (Next, called)
+  pub counter : register_of Pc called ≡ address
+  pub comes_back : IsAt (insn.Rts Pc) called → PlainCallIsOver operand m called
+
+abbrev pub PlainCallsReturn : Operand → Machine → Type 0
+PlainCallsReturn operand m = (exchanges : List Exchange) (address : ℕ) (formed : Machine)
+    → IsPlainCall operand m → Leads (target operand (advanced Pc 2 m)) exchanges (Ok address, formed)
+    → PlainCallReturns operand m exchanges address
+
+pub record PlainCallIsMade : Type 0 where
+  pub operand : Operand
+  pub machine : Machine
+  pub address : ℕ
+  pub formed : Machine
+  pub is_call : IsPlainCall operand machine
+  pub target_formed : target operand (advanced Pc 2 machine) ≡ Comes (Ok address, formed)
+
 -- ---- traps
 
 -- both pushes of a trap go to memory
