@@ -16,6 +16,8 @@ pub mod PlainCallsBack
 pub mod RegistersKept
 pub mod RunsJoined
 pub mod StackFaults
+pub mod StatusKept
+pub mod StatusStored
 pub mod StepsInMemory
 pub mod StepsWrite
 pub mod StepsKeepRegisters

@@ -5,5 +5,6 @@ pub mod Laws
 pub mod Receiving
 pub mod Registers
 pub mod Returns
+pub mod StatusWord
 pub mod Tracing
 pub mod Writes

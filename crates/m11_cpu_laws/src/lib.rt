@@ -7,6 +7,7 @@ mod devices;
 mod laws;
 mod registers;
 mod returns;
+mod status_word;
 mod steps;
 mod writes;
 
@@ -15,5 +16,6 @@ pub use devices::{failures_stop, receiver_hears};
 pub use laws::{console_is_exact, runs_are_joined, stops_stand};
 pub use registers::registers_stay;
 pub use returns::{calls_return, traps_return};
+pub use status_word::{status_word_takes_what_is_stored, trace_bit_stays};
 pub use steps::trace_trap_follows;
 pub use writes::memory_stays;

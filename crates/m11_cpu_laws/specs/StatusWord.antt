@@ -1,0 +1,124 @@
+-- The processor status word at its address: what a store leaves of it, and what is loaded. (PDP-11/40 Processor Handbook,
+-- "Processor status word", "Trace trap", RTI, RTT. That a store leaves T and overrides the codes of its instruction, and
+-- that the odd byte takes nothing, is this project's own.)
+use Rattle.std.specs.Prelude.{◌≡◌, ℕ, ◌+◌, ◌≤◌, Bool, true, false, List, ◌++◌, Result, Ok}
+use Rattle.m11_base.specs.declared.instruction.BareOp.{BareOp}
+use Rattle.m11_base.specs.declared.instruction.BareOp.TheVariants.{Rti, Rtt}
+use Rattle.m11_base.specs.declared.instruction.DoubleOp.{DoubleOp}
+use Rattle.m11_base.specs.declared.instruction.Insn.{Insn}
+use Rattle.m11_base.specs.declared.instruction.Insn.TheVariants as insn
+use Rattle.m11_base.specs.declared.instruction.RegisterOp.TheVariants.{Jsr, Xor}
+use Rattle.m11_base.specs.declared.instruction.SingleOp.{SingleOp}
+use Rattle.m11_base.specs.declared.operand.Operand.{Operand}
+use Rattle.m11_base.specs.declared.operand.Register.{Register}
+use Rattle.m11_base.specs.declared.operand.Register.TheVariants.{Pc}
+use Rattle.m11_base.specs.declared.operand.Size.{Size}
+use Rattle.m11_base.specs.declared.operand.Size.TheVariants.{Word, Byte}
+use Rattle.m11_arithmetic.specs.Doubles.{double_result, exclusive_or_result}
+use Rattle.m11_arithmetic.specs.Singles.{single_result}
+use Rattle.m11_arithmetic.specs.declared.results.Computed.{Computed}
+use Rattle.m11_cpu.specs.Addressing.{fetch_operand, place_of}
+use Rattle.m11_cpu.specs.Dialogue.{Exchange, Leads}
+use Rattle.m11_cpu.specs.Execution.{execute}
+use Rattle.m11_cpu.specs.Jumps.{pop, target}
+use Rattle.m11_cpu.specs.Machine.{memory_size, psw_in, register_of, with_condition_codes, with_register}
+use Rattle.m11_cpu.specs.Memory.{word_at}
+use Rattle.m11_cpu.specs.Status.{status_of, status_written}
+use Rattle.m11_cpu.specs.Traps.{trap, vector_address}
+use Rattle.m11_cpu.specs.declared.abort.Abort.{Abort}
+use Rattle.m11_cpu.specs.declared.abort.Vector.{Vector}
+use Rattle.m11_cpu.specs.declared.addressing.OperandLocation.TheVariants.{InMemory}
+use Rattle.m11_cpu.specs.declared.execution.Ending.{Ending}
+use Rattle.m11_cpu.specs.declared.execution.Ending.TheVariants as ending
+use Rattle.m11_cpu.specs.declared.machine.Machine.{Machine}
+use Rattle.m11_cpu.specs.declared.stop.Turn.TheVariants.{Next}
+use Rattle.m11_cpu_laws.specs.Writes.{push_address, stack_deepened, stores_double, stores_single}
+
+-- the memory ends before the addresses of devices
+abbrev pub EndsBeforeDevices : Machine → Type 0
+EndsBeforeDevices m = memory_size m ≤ 0o160000
+
+-- ---- what instructions leave where their destination is the status word
+
+-- the status is this word but for T, which stays; nothing else changes, and so the codes are those of the word
+abbrev pub with_status_word : ℕ → Machine → Machine
+with_status_word word m = record m { status = status_written word m.status }
+
+-- the result of an operation is stored at 177776: it alone decides the status. A byte is stored at 177777: it goes nowhere,
+-- and the codes are those of the result
+abbrev pub AtStatus : (Machine → Computed) → (ℕ → Computed) → Size → Insn → Machine → List Exchange → ℕ → Machine → Type 0
+AtStatus of_status of_zero size code m exchanges address formed =
+    (address ≡ 0o177776 → Leads (execute code m) exchanges (Ok ending.Next, with_status_word (of_status formed).value formed))
+    × (address ≡ 0o177777 → size ≡ Byte
+    → Leads (execute code m) exchanges (Ok ending.Next, with_condition_codes (of_zero 0).codes formed))
+
+-- instructions of two operands: the status is read where the operation changes its destination
+abbrev pub DoublesAtStatus : DoubleOp → Size → Operand → Operand → Machine → Type 0
+DoublesAtStatus operation size source destination m =
+    (first second : List Exchange) (value address : ℕ) (n formed : Machine) → stores_double operation ≡ true
+    → Leads (fetch_operand source size m) first (Ok value, n)
+    → Leads (place_of destination size n) second (Ok (InMemory address), formed) → EndsBeforeDevices formed
+    → AtStatus (λ o. double_result operation size value (psw_in o) o.status.codes)
+    (λ zero. double_result operation size value zero formed.status.codes) size
+    (insn.Double operation size source destination) m (first ++ second) address formed
+
+-- of one operand
+abbrev pub SinglesAtStatus : SingleOp → Size → Operand → Machine → Type 0
+SinglesAtStatus operation size operand m =
+    (exchanges : List Exchange) (address : ℕ) (formed : Machine) → stores_single operation ≡ true
+    → Leads (place_of operand size m) exchanges (Ok (InMemory address), formed) → EndsBeforeDevices formed
+    → AtStatus (λ o. single_result operation size (psw_in o) o.status.codes)
+    (λ zero. single_result operation size zero formed.status.codes) size (insn.Single operation size operand) m exchanges
+    address formed
+
+-- XOR, of words alone
+abbrev pub ExclusivesAtStatus : Register → Operand → Machine → Type 0
+ExclusivesAtStatus register operand m =
+    (exchanges : List Exchange) (formed : Machine)
+    → Leads (place_of operand Word m) exchanges (Ok (InMemory 0o177776), formed) → EndsBeforeDevices formed
+    → Leads (execute (insn.Register Xor register operand) m) exchanges (
+      Ok ending.Next,
+      with_status_word (exclusive_or_result (register_of register m) (psw_in formed) formed.status.codes).value formed,
+    )
+
+-- JSR pushes its register there, and goes
+abbrev pub CallsAtStatus : Register → Operand → Machine → Type 0
+CallsAtStatus register operand m =
+    (exchanges : List Exchange) (address : ℕ) (formed : Machine)
+    → Leads (target operand m) exchanges (Ok address, formed) → push_address formed ≡ 0o177776 → EndsBeforeDevices formed
+    → Leads (execute (insn.Register Jsr register operand) m) exchanges (
+      Ok ending.Next,
+      with_register Pc address (with_register register (register_of Pc (stack_deepened formed))
+          (with_status_word (register_of register formed) (stack_deepened formed))),
+    )
+
+-- ---- T
+
+-- RTI and RTT load T, and no other instruction changes it
+abbrev pub loads_trace : Insn → Bool
+loads_trace (insn.Bare Rti) = true
+loads_trace (insn.Bare Rtt) = true
+loads_trace other = false
+
+-- what RTI and RTT end by
+abbrev pub return_ending : BareOp → Ending
+return_ending Rtt = ending.Untraced
+return_ending other = ending.Next
+
+abbrev pub is_return : BareOp → Bool
+is_return Rti = true
+is_return Rtt = true
+is_return other = false
+
+-- they load the whole status from the second word that they pop
+abbrev pub ReturnsLoad : BareOp → Machine → Type 0
+ReturnsLoad operation m =
+    (first second : List Exchange) (address word : ℕ) (n o : Machine) → is_return operation ≡ true
+    → Leads (pop m) first (Ok address, n) → Leads (pop (with_register Pc address n)) second (Ok word, o)
+    → Leads (execute (insn.Bare operation) m) (first ++ second)
+    (Ok (return_ending operation), record o { status = status_of word })
+
+-- a trap loads it from the second word of its vector
+abbrev pub TrapsLoad : Vector → Machine → Type 0
+TrapsLoad vector m = (exchanges : List Exchange) (trapped : Machine) → Leads (trap vector m) exchanges (Next, trapped)
+    → trapped.status ≡ status_of (word_at trapped.memory (vector_address vector + 2))

@@ -1,0 +1,42 @@
+//! What becomes of the processor status word.
+
+ghost use Rattle.std.specs.Prelude.{◌≡◌, false, List, Result};
+ghost use Rattle.m11_base.specs.declared.instruction.BareOp.{BareOp};
+ghost use Rattle.m11_base.specs.declared.instruction.DoubleOp.{DoubleOp};
+ghost use Rattle.m11_base.specs.declared.instruction.Insn.{Insn};
+ghost use Rattle.m11_base.specs.declared.instruction.SingleOp.{SingleOp};
+ghost use Rattle.m11_base.specs.declared.operand.Operand.{Operand};
+ghost use Rattle.m11_base.specs.declared.operand.Register.{Register};
+ghost use Rattle.m11_base.specs.declared.operand.Size.{Size};
+ghost use Rattle.m11_cpu.specs.Dialogue.{Exchange, Leads};
+ghost use Rattle.m11_cpu.specs.Execution.{execute};
+ghost use Rattle.m11_cpu.specs.declared.abort.Abort.{Abort};
+ghost use Rattle.m11_cpu.specs.declared.abort.Vector.{Vector};
+ghost use Rattle.m11_cpu.specs.declared.execution.Ending.{Ending};
+ghost use Rattle.m11_cpu.specs.declared.machine.Machine.{Machine};
+ghost use Rattle.m11_cpu_laws.specs.StatusWord.{CallsAtStatus, DoublesAtStatus, ExclusivesAtStatus, loads_trace, ReturnsLoad, SinglesAtStatus, TrapsLoad};
+
+/// The processor status word is what is stored to it. Where the destination of an instruction is at 177776, a word or a
+/// byte, its result decides all of the status but T, and the codes of the instruction are dropped; so does the register
+/// that JSR pushes there. A byte that is stored at 177777 goes nowhere, is read as 0, and leaves the codes of its
+/// instruction. (PDP-11/40 Processor Handbook, "Processor status word".)
+#[tactic(auto, using(crate::proofs::StatusStored::exclusives_at_status, crate::proofs::StatusStored::calls_at_status))]
+pub fn status_word_takes_what_is_stored()
+    ensures doubles { (operation : DoubleOp) (size : Size) (source destination : Operand) (m : Machine)
+        → DoublesAtStatus operation size source destination m }
+    ensures singles { (operation : SingleOp) (size : Size) (operand : Operand) (m : Machine)
+        → SinglesAtStatus operation size operand m }
+    ensures exclusive { (register : Register) (operand : Operand) (m : Machine) → ExclusivesAtStatus register operand m }
+    ensures call { (register : Register) (operand : Operand) (m : Machine) → CallsAtStatus register operand m }
+{}
+
+/// T stays over each instruction but RTI and RTT, whatever it stores or pushes, and also where it is aborted. RTI and RTT
+/// load T, with all of the status, from the second word that they pop, and a trap from the second word of its vector.
+/// (PDP-11/40 Processor Handbook, "Trace trap", "Processor traps", RTI, RTT.)
+#[tactic(auto, using(crate::proofs::StatusKept::trace_stays, crate::proofs::StatusKept::traps_load, crate::proofs::StatusStored::returns_load))]
+pub fn trace_bit_stays()
+    ensures stays { (code : Insn) (m m' : Machine) (came : Result Ending Abort) (exchanges : List Exchange)
+        → loads_trace code ≡ false → Leads (execute code m) exchanges (came, m') → m'.status.trace ≡ m.status.trace }
+    ensures returns { (operation : BareOp) (m : Machine) → ReturnsLoad operation m }
+    ensures traps { (vector : Vector) (m : Machine) → TrapsLoad vector m }
+{}
