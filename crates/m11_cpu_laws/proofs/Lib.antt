@@ -11,6 +11,7 @@ pub mod LoadsHear
 pub mod MemoryKept
 pub mod Parts
 pub mod PartsTell
+pub mod OperandsFound
 pub mod PlacesStored
 pub mod PlainCallsBack
 pub mod RegistersKept

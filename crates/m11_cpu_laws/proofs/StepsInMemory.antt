@@ -71,7 +71,7 @@ pub pop_inside : (m : Machine) → IsWordInside (register_of Sp m) m
 unfolding pop
 pop_inside m i = load_inside (register_of Sp m) (advanced Sp 2 m) i
 
-next_inside : (m : Machine) → IsWordInside (register_of Pc m) m
+pub next_inside : (m : Machine) → IsWordInside (register_of Pc m) m
     → next_word m ≡ Comes (Ok (word_at m.memory (register_of Pc m)), advanced Pc 2 m)
 unfolding next_word
 next_inside m i = bind_at (load_word (register_of Pc m)) _ m m _ (load_inside (register_of Pc m) m i)

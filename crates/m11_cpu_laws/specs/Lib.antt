@@ -2,6 +2,7 @@ pub mod Addresses
 pub mod Exchanges
 pub mod Failures
 pub mod Laws
+pub mod Operands
 pub mod Receiving
 pub mod Registers
 pub mod Returns

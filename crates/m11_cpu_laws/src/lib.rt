@@ -5,6 +5,7 @@
 mod addresses;
 mod devices;
 mod laws;
+mod operands;
 mod registers;
 mod returns;
 mod status_word;
@@ -14,6 +15,7 @@ mod writes;
 pub use addresses::bad_addresses_trap;
 pub use devices::{failures_stop, receiver_hears};
 pub use laws::{console_is_exact, runs_are_joined, stops_stand};
+pub use operands::modes_find_their_operands;
 pub use registers::registers_stay;
 pub use returns::{calls_return, traps_return};
 pub use status_word::{status_word_takes_what_is_stored, trace_bit_stays};
