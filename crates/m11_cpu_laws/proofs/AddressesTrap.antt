@@ -152,6 +152,34 @@ store_word_finds address v m =
     (at_comes refl)
     (finds_as _ _ _ (register_found address) (store_finds (device_at address) v m))
 
+-- an access that finds nothing traps at once
+no_register : (register : Option DeviceRegister) → not (is_some register) ≡ true → register ≡ None
+no_register (Some register) e = absurd (cc)
+no_register None e = refl
+
+word_trapped : {A : Type 0} (odd inside known : Bool) (a b c z : Dialogue (Result A Abort × Machine)) → a ≡ z
+    → (not known ≡ true → c ≡ z) → (odd || (not inside && not known)) ≡ true
+    → cond odd a (cond inside b c) ≡ z
+word_trapped true inside known a b c z p r e = p
+word_trapped false true known a b c z p r e = absurd (cc)
+word_trapped false false known a b c z p r e = r e
+
+pub load_word_bad : (address : ℕ) (m : Machine) → no_word_at address m ≡ true
+    → load_word address m ≡ Comes (Err (Traps BusError), m)
+unfolding load_word load_device
+load_word_bad address m e =
+    word_trapped (is_odd address) (is_inside address m) (has_register address) _ _ _ _ refl
+    (λ none. ap (λ (register : Option DeviceRegister). load_register register m)
+    (no_register (device_at address) (register_found address ∙ none))) e
+
+pub store_word_bad : (address v : ℕ) (m : Machine) → no_word_at address m ≡ true
+    → store_word address v m ≡ Comes (Err (Traps BusError), m)
+unfolding store_word store_device
+store_word_bad address v m e =
+    word_trapped (is_odd address) (is_inside address m) (has_register address) _ _ _ _ refl
+    (λ none. ap (λ (register : Option DeviceRegister). store_register register v m)
+    (no_register (device_at address) (register_found address ∙ none))) e
+
 -- ---- bytes
 
 even_itself : (address : ℕ) → (address % 2 == 1) ≡ false → address - address % 2 ≡ address
@@ -194,6 +222,35 @@ store_byte_finds address v m =
     byte_choice (is_odd address) (is_inside address m) (has_register low) _ _ _ (at_comes refl)
     (finds_as _ _ _ (register_found low) (nothing_finds (device_at low) m))
     (λ e. finds_as _ _ _ (even_found address e) (store_finds (device_at address) v m))
+
+byte_trapped : {A : Type 0} (odd inside known : Bool) (a b c z : Dialogue (Result A Abort × Machine))
+    → (not known ≡ true → b ≡ z) → (not known ≡ true → odd ≡ false → c ≡ z) → (not inside && not known) ≡ true
+    → cond inside a (cond odd b c) ≡ z
+byte_trapped odd true known a b c z q r e = absurd (cc)
+byte_trapped true false known a b c z q r e = q e
+byte_trapped false false known a b c z q r e = r e refl
+
+pub load_byte_bad : (address : ℕ) (m : Machine) → no_byte_at address m ≡ true
+    → load_byte address m ≡ Comes (Err (Traps BusError), m)
+unfolding load_byte load_device
+load_byte_bad address m e =
+    let low = address - address % 2 in
+    byte_trapped (is_odd address) (is_inside address m) (has_register low) _ _ _ _
+    (λ none. ap (λ (register : Option DeviceRegister). Comes (high_byte_of register, m))
+    (no_register (device_at low) (register_found low ∙ none)))
+    (λ none even. ap (λ (register : Option DeviceRegister). load_register register m)
+    (no_register (device_at address) (even_found address even ∙ none))) e
+
+pub store_byte_bad : (address v : ℕ) (m : Machine) → no_byte_at address m ≡ true
+    → store_byte address v m ≡ Comes (Err (Traps BusError), m)
+unfolding store_byte store_device
+store_byte_bad address v m e =
+    let low = address - address % 2 in
+    byte_trapped (is_odd address) (is_inside address m) (has_register low) _ _ _ _
+    (λ none. ap (λ (register : Option DeviceRegister). Comes (nothing_taken register, m))
+    (no_register (device_at low) (register_found low ∙ none)))
+    (λ none even. ap (λ (register : Option DeviceRegister). store_register register v m)
+    (no_register (device_at address) (even_found address even ∙ none))) e
 
 pub load_word_traps : (address : ℕ) (m : Machine) → TrapsWhere (no_word_at address m) (load_word address m)
 load_word_traps address m = traps_where _ _ (load_word_finds address m)

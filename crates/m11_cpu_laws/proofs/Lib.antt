@@ -1,4 +1,5 @@
 pub mod AbortsLeave
+pub mod AccessesTrap
 pub mod AddressesTrap
 pub mod CallMade
 pub mod CallsBack
@@ -6,6 +7,7 @@ pub mod ConsoleExact
 pub mod DestinationsWritten
 pub mod Exchanging
 pub mod Following
+pub mod InstructionsTrap
 pub mod Loads
 pub mod LoadsHear
 pub mod MemoryKept

@@ -14,6 +14,7 @@ use Rattle.m11_cpu.specs.declared.abort.Abort.TheVariants.{Traps, Stops}
 use Rattle.m11_cpu.specs.declared.abort.Vector.{Vector}
 use Rattle.m11_cpu.specs.declared.abort.Vector.TheVariants.{BusError, Reserved, Breakpoint, InputOutput, Emulator, Trap}
 use Rattle.m11_cpu.specs.declared.execution.Ending.{Ending}
+use Rattle.m11_cpu.specs.declared.execution.Ending.TheVariants as ending
 use Rattle.m11_cpu.specs.declared.machine.Machine.{Machine}
 use Rattle.m11_cpu.specs.declared.stop.Stop.TheVariants.{Halt, Limit, Wait, StackFault, NoStart, InputFault, OutputFault}
 use Rattle.m11_cpu.specs.declared.stop.Turn.{Turn}
@@ -100,3 +101,19 @@ pub record StepFaulted (m : Machine) (exchanges : List Exchange) (m' : Machine) 
   pub left : Machine
   pub executed : ComesWithin (instruction m) exchanges (came, left)
   pub by_trap : TrapFaulted left executed.rest m'
+
+-- the trap that follows finds no word for a push: that of an instruction that traps, and a trace trap where T is then set
+abbrev pub cannot_trap : Result Ending Abort → Machine → Bool
+cannot_trap (Ok ending.Next) left = left.status.trace && cannot_push left
+cannot_trap (Ok ending.Untraced) left = false
+cannot_trap (Ok ending.Halts) left = false
+cannot_trap (Ok ending.Waits) left = false
+cannot_trap (Err (Traps vector)) left = cannot_push left
+cannot_trap (Err (Stops stop)) left = false
+
+-- a step that no device stops ends by STACK FAULT exactly there
+pub record StepFaults (m : Machine) (exchanges : List Exchange) (turn : Turn) : Type 0 where
+  pub came : Result Ending Abort
+  pub left : Machine
+  pub executed : ComesWithin (instruction m) exchanges (came, left)
+  pub faults : device_stop turn ≡ None → is_stack_fault turn ≡ cannot_trap came left

@@ -1,3 +1,4 @@
+pub mod Accesses
 pub mod Addresses
 pub mod Exchanges
 pub mod Failures

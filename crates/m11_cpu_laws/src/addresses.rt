@@ -1,6 +1,7 @@
 //! Addresses at which nothing is found.
 
 ghost use Rattle.std.specs.Prelude.{List, ℕ};
+ghost use Rattle.m11_base.specs.declared.instruction.Insn.{Insn};
 ghost use Rattle.m11_base.specs.declared.instruction.Insn.TheVariants as insn;
 ghost use Rattle.m11_base.specs.declared.instruction.RegisterOp.TheVariants.{Jsr};
 ghost use Rattle.m11_base.specs.declared.instruction.SingleOp.TheVariants.{Jmp};
@@ -13,15 +14,18 @@ ghost use Rattle.m11_cpu.specs.Steps.{step};
 ghost use Rattle.m11_cpu.specs.declared.abort.Vector.{Vector};
 ghost use Rattle.m11_cpu.specs.declared.machine.Machine.{Machine};
 ghost use Rattle.m11_cpu.specs.declared.stop.Stop.TheVariants.{StackFault};
+ghost use Rattle.m11_cpu.specs.declared.stop.Turn.{Turn};
 ghost use Rattle.m11_cpu.specs.declared.stop.Turn.TheVariants.{Stopped};
+ghost use Rattle.m11_cpu_laws.specs.Accesses.{CodeTraps, InstructionTraps};
 ghost use Rattle.m11_cpu_laws.specs.Writes.{MakesSteps};
-ghost use Rattle.m11_cpu_laws.specs.Addresses.{no_byte_at, no_word_at, StepFaulted, TrapFaults, TrapsThrough10, TrapsWhere};
+ghost use Rattle.m11_cpu_laws.specs.Addresses.{no_byte_at, no_word_at, StepFaulted, StepFaults, TrapFaults, TrapsThrough10, TrapsWhere};
 
 /// Bad addresses trap. A load or a store of a word traps through 4 exactly where the address is odd, or is neither in
 /// memory nor a register's; one of a byte exactly where it is neither in memory nor in the word of a register. JMP and
 /// JSR of a register trap through 10. A trap of which no push fails at a device stops by STACK FAULT exactly where a
-/// push finds no word; and a step yields it by such a trap alone, its instruction's or the trace trap. (PDP-11/40 Processor Handbook, "Processor traps", JMP, JSR.)
-#[tactic(auto, using(crate::proofs::AddressesTrap::load_word_traps, crate::proofs::AddressesTrap::load_byte_traps, crate::proofs::AddressesTrap::store_word_traps, crate::proofs::AddressesTrap::store_byte_traps, crate::proofs::AddressesTrap::jump_traps, crate::proofs::AddressesTrap::call_traps, crate::proofs::AddressesTrap::trap_faults, crate::proofs::StackFaults::step_faulted))]
+/// push finds no word; a step yields it by such a trap alone, its instruction's or the trace trap, and yields it wherever
+/// such a trap follows and no device stops the step. (PDP-11/40 Processor Handbook, "Processor traps", JMP, JSR.)
+#[tactic(auto, using(crate::proofs::AddressesTrap::load_word_traps, crate::proofs::AddressesTrap::load_byte_traps, crate::proofs::AddressesTrap::store_word_traps, crate::proofs::AddressesTrap::store_byte_traps, crate::proofs::AddressesTrap::jump_traps, crate::proofs::AddressesTrap::call_traps, crate::proofs::AddressesTrap::trap_faults, crate::proofs::StackFaults::step_faulted, crate::proofs::StackFaults::step_faults))]
 pub fn bad_addresses_trap()
     ensures loads_word { (address : ℕ) (m : Machine) → TrapsWhere (no_word_at address m) (load_word address m) }
     ensures loads_byte { (address : ℕ) (m : Machine) → TrapsWhere (no_byte_at address m) (load_byte address m) }
@@ -36,4 +40,16 @@ pub fn bad_addresses_trap()
     ensures push { (vector : Vector) (m : Machine) → TrapFaults vector m }
     ensures step { (m m' : Machine) (exchanges : List Exchange) → MakesSteps m
         → Leads (step m) exchanges (Stopped StackFault, m') → StepFaulted m exchanges m' }
+    ensures step_exactly { (m m' : Machine) (turn : Turn) (exchanges : List Exchange) → MakesSteps m
+        → Leads (step m) exchanges (turn, m') → StepFaults m exchanges turn }
+{}
+
+/// An instruction traps through 4 by its accesses alone. The word at the program counter is read, and where nothing is found
+/// there, the step traps. After that the instruction traps exactly where one of the accesses that the handbook gives it
+/// finds nothing: index words and pointers of its operands, the operands, the words that it pushes and pops. Each of them
+/// is come to by what the instruction does before it. (PDP-11/40 Processor Handbook, "Addressing modes", "Instruction
+/// set", "Processor traps".)
+pub fn accesses_alone_trap()
+    ensures code { (m : Machine) → CodeTraps m }
+    ensures instruction { (code : Insn) (m : Machine) → InstructionTraps code m }
 {}

@@ -12,7 +12,7 @@ mod status_word;
 mod steps;
 mod writes;
 
-pub use addresses::bad_addresses_trap;
+pub use addresses::{accesses_alone_trap, bad_addresses_trap};
 pub use devices::{failures_stop, receiver_hears};
 pub use laws::{console_is_exact, runs_are_joined, stops_stand};
 pub use operands::modes_find_their_operands;

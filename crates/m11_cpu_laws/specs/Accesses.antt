@@ -1,0 +1,121 @@
+-- The addresses that each instruction accesses, in its order, and that it traps through 4 at one of these alone.
+-- (PDP-11/40 Processor Handbook, "Addressing modes", "Instruction set", "Processor traps".)
+use Rattle.std.specs.Prelude.{◌≡◌, ℕ, ◌+◌, ◌*◌, ◌%◌, Bool, true, List, [], ◌∷◌, ◌++◌, length, Result, Ok, Err, ◌⊎◌}
+use Rattle.m11_base.specs.declared.instruction.BareOp.TheVariants.{Rti, Rtt}
+use Rattle.m11_base.specs.declared.instruction.Insn.{Insn}
+use Rattle.m11_base.specs.declared.instruction.Insn.TheVariants as insn
+use Rattle.m11_base.specs.declared.instruction.NumberOp.TheVariants.{Mark}
+use Rattle.m11_base.specs.declared.instruction.RegisterOp.TheVariants.{Jsr, Xor}
+use Rattle.m11_base.specs.declared.instruction.SingleOp.TheVariants.{Jmp}
+use Rattle.m11_base.specs.declared.operand.Mode.{Mode}
+use Rattle.m11_base.specs.declared.operand.Mode.TheVariants as mode
+use Rattle.m11_base.specs.declared.operand.Operand.{Operand}
+use Rattle.m11_base.specs.declared.operand.Register.{Register}
+use Rattle.m11_base.specs.declared.operand.Register.TheVariants.{Sp, Pc}
+use Rattle.m11_base.specs.declared.operand.Size.{Size}
+use Rattle.m11_base.specs.declared.operand.Size.TheVariants.{Word, Byte}
+use Rattle.m11_cpu.specs.Acts.{Act, ◌>>=◌}
+use Rattle.m11_cpu.specs.Addressing.{fetch_operand, indexed, next_word, place_of, stepped_back}
+use Rattle.m11_cpu.specs.Dialogue.{Comes, Dialogue, Exchange, Leads}
+use Rattle.m11_cpu.specs.Execution.{execute}
+use Rattle.m11_cpu.specs.Jumps.{address_of, pop, target}
+use Rattle.m11_cpu.specs.Machine.{register_of}
+use Rattle.m11_cpu.specs.declared.abort.Abort.{Abort}
+use Rattle.m11_cpu.specs.declared.abort.Abort.TheVariants.{Traps}
+use Rattle.m11_cpu.specs.declared.abort.Vector.TheVariants.{BusError}
+use Rattle.m11_cpu.specs.declared.machine.Machine.{Machine}
+use Rattle.m11_cpu_laws.specs.Addresses.{no_byte_at, no_word_at}
+use Rattle.m11_cpu_laws.specs.Writes.{push_address}
+
+-- ---- accesses
+
+-- an access: of a word or of a byte, at the address that this act yields, which does what the instruction does before it
+pub record Access : Type 0 where
+  pub size : Size
+  pub address : Act ℕ
+
+-- a word at an address that the machine has at first
+abbrev pub word_at_first : (Machine → ℕ) → Access
+word_at_first of = record { size = Word; address = λ m. Comes (Ok (of m), m) }
+
+-- these accesses, once something was done
+abbrev pub after_act : {A : Type 0} → Act A → List Access → List Access
+after_act act [] = []
+after_act act (access ∷ accesses) =
+    record { size = access.size; address = act >>= λ x. access.address } ∷ after_act act accesses
+
+-- by which words the address of an operand is found: a pointer, or an index word, or an index word and the pointer that it
+-- leads to
+abbrev pub pointers_by : Mode → Register → List Access
+pointers_by mode.Register register = []
+pointers_by mode.RegisterDeferred register = []
+pointers_by mode.Autoincrement register = []
+pointers_by mode.AutoincrementDeferred register = word_at_first (register_of register) ∷ []
+pointers_by mode.Autodecrement register = []
+pointers_by mode.AutodecrementDeferred register = word_at_first (stepped_back register 2) ∷ []
+pointers_by mode.Index register = word_at_first (register_of Pc) ∷ []
+pointers_by mode.IndexDeferred register =
+    word_at_first (register_of Pc)
+    ∷ record { size = Word; address = indexed register >>= λ address n. Comes (Ok address, n) } ∷ []
+
+abbrev pub pointers : Operand → List Access
+pointers operand = pointers_by operand.mode operand.register
+
+-- and the operand itself, where it lies in memory or in a device
+abbrev pub operand_accesses : Operand → Size → List Access
+operand_accesses operand size =
+    pointers operand ++ record { size = size; address = place_of operand size >>= address_of } ∷ []
+
+-- the accesses of each instruction, once its code was read. A destination that is read and written is one of them, and so
+-- is one that is read or written alone
+abbrev pub accesses_of : Insn → List Access
+accesses_of (insn.Double operation size source destination) =
+    operand_accesses source size ++ after_act (fetch_operand source size) (operand_accesses destination size)
+accesses_of (insn.Extended operation register source) = operand_accesses source Word
+accesses_of (insn.Register Jsr register operand) =
+    pointers operand ++ after_act (target operand) (word_at_first push_address ∷ [])
+accesses_of (insn.Register Xor register operand) = operand_accesses operand Word
+accesses_of (insn.Single Jmp size operand) = pointers operand
+accesses_of (insn.Single operation size operand) = operand_accesses operand size
+accesses_of (insn.Rts register) = word_at_first (register_of Sp) ∷ []
+accesses_of (insn.Number Mark number) = word_at_first (λ m. (register_of Pc m + number * 2) % 0o200000) ∷ []
+accesses_of (insn.Bare Rti) = word_at_first (register_of Sp) ∷ after_act pop (word_at_first (register_of Sp) ∷ [])
+accesses_of (insn.Bare Rtt) = word_at_first (register_of Sp) ∷ after_act pop (word_at_first (register_of Sp) ∷ [])
+accesses_of other = []
+
+-- ---- which of them trap
+
+-- nothing is there for it
+abbrev pub is_nothing : Size → ℕ → Machine → Bool
+is_nothing Word address m = no_word_at address m
+is_nothing Byte address m = no_byte_at address m
+
+-- by just these exchanges the access is come to, and nothing is there
+pub record FindsNothing (access : Access) (m : Machine) (exchanges : List Exchange) : Type 0 where
+  pub address : ℕ
+  pub before : Machine
+  pub come_to : Leads (access.address m) exchanges (Ok address, before)
+  pub nothing : is_nothing access.size address before ≡ true
+
+abbrev pub SomeFindsNothing : List Access → Machine → List Exchange → Type 0
+SomeFindsNothing [] m exchanges = ⊥
+SomeFindsNothing (access ∷ accesses) m exchanges = FindsNothing access m exchanges ⊎ SomeFindsNothing accesses m exchanges
+
+-- it ends by the trap through 4 after these exchanges
+abbrev pub EndsAt4 : {A : Type 0} → Dialogue (Result A Abort × Machine) → List Exchange → Machine → Type 0
+EndsAt4 {A = A} d exchanges left = Leads {A = Result A Abort × Machine} d exchanges (Err (Traps BusError), left)
+
+-- it traps through 4 exactly where one of these accesses finds nothing
+pub record TrapsAtThese {A : Type 0} (d : Dialogue (Result A Abort × Machine)) (accesses : List Access) (m : Machine) : Type 0
+  where
+    pub only : (exchanges : List Exchange) (left : Machine) → EndsAt4 d exchanges left
+        → SomeFindsNothing accesses m exchanges
+    pub each : (exchanges : List Exchange) → SomeFindsNothing accesses m exchanges
+        → (left : Machine) × EndsAt4 d exchanges left
+
+-- an instruction, whose code was read, and the reading of that code
+abbrev pub InstructionTraps : Insn → Machine → Type 0
+InstructionTraps code m = length m.registers ≡ 8 → TrapsAtThese (execute code m) (accesses_of code) m
+
+abbrev pub CodeTraps : Machine → Type 0
+CodeTraps m = TrapsAtThese (next_word m) (word_at_first (register_of Pc) ∷ []) m
