@@ -15,6 +15,7 @@ pub mod Parts
 pub mod PartsTell
 pub mod OperandsFound
 pub mod PlacesStored
+pub mod PremisesMet
 pub mod PlainCallsBack
 pub mod RegistersKept
 pub mod RunsJoined

@@ -9,4 +9,5 @@ pub mod Registers
 pub mod Returns
 pub mod StatusWord
 pub mod Tracing
+pub mod Witnesses
 pub mod Writes

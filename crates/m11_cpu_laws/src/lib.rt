@@ -10,6 +10,7 @@ mod registers;
 mod returns;
 mod status_word;
 mod steps;
+mod witnesses;
 mod writes;
 
 pub use addresses::{accesses_alone_trap, bad_addresses_trap};
@@ -20,4 +21,5 @@ pub use registers::registers_stay;
 pub use returns::{calls_return, traps_return};
 pub use status_word::{status_word_takes_what_is_stored, trace_bit_stays};
 pub use steps::trace_trap_follows;
+pub use witnesses::premises_are_met;
 pub use writes::memory_stays;
