@@ -5,7 +5,6 @@ mod devices;
 mod failing_devices;
 mod instructions;
 mod records;
-mod refused_records;
 mod relocations;
 mod tapes;
 mod texts;

@@ -18,129 +18,25 @@ static OBJECT: [u8; 79] = [
     0x01, 0x00, 0x06, 0x00, 0x06, 0x00, 0xf3, // 79
 ];
 
-// How many blocks are read before their end or a fault, of 80 at most, and the fault. After a fault each call
-// returns that the reader failed before.
-fn read_to_end<F: Feed>(rt: &impl Abort, feed: &mut F) -> (usize, Option<BlockFault>) {
+// How many blocks are read before their end or a fault, of 80 at most, and the fault.
+fn read_to_end<F: Feed>(feed: &mut F) -> (usize, Option<BlockFault>) {
     let mut reader = BlockReader::new();
+    let mut block = Block::new();
     for blocks in 0..80 {
-        match reader.next(feed) {
-            Ok(Some(_)) => {}
-            Ok(None) => return (blocks, None),
-            Err(fault) => {
-                for _ in 0..2 {
-                    assert!(rt; matches!(reader.next(feed), Err(BlockFault::Failed)));
-                }
-                return (blocks, Some(fault));
-            }
+        match reader.next_into(feed, &mut block) {
+            Ok(true) => {}
+            Ok(false) => return (blocks, None),
+            Err(fault) => return (blocks, Some(fault)),
         }
     }
     (80, None)
-}
-
-// What bytes have in front of their end or their first fault: the contents of blocks.
-static READ: [(&str, &[u8], &[&[u8]], Option<BlockFault>); 14] = [
-    (
-        "zeros stand before, between and after blocks",
-        &[0, 0, 1, 0, 4, 0, 0xfb, 0, 1, 0, 6, 0, 6, 0, 0xf3, 0, 0],
-        &[&[], &[6, 0]],
-        None,
-    ),
-    (
-        "a shorter block comes after a longer one",
-        &[1, 0, 6, 0, 6, 0, 0xf3, 1, 0, 5, 0, 2, 0xf8, 0],
-        &[&[6, 0], &[2]],
-        None,
-    ),
-    ("nothing", &[], &[], None),
-    (
-        "the content ends",
-        &[1, 0, 6, 0, 6],
-        &[],
-        Some(BlockFault::Truncated),
-    ),
-    (
-        "a wrong sum",
-        &[1, 0, 6, 0, 6, 0, 0xf2],
-        &[],
-        Some(BlockFault::BadSum),
-    ),
-    (
-        "a start of 002",
-        &[2, 0, 6, 0, 6, 0, 0xf2],
-        &[],
-        Some(BlockFault::BadStart),
-    ),
-    (
-        "no 000 after 001",
-        &[1, 1, 6, 0, 6, 0, 0xf2],
-        &[],
-        Some(BlockFault::BadStart),
-    ),
-    (
-        "the length 3",
-        &[1, 0, 3, 0, 0xfc],
-        &[],
-        Some(BlockFault::TooShort),
-    ),
-    (
-        "the length 3, at its second byte",
-        &[1, 0, 3, 0],
-        &[],
-        Some(BlockFault::TooShort),
-    ),
-    (
-        "half of the length 3",
-        &[1, 0, 3],
-        &[],
-        Some(BlockFault::Truncated),
-    ),
-    (
-        "the length 517",
-        &[1, 0, 5, 2, 0, 0],
-        &[],
-        Some(BlockFault::TooLong),
-    ),
-    (
-        "the length 517, at its second byte",
-        &[1, 0, 5, 2],
-        &[],
-        Some(BlockFault::TooLong),
-    ),
-    (
-        "half of the length 517",
-        &[1, 0, 5],
-        &[],
-        Some(BlockFault::Truncated),
-    ),
-    (
-        "the length 516 is one of a block",
-        &[1, 0, 4, 2],
-        &[],
-        Some(BlockFault::Truncated),
-    ),
-];
-
-#[test]
-fn blocks_are_read_up_to_their_end_or_the_first_fault(rt: HostRuntime) {
-    for (name, bytes, contents, end) in &READ {
-        let count = read_to_end(&rt, &mut MemoryFeed::new(bytes));
-        same(&rt, name, &count, &(contents.len(), *end));
-        // each takes the place of the one before
-        let mut reader = BlockReader::new();
-        let mut feed = MemoryFeed::new(bytes);
-        let mut block = Block::new();
-        for content in *contents {
-            let is_read = reader.next_into(&mut feed, &mut block) == Ok(true);
-            same(&rt, name, &(is_read, block.as_slice()), &(true, *content));
-        }
-    }
 }
 
 #[test]
 fn an_object_ends_or_fails_where_it_is_cut(rt: HostRuntime) {
     let ends: [usize; 6] = [0, 39, 46, 61, 72, 79];
     for cut in 0..80 {
-        let (blocks, fault) = read_to_end(&rt, &mut MemoryFeed::new(&OBJECT[..cut]));
+        let (blocks, fault) = read_to_end(&mut MemoryFeed::new(&OBJECT[..cut]));
         // between blocks it is whole, and inside a block truncated
         let wanted = match ends.iter().position(|end| *end == cut) {
             Some(whole) => (whole, None),
@@ -149,7 +45,7 @@ fn an_object_ends_or_fails_where_it_is_cut(rt: HostRuntime) {
         same(&rt, &cut, &(blocks, fault), &wanted);
         // a feed that fails there is blamed
         let mut feed = FuseFeed::new(MemoryFeed::new(&OBJECT), cut as u64);
-        let failed = read_to_end(&rt, &mut feed).1;
+        let failed = read_to_end(&mut feed).1;
         same(&rt, &cut, &failed, &Some(BlockFault::Device));
     }
 }
@@ -163,7 +59,7 @@ fn the_byte_past_the_limit_is_too_much(rt: HostRuntime) {
         (4_194_304, None, 0),
     ] {
         let mut feed = Zeros { left: zeros };
-        let count = read_to_end(&rt, &mut feed);
+        let count = read_to_end(&mut feed);
         same(&rt, &zeros, &(count, feed.left), &((0, fault), left));
     }
 }
@@ -178,14 +74,9 @@ fn is_block(rt: &impl Abort, bytes: &[u8], header: &[u8], content: &[u8], sum: u
         &(Some(header), Some(sum)),
     );
     let mut feed = MemoryFeed::new(bytes);
-    let mut block = Block::new();
-    let is_read = BlockReader::new().next_into(&mut feed, &mut block) == Ok(true);
-    same(
-        rt,
-        &"the content",
-        &(is_read, block.as_slice()),
-        &(true, content),
-    );
+    let block = BlockReader::new().next(&mut feed).unwrap_or(None);
+    let read = block.as_ref().map(|block| block.as_slice());
+    same(rt, &"the content", &read, &Some(content));
     same(rt, &"its end", &feed.next(), &Ok(None));
 }
 

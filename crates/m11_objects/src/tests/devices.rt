@@ -125,38 +125,52 @@ static FUSED_PUTS: [(&str, u64, usize, u64, &[Put<'static>], &[u8]); 5] = [
     ),
 ];
 
+// The puts through two fuses.
+fn put_through_two(
+    rt: &impl Abort,
+    written: &mut Vec<u8>,
+    (name, inner, most, outer, puts, _): (&str, u64, usize, u64, &[Put<'_>], &[u8]),
+) {
+    let fused = FuseSink::new(WriterSink::new(written), inner, most);
+    takes(rt, &mut FuseSink::new(fused, outer, 9), name, puts);
+}
+
 #[test]
 fn a_fused_sink_passes_its_calls_and_then_fails_at_each(rt: HostRuntime) -> Result<(), Fail> {
-    for (name, inner, most, outer, puts, wanted) in &FUSED_PUTS {
-        let mut written = Vec::new(rt.alloc());
-        written.reserve(8)?;
-        {
-            let fused = FuseSink::new(WriterSink::new(&mut written), *inner, *most);
-            takes(&rt, &mut FuseSink::new(fused, *outer, 9), name, puts);
-        }
-        same(&rt, name, &written.as_slice(), wanted);
+    for row in &FUSED_PUTS {
+        let mut written = Vec::with_capacity(rt.alloc(), 8)?;
+        put_through_two(&rt, &mut written, *row);
+        same(&rt, &row.0, &written.as_slice(), &row.5);
+        drop(written);
     }
     Ok(())
 }
 
+// What is answered to a put of five bytes through a fuse of n calls, of n bytes at most.
+fn put_five(written: &mut Vec<u8>, calls: u64, most: usize) -> Result<(), PutFault> {
+    put_all(
+        &mut FuseSink::new(WriterSink::new(written), calls, most),
+        b"abcde",
+    )
+}
+
+// How many calls pass, and of how many bytes each; what is written, and what is answered.
+static PUT: [(u64, usize, &[u8], Result<(), PutFault>); 5] = [
+    (3, 2, b"abcde", Ok(())),
+    (2, 2, b"abcd", Err(PutFault::Device)),
+    (1, 2, b"ab", Err(PutFault::Device)),
+    (0, 2, b"", Err(PutFault::Device)),
+    // a sink that takes no byte is no better than one that fails
+    (3, 0, b"", Err(PutFault::Device)),
+];
+
 #[test]
 fn all_is_put_or_the_beginning_before_the_failure(rt: HostRuntime) -> Result<(), Fail> {
-    // n calls pass, of n bytes at most
-    for (calls, most, wanted, answer) in [
-        (3, 2, b"abcde".as_slice(), Ok(())),
-        (2, 2, b"abcd".as_slice(), Err(PutFault::Device)),
-        (1, 2, b"ab".as_slice(), Err(PutFault::Device)),
-        (0, 2, b"".as_slice(), Err(PutFault::Device)),
-        // a sink that takes no byte is no better than one that fails
-        (3, 0, b"".as_slice(), Err(PutFault::Device)),
-    ] {
-        let mut written = Vec::new(rt.alloc());
-        written.reserve(8)?;
-        let put = {
-            let mut sink = FuseSink::new(WriterSink::new(&mut written), calls, most);
-            put_all(&mut sink, b"abcde")
-        };
-        same(&rt, &calls, &(put, written.as_slice()), &(answer, wanted));
+    for (calls, most, wanted, answer) in &PUT {
+        let mut written = Vec::with_capacity(rt.alloc(), 8)?;
+        let put = put_five(&mut written, *calls, *most);
+        same(&rt, calls, &(put, written.as_slice()), &(*answer, *wanted));
+        drop(written);
     }
     Ok(())
 }

@@ -5,6 +5,7 @@ use super::same;
 use m11_base::{BufferedFeed, ReaderFeed, WriterSink};
 use std::io;
 use std::io::{BufReader, ErrorKind, Read, Write};
+use std::process::Abort;
 use std::test::Fail;
 
 // A reader or writer whose second call returns an error and touches nothing.
@@ -83,18 +84,21 @@ static PUTS: [(ErrorKind, &[Put<'static>], &[u8]); 2] = [
     ),
 ];
 
+// The puts to a writer whose second call fails.
+fn put_to_failing(rt: &impl Abort, written: &mut Vec<u8>, kind: ErrorKind, puts: &[Put<'_>]) {
+    let writer = SecondCallFails::new(written, kind);
+    takes(rt, &mut WriterSink::new(writer), "a writer", puts);
+}
+
 #[test]
 fn an_interrupted_write_is_tried_again_and_a_failed_one_is_not(
     rt: HostRuntime,
 ) -> Result<(), Fail> {
     for (kind, puts, wanted) in &PUTS {
-        let mut written = Vec::new(rt.alloc());
-        written.reserve(6)?;
-        {
-            let writer = SecondCallFails::new(&mut written, *kind);
-            takes(&rt, &mut WriterSink::new(writer), "a writer", puts);
-        }
+        let mut written = Vec::with_capacity(rt.alloc(), 6)?;
+        put_to_failing(&rt, &mut written, *kind, puts);
         same(&rt, &"a writer", &written.as_slice(), wanted);
+        drop(written);
     }
     Ok(())
 }

@@ -52,67 +52,6 @@ fn outcome_of<F: Feed>(feed: &mut F) -> (Result<u16, TapeFault>, Result<TapePart
     (first, reader.next(feed))
 }
 
-// What the bytes of a tape yield: its start, or the first fault.
-static READ: [(&str, &[u8], Result<u16, TapeFault>); 12] = [
-    (
-        "other bytes than 001 before a block",
-        &[0, 2, 0o377, 1, 0, 6, 0, 1, 0, 0o370],
-        Ok(1),
-    ),
-    ("no 001", &[0, 2, 0o377], Err(TapeFault::NoTransfer)),
-    (
-        "data alone",
-        &[1, 0, 7, 0, 0, 2, 0o101, 0o265],
-        Err(TapeFault::NoTransfer),
-    ),
-    (
-        "data without its sum",
-        &[1, 0, 7, 0, 0, 2, 0o101],
-        Err(TapeFault::Truncated),
-    ),
-    (
-        "a wrong sum of data",
-        &[1, 0, 7, 0, 0, 2, 0o101, 0o264, 1, 0, 6, 0, 0, 2, 0o367],
-        Err(TapeFault::BadSum),
-    ),
-    (
-        "a wrong sum of the transfer block",
-        &[1, 0, 6, 0, 0, 2, 0o366],
-        Err(TapeFault::BadSum),
-    ),
-    (
-        "no 000 after 001",
-        &[1, 1, 6, 0, 0, 2, 0o366],
-        Err(TapeFault::BadStart),
-    ),
-    (
-        "the count 5",
-        &[1, 0, 5, 0, 0o372],
-        Err(TapeFault::TooShort),
-    ),
-    (
-        "the count 5, at its second byte",
-        &[1, 0, 5, 0],
-        Err(TapeFault::TooShort),
-    ),
-    ("half of the count 5", &[1, 0, 5], Err(TapeFault::Truncated)),
-    ("a transfer block", &[1, 0, 6, 0, 0, 2, 0o367], Ok(0o1000)),
-    ("nothing", &[], Err(TapeFault::NoTransfer)),
-];
-
-#[test]
-fn a_tape_is_read_up_to_its_start_or_the_first_fault(rt: HostRuntime) {
-    for (name, bytes, wanted) in &READ {
-        // the start is returned again, and after a fault that the reader failed
-        let again = match wanted {
-            Ok(address) => Ok(TapePart::Start(*address)),
-            Err(_) => Err(TapeFault::Failed),
-        };
-        let outcome = outcome_of(&mut MemoryFeed::new(bytes));
-        same(&rt, name, &outcome, &(*wanted, again));
-    }
-}
-
 #[test]
 fn a_tape_ends_or_fails_where_it_is_cut(rt: HostRuntime) {
     for cut in 0..21 {

@@ -1,10 +1,7 @@
-//! Names in RADIX-50, octal texts, and the numbers and names of faults.
+//! Names in RADIX-50. (MACRO-11 Language Reference Manual, appendix on the RADIX-50 character set.)
 
 use super::same;
-use bitflags::Flags;
-use m11_base::{Name, OctalFault, Rad50, octal6, read_octal};
-use m11_blocks::{BlockFault, TapeFault};
-use m11_obj::{RecordFault, SectionFlags, SymbolFlags};
+use m11_base::{Name, Rad50};
 use std::test::Fail;
 
 #[test]
@@ -49,60 +46,4 @@ fn a_name_is_two_words_of_characters(rt: HostRuntime) -> Result<(), Fail> {
     let is_before = Name::pack(b". ABS.") < Name::pack(b".MAIN.");
     same(&rt, &"the order", &is_before, &true);
     Ok(())
-}
-
-#[test]
-fn octal_texts_are_written_with_six_digits_and_read_with_any(rt: HostRuntime) {
-    for (word, text) in [(0, *b"000000"), (0o177776, *b"177776")] {
-        same(&rt, &word, &octal6(word), &text);
-    }
-    for (text, number) in [
-        ("000000000000000000000000000777", Ok(0o777)),
-        ("177777", Ok(0o177777)),
-        ("", Err(OctalFault::Empty)),
-        ("200000", Err(OctalFault::TooLarge)),
-        // a bad digit anywhere wins over a large number
-        ("2000008", Err(OctalFault::BadDigit)),
-    ] {
-        same(&rt, &text, &read_octal(text.as_bytes()), &number);
-    }
-}
-
-#[test]
-fn faults_and_flags_have_their_numbers(rt: HostRuntime) {
-    for (number, wanted) in [
-        (OctalFault::TooLarge.number(), 3),
-        (BlockFault::Device.number(), 1),
-        (BlockFault::TooMuch.number(), 8),
-        (TapeFault::BadStart.number(), 5),
-        (TapeFault::NoTransfer.number(), 8),
-        (TapeFault::TooMuch.number(), 9),
-        (RecordFault::UnknownType.number(), 1),
-        (RecordFault::BadName.number(), 7),
-        // the bits of the manual; . ABS. is overlaid, and not relocatable
-        (SectionFlags::OVERLAID.bits(), 0o004),
-        (SectionFlags::RELOCATABLE.bits(), 0o040),
-        (SectionFlags::SAVED.union(SectionFlags::DATA).bits(), 0o201),
-        (
-            SymbolFlags::DEFINED.union(SymbolFlags::RELOCATABLE).bits(),
-            0o050,
-        ),
-        (SymbolFlags::WEAK.bits(), 0o001),
-    ] {
-        same(&rt, &"a number", &number, &wanted);
-    }
-    let absolute = SectionFlags::from_bits_retain(0o104);
-    let has = (
-        absolute.contains(SectionFlags::OVERLAID),
-        absolute.contains(SectionFlags::RELOCATABLE),
-    );
-    same(&rt, &". ABS.", &has, &(true, false));
-    for (name, wanted) in [
-        (OctalFault::BadDigit.name(), "BadDigit"),
-        (BlockFault::TooShort.name(), "TooShort"),
-        (TapeFault::NoTransfer.name(), "NoTransfer"),
-        (RecordFault::MappedArray.name(), "MappedArray"),
-    ] {
-        same(&rt, &wanted, &name, &wanted);
-    }
 }
