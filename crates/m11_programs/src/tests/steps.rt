@@ -1,17 +1,17 @@
 //! Single steps, and runs between them.
 
 use super::Fact::{In, Psw};
-use super::{After, Fact, Part, Program, SOUND, machine_of};
+use super::{After, Fact, Part, Program, SOUND, has_all, machine_of};
 use m11_base::Register::{Pc, R0, Sp};
-use m11_base::{MemoryFeed, MemorySink};
+use m11_base::{MemoryFeed, MemorySink, Sink};
 use m11_cpu::Stop::{Halt, StackFault, Wait};
 use m11_cpu::Turn::{Next, Stopped};
-use m11_cpu::{Stop, Turn};
+use m11_cpu::{Machine, Stop, Turn};
 use std::process::Abort;
 use std::test::Fail;
 
 // A call, and what it returns.
-#[derive(Clone, Copy, Debug)]
+#[derive(Clone, Copy)]
 enum Call {
     Step(Turn),
     // A run of nine steps.
@@ -63,6 +63,34 @@ static PROGRAMS: [Called<'static>; 3] = [
     ),
 ];
 
+// Whether a call on a machine returns what it should.
+fn returns<S: Sink>(machine: &mut Machine, sink: &mut S, call: Call) -> bool {
+    let mut feed = MemoryFeed::new(b"");
+    match call {
+        Call::Step(turn) => machine.step(&mut feed, sink) == turn,
+        Call::Run(stop) => machine.run(9, &mut feed, sink) == stop,
+    }
+}
+
+// The calls on a machine return and leave what is said.
+fn all_return<S: Sink>(
+    rt: &impl Abort,
+    name: &str,
+    machine: &mut Machine,
+    sink: &mut S,
+    calls: Calls<'_>,
+) {
+    for (call, facts) in calls {
+        assert!(rt; returns(machine, sink, *call), "{name}");
+        let after = After {
+            machine,
+            asked: 0,
+            sent: b"",
+        };
+        has_all(rt, name, &after, facts);
+    }
+}
+
 // The calls on the machine of a program return and leave what is said.
 fn check_calls(
     rt: &(impl Abort + AllocGlobal),
@@ -70,23 +98,11 @@ fn check_calls(
     parts: &[Part<'_>],
     calls: Calls<'_>,
 ) -> Result<(), Fail> {
-    let mut feed = MemoryFeed::new(b"");
-    let mut sink = MemorySink::new(rt.alloc());
     let mut machine = machine_of(rt, Program { parts, ..SOUND })?;
-    for (call, facts) in calls {
-        match *call {
-            Call::Step(turn) => assert_eq!(rt; machine.step(&mut feed, &mut sink), turn, "{name}"),
-            Call::Run(stop) => assert_eq!(rt; machine.run(9, &mut feed, &mut sink), stop, "{name}"),
-        }
-        let after = After {
-            machine: &machine,
-            asked: 0,
-            sent: sink.bytes(),
-        };
-        for fact in *facts {
-            assert!(rt; after.has(*fact), "{name}: {fact:?}");
-        }
-    }
+    let mut sink = MemorySink::new(rt.alloc());
+    all_return(rt, name, &mut machine, &mut sink, calls);
+    drop(sink);
+    drop(machine);
     Ok(())
 }
 
