@@ -1,6 +1,6 @@
 //! The first pass of a link: what it gathers, record by record.
 
-ghost use Rattle.std.specs.Prelude.{◌≡◌, ◌≢◌, ◌∷◌, [], ℕ, List, Some, Ok, Err, IfOk, map};
+ghost use Rattle.std.specs.Prelude.{◌≡◌, ◌≢◌, ◌∷◌, [], ℕ, List, Some, None, Ok, Err, IfErr, IfOk, map};
 ghost use Rattle.m11_obj.specs.Reading.{IsRecord, record_kind, record_relocations};
 ghost use Rattle.m11_modules.specs.Parts.{Part, EndOfFile, Relocated, Relocations, record_parts};
 ghost use Rattle.m11_modules.specs.Places.{global_of};
@@ -73,10 +73,12 @@ impl Layout {
         }
     }
 
-    /// Takes the end of an object: `BadOrder` inside a module. After a fault it is returned again.
+    /// Takes the end of an object: `BadOrder` inside a module, and no other fault of its own. After a fault it is
+    /// returned again.
     pub fn end_file(&mut self) -> Result<(), LinkFault>
         ensures takes { (bottom : ℕ) (before : List Part) → LayoutStands bottom before self.old
             → TakesParts bottom before self.new (EndOfFile ∷ []) result }
+        ensures inside { self.old.fault ≡ None → IfErr result (λ fault. fault ≡ LinkFault.BadOrder) }
         ensures again { FailsAgain self.old self.new result }
         ensures kept { KeepsFault self.new result }
     {
@@ -130,6 +132,7 @@ impl Layout {
     fn take_end(&mut self) -> Result<(), LinkFault>
         ensures takes { (bottom : ℕ) (before : List Part) → LayoutStands bottom before self.old
             → TakesParts bottom before self.new (EndOfFile ∷ []) result }
+        ensures inside { IfErr result (λ fault. fault ≡ LinkFault.BadOrder) }
         ensures kept { self.new.fault ≡ self.old.fault }
     {
         self.rules.end_of_file()?;

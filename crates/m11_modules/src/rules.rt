@@ -1,6 +1,6 @@
 //! The rules by which records are modules, kept while the records come.
 
-ghost use Rattle.std.specs.Prelude.{◌≡◌, ◌≤◌, ◌∷◌, [], ℕ, List, Result, Ok, Err, map, length};
+ghost use Rattle.std.specs.Prelude.{◌≡◌, ◌≤◌, ◌∷◌, [], ℕ, List, Result, Ok, Err, IfErr, map, length};
 ghost use Rattle.m11_obj.specs.Reading.{record_entries, record_relocations};
 ghost use Rattle.m11_modules.specs.Laws.{TakesAfter};
 ghost use Rattle.m11_modules.specs.Parts.{Part, Directory, Entry, EndOfDirectory, Text, Relocations, Relocated, EndOfModule, EndOfFile, record_parts};
@@ -91,11 +91,12 @@ impl Rules {
         self.take_record(record)
     }
 
-    /// Takes the end of a file: `BadOrder` inside a module.
+    /// Takes the end of a file: `BadOrder` inside a module, and no other fault.
     #[tactic(auto, using(crate::proofs::KnownAfter::taken_after, crate::proofs::Taking::taken_one))]
     pub fn end_of_file(&mut self) -> Result<(), ModuleFault>
-        ensures { (before : List Part) → self.old ≡ known_of before
+        ensures takes { (before : List Part) → self.old ≡ known_of before
             → TakesAfter before self.new (EndOfFile ∷ []) result }
+        ensures inside { IfErr result (λ fault. fault ≡ ModuleFault.BadOrder) }
     {
         self.take_end_of_file()
     }
@@ -118,7 +119,8 @@ impl Rules {
     // Takes the end of a file.
     #[tactic(auto, unfolding(crate::specs::Steps::TakesOne, crate::specs::Steps::known_after, crate::specs::Rules::fault_known))]
     fn take_end_of_file(&mut self) -> Result<(), ModuleFault>
-        ensures { TakesOne self.old self.new EndOfFile result }
+        ensures takes { TakesOne self.old self.new EndOfFile result }
+        ensures inside { IfErr result (λ fault. fault ≡ ModuleFault.BadOrder) }
     {
         match self.stage {
             Stage::Between => Ok(()),
