@@ -15,6 +15,7 @@ use Rattle.m11_layout.specs.Plan.{LayoutEnds, IsPlan, Places, Planned, Plans, ba
 use Rattle.m11_layout.specs.Layout.{FirstFault, LayoutState, LayoutStands}
 use Rattle.m11_layout.specs.declared.fault.LinkFault.{LinkFault}
 use Rattle.m11_layout.specs.declared.fault.LinkFault.TheVariants as fault
+use Rattle.m11_layout.proofs.PlansBounded.{plan_bounded, plan_grows}
 use Rattle.m11_layout.proofs.PlansOfParts.{plan_is, too_large_is}
 use Rattle.m11_layout.proofs.Standing.{gathered_append}
 use Rattle.m11_layout.proofs.Walking.{head_none, rest_none}
@@ -100,8 +101,9 @@ pub ended : (bottom : ℕ) (before : List Part) (reading : LayoutState) (result 
     → LayoutEnds bottom before result
 ended bottom before reading (Ok plan) s h = (
   end_sound [] before s.sound,
-  plan_is bottom before plan (rest_sound [] before s.sound)
-      (planned bottom before reading plan s h),
+  (let sound = rest_sound [] before s.sound in
+      let is = planned bottom before reading plan s h in
+      plan_is bottom before plan sound is (plan_grows bottom before plan sound is) (plan_bounded bottom before plan sound is)),
 )
 ended bottom before reading (Err fault.TooLarge) s h = (
   end_sound [] before s.sound,

@@ -8,7 +8,7 @@ use Rattle.m11_modules.specs.Rules.{fault_of, first_fault}
 use Rattle.m11_layout.specs.Tables.{Gathered, gathered_after, gathered_after_all, nothing_gathered}
 use Rattle.m11_layout.specs.Globals.{definition_value, first_definition, global_value, last_section, place_value}
 use Rattle.m11_layout.specs.Modules.{name_at}
-use Rattle.m11_layout.specs.Plan.{Bases, IsPlan, IsPlanOf, Planned, bases_onto, defined_value, planned_base, planned_module, planned_value, value_at}
+use Rattle.m11_layout.specs.Plan.{Bases, IsPlan, IsPlanOf, Planned, TablesBounded, TablesGrow, bases_onto, defined_value, planned_base, planned_module, planned_value, value_at}
 use Rattle.m11_layout.specs.Sections.{is_too_large, module_base, top}
 use Rattle.m11_layout.specs.declared.definition.Definition.{Definition}
 use Rattle.m11_layout.specs.declared.definition.GlobalPlace.{GlobalPlace}
@@ -125,8 +125,8 @@ value_is bottom parts plan name b d =
 -- ---- a plan
 
 pub plan_is : (bottom : ℕ) (parts : List Part) (plan : Planned) → first_fault [] parts ≡ None
-    → IsPlan bottom parts plan → IsPlanOf bottom parts plan
-plan_is bottom parts plan n is =
+    → IsPlan bottom parts plan → TablesGrow parts plan → TablesBounded plan → IsPlanOf bottom parts plan
+plan_is bottom parts plan n is grow bounded =
     let P : Gathered → Type 0 = λ g. Means bottom parts g in
     let means = subst P (sym is.gathered) (gathered_means bottom parts n) in
     let reported : Bases = record { bases = plan.bases; top = plan.top } in
@@ -152,4 +152,6 @@ plan_is bottom parts plan n is =
       references = references_are parts plan.gathered.references plan.gathered.weak means.references;
       names = names;
       limits = (is.bottom_is, ap (λ these. these.top) placed.1);
+      grow = grow;
+      bounded = bounded;
     }

@@ -1,6 +1,6 @@
 -- What a plan says of what was gathered. (This project's own. That it is what Sections.antt and Globals.antt say of
 -- all parts is proved.)
-use Rattle.std.specs.Prelude.{◌≡◌, get_or, map, min, option_and_then, true, false, ℕ, ◌+◌, ◌%◌, nat_lt, List, [], ◌∷◌, ⊤, Option, Some, None, Result, Ok, Err, if◌then◌else◌}
+use Rattle.std.specs.Prelude.{◌≡◌, get_or, map, min, option_and_then, true, false, ℕ, ◌+◌, ◌*◌, ◌%◌, ◌≤◌, nat_lt, length, List, [], ◌∷◌, ⊤, Option, Some, None, Result, Ok, Err, if◌then◌else◌}
 use Rattle.std.specs.Map.{keys_of, lookup}
 use Rattle.std.specs.Option.{unwrap_or}
 use Rattle.indexmap.specs.IndexMap.{insert_entry}
@@ -21,8 +21,8 @@ use Rattle.m11_layout.specs.declared.fault.LinkFault.{LinkFault}
 use Rattle.m11_layout.specs.declared.fault.LinkFault.TheVariants.{BadOrder, TooLarge, NoMemory}
 use Rattle.m11_modules.specs.declared.fault.ModuleFault.TheVariants as rule
 use Rattle.m11_modules.specs.Parts.{Part, EndOfFile}
-use Rattle.m11_modules.specs.Places.{distinct}
-use Rattle.m11_modules.specs.Rules.{fault_of}
+use Rattle.m11_modules.specs.Places.{distinct, global_names, modules_in, section_names, sections_in}
+use Rattle.m11_modules.specs.Rules.{fault_of, most_globals, most_modules, most_sections}
 
 -- ---- bases
 
@@ -134,6 +134,23 @@ global_planned plan global = record {
 unfoldable pub planned_globals : Planned → List PlannedGlobal
 planned_globals plan = map (global_planned plan) plan.gathered.definitions
 
+-- ---- how large its tables are
+
+-- they grow with the names in parts alone: a contribution at most for each entry of a section, the name of each module
+-- that ended, no more weak names than globals, a base at most for each section
+pub record TablesGrow (parts : List Part) (plan : Planned) : Type 0 where
+  pub contributions : length plan.gathered.contributions ≤ length (sections_in parts)
+  pub names : length plan.gathered.names ≡ modules_in parts
+  pub weak : length plan.gathered.weak ≤ length (global_names parts)
+  pub bases : length plan.bases ≤ length (section_names parts)
+
+-- and no further than the limits of a link, which count the module that may not have ended
+pub record TablesBounded (plan : Planned) : Type 0 where
+  pub contributions : length plan.gathered.contributions ≤ (most_modules + 1) * most_sections
+  pub names : length plan.gathered.names ≤ most_modules
+  pub weak : length plan.gathered.weak ≤ most_globals
+  pub bases : length plan.bases ≤ most_sections
+
 -- ---- the end of the first pass
 
 -- a plan of all parts
@@ -144,8 +161,8 @@ pub record IsPlan (bottom : ℕ) (parts : List Part) (plan : Planned) : Type 0 w
 
 -- what a plan says of all parts, in the words of the definitions: nothing is too large; the base of each module's
 -- contribution to each section; the value of each global; the transfer address; the sections and globals, in order; the
--- attributes of each section; definitions and references, in order; the modules' names; and the addresses between which
--- relocatable sections lie
+-- attributes of each section; definitions and references, in order; the modules' names; the addresses between which
+-- relocatable sections lie; and how large its tables are
 pub record IsPlanOf (bottom : ℕ) (parts : List Part) (plan : Planned) : Type 0 where
   pub fits : is_too_large bottom parts ≡ false
   pub bases : (module_index : ℕ) (name : ℕ × ℕ)
@@ -160,6 +177,8 @@ pub record IsPlanOf (bottom : ℕ) (parts : List Part) (plan : Planned) : Type 0
   pub references : plan.gathered.references ≡ referred parts
   pub names : (module_index : ℕ) → planned_module plan module_index ≡ name_at parts module_index
   pub limits : (plan.bottom ≡ bottom) × (plan.top ≡ top bottom parts)
+  pub grow : TablesGrow parts plan
+  pub bounded : TablesBounded plan
 
 -- a plan of what was gathered
 abbrev pub Plans : ℕ → Gathered → Result Planned LinkFault → Type 0

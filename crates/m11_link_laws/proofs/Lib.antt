@@ -17,9 +17,5 @@ pub mod MovingShapes
 pub mod MovingWithin
 pub mod MovingBytes
 pub mod FrontFirst
-pub mod FewerNames
-pub mod KnownBounded
-pub mod NamesReported
-pub mod TablesBounded
+pub mod TablesKept
 pub mod SectionsInModules
-pub mod PlansBounded

@@ -16,7 +16,8 @@ use Rattle.m11_modules.specs.Steps.{known_after, with_entry, with_optional_globa
 use Rattle.m11_modules.proofs.KnownAfter.{known_after_part}
 use Rattle.m11_layout.proofs.Walking.{head_none, rest_none}
 use Rattle.m11_link_laws.specs.Tables.{gathered_of}
-use Rattle.m11_link_laws.proofs.TablesBounded.{in_all, no_less, tables_of, entered_few}
+use Rattle.m11_layout.specs.Plan.{IsPlanOf, Planned}
+use Rattle.m11_layout.proofs.TablesBounded.{in_all, no_less, tables_of, entered_few}
 
 -- ---- entries stand after the beginning of a directory record
 
@@ -142,14 +143,27 @@ within_limits InBody modules names entered total l s h k b =
     no_less total ((modules + 1) * names) (most_modules * most_sections) (in_all total modules names entered h k)
     (mul-le-mul (one_more modules most_modules l) s)
 
+-- the entries of sections in whole records and files
+records_enter_few : (items : List Item) → first_fault [] (items_parts items) ≡ None
+    → length (sections_in (items_parts items)) ≤ most_modules * most_sections
+unfolding known_of
+records_enter_few items n =
+    let parts = items_parts items in
+    let t = tables_of 0 parts n in
+    within_limits (stage_after parts) (modules_in parts) (length (section_names parts))
+    (length (sections_in (this_module parts))) (length (sections_in parts)) t.known.modules t.known.sections t.entered
+    (entered_few parts t.known) (λ e. ap length (records_enter items n e))
+
 pub records_contribute : (bottom : ℕ) (items : List Item) → first_fault [] (items_parts items) ≡ None
     → length (gathered_of bottom (items_parts items)).contributions ≤ most_modules * most_sections
-unfolding known_of
 records_contribute bottom items n =
     let parts = items_parts items in
-    let t = tables_of bottom parts n in
     no_less (length (gathered_of bottom parts).contributions) (length (sections_in parts))
-    (most_modules * most_sections) t.contributions
-    (within_limits (stage_after parts) (modules_in parts) (length (section_names parts))
-    (length (sections_in (this_module parts))) (length (sections_in parts)) t.known.modules t.known.sections t.entered
-    (entered_few parts t.known) (λ e. ap length (records_enter items n e)))
+    (most_modules * most_sections) (tables_of bottom parts n).contributions (records_enter_few items n)
+
+pub whole_plan_contributes : (bottom : ℕ) (items : List Item) (plan : Planned) → first_fault [] (items_parts items) ≡ None
+    → IsPlanOf bottom (items_parts items) plan
+    → length plan.gathered.contributions ≤ most_modules * most_sections
+whole_plan_contributes bottom items plan n p =
+    no_less (length plan.gathered.contributions) (length (sections_in (items_parts items)))
+    (most_modules * most_sections) p.grow.contributions (records_enter_few items n)

@@ -3,15 +3,14 @@
 ghost use Rattle.std.specs.Prelude.{◌≡◌, ℕ, ◌*◌, ◌≤◌, List, [], length, None};
 ghost use Rattle.m11_modules.specs.Grammar.{Item, items_parts};
 ghost use Rattle.m11_modules.specs.Parts.{Part};
-ghost use Rattle.m11_modules.specs.Places.{section_names};
 ghost use Rattle.m11_modules.specs.Rules.{first_fault, most_modules, most_sections};
-ghost use Rattle.m11_layout.specs.Plan.{IsPlan, Planned};
+ghost use Rattle.m11_layout.specs.Plan.{IsPlanOf, Planned, TablesBounded, TablesGrow};
 ghost use Rattle.m11_link_laws.specs.Tables.{ContributionsKept, GlobalsKept, ModulesKept, SectionsKept, gathered_of};
 
 /// The tables that a link keeps of objects without a fault grow with the names of modules, sections and globals, and
 /// each of them has a greatest size. How many texts and relocations the objects have counts for nothing. In whole
 /// records and files, where no section is entered between modules, there are no more contributions than the greatest
-/// number of modules times that of sections. A plan has no more bases than there are sections.
+/// number of modules times that of sections. So of a plan: what `Layout::end` returns has bounded tables.
 pub fn tables_grow_with_names_alone()
     ensures modules { (bottom : ℕ) (parts : List Part) → first_fault [] parts ≡ None → ModulesKept bottom parts }
     ensures sections { (bottom : ℕ) (parts : List Part) → first_fault [] parts ≡ None → SectionsKept bottom parts }
@@ -20,6 +19,9 @@ pub fn tables_grow_with_names_alone()
     ensures globals { (bottom : ℕ) (parts : List Part) → first_fault [] parts ≡ None → GlobalsKept bottom parts }
     ensures records { (bottom : ℕ) (items : List Item) → first_fault [] (items_parts items) ≡ None
         → length (gathered_of bottom (items_parts items)).contributions ≤ most_modules * most_sections }
-    ensures bases { (bottom : ℕ) (parts : List Part) (plan : Planned) → first_fault [] parts ≡ None
-        → IsPlan bottom parts plan → length plan.bases ≤ length (section_names parts) }
+    ensures plans { (bottom : ℕ) (parts : List Part) (plan : Planned)
+        → IsPlanOf bottom parts plan → TablesGrow parts plan × TablesBounded plan }
+    ensures whole_plans { (bottom : ℕ) (items : List Item) (plan : Planned) → first_fault [] (items_parts items) ≡ None
+        → IsPlanOf bottom (items_parts items) plan
+        → length plan.gathered.contributions ≤ most_modules * most_sections }
 {}

@@ -1,6 +1,5 @@
-use Rattle.m11_link_laws.proofs.PlansBounded.{bases_kept}
-use Rattle.m11_link_laws.proofs.SectionsInModules.{records_contribute}
-use Rattle.m11_link_laws.proofs.TablesBounded.{contributions_kept, globals_kept, modules_kept, sections_kept}
+use Rattle.m11_link_laws.proofs.SectionsInModules.{records_contribute, whole_plan_contributes}
+use Rattle.m11_link_laws.proofs.TablesKept.{contributions_kept, globals_kept, modules_kept, sections_kept}
 use Rattle.m11_link_laws.proofs.tables.tables_grow_with_names_alone.Goals as goal
 
 pub returns-clause-modules : goal.returns-clause-modules
@@ -18,5 +17,8 @@ returns-clause-globals c = globals_kept
 pub returns-clause-records : goal.returns-clause-records
 returns-clause-records c = records_contribute
 
-pub returns-clause-bases : goal.returns-clause-bases
-returns-clause-bases c = bases_kept
+pub returns-clause-plans : goal.returns-clause-plans
+returns-clause-plans c = λ bottom parts plan is. (is.grow, is.bounded)
+
+pub returns-clause-whole_plans : goal.returns-clause-whole_plans
+returns-clause-whole_plans c = whole_plan_contributes

@@ -23,7 +23,7 @@ use Rattle.m11_modules.specs.Steps.{known_after, with_entry, with_global, with_s
 use Rattle.m11_layout.proofs.Finding.{Apart, apart_inserted, is_name_itself, is_name_same}
 use Rattle.m11_layout.proofs.Walking.{rest_none}
 use Rattle.m11_layout.proofs.ReferenceSteps.{among_inserted}
-use Rattle.m11_link_laws.proofs.FewerNames.{Within}
+use Rattle.m11_layout.proofs.FewerNames.{Within}
 
 -- the numbers are within their limits, and a module enters each of the sections once
 pub record BoundsOf (stage : Stage) (count : ℕ) (names symbols : List (ℕ × ℕ)) (entered : List ((ℕ × ℕ) × ℕ))

@@ -13,7 +13,7 @@ use Rattle.m11_layout.specs.Globals.{definition_by, definition_in, definitions_o
 use Rattle.m11_layout.specs.Modules.{reported_after}
 use Rattle.m11_layout.specs.declared.definition.Definition.{Definition}
 use Rattle.m11_layout.proofs.Finding.{or_true}
-use Rattle.m11_link_laws.proofs.FewerNames.{Within}
+use Rattle.m11_layout.proofs.FewerNames.{Within}
 
 abbrev Name : Type 0
 Name = ℕ × ℕ

@@ -14,18 +14,16 @@ use Rattle.m11_modules.specs.Parts.{Part, Directory, Entry, EndOfDirectory, Text
 use Rattle.m11_modules.specs.Places.{Known, distinct, ends_module, global_in, global_names, global_of, known_of, modules_in, section_by, section_in, section_names, sections_in, stage_after, this_module}
 use Rattle.m11_modules.specs.Rules.{defines, fault_of, first_fault, has_bits, most_modules, most_sections}
 use Rattle.m11_modules.proofs.KnownAfter.{known_after_part, this_module_goes_on}
-use Rattle.m11_layout.specs.Tables.{Gathered, gathered_after, is_contribution, nothing_gathered, with_definition, with_entry, with_reference, with_relocated, with_weak}
+use Rattle.m11_layout.specs.Tables.{Gathered, gathered_after, gathered_after_all, is_contribution, nothing_gathered, with_definition, with_entry, with_reference, with_relocated, with_weak}
 use Rattle.m11_layout.specs.Globals.{definitions_of, references_of}
 use Rattle.m11_layout.proofs.Finding.{Apart, apart_inserted, is_name_itself, is_name_same}
 use Rattle.m11_layout.proofs.Keeping.{relocated_keeps, symbol_keeps}
 use Rattle.m11_layout.proofs.ModulesOfParts.{modules_more, one_ended}
 use Rattle.m11_layout.proofs.PlansOfParts.{gathered_means}
 use Rattle.m11_layout.proofs.Walking.{walked}
-use Rattle.m11_link.specs.Written.{defined_names}
-use Rattle.m11_link_laws.specs.Tables.{ContributionsKept, GlobalsKept, ModulesKept, SectionsKept, gathered_of}
-use Rattle.m11_link_laws.proofs.FewerNames.{Within, distinct_no_more, no_more, among_distinct}
-use Rattle.m11_link_laws.proofs.KnownBounded.{Bounded, bounded_step, modules_within}
-use Rattle.m11_link_laws.proofs.NamesReported.{definitions_within, references_within, weak_within}
+use Rattle.m11_layout.proofs.FewerNames.{Within, distinct_no_more, no_more, among_distinct}
+use Rattle.m11_layout.proofs.KnownBounded.{Bounded, bounded_step, modules_within}
+use Rattle.m11_layout.proofs.NamesReported.{definitions_within, references_within, weak_within}
 
 -- ---- contributions: one more at most for each entry of a section
 
@@ -271,35 +269,14 @@ tables_none = record {
   entered = none_at_most 0;
 }
 
-pub tables_of : (bottom : ℕ) (parts : List Part) → first_fault [] parts ≡ None → Tables parts (gathered_of bottom parts)
+pub tables_of : (bottom : ℕ) (parts : List Part) → first_fault [] parts ≡ None → Tables parts (gathered_after_all bottom nothing_gathered parts)
 tables_of bottom parts n = walked bottom Tables (tables_step bottom) [] parts nothing_gathered n tables_none
 
--- ---- the laws
+-- ---- each table by its names
 
-pub modules_kept : (bottom : ℕ) (parts : List Part) → first_fault [] parts ≡ None → ModulesKept bottom parts
-unfolding known_of
-modules_kept bottom parts n =
-    let t = tables_of bottom parts n in
-    record {
-      gathered = (gathered_means bottom parts n).names.count;
-      most = modules_within (stage_after parts) (modules_in parts) t.known.modules;
-    }
-
-keys_counted : {X : Type 0} (es : List ((ℕ × ℕ) × X)) (names : List (ℕ × ℕ)) → keys_of es ≡ names
+pub keys_counted : {X : Type 0} (es : List ((ℕ × ℕ) × X)) (names : List (ℕ × ℕ)) → keys_of es ≡ names
     → length es ≡ length names
 keys_counted es names e = sym (length-map es (λ pair. pair.0)) ∙ ap length e
-
-pub sections_kept : (bottom : ℕ) (parts : List Part) → first_fault [] parts ≡ None → SectionsKept bottom parts
-unfolding known_of
-sections_kept bottom parts n =
-    let t = tables_of bottom parts n in
-    record {
-      gathered = keys_counted (gathered_of bottom parts).sections (section_names parts)
-          (gathered_means bottom parts n).sections.names;
-      known = refl;
-      entered = entered_few parts t.known;
-      most = t.known.sections;
-    }
 
 pub in_all : (total modules names entered : ℕ) → total ≤ modules * names + entered → entered ≤ names
     → total ≤ (modules + 1) * names
@@ -310,64 +287,28 @@ in_all total modules names entered h e =
     by : (a : ℕ) → total ≤ a + entered → total ≤ a + names
     by a h = omega (arith, h, e)
 
-more_modules : (m n : ℕ) → m ≤ n → m + 1 ≤ n + 1
+pub more_modules : (m n : ℕ) → m ≤ n → m + 1 ≤ n + 1
 more_modules m n h = omega (arith, h)
 
 pub no_less : (a b c : ℕ) → a ≤ b → b ≤ c → a ≤ c
 no_less a b c h k = omega (arith, h, k)
 
-pub contributions_kept : (bottom : ℕ) (parts : List Part) → first_fault [] parts ≡ None → ContributionsKept bottom parts
-contributions_kept bottom parts n =
-    let t = tables_of bottom parts n in
-    let all = in_all (length (sections_in parts)) (modules_in parts) (length (section_names parts))
-    (length (sections_in (this_module parts))) t.entered (entered_few parts t.known) in
-    let product : (modules_in parts + 1) * length (section_names parts) ≤ (most_modules + 1) * most_sections =
-    mul-le-mul (more_modules (modules_in parts) most_modules (modules_kept bottom parts n).most)
-    (sections_kept bottom parts n).most in
-    record {
-      gathered = t.contributions;
-      entered = all;
-      most = no_less (length (sections_in parts)) ((modules_in parts + 1) * length (section_names parts))
-          ((most_modules + 1) * most_sections) all product;
-    }
-
 -- distinct names of globals
-few_globals : (parts : List Part) (names : List (ℕ × ℕ)) → Within names (filter_map global_in parts)
+pub few_globals : (parts : List Part) (names : List (ℕ × ℕ)) → Within names (filter_map global_in parts)
     → length (distinct names) ≤ length (global_names parts)
 unfolding global_names
 few_globals parts names w = distinct_no_more names (filter_map global_in parts) w
 
-few_pairs : {X : Type 0} (parts : List Part) (es : List ((ℕ × ℕ) × X)) (names : List (ℕ × ℕ))
+pub few_pairs : {X : Type 0} (parts : List Part) (es : List ((ℕ × ℕ) × X)) (names : List (ℕ × ℕ))
     → keys_of es ≡ distinct names → Within names (filter_map global_in parts)
     → length es ≤ length (global_names parts)
 few_pairs parts es names e w =
     let P : ℕ → Type 0 = λ n. n ≤ length (global_names parts) in
     subst P (sym (keys_counted es (distinct names) e)) (few_globals parts names w)
 
-few_weak : (parts : List Part) (weak : List (ℕ × ℕ)) → Apart is_name weak → Within weak (filter_map global_in parts)
+pub few_weak : (parts : List Part) (weak : List (ℕ × ℕ)) → Apart is_name weak → Within weak (filter_map global_in parts)
     → length weak ≤ length (global_names parts)
 unfolding global_names
 few_weak parts weak d w =
     no_more weak (distinct (filter_map global_in parts)) d
     (λ name a. among_distinct (filter_map global_in parts) name ∙ w name a)
-
-few_defined : (parts : List Part) → length (defined_names parts) ≤ length (global_names parts)
-unfolding defined_names
-few_defined parts = few_globals parts (keys_of (definitions_of parts)) (definitions_within parts)
-
-pub globals_kept : (bottom : ℕ) (parts : List Part) → first_fault [] parts ≡ None → GlobalsKept bottom parts
-unfolding known_of
-globals_kept bottom parts n =
-    let t = tables_of bottom parts n in
-    let m = gathered_means bottom parts n in
-    record {
-      definitions = few_pairs parts (gathered_of bottom parts).definitions (keys_of (definitions_of parts))
-          m.definitions.names (definitions_within parts);
-      references = few_pairs parts (gathered_of bottom parts).references (keys_of (references_of parts))
-          m.references.table.names (references_within parts);
-      weak = few_weak parts (gathered_of bottom parts).weak t.weak
-          (λ name a. weak_within parts name (sym (m.references.weak_is name) ∙ a));
-      known = refl;
-      defined = few_defined parts;
-      most = t.known.globals;
-    }
