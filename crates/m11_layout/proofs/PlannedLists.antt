@@ -12,7 +12,7 @@ use Rattle.m11_layout.specs.Tables.{size_cap}
 use Rattle.m11_layout.specs.Globals.{first_definition, global_defined, global_reported, globals_of, place_value}
 use Rattle.m11_layout.specs.Modules.{name_at}
 use Rattle.m11_layout.specs.Plan.{Planned, attributes_reported, global_planned, planned_attributes, planned_globals, planned_module, planned_section_base, planned_sections, section_planned, value_at}
-use Rattle.m11_layout.specs.Sections.{first_attributes, flags_of, most_size, section_base, section_size, section_reported, sections_of, sizes_of}
+use Rattle.m11_layout.specs.Sections.{entered_attributes, first_attributes, flags_of, most_size, section_base, section_size, section_reported, sections_of, sizes_of}
 use Rattle.m11_layout.specs.declared.definition.Definition.{Definition}
 use Rattle.m11_layout.specs.declared.definition.GlobalPlace.{GlobalPlace}
 use Rattle.m11_layout.specs.declared.definition.Total.{Total}
@@ -80,13 +80,13 @@ sections_listed bottom parts plan s b =
     ap (λ bases. unwrap_or (lookup (is_name name) bases) 0) b
     ∙ ap (λ found. unwrap_or found 0) (found_mapped (section_base bottom parts) (section_names parts) name t))
 
-attributes_from : (found : Option ℕ) (sizes : List ℕ) → attributes_reported (total_from found sizes) ≡ unwrap_or found 0
+attributes_from : (found : Option ℕ) (sizes : List ℕ) → attributes_reported (total_from found sizes) ≡ found
 attributes_from None sizes = refl
 attributes_from (Some attributes) sizes = refl
 
 pub attributes_are : (parts : List Part) (plan : Planned) (name : ℕ × ℕ) → SectionsOf parts plan.gathered.sections
-    → planned_attributes plan name ≡ first_attributes parts name
-unfolding first_attributes
+    → planned_attributes plan name ≡ entered_attributes parts name
+unfolding entered_attributes
 attributes_are parts plan name s =
     ap attributes_reported (s.totals name) ∙ attributes_from (attributes_found parts name) (sizes_of parts name)
 

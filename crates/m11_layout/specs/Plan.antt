@@ -8,7 +8,7 @@ use Rattle.m11_modules.specs.Names.{is_name}
 use Rattle.m11_layout.specs.Tables.{Gathered, gathered_after_all, is_contribution, nothing_gathered, settled}
 use Rattle.m11_layout.specs.Globals.{definitions_of, first_definition, global_value, globals_of, referred}
 use Rattle.m11_layout.specs.Modules.{name_at}
-use Rattle.m11_layout.specs.Sections.{first_attributes, is_relocatable, is_too_large, module_base, most_size, sections_of, top}
+use Rattle.m11_layout.specs.Sections.{entered_attributes, is_relocatable, is_too_large, module_base, most_size, sections_of, top}
 use Rattle.m11_layout.specs.Transfers.{transfer_address}
 use Rattle.m11_layout.specs.declared.definition.Definition.{Definition}
 use Rattle.m11_layout.specs.declared.definition.GlobalPlace.{GlobalPlace}
@@ -103,12 +103,12 @@ planned_transfer plan = transfer_at plan (settled plan.gathered)
 abbrev pub planned_module : Planned → ℕ → ℕ × ℕ
 planned_module plan module_index = get_or plan.gathered.names module_index (0, 0)
 
-abbrev pub attributes_reported : Option Total → ℕ
-attributes_reported None = 0
-attributes_reported (Some total) = total.attributes.0
+abbrev pub attributes_reported : Option Total → Option ℕ
+attributes_reported None = None
+attributes_reported (Some total) = Some total.attributes.0
 
--- the attributes of a section; 0 where there is none of that name
-abbrev pub planned_attributes : Planned → ℕ × ℕ → ℕ
+-- the attributes of a section, where there is one of that name
+abbrev pub planned_attributes : Planned → ℕ × ℕ → Option ℕ
 planned_attributes plan name = attributes_reported (lookup (is_name name) plan.gathered.sections)
 
 abbrev pub section_planned : Planned → (ℕ × ℕ) × Total → PlannedSection
@@ -171,7 +171,7 @@ pub record IsPlanOf (bottom : ℕ) (parts : List Part) (plan : Planned) : Type 0
   pub transfer : planned_transfer plan ≡ transfer_address bottom parts
   pub sections : planned_sections plan ≡ sections_of bottom parts
   pub globals : planned_globals plan ≡ globals_of bottom parts
-  pub attributes : (name : ℕ × ℕ) → planned_attributes plan name ≡ first_attributes parts name
+  pub attributes : (name : ℕ × ℕ) → planned_attributes plan name ≡ entered_attributes parts name
   pub definitions : (name : ℕ × ℕ) → lookup (is_name name) plan.gathered.definitions ≡ first_definition parts name
   pub defined : keys_of plan.gathered.definitions ≡ distinct (keys_of (definitions_of parts))
   pub references : plan.gathered.references ≡ referred parts

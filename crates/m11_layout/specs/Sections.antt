@@ -42,6 +42,10 @@ abbrev pub attributes_in : Part → Option ((ℕ × ℕ) × ℕ)
 attributes_in (Entry entry) = attributes_by entry.kind entry
 attributes_in part = None
 
+-- the attributes of a section's first entry, where there is one
+unfoldable pub entered_attributes : List Part → ℕ × ℕ → Option ℕ
+entered_attributes parts name = lookup (is_name name) (filter_map attributes_in parts)
+
 -- a section has the attributes of its first entry
 unfoldable pub first_attributes : List Part → ℕ × ℕ → ℕ
 first_attributes parts name = unwrap_or (lookup (is_name name) (filter_map attributes_in parts)) 0

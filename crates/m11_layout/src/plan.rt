@@ -1,6 +1,7 @@
 //! What the first pass of a link has found: the plan for the second.
 
 ghost use Rattle.std.specs.Prelude.{◌≡◌, ◌<◌, Some, length, min, slice_get};
+ghost use Rattle.std.specs.Option.{option_map};
 ghost use Rattle.m11_layout.specs.Plan.{Plans, planned_attributes, planned_base, planned_globals, planned_module, planned_section_base, planned_sections, planned_transfer, planned_value, value_at};
 ghost use Rattle.m11_layout.specs.Sections.{most_size};
 
@@ -9,7 +10,6 @@ use crate::definition::GlobalPlace;
 use crate::fault::LinkFault;
 use crate::planned::{PlannedGlobal, PlannedSection};
 use crate::tables::Tables;
-use bitflags::Flags;
 use indexmap::IndexMap;
 use m11_base::Name;
 use m11_obj::SectionFlags;
@@ -145,14 +145,12 @@ impl Plan {
         }
     }
 
-    /// The attributes of a section, by its first entry; none where no module enters it.
-    pub fn attributes(&self, section: Name) -> SectionFlags
-        ensures { result.0 ≡ planned_attributes self.now section }
+    /// The attributes of a section's first entry, where a module enters it.
+    pub fn attributes(&self, section: Name) -> Option<SectionFlags>
+        ensures { option_map (λ attributes. attributes.0) result ≡ planned_attributes self.now section }
     {
-        match self.tables.total(section) {
-            Some(total) => total.attributes,
-            None => SectionFlags::empty(),
-        }
+        let total = self.tables.total(section)?;
+        Some(total.attributes)
     }
 
     /// The number of globals that are defined.

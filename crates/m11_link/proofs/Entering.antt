@@ -20,7 +20,7 @@ use Rattle.m11_link_text.specs.Findings.{planned}
 use Rattle.m11_link_text.specs.Lines.{different_line, multiple_line}
 use Rattle.m11_link.specs.Front.{front_writes}
 use Rattle.m11_link.specs.Outputs.{Outputs, Write, Gains, Stops, to_messages, to_tape, link}
-use Rattle.m11_link.specs.Written.{PlacedText, block_at, counted, different_writes, entry_writes, placed_text, symbol_writes, writes_by}
+use Rattle.m11_link.specs.Written.{PlacedText, attributes_agree, block_at, counted, different_writes, entry_writes, placed_text, symbol_writes, writes_by}
 use Rattle.m11_link.proofs.Counting.{counted-append}
 use Rattle.m11_writes.proofs.Writing.{gains_nothing, gains_then, stops_before, stops_after, refused_between}
 
@@ -175,7 +175,7 @@ directory_then a b c t s s' index entries result h k =
 -- ---- one entry
 
 abbrev section_test : Reporting → (ℕ × ℕ) × ℕ → Bool
-section_test t section = section.1 == planned_attributes t.plan section.0
+section_test t section = attributes_agree (planned_attributes t.plan section.0) section.1
 
 abbrev section_reported : Reporting → ℕ → (ℕ × ℕ) × ℕ → List Write
 section_reported t index section = to_messages (different_line section.0 (planned_module t.plan index)) ∷ []

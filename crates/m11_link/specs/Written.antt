@@ -80,11 +80,17 @@ ended_writes found text following =
 
 -- ---- messages
 
+-- whether an entry has the attributes of the section's first entry. A section that no module enters in the first pass,
+-- which only a second pass over other bytes can enter, has none that an entry could differ from
+abbrev pub attributes_agree : Option ℕ → ℕ → Bool
+attributes_agree None attributes = true
+attributes_agree (Some first) attributes = attributes == first
+
 -- a section has the attributes of its first entry; another entry that says otherwise is reported
 abbrev pub different_writes : Findings → ℕ → Option ((ℕ × ℕ) × ℕ) → List Write
 different_writes found module_index None = []
 different_writes found module_index (Some section) =
-    if section.1 == found.attributes section.0 then []
+    if attributes_agree (found.attributes section.0) section.1 then []
     else to_messages (different_line section.0 (found.module_name module_index)) ∷ []
 
 -- the names that are defined

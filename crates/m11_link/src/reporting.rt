@@ -11,7 +11,7 @@ ghost use Rattle.m11_link_text.specs.Findings.{planned};
 ghost use Rattle.m11_link.specs.Front.{front_writes};
 ghost use Rattle.m11_writes.specs.Outputs.{Output, optional_output, output_of};
 ghost use Rattle.m11_link.specs.Outputs.{Writes, outputs, to_messages, to_tape};
-ghost use Rattle.m11_link.specs.Written.{different_writes, entry_writes, placed_text, symbol_writes};
+ghost use Rattle.m11_link.specs.Written.{attributes_agree, different_writes, entry_writes, placed_text, symbol_writes};
 
 use crate::front::put_front;
 use crate::held::{HeldText, ModuleSection};
@@ -287,11 +287,14 @@ impl Reporter {
         self.report(messages, &line)
     }
 
-    // Whether these are the attributes of a section's first entry.
+    // Whether these are the attributes of a section's first entry, where the first pass has met one.
     fn has_first_attributes(&self, name: Name, attributes: SectionFlags) -> bool
-        ensures { result ≡ (attributes.0 == (planned self.now.plan).attributes name) }
+        ensures { result ≡ attributes_agree ((planned self.now.plan).attributes name) attributes.0 }
     {
-        attributes.bits() == self.plan.attributes(name).bits()
+        match self.plan.attributes(name) {
+            Some(first) => attributes.bits() == first.bits(),
+            None => true,
+        }
     }
 
     // The name of a module.

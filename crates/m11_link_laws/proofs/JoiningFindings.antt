@@ -9,7 +9,7 @@ use Rattle.m11_modules.specs.Parts.{Part, Entry, Relocated, EndOfModule, EndOfFi
 use Rattle.m11_modules.specs.Places.{distinct, global_of, this_module}
 use Rattle.m11_layout.specs.Globals.{definition_by, definition_in, definition_value, definitions_of, global_reported, global_value, globals_of, is_strong_to, last_of, last_section, place_value, reference_in, references_of, referred, relocated_reference, weak_in, weak_names}
 use Rattle.m11_layout.specs.Modules.{first_of, indexed, module_at, modules_before, name_at, name_in, name_reported, reported_after}
-use Rattle.m11_layout.specs.Sections.{attributes_in, contribution_base, ends_too_high, first_attributes, is_relocatable, is_too_large, module_base, names_before, room_of, section_base, section_size, sections_of, size_under, sizes_of, top, total}
+use Rattle.m11_layout.specs.Sections.{attributes_in, contribution_base, ends_too_high, entered_attributes, first_attributes, is_relocatable, is_too_large, module_base, names_before, room_of, section_base, section_size, sections_of, size_under, sizes_of, top, total}
 use Rattle.m11_layout.specs.Transfers.{is_even, transfer_address, transfer_by, transfer_in, transfers_of}
 use Rattle.m11_layout.specs.declared.definition.GlobalPlace.{GlobalPlace}
 use Rattle.m11_layout.specs.declared.definition.GlobalPlace.TheVariants.{Absolute, In}
@@ -261,13 +261,18 @@ transfer_same bottom parts =
 
 -- ---- all that is found
 
+first_entered_same : (parts : List Part) (name : ℕ × ℕ)
+    → entered_attributes (without_ends parts) name ≡ entered_attributes parts name
+unfolding entered_attributes
+first_entered_same parts name = ap (λ found. lookup (is_name name) found) (reported_same attributes_in refl parts)
+
 pub findings_same : (bottom : ℕ) (parts : List Part)
     → findings_of bottom (without_ends parts) ≡ findings_of bottom parts
 unfolding findings_of
 findings_same bottom parts = λ j. record {
   base = λ index name. module_base_same bottom parts index name j;
   value = λ name. value_same bottom parts name j;
-  attributes = λ name. attributes_same parts name j;
+  attributes = λ name. first_entered_same parts name j;
   module_name = λ index. name_same parts index j;
   sections = reported_sections_same bottom parts j;
   globals = globals_same bottom parts j;

@@ -28,7 +28,7 @@ use Rattle.m11_link_text.specs.Relocation.{modulo, relocated, replaced, stored_b
 use Rattle.m11_writes.specs.Writes.{gained, gained_by}
 use Rattle.m11_writes.proofs.Writing.{gained-append}
 use Rattle.m11_link.specs.Outputs.{Write, link, to_tape}
-use Rattle.m11_link.specs.Written.{PlacedText, block_at, defined_names, different_writes, ended_writes, entry_writes, has_ended, link_writes, parts_writes, placed_text, relocations_after, text_writes, with_relocation, with_relocations, writes_at, writes_after, writes_by}
+use Rattle.m11_link.specs.Written.{PlacedText, attributes_agree, block_at, defined_names, different_writes, ended_writes, entry_writes, has_ended, link_writes, parts_writes, placed_text, relocations_after, text_writes, with_relocation, with_relocations, writes_at, writes_after, writes_by}
 use Rattle.m11_link_laws.specs.Texts.{block_of, data_block, only_selects, stores, text_in, texts_of}
 
 -- ---- what goes to the tape
@@ -109,7 +109,7 @@ different_elsewhere : (found : Findings) (module_index : ℕ) (section : Option 
     → Elsewhere (different_writes found module_index section)
 unfolding gained
 different_elsewhere found module_index None = refl
-different_elsewhere found module_index (Some section) = unless (section.1 == found.attributes section.0) _ refl
+different_elsewhere found module_index (Some section) = unless (attributes_agree (found.attributes section.0) section.1) _ refl
 
 entry_elsewhere : (k : GsdKind) (found : Findings) (module_index : ℕ) (defined : List (ℕ × ℕ)) (entry : GsdEntry)
     → Elsewhere (writes_by k found module_index defined entry)

@@ -6,7 +6,7 @@ use Rattle.m11_modules.specs.Parts.{Part}
 use Rattle.m11_layout.specs.Globals.{global_value, globals_of, referred}
 use Rattle.m11_layout.specs.Modules.{name_at}
 use Rattle.m11_layout.specs.Plan.{Planned, planned_base, planned_value, planned_transfer, planned_attributes, planned_module, planned_sections, planned_globals}
-use Rattle.m11_layout.specs.Sections.{first_attributes, module_base, sections_of, top}
+use Rattle.m11_layout.specs.Sections.{entered_attributes, module_base, sections_of, top}
 use Rattle.m11_layout.specs.Transfers.{transfer_address}
 use Rattle.m11_layout.specs.declared.planned.PlannedGlobal.{PlannedGlobal}
 use Rattle.m11_layout.specs.declared.planned.PlannedSection.{PlannedSection}
@@ -15,8 +15,8 @@ pub record Findings : Type 0 where
   -- the base of a module's contribution to a section, and the value of a global
   pub base : ℕ → ℕ × ℕ → ℕ
   pub value : ℕ × ℕ → Option ℕ
-  -- the attributes of a section's first entry, and the name of a module
-  pub attributes : ℕ × ℕ → ℕ
+  -- the attributes of a section's first entry, where there is one, and the name of a module
+  pub attributes : ℕ × ℕ → Option ℕ
   pub module_name : ℕ → ℕ × ℕ
   -- sections and globals, and the names referred to, each with whether a reference is strong
   pub sections : List PlannedSection
@@ -32,7 +32,7 @@ unfoldable pub findings_of : ℕ → List Part → Findings
 findings_of bottom parts = record {
   base = λ module_index name. module_base bottom parts module_index name;
   value = λ name. global_value bottom parts name;
-  attributes = λ name. first_attributes parts name;
+  attributes = λ name. entered_attributes parts name;
   module_name = λ module_index. name_at parts module_index;
   sections = sections_of bottom parts;
   globals = globals_of bottom parts;

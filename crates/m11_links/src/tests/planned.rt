@@ -124,7 +124,10 @@ fn has_module(plan: &Plan, index: usize, module: &[u8; 6]) -> bool {
 
 fn has_attributes(plan: &Plan, section: &[u8; 6], attributes: u8) -> bool {
     match Name::pack(section) {
-        Some(name) => plan.attributes(name).bits() == attributes,
+        Some(name) => match plan.attributes(name) {
+            Some(first) => first.bits() == attributes,
+            None => false,
+        },
         None => false,
     }
 }

@@ -1,6 +1,9 @@
 //! How far the tape has come while a second pass goes on, and second passes that give other bytes.
 
-use super::{Content, DEFINES_F, Linked, Object, READS_F, READS_F_LINKED, files_of, linked_twice};
+use super::{
+    Content, DEFINES_F, DIRECTORY, END_OF_GSD, END_OF_MODULE, Linked, NO_START, Object, READS_F,
+    READS_F_LINKED, files_of, linked_twice,
+};
 use m11_base::MemorySink;
 use m11_link::{Emit, Layout, LinkFault, Plan};
 use m11_obj::{Block, BlockFault};
@@ -150,4 +153,64 @@ fn a_second_reading_that_differs_is_refused_where_it_does(rt: HostRuntime) -> Re
     is_refused(&rt, &linked);
     drop(linked);
     Ok(())
+}
+
+// The name of a module, A.
+const NAMED_A: &[u8] = &[0x40, 0x06, 0x00, 0x00, 0x00, 0x00, 0x00, 0x00];
+
+// A section, PROG, of 0 bytes, flags 040.
+const ENTERS_PROG: &[u8] = &[0xDF, 0x66, 0xC0, 0x2B, 0x20, 0x05, 0x00, 0x00];
+
+// The same, which is read-only.
+const ENTERS_PROG_TO_READ: &[u8] = &[0xDF, 0x66, 0xC0, 0x2B, 0x30, 0x05, 0x00, 0x00];
+
+// A section, DATA, of 0 bytes, flags 040.
+const ENTERS_DATA: &[u8] = &[0x3C, 0x19, 0x40, 0x06, 0x20, 0x05, 0x00, 0x00];
+
+const OF_PROG: Object<'static> = &[
+    &[DIRECTORY, NAMED_A, ENTERS_PROG],
+    &[END_OF_GSD],
+    &[END_OF_MODULE],
+];
+
+const OF_PROG_TO_READ: Object<'static> = &[
+    &[DIRECTORY, NAMED_A, ENTERS_PROG_TO_READ],
+    &[END_OF_GSD],
+    &[END_OF_MODULE],
+];
+
+const OF_PROG_AND_DATA: Object<'static> = &[
+    &[DIRECTORY, NAMED_A, ENTERS_PROG, ENTERS_DATA],
+    &[END_OF_GSD],
+    &[END_OF_MODULE],
+];
+
+// A first pass over the module of PROG, and a second one over this object, report this.
+fn reports_after_prog(
+    rt: &(impl Abort + AllocGlobal),
+    object: Object<'_>,
+    reported: &[&str],
+) -> Result<(), Fail> {
+    let first = files_of(rt.alloc(), &[OF_PROG])?;
+    let second = files_of(rt.alloc(), &[object])?;
+    let linked = linked_twice(rt.alloc(), first.as_slice(), second.as_slice(), 0o1000)?;
+    assert!(rt;
+        linked.outcome.is_ok() && linked.has_tape(&[NO_START]),
+        "the tape"
+    );
+    assert!(rt; linked.reports(reported), "the messages");
+    drop(linked);
+    Ok(())
+}
+
+#[test]
+fn a_section_that_only_the_second_reading_enters_gives_no_message(
+    rt: HostRuntime,
+) -> Result<(), Fail> {
+    reports_after_prog(&rt, OF_PROG_AND_DATA, &[])?;
+    reports_after_prog(
+        &rt,
+        OF_PROG_TO_READ,
+        &["DIFFERENT ATTRIBUTES PROG IN MODULE A"],
+    )
 }
