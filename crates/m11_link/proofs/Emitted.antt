@@ -8,21 +8,25 @@ use Rattle.m11_obj.specs.declared.relocations.Relocation.{Relocation}
 use Rattle.m11_obj.specs.Records as records
 use Rattle.m11_obj.specs.declared.fault.RecordFault.{RecordFault}
 use Rattle.m11_modules.specs.Laws.{TakesAfter}
-use Rattle.m11_modules.specs.Parts.{Part, EndOfFile, Relocations, parts_in, parts_of, record_parts}
-use Rattle.m11_modules.specs.Steps.{RulesTake}
-use Rattle.m11_modules.proofs.KnownAfter.{taken_after}
+use Rattle.m11_modules.specs.declared.stage.Stage.{Stage}
+use Rattle.m11_modules.specs.declared.stage.Stage.TheVariants.{Between, InDirectory, InBody}
+use Rattle.m11_modules.specs.Parts.{Part, Directory, Entry, EndOfDirectory, Text, Relocations, Relocated, EndOfModule, EndOfFile, parts_in, parts_of, record_parts}
+use Rattle.m11_modules.specs.Steps.{RulesTake, known_after, with_optional_global}
+use Rattle.m11_modules.proofs.KnownAfter.{known_after_part, taken_after}
 use Rattle.m11_layout.specs.Globals.{definitions_of}
-use Rattle.m11_modules.specs.Places.{Known, current_section, distinct, known_of, modules_in, this_module}
-use Rattle.m11_modules.specs.Rules.{first_fault}
+use Rattle.m11_modules.specs.Places.{Known, current_section, distinct, global_of, known_of, modules_in, this_module}
+use Rattle.m11_modules.specs.Rules.{fault_known, fault_of, first_fault, may_stand}
 use Rattle.m11_modules.specs.declared.fault.ModuleFault.{ModuleFault}
 use Rattle.m11_modules.specs.declared.fault.ModuleFault.TheVariants as rule
 use Rattle.m11_layout.proofs.Standing.{record_is, sound_after}
+use Rattle.m11_layout.proofs.Walking.{head_none, walked}
 use Rattle.m11_layout.specs.Fault.{of_module}
 use Rattle.m11_layout.specs.Plan.{Planned}
+use Rattle.m11_layout.specs.Tables.{Gathered, nothing_gathered}
 use Rattle.m11_layout.specs.declared.fault.LinkFault.{LinkFault}
 use Rattle.m11_layout.specs.declared.fault.LinkFault.TheVariants as fault
-use Rattle.m11_link.specs.Emit.{Emitting, Reporting, Goes, GoesOn, EmitStands, TakesBlock, TakesParts, begin_writes, begun_reporting, bytes_writes, entries_writes, held_text, held_with, held_with_all, held_writes, record_writes, relocated_parts, with_bytes, with_count, with_held, with_record, with_reporting, written}
-use Rattle.m11_link_text.specs.Findings.{planned}
+use Rattle.m11_link.specs.Emit.{Emitting, Reporting, Goes, GoesOn, EmitStands, TakesBlock, TakesParts, begin_writes, begun_reporting, bytes_writes, entries_writes, held_at, held_text, held_with, held_with_all, held_writes, record_writes, relocated_parts, with_bytes, with_count, with_held, with_record, with_reporting, written}
+use Rattle.m11_link_text.specs.Findings.{Findings, planned}
 use Rattle.m11_link.specs.Front.{front_writes}
 use Rattle.m11_link.specs.Outputs.{Outputs, Write, Gains, Stops, StopsBetween, StopsIn, Writes, link}
 use Rattle.m11_link.specs.Written.{PlacedText, block_at, counted, defined_names, parts_writes}
@@ -358,6 +362,77 @@ written_then old mid a b c ws u reporting result is h k =
     subst P (sym (is ∙ h.1)) (λ g. goes_in a b c (begin_writes old) (ws (begun_reporting old)) (λ t. with_reporting t old) reporting
     (u (begun_reporting old)) result h.0 g) k
 
+-- ---- no text is held where an object may end
+
+abbrev NoneHeld : Findings → List Part → Type 0
+NoneHeld found before = (known_of before).stage ≡ Between → held_text found before ≡ None
+
+some_fault : (broken : ModuleFault) → Some broken ≡ None → ⊥
+some_fault broken e = cc
+
+-- a text stands in the body of a module
+text_in_body : (address : ℕ) (bytes : List ℕ) (stage : Stage) (later : Option ModuleFault)
+    → (if may_stand (Text address bytes) stage then later else Some rule.BadOrder) ≡ None → stage ≡ Between → ⊥
+text_in_body address bytes Between later e b = some_fault rule.BadOrder e
+text_in_body address bytes InDirectory later e b = some_fault rule.BadOrder e
+text_in_body address bytes InBody later e b = cc
+
+with_none : (found : Findings) (held : Option PlacedText) (relocation : Relocation) → held ≡ None
+    → held_with found held relocation ≡ None
+with_none found held relocation e = ap (λ these. held_with found these relocation) e
+
+global_leaves : (global : Option (ℕ × ℕ)) (known : Known) → (with_optional_global global known).stage ≡ known.stage
+global_leaves None known = refl
+global_leaves (Some name) known = refl
+
+held_step : (found : Findings) (before : List Part) (part : Part) → fault_known (known_of before) part ≡ None
+    → NoneHeld found before → (known_after (known_of before) part).stage ≡ Between
+    → held_at found before (held_text found before) part ≡ None
+unfolding fault_known known_after
+held_step found before Directory n h b = refl
+held_step found before (Entry entry) n h b = refl
+held_step found before EndOfDirectory n h b = refl
+held_step found before (Text address bytes) n h b =
+    absurd (text_in_body address bytes (known_of before).stage _ n b)
+held_step found before Relocations n h b = h b
+held_step found before (Relocated relocation) n h b =
+    with_none found (held_text found before) relocation (h (sym (global_leaves (global_of relocation.target) _) ∙ b))
+held_step found before EndOfModule n h b = refl
+held_step found before EndOfFile n h b = refl
+
+held_on : (found : Findings) (before : List Part) (g : Gathered) (part : Part)
+    → fault_of before part ≡ None → NoneHeld found before → NoneHeld found (before ++ part ∷ [])
+held_on found before g part n h b =
+    let P : Known → Type 0 = λ known. known.stage ≡ Between in
+    held_more found before (part ∷ []) ∙ held_step found before part n h (subst P (known_after_part before part n) b)
+
+ends_between : (stage : Stage) (later : Option ModuleFault)
+    → (if may_stand EndOfFile stage then later else Some rule.BadOrder) ≡ None → stage ≡ Between
+ends_between Between later e = refl
+ends_between InDirectory later e = absurd (some_fault rule.BadOrder e)
+ends_between InBody later e = absurd (some_fault rule.BadOrder e)
+
+held_first : (found : Findings) → held_text found [] ≡ None
+unfolding held_text
+held_first found = refl
+
+none_held : (found : Findings) (before : List Part) → first_fault [] before ≡ None → fault_of before EndOfFile ≡ None
+    → held_text found before ≡ None
+unfolding fault_known
+none_held found before n e =
+    walked 0 (λ these g. NoneHeld found these) (held_on found) [] before nothing_gathered n (λ b. held_first found)
+    (ends_between (known_of before).stage _ e)
+
+-- so nothing of it is written
+nothing_held : (a b : Outputs) (ws : List Write) (t : Reporting) (now s' : Emitting) (result : Result (Unit {0}) LinkFault)
+    → t.held ≡ None → Goes a b ws s' (with_reporting t now) result
+    → Goes a b (ws ++ held_writes t.held) s' (with_reporting (with_held None t) now) result
+nothing_held a b ws t now s' result e h =
+    let P : List Write → Type 0 = λ all. Goes a b all s' (with_reporting (with_held None t) now) result in
+    let Q : Reporting → Type 0 = λ u. Goes a b ws s' (with_reporting u now) result in
+    subst P (sym (ap (λ held. ws ++ held_writes held) e ∙ append-nil ws))
+    (subst Q (ap (λ held. with_held held t) e) h)
+
 -- ---- blocks and ends, by calls
 
 module _ {seen : Emitting} (plan : Planned) (before : List Part) (s : Emitting) (is : seen ≡ s)
@@ -373,14 +448,23 @@ module _ {seen : Emitting} (plan : Planned) (before : List Part) (s : Emitting) 
       subst P is (parts_refused plan before (EndOfFile ∷ []) (λ t. held_writes t.held) (with_held None) (end_makes plan before)
       seen here a s' new broken result (h here.known) e)
 
+  ends_there : first_fault before (EndOfFile ∷ []) ≡ None → fault_of before EndOfFile ≡ None
+  unfolding first_fault
+  ends_there e = head_none (fault_of before EndOfFile) None e
+
   pub end_taken : (a b : Outputs) (s' : Emitting) (known : Known) (result : Result (Unit {0}) LinkFault)
       → (seen.known ≡ known_of before → TakesAfter before known (EndOfFile ∷ []) (Ok tt))
-      → Goes a b (begin_writes seen ++ held_writes (begun_reporting seen).held) s'
-      (let now : Emitting = record seen { known = known } in with_reporting (with_held None (begun_reporting seen)) now) result
+      → Goes a b (begin_writes seen) s'
+      (let now : Emitting = record seen { known = known } in with_reporting (begun_reporting seen) now) result
       → TakesParts plan before a b s s' (EndOfFile ∷ []) result
   end_taken a b s' known result h k =
       let P : Emitting → Type 0 = λ x. TakesParts plan before a b x s' (EndOfFile ∷ []) result in
       let t = h here.known in
+      let now : Emitting = record seen { known = known } in
+      let none = none_held (planned plan) before here.sound (ends_there t.0) in
+      let held = (begun_holds plan before seen.has_begun seen.reporting (front_writes (planned seen.reporting.plan))
+      (record { planned_so = here.planned_so; defined = here.defined; held = here.held })).held in
+      let k = nothing_held a b (begin_writes seen) (begun_reporting seen) now s' result (held ∙ none) k in
       subst P is (parts_taken plan before (EndOfFile ∷ []) (λ t. held_writes t.held) (with_held None) (end_makes plan before)
       seen here a b s' known result t.0 t.1 k)
 

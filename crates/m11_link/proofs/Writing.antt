@@ -1,5 +1,5 @@
 -- What one output of a link took is a write. (This project's own words.)
-use Rattle.std.proofs.Common.{◌≡◌, ℕ, false, List, [], ◌∷◌, Result, Ok, refl}
+use Rattle.std.proofs.Common.{◌≡◌, ◌≢◌, ℕ, false, List, [], ◌∷◌, Result, Ok, Err, IfErr, refl, sym, subst}
 use Rattle.std.specs.Io.KnownBytes.{Appends}
 use Rattle.m11_layout.specs.declared.fault.LinkFault.{LinkFault}
 use Rattle.m11_layout.specs.declared.fault.LinkFault.TheVariants as fault
@@ -61,3 +61,10 @@ to_no_map tape messages bytes done = record {
   texts = λ other. no_map tape messages bytes other;
   faults = λ other. refl;
 }
+
+-- a put that fails takes no memory
+pub put_takes_none : {A : Type 0} (a b : Output) (bytes : List ℕ) (failed : LinkOutput) (result : Result A LinkFault)
+    → Puts a b bytes (fault.Write failed) result → IfErr result (λ stopped. stopped ≢ fault.NoMemory)
+put_takes_none a b bytes failed (Ok done) h = tt
+put_takes_none a b bytes failed (Err stopped) h =
+    let P : LinkFault → Type 0 = λ these. these ≢ fault.NoMemory in subst P (sym h.0) (λ e. cc)

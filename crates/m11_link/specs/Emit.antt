@@ -208,19 +208,24 @@ pub record GoesOn (Went : List Write → Type 0) (so_far all : List Write) : Typ
   pub split : all ≡ so_far ++ more
   pub went : Went more
 
--- parts were taken, and all that they make is written; or their first fault was returned, and nothing was written; or
--- they have none, and an output failed, or memory was refused; or memory was refused before anything was written
+-- parts weren't taken: their first fault was returned, and nothing was written; or they have none, and an output failed,
+-- or memory was refused; or memory was refused before anything was written
+abbrev pub StopsInParts : Planned → List Part → Outputs → Outputs → Emitting → List Part → LinkFault → Type 0
+StopsInParts plan before old new state parts (fault.Write output) = (first_fault before parts ≡ None)
+    × GoesOn (StopsIn output old new) (written plan state.has_begun before) (written plan true (before ++ parts))
+StopsInParts plan before old new state parts fault.NoMemory = (new ≡ old)
+    ⊎ ((first_fault before parts ≡ None)
+    × GoesOn (StopsBetween old new) (written plan state.has_begun before) (written plan true (before ++ parts)))
+StopsInParts plan before old new state parts stopped = FirstFault before parts stopped × (new ≡ old)
+
+-- parts were taken, and all that they make is written; or they weren't
 abbrev pub TakesParts : Planned → List Part → Outputs → Outputs → Emitting → Emitting → List Part
     → Result (Unit {0}) LinkFault → Type 0
 TakesParts plan before old new state state' parts (Ok done) = EmitStands plan (before ++ parts) state'
     × (state'.has_begun ≡ true)
     × GoesOn (Gains old new) (written plan state.has_begun before) (written plan true (before ++ parts))
-TakesParts plan before old new state state' parts (Err (fault.Write output)) = (first_fault before parts ≡ None)
-    × GoesOn (StopsIn output old new) (written plan state.has_begun before) (written plan true (before ++ parts))
-TakesParts plan before old new state state' parts (Err fault.NoMemory) = (new ≡ old)
-    ⊎ ((first_fault before parts ≡ None)
-    × GoesOn (StopsBetween old new) (written plan state.has_begun before) (written plan true (before ++ parts)))
-TakesParts plan before old new state state' parts (Err stopped) = FirstFault before parts stopped × (new ≡ old)
+TakesParts plan before old new state state' parts (Err stopped) =
+    StopsInParts plan before old new state parts stopped
 
 -- a block is no record, or its parts were taken
 abbrev pub TakesBlock : Planned → List Part → Outputs → Outputs → Emitting → Emitting → List ℕ

@@ -1,6 +1,6 @@
 //! The second pass of a link: it writes tape, map and messages while blocks come.
 
-ghost use Rattle.std.specs.Prelude.{◌≡◌, ◌≢◌, ◌∷◌, ◌++◌, [], ℕ, List, Some, None, Ok, Err, IfOk, false};
+ghost use Rattle.std.specs.Prelude.{◌≡◌, ◌≢◌, ◌∷◌, ◌++◌, [], ℕ, List, Some, None, Ok, Err, IfOk, false, is_some, IfErr};
 ghost use Rattle.m11_obj.specs.Reading.{IsRecord, record_kind, record_relocations};
 ghost use Rattle.m11_blocks.specs.Tapes.{tape_block};
 ghost use Rattle.m11_modules.specs.Parts.{Part, EndOfFile, Relocated, Relocations, record_parts};
@@ -81,6 +81,7 @@ impl Emit {
             (outputs_of S.Sink T.Sink U.Sink tape.new map.new messages.new) result }
         ensures is_record { IfOk result (λ _. IsRecord block.now.items) }
         ensures kept { KeepsFault self.new result }
+        ensures stays { is_some map.new ≡ is_some map.old }
     {
         match self.fault {
             Some(fault) => Err(fault),
@@ -94,7 +95,8 @@ impl Emit {
         }
     }
 
-    /// Takes the end of an object: `BadOrder` inside a module. After a fault it is returned again.
+    /// Takes the end of an object: `BadOrder` inside a module, `Write` where the map or the messages failed. It takes no
+    /// memory, and writes nothing to the tape: no text is held between modules. After a fault it is returned again.
     pub fn end_file<S: Sink, T: Sink, U: Sink>(
         &mut self,
         tape: &mut S,
@@ -109,10 +111,13 @@ impl Emit {
             (outputs_of S.Sink T.Sink U.Sink tape.old map.old messages.old)
             (outputs_of S.Sink T.Sink U.Sink tape.new map.new messages.new) result }
         ensures kept { KeepsFault self.new result }
+        ensures stays { is_some map.new ≡ is_some map.old }
+        ensures untouched { tape.new ≡ tape.old }
+        ensures no_memory { self.old.fault ≡ None → IfErr result (λ fault. fault ≢ LinkFault.NoMemory) }
     {
         match self.fault {
             Some(fault) => Err(fault),
-            None => match self.take_end(tape, map, messages) {
+            None => match self.take_end(map, messages) {
                 Ok(()) => Ok(()),
                 Err(fault) => {
                     self.fault = Some(fault);
@@ -139,6 +144,7 @@ impl Emit {
         ensures again { (fault : LinkFault) → self.fault ≡ Some fault → (result ≡ Err fault)
             × (outputs_of S.Sink T.Sink U.Sink tape.new map.new messages.new
             ≡ outputs_of S.Sink T.Sink U.Sink tape.old map.old messages.old) }
+        ensures stays { is_some map.new ≡ is_some map.old }
     {
         let done = self.finish(tape, map, messages);
         // by a call: where it is let go in place, this function alone takes minutes to prove
@@ -160,6 +166,7 @@ impl Emit {
         ensures again { (fault : LinkFault) → self.old.fault ≡ Some fault → (result ≡ Err fault)
             × (outputs_of S.Sink T.Sink U.Sink tape.new map.new messages.new
             ≡ outputs_of S.Sink T.Sink U.Sink tape.old map.old messages.old) }
+        ensures stays { is_some map.new ≡ is_some map.old }
     {
         match self.fault {
             Some(fault) => Err(fault),
@@ -184,6 +191,7 @@ impl Emit {
             self.old self.new block.now.items result }
         ensures is_record { IfOk result (λ _. IsRecord block.now.items) }
         ensures kept { IfOk result (λ _. self.new.fault ≡ self.old.fault) }
+        ensures stays { is_some map.new ≡ is_some map.old }
     {
         let record = read_record(block)?;
         match record.kind() {
@@ -207,6 +215,7 @@ impl Emit {
             (outputs_of S.Sink T.Sink U.Sink tape.new map.new messages.new)
             self.old self.new (record_parts «record».now) result }
         ensures kept { IfOk result (λ _. self.new.fault ≡ self.old.fault) }
+        ensures stays { is_some map.new ≡ is_some map.old }
     {
         let location = self.location();
         self.rules.record(record)?;
@@ -228,6 +237,7 @@ impl Emit {
             self.old self.new
             (Relocations ∷ relocated_parts (record_relocations «record».now)) result }
         ensures kept { IfOk result (λ _. self.new.fault ≡ self.old.fault) }
+        ensures stays { is_some map.new ≡ is_some map.old }
     {
         self.store_relocations(record)?;
         self.begin(map, messages)
@@ -301,50 +311,36 @@ impl Emit {
         messages: &mut U,
     ) -> Result<(), LinkFault>
         requires { record_kind «record».now ≢ Ok RecordKind.Relocations }
-        ensures { Goes
+        ensures writes { Goes
             (outputs_of S.Sink T.Sink U.Sink tape.old map.old messages.old)
             (outputs_of S.Sink T.Sink U.Sink tape.new map.new messages.new)
             (begin_writes self.old ++ bytes_writes location.module_index «record».now (begun_reporting self.old)) self.new
             (with_reporting
             (with_bytes location.module_index location.section «record».now (begun_reporting self.old)) self.old)
             result }
+        ensures stays { is_some map.new ≡ is_some map.old }
     {
         self.begin(map, messages)?;
         self.reporter.note(location, record, tape, messages)
     }
 
-    // Takes the end of an object where no fault came before.
-    fn take_end<S: Sink, T: Sink, U: Sink>(
+    // Takes the end of an object where no fault came before. After a whole module no text is held.
+    fn take_end<T: Sink, U: Sink>(
         &mut self,
-        tape: &mut S,
         map: &mut Option<T>,
         messages: &mut U,
     ) -> Result<(), LinkFault>
-        ensures takes { (plan : Planned) (before : List Part) → EmitStands plan before self.old → TakesParts plan before
-            (outputs_of S.Sink T.Sink U.Sink tape.old map.old messages.old)
-            (outputs_of S.Sink T.Sink U.Sink tape.new map.new messages.new)
+        ensures takes { (tape : Output) (plan : Planned) (before : List Part) → EmitStands plan before self.old
+            → TakesParts plan before
+            (outputs tape (optional_output T.Sink map.old) (output_of U.Sink messages.old))
+            (outputs tape (optional_output T.Sink map.new) (output_of U.Sink messages.new))
             self.old self.new (EndOfFile ∷ []) result }
         ensures kept { IfOk result (λ _. self.new.fault ≡ self.old.fault) }
+        ensures stays { is_some map.new ≡ is_some map.old }
+        ensures no_memory { IfErr result (λ fault. fault ≢ LinkFault.NoMemory) }
     {
         self.rules.end_of_file()?;
-        self.write_end(tape, map, messages)
-    }
-
-    // Writes what the end of an object makes, and before it what is written first. After a whole module no text is held.
-    fn write_end<S: Sink, T: Sink, U: Sink>(
-        &mut self,
-        tape: &mut S,
-        map: &mut Option<T>,
-        messages: &mut U,
-    ) -> Result<(), LinkFault>
-        ensures { Goes
-            (outputs_of S.Sink T.Sink U.Sink tape.old map.old messages.old)
-            (outputs_of S.Sink T.Sink U.Sink tape.new map.new messages.new)
-            (begin_writes self.old ++ held_writes (begun_reporting self.old).held) self.new
-            (with_reporting (with_held None (begun_reporting self.old)) self.old) result }
-    {
-        self.begin(map, messages)?;
-        self.reporter.end_text(tape)
+        self.begin(map, messages)
     }
 
     // Writes the transfer block, and before it what is written first; returns the count of messages.
@@ -360,6 +356,7 @@ impl Emit {
             (begin_writes self.old ++ to_tape (tape_block (planned (begun_reporting self.old).plan).transfer []) ∷ [])
             result }
         ensures count { IfOk result (λ done. done.messages ≡ (begun_reporting self.old).messages) }
+        ensures stays { is_some map.new ≡ is_some map.old }
     {
         self.begin(map, messages)?;
         self.reporter.put_transfer(tape)?;
@@ -374,10 +371,12 @@ impl Emit {
         map: &mut Option<T>,
         messages: &mut U,
     ) -> Result<(), LinkFault>
-        ensures { (tape : Output) → Goes
+        ensures writes { (tape : Output) → Goes
             (outputs tape (optional_output T.Sink map.old) (output_of U.Sink messages.old))
             (outputs tape (optional_output T.Sink map.new) (output_of U.Sink messages.new))
             (begin_writes self.old) self.new (with_reporting (begun_reporting self.old) self.old) result }
+        ensures stays { is_some map.new ≡ is_some map.old }
+        ensures no_memory { IfErr result (λ fault. fault ≢ LinkFault.NoMemory) }
     {
         if self.has_begun {
             return Ok(());

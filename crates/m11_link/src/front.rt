@@ -1,6 +1,6 @@
 //! What is written before the tape: the messages on undefined globals, and the map.
 
-ghost use Rattle.std.specs.Prelude.{◌≡◌, [], ◌∷◌, ◌++◌, true, false, not, codes, IfOk};
+ghost use Rattle.std.specs.Prelude.{◌≡◌, [], ◌∷◌, ◌++◌, true, false, not, codes, IfOk, ◌≢◌, is_some, IfErr};
 ghost use Rattle.m11_link_text.specs.Findings.{planned};
 ghost use Rattle.m11_link.specs.Front.{front_writes, global_writes, is_empty, last_writes, map_writes, name_write, name_writes, section_writes, undefined_by, undefined_write, undefined_writes, weak_writes, written_if};
 ghost use Rattle.m11_writes.specs.Outputs.{Output, optional_output, output_of};
@@ -27,6 +27,8 @@ pub(crate) fn put_front<T: Sink, U: Sink>(
         (outputs tape (optional_output T.Sink map.new) (output_of U.Sink messages.new))
         (front_writes (planned plan.now)) result }
     ensures count { IfOk result (λ n. n ≡ counted count (front_writes (planned plan.now))) }
+    ensures stays { is_some map.new ≡ is_some map.old }
+    ensures no_memory { IfErr result (λ fault. fault ≢ LinkFault.NoMemory) }
 {
     let reported = put_undefined(plan, messages, count)?;
     put_map_lines(plan, map)?;
@@ -54,6 +56,7 @@ fn put_undefined<U: Sink>(plan: &Plan, messages: &mut U, count: u32) -> Result<u
         (undefined_writes (planned plan.now) plan.now.gathered.references) result }
     ensures count { IfOk result
         (λ n. n ≡ counted count (undefined_writes (planned plan.now) plan.now.gathered.references)) }
+    ensures no_memory { IfErr result (λ fault. fault ≢ LinkFault.NoMemory) }
 {
     let mut reported = count;
     'references: for index in 0..plan.reference_count() {
@@ -79,6 +82,7 @@ fn put_if_undefined<U: Sink>(
         (written_if undefined_write (undefined_by (planned plan.now) true reference)) result }
     ensures count { IfOk result
         (λ n. n ≡ counted count (written_if undefined_write (undefined_by (planned plan.now) true reference))) }
+    ensures no_memory { IfErr result (λ fault. fault ≢ LinkFault.NoMemory) }
 {
     match undefined(plan, reference, true) {
         Some(name) => match put_message(messages, undefined_line(name).as_slice()) {
@@ -91,9 +95,11 @@ fn put_if_undefined<U: Sink>(
 
 // The map.
 fn put_map_lines<T: Sink>(plan: &Plan, map: &mut Option<T>) -> Result<(), LinkFault>
-    ensures { (tape messages : Output) → Writes
+    ensures writes { (tape messages : Output) → Writes
         (outputs tape (optional_output T.Sink map.old) messages)
         (outputs tape (optional_output T.Sink map.new) messages) (map_writes (planned plan.now)) result }
+    ensures stays { is_some map.new ≡ is_some map.old }
+    ensures no_memory { IfErr result (λ fault. fault ≢ LinkFault.NoMemory) }
 {
     put_sections(plan, map)?;
     put_globals(plan, map)?;
@@ -104,10 +110,12 @@ fn put_map_lines<T: Sink>(plan: &Plan, map: &mut Option<T>) -> Result<(), LinkFa
 
 // The sections, under their word.
 fn put_sections<T: Sink>(plan: &Plan, map: &mut Option<T>) -> Result<(), LinkFault>
-    ensures { (tape messages : Output) → Writes
+    ensures writes { (tape messages : Output) → Writes
         (outputs tape (optional_output T.Sink map.old) messages)
         (outputs tape (optional_output T.Sink map.new) messages)
         (to_map (codes "SECTIONS\n") ∷ section_writes (planned plan.now).sections) result }
+    ensures stays { is_some map.new ≡ is_some map.old }
+    ensures no_memory { IfErr result (λ fault. fault ≢ LinkFault.NoMemory) }
 {
     put_map(map, b"SECTIONS\n")?;
     put_each_section(plan, map)
@@ -115,10 +123,12 @@ fn put_sections<T: Sink>(plan: &Plan, map: &mut Option<T>) -> Result<(), LinkFau
 
 // A line for each section.
 fn put_each_section<T: Sink>(plan: &Plan, map: &mut Option<T>) -> Result<(), LinkFault>
-    ensures { (tape messages : Output) → Writes
+    ensures writes { (tape messages : Output) → Writes
         (outputs tape (optional_output T.Sink map.old) messages)
         (outputs tape (optional_output T.Sink map.new) messages)
         (section_writes (planned plan.now).sections) result }
+    ensures stays { is_some map.new ≡ is_some map.old }
+    ensures no_memory { IfErr result (λ fault. fault ≢ LinkFault.NoMemory) }
 {
     'sections: for index in 0..plan.section_count() {
         let section = plan.section_at(index);
@@ -133,10 +143,12 @@ fn put_each_section<T: Sink>(plan: &Plan, map: &mut Option<T>) -> Result<(), Lin
 
 // The globals that are defined, under their word.
 fn put_globals<T: Sink>(plan: &Plan, map: &mut Option<T>) -> Result<(), LinkFault>
-    ensures { (tape messages : Output) → Writes
+    ensures writes { (tape messages : Output) → Writes
         (outputs tape (optional_output T.Sink map.old) messages)
         (outputs tape (optional_output T.Sink map.new) messages)
         (to_map (codes "GLOBALS\n") ∷ global_writes (planned plan.now).globals) result }
+    ensures stays { is_some map.new ≡ is_some map.old }
+    ensures no_memory { IfErr result (λ fault. fault ≢ LinkFault.NoMemory) }
 {
     put_map(map, b"GLOBALS\n")?;
     put_each_global(plan, map)
@@ -144,10 +156,12 @@ fn put_globals<T: Sink>(plan: &Plan, map: &mut Option<T>) -> Result<(), LinkFaul
 
 // A line for each global that is defined.
 fn put_each_global<T: Sink>(plan: &Plan, map: &mut Option<T>) -> Result<(), LinkFault>
-    ensures { (tape messages : Output) → Writes
+    ensures writes { (tape messages : Output) → Writes
         (outputs tape (optional_output T.Sink map.old) messages)
         (outputs tape (optional_output T.Sink map.new) messages)
         (global_writes (planned plan.now).globals) result }
+    ensures stays { is_some map.new ≡ is_some map.old }
+    ensures no_memory { IfErr result (λ fault. fault ≢ LinkFault.NoMemory) }
 {
     'globals: for index in 0..plan.global_count() {
         let global = plan.global_at(index);
@@ -162,10 +176,12 @@ fn put_each_global<T: Sink>(plan: &Plan, map: &mut Option<T>) -> Result<(), Link
 
 // The globals that are defined nowhere and referred to strongly, under their word.
 fn put_undefined_names<T: Sink>(plan: &Plan, map: &mut Option<T>) -> Result<(), LinkFault>
-    ensures { (tape messages : Output) → Writes
+    ensures writes { (tape messages : Output) → Writes
         (outputs tape (optional_output T.Sink map.old) messages)
         (outputs tape (optional_output T.Sink map.new) messages)
         (to_map (codes "UNDEFINED\n") ∷ name_writes (planned plan.now) true plan.now.gathered.references) result }
+    ensures stays { is_some map.new ≡ is_some map.old }
+    ensures no_memory { IfErr result (λ fault. fault ≢ LinkFault.NoMemory) }
 {
     put_map(map, b"UNDEFINED\n")?;
     put_each_name(plan, true, map)
@@ -173,10 +189,12 @@ fn put_undefined_names<T: Sink>(plan: &Plan, map: &mut Option<T>) -> Result<(), 
 
 // The globals that are defined nowhere and referred to weakly alone, under their word where there are any.
 fn put_weak_names<T: Sink>(plan: &Plan, map: &mut Option<T>) -> Result<(), LinkFault>
-    ensures { (tape messages : Output) → Writes
+    ensures writes { (tape messages : Output) → Writes
         (outputs tape (optional_output T.Sink map.old) messages)
         (outputs tape (optional_output T.Sink map.new) messages)
         (weak_writes (name_writes (planned plan.now) false plan.now.gathered.references)) result }
+    ensures stays { is_some map.new ≡ is_some map.old }
+    ensures no_memory { IfErr result (λ fault. fault ≢ LinkFault.NoMemory) }
 {
     if !has_weak_name(plan) {
         return Ok(());
@@ -204,10 +222,12 @@ fn put_each_name<T: Sink>(
     is_strong: bool,
     map: &mut Option<T>,
 ) -> Result<(), LinkFault>
-    ensures { (tape messages : Output) → Writes
+    ensures writes { (tape messages : Output) → Writes
         (outputs tape (optional_output T.Sink map.old) messages)
         (outputs tape (optional_output T.Sink map.new) messages)
         (name_writes (planned plan.now) is_strong plan.now.gathered.references) result }
+    ensures stays { is_some map.new ≡ is_some map.old }
+    ensures no_memory { IfErr result (λ fault. fault ≢ LinkFault.NoMemory) }
 {
     'references: for index in 0..plan.reference_count() {
         match put_if_of_strength(plan, plan.reference_at(index), is_strong, map) {
@@ -225,10 +245,12 @@ fn put_if_of_strength<T: Sink>(
     is_strong: bool,
     map: &mut Option<T>,
 ) -> Result<(), LinkFault>
-    ensures { (tape messages : Output) → Writes
+    ensures writes { (tape messages : Output) → Writes
         (outputs tape (optional_output T.Sink map.old) messages)
         (outputs tape (optional_output T.Sink map.new) messages)
         (written_if name_write (undefined_by (planned plan.now) is_strong reference)) result }
+    ensures stays { is_some map.new ≡ is_some map.old }
+    ensures no_memory { IfErr result (λ fault. fault ≢ LinkFault.NoMemory) }
 {
     match undefined(plan, reference, is_strong) {
         Some(name) => put_map(map, name_line(name).as_slice()),
@@ -238,10 +260,12 @@ fn put_if_of_strength<T: Sink>(
 
 // The transfer address and the limits.
 fn put_last_lines<T: Sink>(plan: &Plan, map: &mut Option<T>) -> Result<(), LinkFault>
-    ensures { (tape messages : Output) → Writes
+    ensures writes { (tape messages : Output) → Writes
         (outputs tape (optional_output T.Sink map.old) messages)
         (outputs tape (optional_output T.Sink map.new) messages)
         (last_writes (planned plan.now)) result }
+    ensures stays { is_some map.new ≡ is_some map.old }
+    ensures no_memory { IfErr result (λ fault. fault ≢ LinkFault.NoMemory) }
 {
     let (bottom, top) = plan.limits();
     put_map(map, transfer_line(plan.transfer()).as_slice())?;

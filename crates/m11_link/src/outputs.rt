@@ -1,6 +1,6 @@
 //! Writes to the outputs of a link, each whole or with its fault.
 
-ghost use Rattle.std.specs.Prelude.{◌≡◌, [], ◌∷◌};
+ghost use Rattle.std.specs.Prelude.{◌≡◌, [], ◌∷◌, ◌≢◌, is_some, IfErr};
 ghost use Rattle.m11_writes.specs.Outputs.{Output, optional_output, output_of};
 ghost use Rattle.m11_link.specs.Outputs.{Writes, outputs, to_map, to_messages, to_tape};
 
@@ -19,11 +19,13 @@ pub(crate) fn put_tape<S: Sink>(tape: &mut S, bytes: &[u8]) -> Result<(), LinkFa
 }
 
 /// All of the bytes, to the map, where there is one.
-#[tactic(auto, using(crate::proofs::Writing::to_the_map, crate::proofs::Writing::to_no_map))]
+#[tactic(auto, using(crate::proofs::Writing::to_the_map, crate::proofs::Writing::to_no_map, crate::proofs::Writing::put_takes_none))]
 pub(crate) fn put_map<T: Sink>(map: &mut Option<T>, bytes: &[u8]) -> Result<(), LinkFault>
-    ensures { (tape messages : Output) → Writes
+    ensures writes { (tape messages : Output) → Writes
         (outputs tape (optional_output T.Sink map.old) messages)
         (outputs tape (optional_output T.Sink map.new) messages) (to_map bytes.now ∷ []) result }
+    ensures stays { is_some map.new ≡ is_some map.old }
+    ensures no_memory { IfErr result (λ fault. fault ≢ LinkFault.NoMemory) }
 {
     match map {
         Some(sink) => put_or_fail(sink, bytes, LinkFault::Write(LinkOutput::Map)),
@@ -32,11 +34,12 @@ pub(crate) fn put_map<T: Sink>(map: &mut Option<T>, bytes: &[u8]) -> Result<(), 
 }
 
 /// All of the bytes, to the messages.
-#[tactic(auto, using(crate::proofs::Writing::to_the_messages))]
+#[tactic(auto, using(crate::proofs::Writing::to_the_messages, crate::proofs::Writing::put_takes_none))]
 pub(crate) fn put_message<U: Sink>(messages: &mut U, bytes: &[u8]) -> Result<(), LinkFault>
-    ensures { (tape map : Output) → Writes
+    ensures writes { (tape map : Output) → Writes
         (outputs tape map (output_of U.Sink messages.old))
         (outputs tape map (output_of U.Sink messages.new)) (to_messages bytes.now ∷ []) result }
+    ensures no_memory { IfErr result (λ fault. fault ≢ LinkFault.NoMemory) }
 {
     put_or_fail(messages, bytes, LinkFault::Write(LinkOutput::Messages))
 }

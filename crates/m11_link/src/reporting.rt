@@ -1,6 +1,6 @@
 //! What is made of records after the front: messages on entries, and texts as blocks of the tape.
 
-ghost use Rattle.std.specs.Prelude.{◌≡◌, ◌≢◌, ◌≤◌, ◌==◌, [], ◌∷◌, ◌++◌, length, Ok, Some, None};
+ghost use Rattle.std.specs.Prelude.{◌≡◌, ◌≢◌, ◌≤◌, ◌==◌, [], ◌∷◌, ◌++◌, length, Ok, Some, None, is_some, IfErr};
 ghost use Rattle.m11_obj.specs.Reading.{record_entries, record_kind};
 ghost use Rattle.m11_blocks.specs.Tapes.{tape_block};
 ghost use Rattle.m11_modules.specs.Names.{is_among};
@@ -78,11 +78,13 @@ impl Reporter {
         map: &mut Option<T>,
         messages: &mut U,
     ) -> Result<(), LinkFault>
-        ensures { (tape : Output) → Goes
+        ensures writes { (tape : Output) → Goes
             (outputs tape (optional_output T.Sink map.old) (output_of U.Sink messages.old))
             (outputs tape (optional_output T.Sink map.new) (output_of U.Sink messages.new))
             (front_writes (planned self.old.plan)) self.new
             (with_count (front_writes (planned self.old.plan)) self.old) result }
+        ensures stays { is_some map.new ≡ is_some map.old }
+        ensures no_memory { IfErr result (λ fault. fault ≢ LinkFault.NoMemory) }
     {
         self.messages = put_front(&self.plan, map, messages, self.messages)?;
         Ok(())

@@ -1,6 +1,6 @@
 //! The run: objects in, tape, map and messages out.
 
-ghost use Rattle.std.specs.Prelude.{◌≡◌, None, ℕ, List};
+ghost use Rattle.std.specs.Prelude.{◌≡◌, None, ℕ, List, is_some};
 ghost use Rattle.m11_link.specs.Objects.{AreItems, Item};
 ghost use Rattle.m11_link.specs.FirstPass.{LaysOut, LaysOutObject, ReadsFirst, StandsBetween, of_block};
 ghost use Rattle.m11_layout.specs.Layout.{LayoutStands};
@@ -25,7 +25,7 @@ use std::alloc::Global;
 /// `Record`; the rules of modules; `TooLarge` after the last block. Where the first pass is refused the outputs are as
 /// they were. Then `Write`, after which nothing more is written, and the same faults again where the second pass
 /// gives other bytes: what the records before the fault make is then written, but for a text that hasn't ended.
-/// `NoMemory` wherever memory is refused.
+/// `NoMemory` wherever memory is refused. A map that is there stays there, however the run ends.
 pub fn link_run<F: Feed, S: Sink, T: Sink, U: Sink>(
     alloc: Global,
     first: &mut [F],
@@ -42,6 +42,7 @@ pub fn link_run<F: Feed, S: Sink, T: Sink, U: Sink>(
         F.text F.faults first.old first.new second.old second.new bottom
         (outputs_of S.Sink T.Sink U.Sink tape.old map.old messages.old)
         (outputs_of S.Sink T.Sink U.Sink tape.new map.new messages.new) result }
+    ensures stays { is_some map.new ≡ is_some map.old }
 {
     match read_first(alloc, first, bottom) {
         Ok(plan) => read_second(alloc, second, plan, tape, map, messages),
@@ -125,9 +126,10 @@ fn read_second<F: Feed, S: Sink, T: Sink, U: Sink>(
     map: &mut Option<T>,
     messages: &mut U,
 ) -> Result<LinkDone, LinkFault>
-    ensures { ReadsSecond F.text F.faults feeds.old feeds.new plan
+    ensures reads { ReadsSecond F.text F.faults feeds.old feeds.new plan
         (outputs_of S.Sink T.Sink U.Sink tape.old map.old messages.old)
         (outputs_of S.Sink T.Sink U.Sink tape.new map.new messages.new) result }
+    ensures stays { is_some map.new ≡ is_some map.old }
 {
     let mut emit = Emit::new(alloc, plan);
     match emit_all(feeds, &mut emit, tape, map, messages) {
@@ -148,13 +150,14 @@ fn emit_all<F: Feed, S: Sink, T: Sink, U: Sink>(
     map: &mut Option<T>,
     messages: &mut U,
 ) -> Result<(), LinkFault>
-    ensures { (plan : Planned) (before : List Part) (first : Outputs) → emitting.EmitStands plan before emit.old
+    ensures emits { (plan : Planned) (before : List Part) (first : Outputs) → emitting.EmitStands plan before emit.old
         → fault_of before EndOfFile ≡ None
         → Gains first
         (outputs_of S.Sink T.Sink U.Sink tape.old map.old messages.old)
         (written plan emit.old.has_begun before)
         → Emits F.text F.faults feeds.old feeds.new plan emit.old.has_begun before first
         (outputs_of S.Sink T.Sink U.Sink tape.new map.new messages.new) emit.new result }
+    ensures stays { is_some map.new ≡ is_some map.old }
 {
     'feeds: for feed in feeds.iter_mut() {
         match emit_object(feed, emit, tape, map, messages) {
@@ -173,12 +176,13 @@ fn emit_object<F: Feed, S: Sink, T: Sink, U: Sink>(
     map: &mut Option<T>,
     messages: &mut U,
 ) -> Result<(), LinkFault>
-    ensures { (plan : Planned) (before : List Part) (first : Outputs) → emitting.EmitStands plan before emit.old
+    ensures emits { (plan : Planned) (before : List Part) (first : Outputs) → emitting.EmitStands plan before emit.old
         → Gains first
         (outputs_of S.Sink T.Sink U.Sink tape.old map.old messages.old)
         (written plan emit.old.has_begun before)
         → EmitsObject (F.text feed.old) (F.faults feed.old) (F.faults feed.new) plan emit.old.has_begun before first
         (outputs_of S.Sink T.Sink U.Sink tape.new map.new messages.new) emit.new result }
+    ensures stays { is_some map.new ≡ is_some map.old }
 {
     let mut reader = BlockReader::new();
     let mut block = Block::new();

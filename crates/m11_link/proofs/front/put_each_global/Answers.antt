@@ -1,21 +1,24 @@
-use Rattle.std.proofs.Common.{arith}
+use Rattle.std.proofs.Common.{◌∙◌, arith}
 use Rattle.m11_link_text.specs.Findings.{planned}
 use Rattle.m11_link.proofs.Looping.{global_left, globals_end, stopped_there, wrote_all, wrote_one}
 use Rattle.m11_link.proofs.front.put_each_global.Goals as goal
 
-pub returns-in-Err : goal.returns-in-Err
-returns-in-Err g c = λ tape messages. stopped_there _ _ _ _ _ _ _ c.in-Err.fault
+pub returns-in-Err-clause-writes : goal.returns-in-Err-clause-writes
+returns-in-Err-clause-writes g c = λ tape messages. stopped_there _ _ _ _ _ _ _ c.in-Err.fault
     (global_left (planned c.args.plan.now).globals c.globals.index c.global_at-global.result c.global_at-global.ensures)
-    (c.globals.invariant tape messages)
-    (rw (c.as_slice.ensures.value, c.global_line-line.ensures) at (c.in-Err.ensures tape messages))
+    (c.globals.invariant.leads tape messages)
+    (rw (c.as_slice.ensures.value, c.global_line-line.ensures) at (c.in-Err.ensures.writes tape messages))
 
 pub globals-preserved : goal.globals-preserved
-globals-preserved g c = λ tape messages. wrote_one _ _ _ _ _ _ _
-    (global_left (planned c.args.plan.now).globals c.globals.index c.global_at-global.result c.global_at-global.ensures)
-    (c.globals.invariant tape messages)
-    (rw (c.as_slice.ensures.value, c.global_line-line.ensures) at (c.in-Ok.ensures tape messages))
+globals-preserved g c = record {
+  leads = λ tape messages. wrote_one _ _ _ _ _ _ _
+      (global_left (planned c.args.plan.now).globals c.globals.index c.global_at-global.result c.global_at-global.ensures)
+      (c.globals.invariant.leads tape messages)
+      (rw (c.as_slice.ensures.value, c.global_line-line.ensures) at (c.in-Ok.ensures.writes tape messages));
+  stays = c.in-Ok.ensures.stays ∙ c.globals.invariant.stays;
+}
 
-pub returns : goal.returns
-returns g c = λ tape messages. wrote_all _ _ _ _ tt
+pub returns-clause-writes : goal.returns-clause-writes
+returns-clause-writes g c = λ tape messages. wrote_all _ _ _ _ tt
     (globals_end (planned c.args.plan.now).globals c.globals.index (omega (arith, c.globals-test.false, c.global_count-index-end.ensures)))
-    (c.globals.invariant tape messages)
+    (c.globals.invariant.leads tape messages)

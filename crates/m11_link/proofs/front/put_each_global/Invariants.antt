@@ -1,4 +1,4 @@
-use Rattle.std.proofs.Common.{drop}
+use Rattle.std.proofs.Common.{◌≡◌, drop, is_some}
 use Rattle.m11_link_text.specs.Findings.{planned}
 use Rattle.m11_link.specs.Front.{global_writes}
 use Rattle.m11_writes.specs.Outputs.{Output, optional_output}
@@ -7,7 +7,10 @@ use Rattle.m11_link.proofs.Looping.{Leads}
 use Rattle.m11_link.proofs.front.put_each_global.Given as goal
 
 abbrev pub invariant-globals : goal.invariant-globals
-invariant-globals g l = (tape messages : Output) → Leads (Unit {0})
-    (outputs tape (optional_output g.T.Sink l.initial.map) messages)
-    (outputs tape (optional_output g.T.Sink l.map) messages)
-    (global_writes (drop l.index (planned l.plan).globals)) (global_writes (planned l.plan).globals)
+invariant-globals g l = record {
+  leads : (tape messages : Output) → Leads (Unit {0})
+      (outputs tape (optional_output g.T.Sink l.initial.map) messages)
+      (outputs tape (optional_output g.T.Sink l.map) messages)
+      (global_writes (drop l.index (planned l.plan).globals)) (global_writes (planned l.plan).globals);
+  stays : is_some l.map ≡ is_some l.initial.map;
+}

@@ -3,9 +3,9 @@ use Rattle.m11_link.specs.Outputs.{link}
 use Rattle.m11_writes.proofs.Writing.{gains_nothing}
 use Rattle.m11_link.proofs.front.put_if_of_strength.Goals as goal
 
-pub returns-in-Some : goal.returns-in-Some
-returns-in-Some g c = λ tape messages. rw (sym c.in-Some.ensures)
-    (rw (c.as_slice.ensures.value, c.name_line.ensures) at (c.put_map.ensures tape messages))
+pub returns-in-Some-clause-writes : goal.returns-in-Some-clause-writes
+returns-in-Some-clause-writes g c = λ tape messages. rw (sym c.in-Some.ensures)
+    (rw (c.as_slice.ensures.value, c.name_line.ensures) at (c.put_map.ensures.writes tape messages))
 
-pub returns-in-None : goal.returns-in-None
-returns-in-None g c = λ tape messages. rw (sym c.in-None.ensures) (gains_nothing link _)
+pub returns-in-None-clause-writes : goal.returns-in-None-clause-writes
+returns-in-None-clause-writes g c = λ tape messages. rw (sym c.in-None.ensures) (gains_nothing link _)

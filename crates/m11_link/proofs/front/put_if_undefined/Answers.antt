@@ -7,13 +7,13 @@ use Rattle.m11_link.proofs.front.put_if_undefined.Goals as goal
 
 pub returns-in-Ok-clause-writes : goal.returns-in-Ok-clause-writes
 returns-in-Ok-clause-writes g c = λ tape map. rw (sym c.in-Some.ensures)
-    (rw (c.as_slice.ensures.value, c.undefined_line.ensures) at (c.in-Ok.ensures tape map))
+    (rw (c.as_slice.ensures.value, c.undefined_line.ensures) at (c.in-Ok.ensures.writes tape map))
 
 pub returns-in-Err-clause-writes : goal.returns-in-Err-clause-writes
 returns-in-Err-clause-writes g c = λ tape map.
     let P : Option (ℕ × ℕ) → Type 0 = λ name. Stops (outputs tape map (output_of g.U.Sink c.args.messages.now))
     (outputs tape map (output_of g.U.Sink c.put_message.new.messages)) (written_if undefined_write name) c.in-Err.fault in
-    subst P c.in-Some.ensures (rw (c.as_slice.ensures.value, c.undefined_line.ensures) at (c.in-Err.ensures tape map))
+    subst P c.in-Some.ensures (rw (c.as_slice.ensures.value, c.undefined_line.ensures) at (c.in-Err.ensures.writes tape map))
 
 pub returns-in-None-clause-writes : goal.returns-in-None-clause-writes
 returns-in-None-clause-writes g c = λ tape map. rw (sym c.in-None.ensures) (gains_nothing link _)

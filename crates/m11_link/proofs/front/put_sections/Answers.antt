@@ -3,10 +3,10 @@ use Rattle.m11_link.specs.Outputs.{to_map, link}
 use Rattle.m11_writes.proofs.Writing.{stopped_first, writes_then}
 use Rattle.m11_link.proofs.front.put_sections.Goals as goal
 
-pub returns-in_err-put_map : goal.returns-in_err-put_map
-returns-in_err-put_map g c = λ tape messages. stopped_first link _ _ (to_map (codes "SECTIONS\n") ∷ []) _ _ _
-    (c.in_err-put_map.ensures tape messages) c.from_residual.ensures.1
+pub returns-in_err-put_map-clause-writes : goal.returns-in_err-put_map-clause-writes
+returns-in_err-put_map-clause-writes g c = λ tape messages. stopped_first link _ _ (to_map (codes "SECTIONS\n") ∷ []) _ _ _
+    (c.in_err-put_map.ensures.writes tape messages) c.from_residual.ensures.1
 
-pub returns : goal.returns
-returns g c = λ tape messages. writes_then link _ _ _ (to_map (codes "SECTIONS\n") ∷ []) _ _
-    (c.in_ok-put_map.ensures tape messages) (c.put_each_section.ensures tape messages)
+pub returns-clause-writes : goal.returns-clause-writes
+returns-clause-writes g c = λ tape messages. writes_then link _ _ _ (to_map (codes "SECTIONS\n") ∷ []) _ _
+    (c.in_ok-put_map.ensures.writes tape messages) (c.put_each_section.ensures.writes tape messages)

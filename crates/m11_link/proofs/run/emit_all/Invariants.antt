@@ -1,4 +1,4 @@
-use Rattle.std.proofs.Common.{◌≡◌, List, None}
+use Rattle.std.proofs.Common.{◌≡◌, List, None, is_some}
 use Rattle.m11_modules.specs.Parts.{Part, EndOfFile}
 use Rattle.m11_modules.specs.Rules.{fault_of}
 use Rattle.m11_layout.specs.Plan.{Planned}
@@ -8,11 +8,14 @@ use Rattle.m11_link.proofs.SecondRead.{SentAll}
 use Rattle.m11_link.proofs.run.emit_all.Given as goal
 
 abbrev pub invariant-feeds : goal.invariant-feeds
-invariant-feeds g l = (plan : Planned) (before : List Part) (first : Outputs) → EmitStands plan before l.initial.emit
-    → fault_of before EndOfFile ≡ None
-    → Gains first
-    (outputs_of g.S.Sink g.T.Sink g.U.Sink l.initial.tape l.initial.map l.initial.messages)
-    (written plan l.initial.emit.has_begun before)
-    → SentAll g.F.Feed.text g.F.Feed.faults l.initial.feeds l.feeds l.feed-index plan l.initial.emit.has_begun before first
-    (outputs_of g.S.Sink g.T.Sink g.U.Sink l.tape l.map l.messages)
-    l.emit
+invariant-feeds g l = record {
+  sent : (plan : Planned) (before : List Part) (first : Outputs) → EmitStands plan before l.initial.emit
+      → fault_of before EndOfFile ≡ None
+      → Gains first
+      (outputs_of g.S.Sink g.T.Sink g.U.Sink l.initial.tape l.initial.map l.initial.messages)
+      (written plan l.initial.emit.has_begun before)
+      → SentAll g.F.Feed.text g.F.Feed.faults l.initial.feeds l.feeds l.feed-index plan l.initial.emit.has_begun before first
+      (outputs_of g.S.Sink g.T.Sink g.U.Sink l.tape l.map l.messages)
+      l.emit;
+  stays : is_some l.map ≡ is_some l.initial.map;
+}

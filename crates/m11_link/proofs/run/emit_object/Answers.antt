@@ -1,4 +1,4 @@
-use Rattle.std.proofs.Common.{rules}
+use Rattle.std.proofs.Common.{◌∙◌, refl, rules}
 use Rattle.m11_blocks.specs.Limited.{place}
 use Rattle.m11_link.specs.Outputs.{outputs_of}
 use Rattle.m11_link.proofs.ObjectsRead.{block_falls, reads_on}
@@ -12,6 +12,7 @@ items-init g c = rw c.new-reader.ensures (record {
       first
       (outputs_of g.S.Sink g.T.Sink g.U.Sink c.args.tape.now c.args.map.now c.args.messages.now)
       c.args.emit.now s w;
+  stays = refl;
 })
 
 pub items-smaller : goal.items-smaller
@@ -34,10 +35,11 @@ items-preserved g c = record {
       (outputs_of g.S.Sink g.T.Sink g.U.Sink c.feed.new.tape c.feed.new.map c.feed.new.messages)
       c.feed.new.self c.next_into.new.block.items reads (c.in-Ok.ensures.takes plan l.parts l.stands)
       c.in-Ok.ensures.is_record;
+  stays = c.in-Ok.ensures.stays ∙ c.items.invariant.stays;
 }
 
-pub returns-in-Err-feed : goal.returns-in-Err-feed
-returns-in-Err-feed g c = λ plan before first s w.
+pub returns-in-Err-feed-clause-emits : goal.returns-in-Err-feed-clause-emits
+returns-in-Err-feed-clause-emits g c = λ plan before first s w.
     let l = c.items.invariant.sent plan before first s w in
     let reads = rw (c.items.invariant.reads, c.in-Ok-true.field-0-test) at c.in-Ok-true.ensures.reads in
     sent_refused (g.F.Feed.text c.args.feed.now) (g.F.Feed.text c.items.feed) (g.F.Feed.faults c.args.feed.now)
@@ -48,8 +50,8 @@ returns-in-Err-feed g c = λ plan before first s w.
     c.feed.new.self c.next_into.new.block.items reads c.in-Err-feed.fault
     (c.in-Err-feed.ensures.takes plan l.parts l.stands)
 
-pub returns-in-Ok-false : goal.returns-in-Ok-false
-returns-in-Ok-false g c = λ plan before first s w.
+pub returns-in-Ok-false-clause-emits : goal.returns-in-Ok-false-clause-emits
+returns-in-Ok-false-clause-emits g c = λ plan before first s w.
     let l = c.items.invariant.sent plan before first s w in
     let reads = rw (c.items.invariant.reads, c.in-Ok-false.field-0-test) at c.in-Ok-false.ensures.reads in
     sent_ends (g.F.Feed.text c.args.feed.now) (g.F.Feed.text c.items.feed) (g.F.Feed.faults c.args.feed.now)
@@ -59,8 +61,8 @@ returns-in-Ok-false g c = λ plan before first s w.
     (outputs_of g.S.Sink g.T.Sink g.U.Sink c.end_file.new.tape c.end_file.new.map c.end_file.new.messages)
     c.end_file.new.self reads c.end_file.result (c.end_file.ensures.takes plan l.parts l.stands)
 
-pub returns-in-Err : goal.returns-in-Err
-returns-in-Err g c = λ plan before first s w.
+pub returns-in-Err-clause-emits : goal.returns-in-Err-clause-emits
+returns-in-Err-clause-emits g c = λ plan before first s w.
     let l = c.items.invariant.sent plan before first s w in
     let reads = rw c.items.invariant.reads at c.in-Err.ensures.reads in
     sent_stops (g.F.Feed.text c.args.feed.now) (g.F.Feed.text c.items.feed) (g.F.Feed.faults c.args.feed.now)

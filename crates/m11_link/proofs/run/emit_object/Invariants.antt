@@ -1,4 +1,4 @@
-use Rattle.std.proofs.Common.{◌≡◌, List, false}
+use Rattle.std.proofs.Common.{◌≡◌, List, false, is_some}
 use Rattle.m11_modules.specs.Parts.{Part}
 use Rattle.m11_layout.specs.Plan.{Planned}
 use Rattle.m11_link.specs.Emit.{EmitStands, written}
@@ -17,6 +17,7 @@ invariant-items g l = record {
       (g.F.Feed.faults l.feed) l.reader.room plan l.initial.emit.has_begun before first
       (outputs_of g.S.Sink g.T.Sink g.U.Sink l.tape l.map l.messages)
       l.emit;
+  stays : is_some l.map ≡ is_some l.initial.map;
 }
 
 abbrev pub decreases-items : goal.decreases-items

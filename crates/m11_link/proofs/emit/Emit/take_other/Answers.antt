@@ -11,4 +11,4 @@ pub returns-clause-takes : goal.returns-clause-takes
 returns-clause-takes g c = λ plan before stands. record_taken plan before c.args.self.now
     c.args.record.now c.self.view_is c.requires.is stands _ _ c.write.new.self
     c.record.new.self (c.location-location.result.module_index, c.location-location.result.section) c.write.result
-    (ap (λ l. (l.module_index, l.section)) c.location-location.ensures) (c.in_ok-record.ensures before) c.write.ensures
+    (ap (λ l. (l.module_index, l.section)) c.location-location.ensures) (c.in_ok-record.ensures before) c.write.ensures.writes

@@ -12,8 +12,8 @@ pub returns-clause-takes : goal.returns-clause-takes
 returns-clause-takes g c = λ tape plan before stands. relocations_taken plan before
     (record_relocations c.args.record.now) c.args.self.now c.store_relocations.new.self stands _ _ c.begin.new.self
     c.begin.result c.in_ok-store_relocations.ensures.judged c.in_ok-store_relocations.ensures.stored
-    c.in_ok-store_relocations.ensures.begun c.in_ok-store_relocations.ensures.kept (c.begin.ensures tape)
+    c.in_ok-store_relocations.ensures.begun c.in_ok-store_relocations.ensures.kept (c.begin.ensures.writes tape)
 
 pub returns-clause-kept : goal.returns-clause-kept
-returns-clause-kept g c = fault_left _ _ _ _ _ _ c.begin.result (c.begin.ensures no_output)
+returns-clause-kept g c = fault_left _ _ _ _ _ _ c.begin.result (c.begin.ensures.writes no_output)
     c.in_ok-store_relocations.ensures.kept

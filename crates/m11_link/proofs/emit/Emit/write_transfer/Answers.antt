@@ -10,21 +10,21 @@ use Rattle.m11_link.proofs.emit.Emit.write_transfer.Goals as goal
 
 pub returns-in_err-begin-clause-writes : goal.returns-in_err-begin-clause-writes
 returns-in_err-begin-clause-writes g c =
-    stopped_first link _ _ _ _ _ _ (c.in_err-begin.ensures _) c.from_residual.ensures.1
+    stopped_first link _ _ _ _ _ _ (c.in_err-begin.ensures.writes _) c.from_residual.ensures.1
 
 pub returns-in_err-put_transfer-clause-writes : goal.returns-in_err-put_transfer-clause-writes
 returns-in_err-put_transfer-clause-writes g c = transfer_then c.args.self.now c.begin.new.self _ _ _
-    (λ p. to_tape (tape_block (planned p).transfer []) ∷ []) _ c.self.view_is (c.in_ok-begin.ensures _)
+    (λ p. to_tape (tape_block (planned p).transfer []) ∷ []) _ c.self.view_is (c.in_ok-begin.ensures.writes _)
     (stopped_alone link _ _ _ _ _ (c.in_err-put_transfer.ensures _ _) c.from_residual-in_err-put_transfer.ensures.1)
 
 pub returns-clause-writes : goal.returns-clause-writes
 returns-clause-writes g c =
     let done : LinkDone = record { messages = c.messages.result } in
     transfer_then c.args.self.now c.begin.new.self _ _ _
-    (λ p. to_tape (tape_block (planned p).transfer []) ∷ []) (Ok done) c.self.view_is (c.in_ok-begin.ensures _)
+    (λ p. to_tape (tape_block (planned p).transfer []) ∷ []) (Ok done) c.self.view_is (c.in_ok-begin.ensures.writes _)
     (c.in_ok-put_transfer.ensures _ _)
 
 pub returns-clause-count : goal.returns-clause-count
 returns-clause-count g c = c.messages.ensures
     ∙ ap (λ t. t.messages) (reporting_after c.args.self.now c.begin.new.self c.self.view_is
-    (c.in_ok-begin.ensures no_output).1)
+    (c.in_ok-begin.ensures.writes no_output).1)
