@@ -3,6 +3,7 @@ pub mod Addresses
 pub mod Exchanges
 pub mod Failures
 pub mod Laws
+pub mod OddRegisters
 pub mod Operands
 pub mod Receiving
 pub mod Registers

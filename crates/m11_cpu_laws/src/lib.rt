@@ -17,7 +17,7 @@ pub use addresses::{accesses_alone_trap, bad_addresses_trap};
 pub use devices::{failures_stop, receiver_hears};
 pub use laws::{console_is_exact, runs_are_joined, stops_stand};
 pub use operands::modes_find_their_operands;
-pub use registers::registers_stay;
+pub use registers::{odd_registers_are_both_words, registers_stay};
 pub use returns::{calls_return, traps_return};
 pub use status_word::{status_word_takes_what_is_stored, trace_bit_stays};
 pub use steps::trace_trap_follows;

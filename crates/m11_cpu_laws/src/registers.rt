@@ -1,8 +1,9 @@
-//! Which registers a step may change.
+//! Which registers a step may change, and what the extended set leaves in an odd one.
 
 ghost use Rattle.std.specs.Prelude.{[], ◌∷◌, List, ℕ, Result};
 ghost use Rattle.m11_base.specs.Operand.{register_number};
 ghost use Rattle.m11_base.specs.declared.instruction.Insn.{Insn};
+ghost use Rattle.m11_base.specs.declared.operand.Register.{Register};
 ghost use Rattle.m11_base.specs.declared.operand.Register.TheVariants.{Sp};
 ghost use Rattle.m11_cpu.specs.Dialogue.{Exchange, Leads};
 ghost use Rattle.m11_cpu.specs.Execution.{execute};
@@ -14,6 +15,7 @@ ghost use Rattle.m11_cpu.specs.declared.abort.Vector.{Vector};
 ghost use Rattle.m11_cpu.specs.declared.execution.Ending.{Ending};
 ghost use Rattle.m11_cpu.specs.declared.machine.Machine.{Machine};
 ghost use Rattle.m11_cpu.specs.declared.stop.Turn.{Turn};
+ghost use Rattle.m11_cpu_laws.specs.OddRegisters.{OddRegisters};
 ghost use Rattle.m11_cpu_laws.specs.Registers.{changed_by, RegistersStay, StepRegisters};
 ghost use Rattle.m11_cpu_laws.specs.Writes.{MakesSteps};
 
@@ -33,4 +35,12 @@ pub fn registers_stay()
         → Leads (trap vector m) exchanges (turn, m') → RegistersStay (register_number Sp ∷ []) m m' }
     ensures step { (m m' : Machine) (turn : Turn) (exchanges : List Exchange) → MakesSteps m
         → Leads (step m) exchanges (turn, m') → StepRegisters m exchanges m' }
+{}
+
+/// An odd register is both words of its pair. MUL leaves the low word of the product in it, DIV takes it for both words of the
+/// dividend and leaves the remainder, and ASHC shifts it twice over and leaves the low word. What these are is said by
+/// the laws of m11_arithmetic. (PDP-11/40 Processor Handbook, "Extended instruction set".)
+#[tactic(auto, using(crate::proofs::BothWords::odd_registers))]
+pub fn odd_registers_are_both_words()
+    ensures { (register : Register) (source : ℕ) (m : Machine) → OddRegisters register source m }
 {}

@@ -1,0 +1,33 @@
+-- The extended set by an odd register, which is both words of its pair: R1, R3, R5 and the program counter. (PDP-11/40
+-- Processor Handbook, "Extended instruction set". That DIV and ASHC take an odd register so is this project's own.)
+use Rattle.std.specs.Prelude.{◌≡◌, ℕ, ◌%◌, ◌==◌, Bool, true, length}
+use Rattle.m11_arithmetic.specs.Extended.{division_of, product_of}
+use Rattle.m11_arithmetic.specs.Shifts.{shift_pair_result}
+use Rattle.m11_arithmetic.specs.declared.results.Division.TheVariants.{Done, Refused}
+use Rattle.m11_base.specs.Operand.{register_number}
+use Rattle.m11_base.specs.declared.instruction.ConditionCodes.{ConditionCodes}
+use Rattle.m11_base.specs.declared.instruction.ExtendedOp.TheVariants.{Mul, Div, Ashc}
+use Rattle.m11_base.specs.declared.operand.Register.{Register}
+use Rattle.m11_cpu.specs.Extended.{extended_by}
+use Rattle.m11_cpu.specs.Machine.{register_of}
+use Rattle.m11_cpu.specs.declared.machine.Machine.{Machine}
+
+abbrev pub is_odd_register : Register → Bool
+is_odd_register register = register_number register % 2 == 1
+
+-- once the source is fetched, the register is taken for both words, and the low word or the remainder stays in it. A
+-- division that is refused leaves it
+pub record IsBothWords (register : Register) (source : ℕ) (m : Machine) : Type 0 where
+  pub product : register_of register (extended_by Mul register source m)
+      ≡ (product_of (register_of register m) source).low
+  pub remainder : (quotient remainder : ℕ) (codes : ConditionCodes)
+      → division_of (register_of register m) (register_of register m) source ≡ Done quotient remainder codes
+      → register_of register (extended_by Div register source m) ≡ remainder
+  pub refused : (codes : ConditionCodes)
+      → division_of (register_of register m) (register_of register m) source ≡ Refused codes
+      → register_of register (extended_by Div register source m) ≡ register_of register m
+  pub shifted : register_of register (extended_by Ashc register source m)
+      ≡ (shift_pair_result (register_of register m) (register_of register m) source).low
+
+abbrev pub OddRegisters : Register → ℕ → Machine → Type 0
+OddRegisters register source m = is_odd_register register ≡ true → length m.registers ≡ 8 → IsBothWords register source m
