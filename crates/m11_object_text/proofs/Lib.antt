@@ -1,0 +1,3 @@
+pub mod Cutting
+pub mod RecordCuts
+pub mod TextCuts

@@ -1,0 +1,7 @@
+pub mod Blocks
+pub mod Directory
+pub mod Fronts
+pub mod OpenText
+pub mod Pieces
+pub mod RelocationList
+pub mod Texts

@@ -1,0 +1,16 @@
+-- Relocations that there are. (RT-11 Volume and File Formats Manual, "Object file format", RLD block.)
+use Rattle.std.specs.Prelude.{Bool, true, false, if◌then◌else◌}
+use Rattle.m11_obj.specs.declared.relocations.Relocation.{Relocation}
+use Rattle.m11_obj.specs.declared.relocations.Target.{Target}
+use Rattle.m11_obj.specs.declared.relocations.Target.TheVariants.{LocationCounterDefinition, LocationCounterModification, ProgramLimits}
+
+-- commands that store a value of one word have a byte form
+abbrev pub has_byte_form : Target → Bool
+has_byte_form (LocationCounterDefinition name constant) = false
+has_byte_form (LocationCounterModification constant) = false
+has_byte_form ProgramLimits = false
+has_byte_form target = true
+
+-- a byte is asked for only where the command has that form
+abbrev pub has_form : Relocation → Bool
+has_form relocation = if relocation.is_byte then has_byte_form relocation.target else true

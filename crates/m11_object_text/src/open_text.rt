@@ -1,0 +1,62 @@
+//! The text that is open while pieces come. (RT-11 Volume and File Formats Manual, "Object file format", TXT and RLD blocks.)
+
+ghost use Rattle.std.specs.Prelude.{◌≡◌, List, [], ◌∷◌, ◌++◌};
+ghost use Rattle.m11_obj.specs.Records.{Content};
+ghost use Rattle.m11_object_text.specs.declared.pieces.Piece.{Piece};
+ghost use Rattle.m11_object_text.specs.OpenText.{Stands, records_in};
+ghost use Rattle.m11_object_text.specs.Texts.{text_records};
+
+use crate::pieces::Piece;
+use crate::texts::Text;
+use std::marker::Model;
+use std::mem;
+
+/// The text that further pieces may come into: all pieces so far but those of texts that were handed out.
+#[derive(Drop)]
+pub struct OpenText {
+    text: Option<Text>,
+}
+
+impl Model for OpenText {
+    ghost use Rattle.std.specs.Prelude.{Option};
+    ghost use Rattle.m11_object_text.specs.Texts.{TextParts};
+
+    ghost Value = { Option TextParts };
+
+    ghost view = { λ o. o.text };
+}
+
+impl OpenText {
+    /// Before the first piece.
+    pub fn new() -> OpenText
+        ensures { Stands [] [] result }
+    {
+        OpenText { text: None }
+    }
+
+    /// Takes a piece. Where the open text can't hold it too, that text is handed out and is to be written; the piece opens another
+    /// one.
+    pub fn take(&mut self, piece: &Piece) -> Option<Text>
+        ensures { (pieces : List Piece) (written : List Content) → Stands pieces written self.old
+            → Stands (pieces ++ piece.now ∷ []) (written ++ records_in result) self.new }
+    {
+        let Some(text) = &mut self.text else {
+            self.text = Some(Text::start(None, piece));
+            return None;
+        };
+        if text.takes(piece) {
+            text.push(piece);
+            return None;
+        }
+        let following = Text::start(Some(text.section()), piece);
+        Some(mem::replace(text, following))
+    }
+
+    /// The last text, if there was a piece.
+    pub fn end(self) -> Option<Text>
+        ensures { (pieces : List Piece) (written : List Content) → Stands pieces written self
+            → written ++ records_in result ≡ text_records pieces }
+    {
+        self.text
+    }
+}
