@@ -10,23 +10,23 @@ use Rattle.m11_object_text.specs.Fronts.{fronts_of}
 use Rattle.m11_object_text.specs.Directory.{entry_of, is_one_record, record_cutting, directory_records, Stands, written_by}
 use Rattle.m11_object_text.proofs.Cutting.{first_front, fronts-grown, fronts-opened}
 
-right_of : (a b : Bool) → (a && b) ≡ true → b ≡ true
+pub right_of : (a b : Bool) → (a && b) ≡ true → b ≡ true
 right_of true b e = e
 right_of false b e = absurd (false≢true e)
 
 both_of : (a b : Bool) → a ≡ true → b ≡ true → (a && b) ≡ true
 both_of a b e f = ap (λ (t : Bool). t && b) e ∙ f
 
-nothing : is_one_record [] ≡ false
+pub nothing : is_one_record [] ≡ false
 unfolding is_one_record
 nothing = refl
 
-fits : (x : GsdEntry) (xs : List GsdEntry) → length (x ∷ xs) ≤ 15 → is_one_record (x ∷ xs) ≡ true
+pub fits : (x : GsdEntry) (xs : List GsdEntry) → length (x ∷ xs) ≤ 15 → is_one_record (x ∷ xs) ≡ true
 unfolding is_one_record
 fits x xs h = both_of (leb 1 (length (x ∷ xs))) (leb (length (x ∷ xs)) 15)
     (le-leb 1 (length (x ∷ xs)) (omega arith)) (le-leb (length (x ∷ xs)) 15 h)
 
-few : (xs : List GsdEntry) → is_one_record xs ≡ true → length xs ≤ 15
+pub few : (xs : List GsdEntry) → is_one_record xs ≡ true → length xs ≤ 15
 unfolding is_one_record
 few xs e = leb-true (length xs) 15 (right_of (leb 1 (length xs)) (leb (length xs) 15) e)
 
@@ -37,12 +37,12 @@ too_many xs h = by_test (is_one_record xs) refl
     by_test false e = refl
     by_test true e = absurd (omega (arith, few xs e))
 
-beginning : (x : GsdEntry) (xs ys : List GsdEntry) → is_one_record ((x ∷ xs) ++ ys) ≡ true
+pub beginning : (x : GsdEntry) (xs ys : List GsdEntry) → is_one_record ((x ∷ xs) ++ ys) ≡ true
     → is_one_record (x ∷ xs) ≡ true
 beginning x xs ys e =
     fits x xs (omega (arith, few ((x ∷ xs) ++ ys) e, length-append (x ∷ xs) ys))
 
-alone : (x : GsdEntry) → is_one_record (x ∷ []) ≡ true
+pub alone : (x : GsdEntry) → is_one_record (x ∷ []) ≡ true
 alone x = fits x [] (omega arith)
 
 entries-push : (rows : List DirectoryRow) (row : DirectoryRow)

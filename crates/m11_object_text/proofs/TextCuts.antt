@@ -46,11 +46,11 @@ relocations_bytes-append xs ys = ap length (flat_map-append relocation_bytes xs 
 
 -- ---- what one text can hold
 
-left_of : (a b : Bool) → (a && b) ≡ true → a ≡ true
+pub left_of : (a b : Bool) → (a && b) ≡ true → a ≡ true
 left_of true b e = refl
 left_of false b e = e
 
-right_of : (a b : Bool) → (a && b) ≡ true → b ≡ true
+pub right_of : (a b : Bool) → (a && b) ≡ true → b ≡ true
 right_of true b e = e
 right_of false b e = absurd (false≢true e)
 
@@ -81,7 +81,7 @@ fewer_relocations xs ys =
       relocations_bytes-append (relocations_of xs) others,
     )
 
-nothing : is_one_text [] ≡ false
+pub nothing : is_one_text [] ≡ false
 unfolding is_one_text
 nothing = refl
 
@@ -131,7 +131,7 @@ small_relocation displacement (Byte stored) = small_option true displacement (ta
 small_relocation displacement (Word stored) = small_option false displacement (target_of stored.kind stored.constant)
 small_relocation displacement Limits = omega arith
 
-alone : (x : Piece) → is_one_text (x ∷ []) ≡ true
+pub alone : (x : Piece) → is_one_text (x ∷ []) ≡ true
 unfolding is_one_text
 alone x = both_of (leb (length (text_bytes (x ∷ []))) 32)
     (leb (length (relocations_bytes (relocations_of (x ∷ [])))) 120)
