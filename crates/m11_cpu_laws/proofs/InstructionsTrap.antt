@@ -1,5 +1,5 @@
 -- At which of its accesses each instruction traps through 4.
-use Rattle.std.proofs.Common.{◌≡◌, ◌≢◌, ℕ, ◌+◌, ◌*◌, ◌%◌, Bool, true, false, List, [], ◌∷◌, ◌++◌, length, Result, Ok, Err, refl, sym, ◌∙◌, subst, ap, arith, inl, inr, true≢false}
+use Rattle.std.proofs.Common.{◌≡◌, ◌≢◌, ℕ, ◌+◌, ◌*◌, ◌%◌, Bool, false, List, [], ◌∷◌, ◌++◌, length, Result, Ok, Err, refl, sym, ◌∙◌, subst, ap, arith, inl, inr, true≢false}
 use Rattle.std.specs.Prelude.{⊤}
 use Rattle.m11_base.specs.Operand.{register_number}
 use Rattle.m11_base.specs.declared.instruction.BareOp.{BareOp}
@@ -23,10 +23,10 @@ use Rattle.m11_base.specs.declared.operand.Size.TheVariants.{Word, Byte}
 use Rattle.m11_arithmetic.specs.declared.results.Computed.{Computed}
 use Rattle.m11_cpu.specs.Access.{load_byte, load_word, store_byte, store_word}
 use Rattle.m11_cpu.specs.Acts.{Act, ◌>>=◌}
-use Rattle.m11_cpu.specs.Addressing.{deferred, fetch, fetch_operand, forward, indexed, next_word, place_by, place_of, put_result, stepped_back, store}
-use Rattle.m11_cpu.specs.Dialogue.{Comes, Dialogue, Exchange, Leads}
+use Rattle.m11_cpu.specs.Addressing.{deferred, fetch, fetch_operand, indexed, next_word, place_by, place_of, put_result, stepped_back, store}
+use Rattle.m11_cpu.specs.Dialogue.{Comes, Exchange, Leads}
 use Rattle.m11_cpu.specs.DoubleOperands.{change_double, change_exclusive, compare, double, double_at, exclusive_or, move_to, store_moved}
-use Rattle.m11_cpu.specs.Execution.{bare, execute, numbered, on_register, return_from_trap, then_next}
+use Rattle.m11_cpu.specs.Execution.{bare, execute, numbered, on_register, return_from_trap}
 use Rattle.m11_cpu.specs.Extended.{extended}
 use Rattle.m11_cpu.specs.Jumps.{address_of, call, enter, jump, mark, pop, push, return_by, target}
 use Rattle.m11_cpu.specs.Machine.{advanced, register_of, with_register}
@@ -45,7 +45,7 @@ use Rattle.m11_cpu_laws.proofs.AccessesTrap.{Accesses, bind_never, comes_never, 
 use Rattle.m11_cpu_laws.proofs.AddressesTrap.{load_byte_traps, load_word_traps}
 use Rattle.m11_cpu_laws.proofs.MemoryKept.{fetch_quiet}
 use Rattle.m11_cpu_laws.proofs.StopsStand.{at_once}
-use Rattle.m11_cpu_laws.proofs.WordsPut.{put_length, put_other}
+use Rattle.m11_cpu_laws.proofs.WordsPut.{put_other}
 
 done_never : {A : Type 0} (x : A) (n : Machine) → NeverAt4 {A = A} (Comes (Ok x, n))
 done_never x n = comes_never (Ok x) n refl

@@ -1,8 +1,8 @@
 -- Where each mode finds its operand.
-use Rattle.std.proofs.Common.{◌≡◌, ℕ, ◌+◌, ◌-◌, ◌%◌, length, Ok, refl, sym, ◌∙◌, ap, subst, arith}
+use Rattle.std.proofs.Common.{◌≡◌, ℕ, ◌+◌, ◌%◌, length, Ok, refl, sym, ◌∙◌, subst, arith}
 use Rattle.m11_base.specs.declared.operand.Mode.TheVariants as mode
 use Rattle.m11_base.specs.declared.operand.Register.{Register}
-use Rattle.m11_base.specs.declared.operand.Register.TheVariants.{R0, R1, R2, R3, R4, R5, Sp, Pc}
+use Rattle.m11_base.specs.declared.operand.Register.TheVariants.{Pc}
 use Rattle.m11_base.specs.declared.operand.Size.{Size}
 use Rattle.m11_base.specs.declared.operand.Size.TheVariants.{Word, Byte}
 use Rattle.m11_cpu.specs.Access.{load_word}

@@ -1,5 +1,5 @@
 -- Which instructions leave T, and what traps load.
-use Rattle.std.proofs.Common.{◌≡◌, ℕ, ◌+◌, ◌*◌, ◌%◌, ◌==◌, Bool, true, false, cond, Option, Some, None, Result, Ok, Err, refl, ◌∙◌}
+use Rattle.std.proofs.Common.{◌≡◌, ℕ, ◌+◌, ◌%◌, ◌==◌, Bool, true, false, cond, Option, Some, None, Result, Ok, Err, refl, ◌∙◌}
 use Rattle.std.specs.Prelude.{ℤ, List, ⊤}
 use Rattle.m11_base.specs.declared.instruction.BareOp.{BareOp}
 use Rattle.m11_base.specs.declared.instruction.BareOp.TheVariants.{Halt, Wait, Rti, Bpt, Iot, Reset, Rtt}
@@ -26,7 +26,7 @@ use Rattle.m11_arithmetic.specs.declared.results.Computed.{Computed}
 use Rattle.m11_arithmetic.specs.declared.results.Division.{Division}
 use Rattle.m11_arithmetic.specs.declared.results.Division.TheVariants.{Done, Refused}
 use Rattle.m11_cpu.specs.Access.{is_inside, is_odd, send, sent, store_byte, store_device, store_register, store_word}
-use Rattle.m11_cpu.specs.Acts.{Act, ◌>>=◌}
+use Rattle.m11_cpu.specs.Acts.{Act}
 use Rattle.m11_cpu.specs.Addressing.{back, fetch, fetch_operand, place_of, put_result, store}
 use Rattle.m11_cpu.specs.Console.{device_at}
 use Rattle.m11_cpu.specs.Dialogue.{Exchange, Leads}

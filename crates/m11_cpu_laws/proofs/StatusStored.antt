@@ -1,13 +1,11 @@
 -- What instructions leave of the processor status word that they store to.
-use Rattle.std.proofs.Common.{◌≡◌, ℕ, ◌+◌, ◌/◌, ◌%◌, ◌≤◌, ◌==◌, Bool, true, false, cond, List, ◌++◌, length, Result, Ok, refl, sym, ◌∙◌, ap, subst, arith}
+use Rattle.std.proofs.Common.{◌≡◌, ℕ, ◌/◌, ◌%◌, ◌≤◌, true, false, List, ◌++◌, length, Result, Ok, refl, sym, ◌∙◌, ap, subst, arith}
 use Rattle.std.proofs.lemmas.Bool.{le-ltb}
 use Rattle.m11_base.specs.declared.instruction.BareOp.{BareOp}
 use Rattle.m11_base.specs.declared.instruction.BareOp.TheVariants.{Halt, Wait, Rti, Bpt, Iot, Reset, Rtt}
 use Rattle.m11_base.specs.declared.instruction.DoubleOp.{DoubleOp}
 use Rattle.m11_base.specs.declared.instruction.DoubleOp.TheVariants.{Mov, Cmp, Bit, Bic, Bis, Add, Sub}
-use Rattle.m11_base.specs.declared.instruction.Insn.{Insn}
 use Rattle.m11_base.specs.declared.instruction.Insn.TheVariants as insn
-use Rattle.m11_base.specs.declared.instruction.RegisterOp.TheVariants.{Jsr, Xor}
 use Rattle.m11_base.specs.declared.instruction.SingleOp.{SingleOp}
 use Rattle.m11_base.specs.declared.instruction.SingleOp.TheVariants.{Jmp, Swab, Clr, Com, Inc, Dec, Neg, Adc, Sbc, Tst, Ror, Rol, Asr, Asl, Sxt}
 use Rattle.m11_base.specs.declared.operand.Operand.{Operand}
@@ -23,21 +21,20 @@ use Rattle.m11_cpu.specs.Acts.{Act, unless_aborted, ◌>>=◌}
 use Rattle.m11_cpu.specs.Addressing.{fetch, fetch_operand, place_of, put_result, store}
 use Rattle.m11_cpu.specs.Dialogue.{Comes, Dialogue, Exchange, Leads}
 use Rattle.m11_cpu.specs.DoubleOperands.{change_double, change_exclusive, double, double_at, exclusive_or, move_to, store_moved}
-use Rattle.m11_cpu.specs.Execution.{bare, execute, on_register, return_from_trap, then_next}
+use Rattle.m11_cpu.specs.Execution.{bare, execute, on_register, return_from_trap}
 use Rattle.m11_cpu.specs.Jumps.{call, enter, pop, push, target}
 use Rattle.m11_cpu.specs.Machine.{psw_in, register_of, with_condition_codes, with_register}
 use Rattle.m11_cpu.specs.SingleOperands.{change_at, change_single, single, write}
-use Rattle.m11_cpu.specs.Status.{status_of, status_written}
+use Rattle.m11_cpu.specs.Status.{status_of}
 use Rattle.m11_cpu.specs.declared.abort.Abort.{Abort}
 use Rattle.m11_cpu.specs.declared.addressing.OperandLocation.{OperandLocation}
-use Rattle.m11_cpu.specs.declared.addressing.OperandLocation.TheVariants.{InRegister, InMemory}
-use Rattle.m11_cpu.specs.declared.execution.Ending.{Ending}
+use Rattle.m11_cpu.specs.declared.addressing.OperandLocation.TheVariants.{InMemory}
 use Rattle.m11_cpu.specs.declared.execution.Ending.TheVariants as ending
 use Rattle.m11_cpu.specs.declared.machine.Machine.{Machine}
 use Rattle.m11_cpu.specs.declared.status.ProcessorStatus.{ProcessorStatus}
 use Rattle.m11_cpu.proofs.AtOnce.{bind_at, cond_not}
 use Rattle.m11_cpu.proofs.Dialogues.{leads_after}
-use Rattle.m11_cpu_laws.specs.StatusWord.{AtStatus, CallsAtStatus, DoublesAtStatus, EndsBeforeDevices, ExclusivesAtStatus, is_return, return_ending, ReturnsLoad, SinglesAtStatus, with_status_word}
+use Rattle.m11_cpu_laws.specs.StatusWord.{CallsAtStatus, DoublesAtStatus, EndsBeforeDevices, ExclusivesAtStatus, ReturnsLoad, SinglesAtStatus, with_status_word}
 use Rattle.m11_cpu_laws.specs.Writes.{push_address, stack_deepened, stores_double, stores_single}
 use Rattle.m11_cpu_laws.proofs.StepsInMemory.{bind_leads}
 

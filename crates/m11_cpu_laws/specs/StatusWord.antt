@@ -1,7 +1,7 @@
 -- The processor status word at its address: what a store leaves of it, and what is loaded. (PDP-11/40 Processor Handbook,
 -- "Processor status word", "Trace trap", RTI, RTT. That a store leaves T and overrides the codes of its instruction, and
 -- that the odd byte takes nothing, is this project's own.)
-use Rattle.std.specs.Prelude.{◌≡◌, ℕ, ◌+◌, ◌≤◌, Bool, true, false, List, ◌++◌, Result, Ok}
+use Rattle.std.specs.Prelude.{◌≡◌, ℕ, ◌+◌, ◌≤◌, Bool, true, false, List, ◌++◌, Ok}
 use Rattle.m11_base.specs.declared.instruction.BareOp.{BareOp}
 use Rattle.m11_base.specs.declared.instruction.BareOp.TheVariants.{Rti, Rtt}
 use Rattle.m11_base.specs.declared.instruction.DoubleOp.{DoubleOp}
@@ -25,7 +25,6 @@ use Rattle.m11_cpu.specs.Machine.{memory_size, psw_in, register_of, with_conditi
 use Rattle.m11_cpu.specs.Memory.{word_at}
 use Rattle.m11_cpu.specs.Status.{status_of, status_written}
 use Rattle.m11_cpu.specs.Traps.{trap, vector_address}
-use Rattle.m11_cpu.specs.declared.abort.Abort.{Abort}
 use Rattle.m11_cpu.specs.declared.abort.Vector.{Vector}
 use Rattle.m11_cpu.specs.declared.addressing.OperandLocation.TheVariants.{InMemory}
 use Rattle.m11_cpu.specs.declared.execution.Ending.{Ending}

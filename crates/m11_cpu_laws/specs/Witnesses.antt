@@ -1,6 +1,5 @@
 -- Machines that meet the premises of laws: each law with premises speaks of one at least. (This project's own.)
 use Rattle.std.specs.Prelude.{◌≡◌, ℕ, true, false, List, [], ◌∷◌, Ok}
-use Rattle.m11_base.specs.declared.instruction.DoubleOp.TheVariants.{Mov}
 use Rattle.m11_base.specs.declared.instruction.Insn.TheVariants as insn
 use Rattle.m11_base.specs.declared.instruction.NumberOp.TheVariants.{Emt}
 use Rattle.m11_base.specs.declared.instruction.BareOp.TheVariants.{Rti}
@@ -15,7 +14,7 @@ use Rattle.m11_cpu.specs.declared.machine.Machine.{Machine}
 use Rattle.m11_cpu.specs.declared.stop.Stop.TheVariants.{InputFault, Limit, OutputFault, StackFault}
 use Rattle.m11_cpu.specs.declared.stop.Turn.{Turn}
 use Rattle.m11_cpu.specs.declared.stop.Turn.TheVariants.{Next, Stopped}
-use Rattle.m11_cpu_laws.specs.Returns.{HasRoom, IsAt, IsRunning, TrapInstructionReturns}
+use Rattle.m11_cpu_laws.specs.Returns.{HasRoom, IsAt, IsRunning}
 use Rattle.m11_cpu_laws.specs.StatusWord.{EndsBeforeDevices}
 use Rattle.m11_cpu_laws.specs.Writes.{MakesSteps}
 
