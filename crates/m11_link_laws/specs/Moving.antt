@@ -153,29 +153,40 @@ text_moved distance does_move text = record text {
   address = moved distance does_move text.address;
 }
 
--- the value of a target at a location, after this base, that moves with its text or not
-abbrev pub value_moved : ℕ → List Part → Findings → ℕ → ℕ → ℕ → Bool → Target → ℕ
-value_moved distance parts near index own location does_move named =
-    number_moved 0o200000 distance (target_moves parts index does_move named) (is_displaced named && does_move)
-    (value_of near index own location named)
+-- a place in a text: the index of its module, the base of its section there, the place's address, and whether the text
+-- moves
+pub record TextPlace : Type 0 where
+  pub module_index : ℕ
+  pub base : ℕ
+  pub location : ℕ
+  pub does_move : Bool
+
+abbrev pub text_place : ℕ → ℕ → ℕ → Bool → TextPlace
+text_place module_index base location does_move =
+    record { module_index = module_index; base = base; location = location; does_move = does_move }
+
+-- the value of a target at a place
+abbrev pub value_moved : ℕ → List Part → Findings → TextPlace → Target → ℕ
+value_moved distance parts near place named =
+    number_moved 0o200000 distance (target_moves parts place.module_index place.does_move named)
+    (is_displaced named && place.does_move) (value_of near place.module_index place.base place.location named)
 
 -- the bytes that a relocation stores then
-abbrev pub bytes_moved : ℕ → List Part → Findings → ℕ → ℕ → ℕ → Bool → Bool → Target → List ℕ
-bytes_moved distance parts near index own location does_move is_byte target.ProgramLimits =
+abbrev pub bytes_moved : ℕ → List Part → Findings → TextPlace → Bool → Target → List ℕ
+bytes_moved distance parts near place is_byte target.ProgramLimits =
     word_bytes (near.bottom + distance) ++ word_bytes (near.top + distance)
-bytes_moved distance parts near index own location does_move is_byte (target.LocationCounterDefinition name constant) =
-    []
-bytes_moved distance parts near index own location does_move is_byte (target.LocationCounterModification constant) = []
-bytes_moved distance parts near index own location does_move is_byte other =
-    value_bytes is_byte (value_moved distance parts near index own location does_move other)
+bytes_moved distance parts near place is_byte (target.LocationCounterDefinition name constant) = []
+bytes_moved distance parts near place is_byte (target.LocationCounterModification constant) = []
+bytes_moved distance parts near place is_byte other =
+    value_bytes is_byte (value_moved distance parts near place other)
 
 -- a text with relocations, each of which stores what it stores then
 abbrev pub relocation_moved : ℕ → List Part → Findings → Bool → PlacedText → Relocation → PlacedText
 relocation_moved distance parts near does_move text relocation =
     let index = relocation.displacement - 4 in
     let location = modulo (text.address + index) in
-    let bytes = bytes_moved distance parts near text.module_index text.base location does_move relocation.is_byte
-    relocation.target in
+    let place = text_place text.module_index text.base location does_move in
+    let bytes = bytes_moved distance parts near place relocation.is_byte relocation.target in
     record text {
       bytes = if lies_within relocation (length text.bytes) then replaced text.bytes index bytes else text.bytes;
     }

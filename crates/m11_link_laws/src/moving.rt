@@ -12,7 +12,7 @@ ghost use Rattle.m11_link_text.specs.Findings.{findings_of};
 ghost use Rattle.m11_link.specs.Front.{undefined_writes};
 ghost use Rattle.m11_link_text.specs.Relocation.{stored_bytes, value_of};
 ghost use Rattle.m11_link.specs.Written.{link_writes, parts_writes, placed_text, with_relocations};
-ghost use Rattle.m11_link_laws.specs.Moving.{Moved, all_stay, byte_stays, bytes_moved, counting_transfer, farther, findings_moved, is_displaced, moved, moved_after, moves, number_moved, relocations_moved, section_moves, shape_of, stores_limits, target_moves, text_moved, value_moved};
+ghost use Rattle.m11_link_laws.specs.Moving.{Moved, all_stay, byte_stays, bytes_moved, counting_transfer, farther, findings_moved, is_displaced, moved, moved_after, moves, number_moved, relocations_moved, section_moves, shape_of, stores_limits, target_moves, text_moved, text_place, value_moved};
 
 /// Relocatable sections move by the distance, and with them the contributions of modules to them, the globals that
 /// stand after such a contribution, both limits, and the transfer address where the entry that counts names such a
@@ -66,7 +66,7 @@ pub fn moving_the_bottom_moves_stored_values()
         (named : Target)
         → stored_bytes (findings_of (bottom + distance) parts) index (moved distance does_move own)
         (moved distance does_move location) is_byte named
-        ≡ bytes_moved distance parts (findings_of bottom parts) index own location does_move is_byte named }
+        ≡ bytes_moved distance parts (findings_of bottom parts) (text_place index own location does_move) is_byte named }
     ensures low { (bottom distance : ℕ) (parts : List Part) (index own location : ℕ) (does_move : Bool) (named : Target)
         → stores_limits named ≡ false
         → stored_bytes (findings_of (bottom + distance) parts) index (moved distance does_move own)
