@@ -8,7 +8,7 @@ use Rattle.m11_files.specs.Opens.{Files, IsEmptiedSome, keeping_some}
 use Rattle.m11_layout.specs.Plan.{Planned}
 use Rattle.m11_layout.specs.declared.fault.LinkFault.{LinkFault}
 use Rattle.m11_layout.specs.declared.fault.LinkFault.TheVariants as fault
-use Rattle.m11_link.specs.FirstPass.{ReadsFirst}
+use Rattle.m11_link.specs.FirstPass.{ReadsFirst, pass_of}
 use Rattle.m11_link.specs.Objects.{Item, GiveItems, FailAfter}
 use Rattle.m11_link.specs.SecondPass.{ReadsSecond, LinkRuns}
 use Rattle.m11_writes.specs.Outputs.{optional_output}
@@ -72,8 +72,8 @@ module _ {F : Type 0} (text : F → Option Text) (faults : F → ℕ) where
   carried olds news P h = (none text faults olds news h.0, h.1, given olds h.1 h.2, h.3)
 
   first : (olds news : List F) (bottom : ℕ) (answer : Result Planned LinkFault)
-      → ReadsFirst text faults olds news bottom answer
-      → ReadsFirst (λ s. s.text) (λ s. s.faults) (seen text faults olds) (seen text faults news) bottom answer
+      → ReadsFirst (pass_of text faults olds news) bottom answer
+      → ReadsFirst (pass_of (λ s. s.text) (λ s. s.faults) (seen text faults olds) (seen text faults news)) bottom answer
   first olds news bottom (Ok plan) h =
       (none text faults olds news h.0, h.1, given olds h.1 h.2, h.3, h.4, h.5)
   first olds news bottom (Err fault.Read) h = (h.0, failed olds news h.0 h.1, h.2)
@@ -93,8 +93,8 @@ module _ {F : Type 0} (text : F → Option Text) (faults : F → ℕ) where
   first olds news bottom (Err fault.NoMemory) h = none text faults olds news h
 
   second : (olds news : List F) (plan : Planned) (old new : Outputs) (answer : Result LinkDone LinkFault)
-      → ReadsSecond text faults olds news plan old new answer
-      → ReadsSecond (λ s. s.text) (λ s. s.faults) (seen text faults olds) (seen text faults news) plan old new answer
+      → ReadsSecond (pass_of text faults olds news) plan old new answer
+      → ReadsSecond (pass_of (λ s. s.text) (λ s. s.faults) (seen text faults olds) (seen text faults news)) plan old new answer
   second olds news plan old new (Ok done) h =
       (none text faults olds news h.0, h.1, given olds h.1 h.2, h.3, h.4, h.5, h.6)
   second olds news plan old new (Err fault.Read) h = (h.0, failed olds news h.0 h.1, h.2, h.3)
@@ -128,9 +128,9 @@ module _ {F : Type 0} (text : F → Option Text) (faults : F → ℕ) where
       (none text faults olds news h.0, h.1, given olds h.1 h.2, h.3, h.4)
 
   pub link_runs : (olds news again later : List F) (bottom : ℕ) (old new : Outputs) (answer : Result LinkDone LinkFault)
-      → LinkRuns text faults olds news again later bottom old new answer
-      → LinkRuns (λ s. s.text) (λ s. s.faults) (seen text faults olds) (seen text faults news) (seen text faults again)
-      (seen text faults later) bottom old new answer
+      → LinkRuns (pass_of text faults olds news) (pass_of text faults again later) bottom old new answer
+      → LinkRuns (pass_of (λ s. s.text) (λ s. s.faults) (seen text faults olds) (seen text faults news))
+      (pass_of (λ s. s.text) (λ s. s.faults) (seen text faults again) (seen text faults later)) bottom old new answer
   link_runs olds news again later bottom old new (Ok done) h =
       (h.0, first olds news bottom (Ok h.0) h.1, second again later h.0 old new (Ok done) h.2)
   link_runs olds news again later bottom old new (Err stopped) (inl h) =

@@ -34,6 +34,7 @@ use Rattle.m11_tasks.specs.declared.tasks.Task.{Task}
 use Rattle.m11_tasks.specs.declared.tasks.Task.TheVariants as task
 use Rattle.m11_tasks.specs.declared.usage.UsageFault.{UsageFault}
 use Rattle.m11_tasks.specs.declared.usage.UsageFault.TheVariants.{Help, Words}
+use Rattle.m11_link.specs.FirstPass.{pass_of}
 
 -- ---- what a process has
 
@@ -139,7 +140,8 @@ pub record Links (task : LinkTask) (old new : Store) (reported reported' : Outpu
   pub read-again : AreFiles (λ s. s.text) old.files (link_inputs task) second
   pub emptied : IsEmptied old.files tape.text
   pub emptied-map : IsEmptiedSome (λ m. m.text) old.files task.map map
-  pub runs : linking.LinkRuns (λ s. s.text) (λ s. s.faults) first first' second second' task.bottom
+  pub runs : linking.LinkRuns (pass_of (λ s. s.text) (λ s. s.faults) first first')
+      (pass_of (λ s. s.text) (λ s. s.faults) second second') task.bottom
       (outputs tape map reported) (outputs tape' map' reported') answer
   pub kept : new.files ≡ keeping_some (λ m. m.text) task.map map'
       (keeping task.tape.now tape'.text (creating (link_outputs task) old.files))

@@ -25,7 +25,7 @@ use Rattle.m11_layout.specs.Plan.{Planned}
 use Rattle.m11_layout.specs.Tables.{Gathered, nothing_gathered}
 use Rattle.m11_layout.specs.declared.fault.LinkFault.{LinkFault}
 use Rattle.m11_layout.specs.declared.fault.LinkFault.TheVariants as fault
-use Rattle.m11_link.specs.Emit.{Emitting, Reporting, Goes, GoesOn, EmitStands, TakesBlock, TakesParts, begin_writes, begun_reporting, bytes_writes, entries_writes, held_at, held_text, held_with, held_with_all, held_writes, record_writes, relocated_parts, with_bytes, with_count, with_held, with_record, with_reporting, written}
+use Rattle.m11_link.specs.Emit.{EmitStands, Emitting, Goes, GoesOn, Reporting, TakesBlock, TakesParts, begin_writes, begun_reporting, bytes_writes, call_of, entries_writes, held_at, held_text, held_with, held_with_all, held_writes, record_writes, relocated_parts, with_bytes, with_count, with_held, with_record, with_reporting, written}
 use Rattle.m11_link_text.specs.Findings.{Findings, planned}
 use Rattle.m11_link.specs.Front.{front_writes}
 use Rattle.m11_link.specs.Outputs.{Outputs, Write, Gains, Stops, StopsBetween, StopsIn, Writes, link}
@@ -259,7 +259,7 @@ module _ (plan : Planned) (before parts : List Part) (ws : Reporting → List Wr
   pub parts_taken : (a b : Outputs) (s' : Emitting) (known : Known) (result : Result (Unit {0}) LinkFault)
       → first_fault before parts ≡ None → known ≡ known_of (before ++ parts)
       → Goes a b made s' (let now : Emitting = record s { known = known } in with_reporting (u (begun_reporting s)) now) result
-      → TakesParts plan before a b s s' parts result
+      → TakesParts plan before (call_of a b s s') parts result
   parts_taken a b s' known (Ok done) sound k (gains, is) = (
     stands_after s' sound (ap (λ x. x.known) is ∙ k) (ap (λ x. x.reporting) is) (ap (λ x. x.has_begun) is)
         (ap (λ x. x.fault) is),
@@ -284,7 +284,7 @@ module _ (plan : Planned) (before parts : List Part) (ws : Reporting → List Wr
 
   -- parts were refused
   refused_by : (a : Outputs) (s' : Emitting) (new : Known) (broken : ModuleFault)
-      → TakesAfter before new parts (Err broken) → TakesParts plan before a a s s' parts (Err (of_module broken))
+      → TakesAfter before new parts (Err broken) → TakesParts plan before (call_of a a s s') parts (Err (of_module broken))
   refused_by a s' new rule.BadOrder h = ((rule.BadOrder, h, refl), refl)
   refused_by a s' new rule.NoText h = ((rule.NoText, h, refl), refl)
   refused_by a s' new rule.BadDisplacement h = ((rule.BadDisplacement, h, refl), refl)
@@ -297,10 +297,10 @@ module _ (plan : Planned) (before parts : List Part) (ws : Reporting → List Wr
 
   pub parts_refused : (a : Outputs) (s' : Emitting) (new : Known) (broken : ModuleFault) (result : Result (Unit {0}) LinkFault)
       → TakesAfter before new parts (Err broken) → IsErrAnd result (λ e. e ≡ of_module broken)
-      → TakesParts plan before a a s s' parts result
+      → TakesParts plan before (call_of a a s s') parts result
   parts_refused a s' new broken (Ok done) h e = absurd e
   parts_refused a s' new broken (Err stopped) h e =
-      let P : LinkFault → Type 0 = λ x. TakesParts plan before a a s s' parts (Err x) in
+      let P : LinkFault → Type 0 = λ x. TakesParts plan before (call_of a a s s') parts (Err x) in
       subst P (sym e) (refused_by a s' new broken h)
 
 -- ---- what is written first, by calls
@@ -442,9 +442,9 @@ module _ {seen : Emitting} (plan : Planned) (before : List Part) (s : Emitting) 
 
   pub end_refused : (a : Outputs) (s' : Emitting) (new : Known) (broken : ModuleFault) (result : Result (Unit {0}) LinkFault)
       → (seen.known ≡ known_of before → TakesAfter before new (EndOfFile ∷ []) (Err broken))
-      → IsErrAnd result (λ e. e ≡ of_module broken) → TakesParts plan before a a s s' (EndOfFile ∷ []) result
+      → IsErrAnd result (λ e. e ≡ of_module broken) → TakesParts plan before (call_of a a s s') (EndOfFile ∷ []) result
   end_refused a s' new broken result h e =
-      let P : Emitting → Type 0 = λ x. TakesParts plan before a a x s' (EndOfFile ∷ []) result in
+      let P : Emitting → Type 0 = λ x. TakesParts plan before (call_of a a x s') (EndOfFile ∷ []) result in
       subst P is (parts_refused plan before (EndOfFile ∷ []) (λ t. held_writes t.held) (with_held None) (end_makes plan before)
       seen here a s' new broken result (h here.known) e)
 
@@ -456,9 +456,9 @@ module _ {seen : Emitting} (plan : Planned) (before : List Part) (s : Emitting) 
       → (seen.known ≡ known_of before → TakesAfter before known (EndOfFile ∷ []) (Ok tt))
       → Goes a b (begin_writes seen) s'
       (let now : Emitting = record seen { known = known } in with_reporting (begun_reporting seen) now) result
-      → TakesParts plan before a b s s' (EndOfFile ∷ []) result
+      → TakesParts plan before (call_of a b s s') (EndOfFile ∷ []) result
   end_taken a b s' known result h k =
-      let P : Emitting → Type 0 = λ x. TakesParts plan before a b x s' (EndOfFile ∷ []) result in
+      let P : Emitting → Type 0 = λ x. TakesParts plan before (call_of a b x s') (EndOfFile ∷ []) result in
       let t = h here.known in
       let now : Emitting = record seen { known = known } in
       let none = none_held (planned plan) before here.sound (ends_there t.0) in
@@ -494,9 +494,9 @@ module _ {seen : Emitting} (plan : Planned) (before : List Part) (s : Emitting) 
 
   pub record_refused : (a : Outputs) (s' : Emitting) (new : Known) (broken : ModuleFault) (result : Result (Unit {0}) LinkFault)
       → (seen.known ≡ known_of before → TakesAfter before new (record_parts bytes) (Err broken))
-      → IsErrAnd result (λ f. f ≡ of_module broken) → TakesParts plan before a a s s' (record_parts bytes) result
+      → IsErrAnd result (λ f. f ≡ of_module broken) → TakesParts plan before (call_of a a s s') (record_parts bytes) result
   record_refused a s' new broken result h f =
-      let P : Emitting → Type 0 = λ x. TakesParts plan before a a x s' (record_parts bytes) result in
+      let P : Emitting → Type 0 = λ x. TakesParts plan before (call_of a a x s') (record_parts bytes) result in
       let now = here plan before s is stands in
       subst P is (parts_refused plan before (record_parts bytes) (bytes_writes index bytes)
       (with_bytes index section bytes) makes seen now a s' new broken result (h now.known) f)
@@ -507,7 +507,7 @@ module _ {seen : Emitting} (plan : Planned) (before : List Part) (s : Emitting) 
       → Goes a b (begin_writes seen ++ bytes_writes location.0 bytes (begun_reporting seen)) s'
       (let now : Emitting = record seen { known = known } in
       with_reporting (with_bytes location.0 location.1 bytes (begun_reporting seen)) now) result
-      → TakesParts plan before a b s s' (record_parts bytes) result
+      → TakesParts plan before (call_of a b s s') (record_parts bytes) result
   record_taken a b s' known location result l h k =
       let now = here plan before s is stands in
       let t = h now.known in
@@ -516,7 +516,7 @@ module _ {seen : Emitting} (plan : Planned) (before : List Part) (s : Emitting) 
       let G : Place → Type 0 = λ at.
       Goes a b (begin_writes seen ++ bytes_writes at.0 bytes (begun_reporting seen)) s' (expected at) result in
       let k' = subst G (l ∙ location_of before s.known stands.known) k in
-      let P : Emitting → Type 0 = λ x. TakesParts plan before a b x s' (record_parts bytes) result in
+      let P : Emitting → Type 0 = λ x. TakesParts plan before (call_of a b x s') (record_parts bytes) result in
       subst P is (parts_taken plan before (record_parts bytes) (bytes_writes index bytes)
       (with_bytes index section bytes) makes seen now a b s' known result t.0 t.1 k')
 
@@ -550,7 +550,7 @@ module _ (plan : Planned) (before : List Part) (relocations : List Relocation) (
 
   pub relocations_refused : (a : Outputs) (s' : Emitting) (broken : ModuleFault) (result : Result (Unit {0}) LinkFault)
       → RulesTake old.known mid.known parts (Err broken) → IsErrAnd result (λ f. f ≡ of_module broken)
-      → TakesParts plan before a a old s' parts result
+      → TakesParts plan before (call_of a a old s') parts result
   relocations_refused a s' broken result h f =
       parts_refused plan before parts (λ t. []) (relocating relocations) relocations_make old stands a s' mid.known
       broken result (taken_after before old.known mid.known parts (Err broken) stands.known h) f
@@ -559,7 +559,7 @@ module _ (plan : Planned) (before : List Part) (relocations : List Relocation) (
       → RulesTake old.known mid.known parts (Ok tt) → mid.reporting ≡ relocating relocations old.reporting
       → mid.has_begun ≡ old.has_begun → mid.fault ≡ old.fault
       → Goes a b (begin_writes mid) s' (with_reporting (begun_reporting mid) mid) result
-      → TakesParts plan before a b old s' parts result
+      → TakesParts plan before (call_of a b old s') parts result
   relocations_taken a b s' result h e f g k =
       let t = taken_after before old.known mid.known parts (Ok tt) stands.known h in
       let P : Emitting → Type 0 = λ x. Goes a b (begin_writes x) s' (with_reporting (begun_reporting x) x) result in
@@ -619,7 +619,7 @@ there (Err fault) items bytes e = absurd cc
 -- no fault of parts is one of a block that is no record
 of_record : (plan : Planned) (before : List Part) (a b : Outputs) (s s' : Emitting) (items : List ℕ)
     (result : Result (Unit {0}) LinkFault) → IsRecord items
-    → TakesParts plan before a b s s' (record_parts items) result → TakesBlock plan before a b s s' items result
+    → TakesParts plan before (call_of a b s s') (record_parts items) result → TakesBlock plan before (call_of a b s s') items result
 of_record plan before a b s s' items (Ok done) is h = h
 of_record plan before a b s s' items (Err (fault.Write output)) is h = (is, h)
 of_record plan before a b s s' items (Err fault.NoMemory) is h = inr (is, h)
@@ -628,18 +628,18 @@ of_record plan before a b s s' items (Err stopped) is h = h
 
 module _ (plan : Planned) (before : List Part) (a b : Outputs) (s s' : Emitting) (items bytes : List ℕ)
     (result : Result (Unit {0}) LinkFault) (e : ◌≡◌ {A = Result (List ℕ) RecordFault} (Ok bytes) (record_of items)) where
-  pub record_block : TakesParts plan before a b s s' (record_parts bytes) result
-      → TakesBlock plan before a b s s' items result
+  pub record_block : TakesParts plan before (call_of a b s s') (record_parts bytes) result
+      → TakesBlock plan before (call_of a b s s') items result
   record_block h =
-      let Q : List ℕ → Type 0 = λ these. TakesParts plan before a b s s' (record_parts these) result in
+      let Q : List ℕ → Type 0 = λ these. TakesParts plan before (call_of a b s s') (record_parts these) result in
       of_record plan before a b s s' items result (there (content_of items) items bytes e)
       (subst Q (record_is items bytes e) h)
 
   pub relocations_block : record_kind bytes ≡ Ok kind.Relocations
-      → TakesParts plan before a b s s' (Relocations ∷ relocated_parts (record_relocations bytes)) result
-      → TakesBlock plan before a b s s' items result
+      → TakesParts plan before (call_of a b s s') (Relocations ∷ relocated_parts (record_relocations bytes)) result
+      → TakesBlock plan before (call_of a b s s') items result
   relocations_block k h =
-      let P : List Part → Type 0 = λ parts. TakesParts plan before a b s s' parts result in
+      let P : List Part → Type 0 = λ parts. TakesParts plan before (call_of a b s s') parts result in
       record_block (subst P (sym (relocation_parts (content_of bytes) k)) h)
 
 -- ---- the transfer block, by calls

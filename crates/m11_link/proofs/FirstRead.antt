@@ -14,7 +14,7 @@ use Rattle.m11_layout.specs.Sections.{is_too_large}
 use Rattle.m11_layout.specs.Layout.{LayoutState, LayoutStands, TakesBlock, TakesParts}
 use Rattle.m11_layout.specs.declared.fault.LinkFault.{LinkFault}
 use Rattle.m11_layout.specs.declared.fault.LinkFault.TheVariants as fault
-use Rattle.m11_link.specs.FirstPass.{LaysOut, LaysOutObject, ReadsFirst, Reaches, StandsBetween, of_block}
+use Rattle.m11_link.specs.FirstPass.{LaysOut, LaysOutObject, Reaches, ReadsFirst, StandsBetween, of_block, pass_of}
 use Rattle.m11_link.specs.Objects.{Item, AreItems, BlockOf, ObjectEnds, Refused, GivesItems, BeginsItems, ObjectItems, taken, taken_item, unless_too_large}
 use Rattle.m11_link.specs.Objects as objects
 use Rattle.m11_base.proofs.FeedsRead.{SoFar, begin, all_read, failed_here, given_more, none_failed, read_more}
@@ -162,7 +162,7 @@ module _ {F : Type 0} (text : F → Option Text) (faults : F → ℕ) where
 
   pub all_laid : (initial now : List F) (index bottom : ℕ) (before : List Part) (layout : LayoutState)
       → LaidAll text faults initial now index bottom before layout → length now ≤ index
-      → LaysOut text faults initial now bottom before layout (Ok tt)
+      → LaysOut (pass_of text faults initial now) bottom before layout (Ok tt)
   all_laid initial now index bottom before layout l over =
       let all = all_read text faults initial now index l.sources l.feeds over in
       (all.0, l.items, record { sources = l.sources; given = all.1; are = l.are }, l.reaches)
@@ -187,7 +187,7 @@ module _ {F : Type 0} (text : F → Option Text) (faults : F → ℕ) where
 
     pub object_stops : (stopped : LinkFault)
         → LaysOutObject (text x) (faults x) (faults z) bottom l.reaches.parts new (Err stopped)
-        → LaysOut text faults initial (set now index z) bottom before new (Err stopped)
+        → LaysOut (pass_of text faults initial (set now index z)) bottom before new (Err stopped)
     object_stops fault.Read h = (
       l.items ++ h.1,
       record {
@@ -231,15 +231,15 @@ fits_is bottom parts is_large e =
 
 module _ {F : Type 0} (text : F → Option Text) (faults : F → ℕ) (feeds feeds' : List F) (bottom : ℕ)
     (layout : LayoutState) where
-  pub reading_stops : (stopped : LinkFault) → LaysOut text faults feeds feeds' bottom [] layout (Err stopped)
-      → ReadsFirst text faults feeds feeds' bottom (Err stopped)
+  pub reading_stops : (stopped : LinkFault) → LaysOut (pass_of text faults feeds feeds') bottom [] layout (Err stopped)
+      → ReadsFirst (pass_of text faults feeds feeds') bottom (Err stopped)
   reading_stops fault.Read h = h
   reading_stops fault.NoMemory h = h
   reading_stops stopped h =
       (h.0, h.1, h.2, bind_stops (taken [] h.1) (unless_too_large bottom) stopped h.3)
 
-  pub reading_ends : (l : LaysOut text faults feeds feeds' bottom [] layout (Ok tt)) (result : Result Planned LinkFault)
-      → LayoutEnds bottom l.3.parts result → ReadsFirst text faults feeds feeds' bottom result
+  pub reading_ends : (l : LaysOut (pass_of text faults feeds feeds') bottom [] layout (Ok tt)) (result : Result Planned LinkFault)
+      → LayoutEnds bottom l.3.parts result → ReadsFirst (pass_of text faults feeds feeds') bottom result
   reading_ends l (Ok plan) e = (
     l.0,
     l.1,

@@ -14,14 +14,14 @@ use Rattle.m11_layout.specs.Plan.{Planned}
 use Rattle.m11_layout.specs.declared.fault.LinkFault.{LinkFault}
 use Rattle.m11_layout.specs.declared.fault.LinkFault.TheVariants as fault
 use Rattle.m11_layout.specs.declared.fault.LinkOutput.{LinkOutput}
-use Rattle.m11_link.specs.Emit.{Emitting, EmitEnds, GoesOn, EmitStands, TakesBlock, TakesParts, written}
-use Rattle.m11_link.specs.FirstPass.{of_block}
+use Rattle.m11_link.specs.Emit.{EmitEnds, EmitStands, Emitting, GoesOn, TakesBlock, TakesParts, call_of, written}
+use Rattle.m11_link.specs.FirstPass.{of_block, pass_of}
 use Rattle.m11_link.specs.Objects.{◌>>=◌, AreItems, Item, BlockOf, ObjectEnds, Refused, GiveItems, GivesItems, taken, taken_item}
 use Rattle.m11_link.specs.Objects as objects
 use Rattle.m11_link.specs.declared.emit.LinkDone.{LinkDone}
 use Rattle.m11_link_text.specs.Findings.{planned}
 use Rattle.m11_link.specs.Written.{link_writes}
-use Rattle.m11_link.specs.SecondPass.{Emits, ReadsSecond, Emitted, EmitsObject, IsOfItems, StopsAt, StopsBefore, StopsLink, StopsWithin, WrittenAfter, begun_by}
+use Rattle.m11_link.specs.SecondPass.{Emits, EmitsObject, Emitted, IsOfItems, ReadsSecond, StopsAt, StopsBefore, StopsLink, StopsWithin, WrittenAfter, begun_by, start_at}
 use Rattle.m11_link.specs.Outputs.{Outputs, Write, Gains, StopsBetween, StopsIn, link}
 use Rattle.m11_base.proofs.FeedsRead.{SoFar, begin, all_read, failed_here, given_more, none_failed, read_more}
 use Rattle.m11_link.proofs.FirstRead.{are_after, one_object}
@@ -157,29 +157,29 @@ module _ (plan : Planned) (parts : List Part) (sound : first_fault [] parts ≡ 
       (parts ++ EndOfFile ∷ [], end_taken parts (sound_after [] parts (EndOfFile ∷ []) sound none), h)
 
   refused_memory : (bytes : List ℕ) → (new ≡ now) ⊎ (IsRecord bytes
-      × TakesParts plan parts now new emit emit' (record_parts bytes) (Err fault.NoMemory))
+      × TakesParts plan parts (call_of now new emit emit') (record_parts bytes) (Err fault.NoMemory))
       → (new ≡ now) ⊎ Within plan emit.has_begun parts (BlockOf bytes) (StopsBetween now new)
   refused_memory bytes (inl e) = inl e
   refused_memory bytes (inr h) = here h.1
     where
-      here : TakesParts plan parts now new emit emit' (record_parts bytes) (Err fault.NoMemory)
+      here : TakesParts plan parts (call_of now new emit emit') (record_parts bytes) (Err fault.NoMemory)
           → (new ≡ now) ⊎ Within plan emit.has_begun parts (BlockOf bytes) (StopsBetween now new)
       here (inl e) = inl e
       here (inr k) = inr (within_block bytes (StopsBetween now new) h.0 k.0 k.1)
 
-  block_halts : (bytes : List ℕ) (stopped : LinkFault) → TakesBlock plan parts now new emit emit' bytes (Err stopped)
+  block_halts : (bytes : List ℕ) (stopped : LinkFault) → TakesBlock plan parts (call_of now new emit emit') bytes (Err stopped)
       → Halts plan emit.has_begun parts (BlockOf bytes) now new stopped
   block_halts bytes (fault.Write output) h = within_block bytes (StopsIn output now new) h.0 h.1.0 h.1.1
   block_halts bytes fault.NoMemory h = refused_memory bytes h
   block_halts bytes (fault.Record inner) h = (no_record_decides parts bytes inner h.0, h.1)
   block_halts bytes stopped h = (parts_decide parts bytes stopped h.0, h.1)
 
-  end_memory : TakesParts plan parts now new emit emit' (EndOfFile ∷ []) (Err fault.NoMemory)
+  end_memory : TakesParts plan parts (call_of now new emit emit') (EndOfFile ∷ []) (Err fault.NoMemory)
       → (new ≡ now) ⊎ Within plan emit.has_begun parts ObjectEnds (StopsBetween now new)
   end_memory (inl e) = inl e
   end_memory (inr k) = inr (within_end (StopsBetween now new) k.0 k.1)
 
-  end_halts : (stopped : LinkFault) → TakesParts plan parts now new emit emit' (EndOfFile ∷ []) (Err stopped)
+  end_halts : (stopped : LinkFault) → TakesParts plan parts (call_of now new emit emit') (EndOfFile ∷ []) (Err stopped)
       → Halts plan emit.has_begun parts ObjectEnds now new stopped
   end_halts (fault.Write output) h = within_end (StopsIn output now new) h.0 h.1
   end_halts fault.NoMemory h = end_memory h
@@ -250,7 +250,7 @@ module _ (text : Option FeedText) (faults faults' : ℕ) (plan : Planned) (b : B
       (decides_then before parts done (item ∷ []) stopped taken-is d)
 
   halted : (stopped : LinkFault) → Halts plan has_begun parts item now new stopped
-      → EmitsObject text faults faults' plan b before first new emit' (Err stopped)
+      → EmitsObject text faults faults' (start_at plan b before first) new emit' (Err stopped)
   halted (fault.Write output) h = (
     same,
     (done ++ item ∷ []) ++ more,
@@ -312,7 +312,7 @@ module _ (text text1 : Option FeedText) (faults faults1 room1 : ℕ) (plan : Pla
     walked : Walked text text2 faults faults2 room2 (l.done ++ BlockOf content ∷ [])
     walked = walk_more text text1 faults faults1 room1 l.done l.walked text2 faults2 room2 content r
 
-    pub sent_more : TakesBlock plan l.parts now new emit emit' content (Ok tt) → IsRecord content
+    pub sent_more : TakesBlock plan l.parts (call_of now new emit emit') content (Ok tt) → IsRecord content
         → Sent text text2 faults faults2 room2 plan b before first new emit'
     sent_more t is = record {
       done = l.done ++ BlockOf content ∷ [];
@@ -326,8 +326,8 @@ module _ (text text1 : Option FeedText) (faults faults1 room1 : ℕ) (plan : Pla
       gains = written_on first now new plan l.parts (record_parts content) emit emit' l.gains t.1 t.2;
     }
 
-    pub sent_refused : (stopped : LinkFault) → TakesBlock plan l.parts now new emit emit' content (Err stopped)
-        → EmitsObject text faults faults2 plan b before first new emit' (Err stopped)
+    pub sent_refused : (stopped : LinkFault) → TakesBlock plan l.parts (call_of now new emit emit') content (Err stopped)
+        → EmitsObject text faults faults2 (start_at plan b before first) new emit' (Err stopped)
     sent_refused stopped t =
         let whole = walk_whole text text2 faults faults2 room2 (l.done ++ BlockOf content ∷ []) walked in
         halted text faults faults2 plan b before first now new emit' emit.has_begun l.done (BlockOf content) whole.0
@@ -335,8 +335,8 @@ module _ (text text1 : Option FeedText) (faults faults1 room1 : ℕ) (plan : Pla
         (block_halts plan l.parts l.stands.sound now new emit emit' content stopped t)
 
   pub sent_ends : Stops first_block (place text1 faults1 room1) (place text2 faults2 room2) EndsBetween
-      → (result : Result (Unit {0}) LinkFault) → TakesParts plan l.parts now new emit emit' (EndOfFile ∷ []) result
-      → EmitsObject text faults faults2 plan b before first new emit' result
+      → (result : Result (Unit {0}) LinkFault) → TakesParts plan l.parts (call_of now new emit emit') (EndOfFile ∷ []) result
+      → EmitsObject text faults faults2 (start_at plan b before first) new emit' result
   sent_ends s (Ok done) t =
       let end = walk_ends text text1 faults faults1 room1 l.done l.walked text2 faults2 room2 s in (
         end.1,
@@ -388,7 +388,7 @@ module _ (text text1 : Option FeedText) (faults faults1 room1 : ℕ) (plan : Pla
 
   stopped_so : (stopped : LinkFault) → (inner : BlockFault) → stopped ≡ of_block inner
       → StopsObject text text1 faults faults1 room1 l.done l.walked text2 faults2 room2 stopped
-      → EmitsObject text faults faults2 plan b before first now emit (Err stopped)
+      → EmitsObject text faults faults2 (start_at plan b before first) now emit (Err stopped)
   stopped_so fault.Read inner is h = (h.0, l.done, h.1, exactly_now)
   stopped_so fault.NoMemory inner is h = absurd (no_memory inner is)
   stopped_so (fault.Write output) inner is h = absurd (no_write inner output is)
@@ -403,9 +403,9 @@ module _ (text text1 : Option FeedText) (faults faults1 room1 : ℕ) (plan : Pla
   pub sent_stops : (inner : BlockFault)
       → Stops first_block (place text1 faults1 room1) (place text2 faults2 room2) (why_of inner)
       → (stopped : LinkFault) → stopped ≡ of_block inner
-      → EmitsObject text faults faults2 plan b before first now emit (Err stopped)
+      → EmitsObject text faults faults2 (start_at plan b before first) now emit (Err stopped)
   sent_stops inner s stopped is =
-      let P : LinkFault → Type 0 = λ these. EmitsObject text faults faults2 plan b before first now emit (Err these) in
+      let P : LinkFault → Type 0 = λ these. EmitsObject text faults faults2 (start_at plan b before first) now emit (Err these) in
       subst P (sym is) (stopped_so (of_block inner) inner refl
       (walk_stops text text1 faults faults1 room1 l.done l.walked text2 faults2 room2 inner s))
 
@@ -435,7 +435,7 @@ module _ {F : Type 0} (text : F → Option FeedText) (faults : F → ℕ) where
   pub all_sent : (initial here : List F) (index : ℕ) (plan : Planned) (b : Bool) (before : List Part)
       (first now : Outputs) (emit : Emitting) → SentAll text faults initial here index plan b before first now emit
       → length here ≤ index
-      → Emits text faults initial here plan b before first now emit (Ok tt)
+      → Emits (pass_of text faults initial here) (start_at plan b before first) now emit (Ok tt)
   all_sent initial here index plan b before first now emit l over =
       let all = all_read text faults initial here index l.sources l.feeds over in
       (all.0, l.items, record { sources = l.sources; given = all.1; are = l.are }, l.emitted)
@@ -448,7 +448,7 @@ module _ {F : Type 0} (text : F → Option FeedText) (faults : F → ℕ) where
     parts : List Part
     parts = l.emitted.parts
 
-    pub object_sent : EmitsObject (text x) (faults x) (faults z) plan emit.has_begun l.emitted.parts first new emit'
+    pub object_sent : EmitsObject (text x) (faults x) (faults z) (start_at plan emit.has_begun l.emitted.parts first) new emit'
         (Ok tt)
         → SentAll text faults initial (set here index z) (index + 1) plan b before first new emit'
     object_sent h = record {
@@ -503,8 +503,8 @@ module _ {F : Type 0} (text : F → Option FeedText) (faults : F → ℕ) where
       )
 
     pub object_stops : (stopped : LinkFault)
-        → EmitsObject (text x) (faults x) (faults z) plan emit.has_begun l.emitted.parts first new emit' (Err stopped)
-        → Emits text faults initial (set here index z) plan b before first new emit' (Err stopped)
+        → EmitsObject (text x) (faults x) (faults z) (start_at plan emit.has_begun l.emitted.parts first) new emit' (Err stopped)
+        → Emits (pass_of text faults initial (set here index z)) (start_at plan b before first) new emit' (Err stopped)
     object_stops fault.Read h = (
       l.items ++ h.1,
       record {
@@ -540,16 +540,16 @@ module _ {F : Type 0} (text : F → Option FeedText) (faults : F → ℕ) (feeds
       let P : Bool → Type 0 = λ x. StopsBefore plan x [] items stopped old now in subst P fresh s
 
   pub second_stops : (now : Outputs) (emit : Emitting) (stopped : LinkFault)
-      → Emits text faults feeds feeds' plan b [] old now emit (Err stopped)
-      → ReadsSecond text faults feeds feeds' plan old now (Err stopped)
+      → Emits (pass_of text faults feeds feeds') (start_at plan b [] old) now emit (Err stopped)
+      → ReadsSecond (pass_of text faults feeds feeds') plan old now (Err stopped)
   second_stops now emit fault.Read h =
       let P : Bool → Type 0 = λ x. WrittenAfter plan x [] h.0 old now in
       (h.0, h.1, (h.2.parts, h.2.taken-is), subst P fresh h.2)
   second_stops now emit stopped h = (h.0, h.1, h.2, h.3, stops_link stopped h.1 now h.4)
 
-  module _ (now new : Outputs) (emit : Emitting) (h : Emits text faults feeds feeds' plan b [] old now emit (Ok tt)) where
+  module _ (now new : Outputs) (emit : Emitting) (h : Emits (pass_of text faults feeds feeds') (start_at plan b [] old) now emit (Ok tt)) where
     pub second_ends : (result : Result LinkDone LinkFault) → EmitEnds plan h.3.parts now new emit result
-        → ReadsSecond text faults feeds feeds' plan old new result
+        → ReadsSecond (pass_of text faults feeds feeds') plan old new result
     second_ends (Ok done) e = (
       h.0,
       h.1,

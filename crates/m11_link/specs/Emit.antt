@@ -208,6 +208,16 @@ pub record GoesOn (Went : List Write → Type 0) (so_far all : List Write) : Typ
   pub split : all ≡ so_far ++ more
   pub went : Went more
 
+-- a call of a second pass: the outputs before it and after it, and how the pass stood and stands
+pub record Call : Type 0 where
+  pub old : Outputs
+  pub new : Outputs
+  pub stood : Emitting
+  pub stands : Emitting
+
+abbrev pub call_of : Outputs → Outputs → Emitting → Emitting → Call
+call_of old new stood stands = record { old = old; new = new; stood = stood; stands = stands }
+
 -- parts weren't taken: their first fault was returned, and nothing was written; or they have none, and an output failed,
 -- or memory was refused; or memory was refused before anything was written
 abbrev pub StopsInParts : Planned → List Part → Outputs → Outputs → Emitting → List Part → LinkFault → Type 0
@@ -219,25 +229,20 @@ StopsInParts plan before old new state parts fault.NoMemory = (new ≡ old)
 StopsInParts plan before old new state parts stopped = FirstFault before parts stopped × (new ≡ old)
 
 -- parts were taken, and all that they make is written; or they weren't
-abbrev pub TakesParts : Planned → List Part → Outputs → Outputs → Emitting → Emitting → List Part
-    → Result (Unit {0}) LinkFault → Type 0
-TakesParts plan before old new state state' parts (Ok done) = EmitStands plan (before ++ parts) state'
-    × (state'.has_begun ≡ true)
-    × GoesOn (Gains old new) (written plan state.has_begun before) (written plan true (before ++ parts))
-TakesParts plan before old new state state' parts (Err stopped) =
-    StopsInParts plan before old new state parts stopped
+abbrev pub TakesParts : Planned → List Part → Call → List Part → Result (Unit {0}) LinkFault → Type 0
+TakesParts plan before call parts (Ok done) = EmitStands plan (before ++ parts) call.stands
+    × (call.stands.has_begun ≡ true)
+    × GoesOn (Gains call.old call.new) (written plan call.stood.has_begun before) (written plan true (before ++ parts))
+TakesParts plan before call parts (Err stopped) = StopsInParts plan before call.old call.new call.stood parts stopped
 
 -- a block is no record, or its parts were taken
-abbrev pub TakesBlock : Planned → List Part → Outputs → Outputs → Emitting → Emitting → List ℕ
-    → Result (Unit {0}) LinkFault → Type 0
-TakesBlock plan before old new state state' bytes (Err (fault.Record inner)) =
-    (content_of bytes ≡ Err inner) × (new ≡ old)
-TakesBlock plan before old new state state' bytes (Err (fault.Write output)) = IsRecord bytes
-    × TakesParts plan before old new state state' (record_parts bytes) (Err (fault.Write output))
-TakesBlock plan before old new state state' bytes (Err fault.NoMemory) = (new ≡ old) ⊎ (IsRecord bytes
-    × TakesParts plan before old new state state' (record_parts bytes) (Err fault.NoMemory))
-TakesBlock plan before old new state state' bytes result =
-    TakesParts plan before old new state state' (record_parts bytes) result
+abbrev pub TakesBlock : Planned → List Part → Call → List ℕ → Result (Unit {0}) LinkFault → Type 0
+TakesBlock plan before call bytes (Err (fault.Record inner)) = (content_of bytes ≡ Err inner) × (call.new ≡ call.old)
+TakesBlock plan before call bytes (Err (fault.Write output)) = IsRecord bytes
+    × TakesParts plan before call (record_parts bytes) (Err (fault.Write output))
+TakesBlock plan before call bytes (Err fault.NoMemory) = (call.new ≡ call.old) ⊎ (IsRecord bytes
+    × TakesParts plan before call (record_parts bytes) (Err fault.NoMemory))
+TakesBlock plan before call bytes result = TakesParts plan before call (record_parts bytes) result
 
 -- where a fault was returned, it is returned again, nothing changes and nothing is written
 abbrev pub FailsAgain : Emitting → Emitting → Outputs → Outputs → Result (Unit {0}) LinkFault → Type 0

@@ -12,6 +12,16 @@ use Rattle.m11_layout.specs.declared.fault.LinkFault.{LinkFault}
 use Rattle.m11_layout.specs.declared.fault.LinkFault.TheVariants as fault
 use Rattle.m11_link.specs.Objects.{Item, taken, outcome, GivesItems, BeginsItems, GiveItems, FailAfter}
 
+-- the feeds of a pass, before it and after it: what is known of the text of each, and its count of failures
+pub record Pass (F : Type 0) : Type 0 where
+  pub text : F → Option Text
+  pub faults : F → ℕ
+  pub old : List F
+  pub new : List F
+
+abbrev pub pass_of : {F : Type 0} → (F → Option Text) → (F → ℕ) → List F → List F → Pass F
+pass_of text faults old new = record { text = text; faults = faults; old = old; new = new }
+
 -- a fault of a block as that of a link
 abbrev pub of_block : BlockFault → LinkFault
 of_block block.Device = fault.Read
@@ -45,25 +55,23 @@ LaysOutObject text faults faults' bottom before layout (Err stopped) =
     (faults' ≡ faults) × (items : List Item) × GivesItems text items × (taken before items ≡ Err stopped)
 
 -- the same of several
-abbrev pub LaysOut : {F : Type 0} → (F → Option Text) → (F → ℕ) → List F → List F → ℕ → List Part → LayoutState
-    → Result (Unit {0}) LinkFault → Type 0
-LaysOut text faults feeds feeds' bottom before layout (Ok done) = NoneFailed faults feeds feeds'
-    × (items : List Item) × GiveItems text feeds items × Reaches bottom before items layout
-LaysOut text faults feeds feeds' bottom before layout (Err fault.Read) =
-    (items : List Item) × FailAfter text faults feeds feeds' items × AreTaken before items
-LaysOut text faults feeds feeds' bottom before layout (Err fault.NoMemory) = NoneFailed faults feeds feeds'
-LaysOut text faults feeds feeds' bottom before layout (Err stopped) = NoneFailed faults feeds feeds'
-    × (items : List Item) × GiveItems text feeds items × (taken before items ≡ Err stopped)
+abbrev pub LaysOut : {F : Type 0} → Pass F → ℕ → List Part → LayoutState → Result (Unit {0}) LinkFault → Type 0
+LaysOut pass bottom before layout (Ok done) = NoneFailed pass.faults pass.old pass.new
+    × (items : List Item) × GiveItems pass.text pass.old items × Reaches bottom before items layout
+LaysOut pass bottom before layout (Err fault.Read) =
+    (items : List Item) × FailAfter pass.text pass.faults pass.old pass.new items × AreTaken before items
+LaysOut pass bottom before layout (Err fault.NoMemory) = NoneFailed pass.faults pass.old pass.new
+LaysOut pass bottom before layout (Err stopped) = NoneFailed pass.faults pass.old pass.new
+    × (items : List Item) × GiveItems pass.text pass.old items × (taken before items ≡ Err stopped)
 
 -- the whole first pass: a plan of the parts that the objects yield; or their fault; or a feed failed, and what had
 -- come till then has no fault; or memory was refused
-abbrev pub ReadsFirst : {F : Type 0} → (F → Option Text) → (F → ℕ) → List F → List F → ℕ → Result Planned LinkFault
-    → Type 0
-ReadsFirst text faults feeds feeds' bottom (Ok plan) = NoneFailed faults feeds feeds'
-    × (items : List Item) × GiveItems text feeds items
+abbrev pub ReadsFirst : {F : Type 0} → Pass F → ℕ → Result Planned LinkFault → Type 0
+ReadsFirst pass bottom (Ok plan) = NoneFailed pass.faults pass.old pass.new
+    × (items : List Item) × GiveItems pass.text pass.old items
     × (parts : List Part) × (outcome bottom items ≡ Ok parts) × IsPlanOf bottom parts plan
-ReadsFirst text faults feeds feeds' bottom (Err fault.Read) =
-    (items : List Item) × FailAfter text faults feeds feeds' items × AreTaken [] items
-ReadsFirst text faults feeds feeds' bottom (Err fault.NoMemory) = NoneFailed faults feeds feeds'
-ReadsFirst text faults feeds feeds' bottom (Err stopped) = NoneFailed faults feeds feeds'
-    × (items : List Item) × GiveItems text feeds items × (outcome bottom items ≡ Err stopped)
+ReadsFirst pass bottom (Err fault.Read) =
+    (items : List Item) × FailAfter pass.text pass.faults pass.old pass.new items × AreTaken [] items
+ReadsFirst pass bottom (Err fault.NoMemory) = NoneFailed pass.faults pass.old pass.new
+ReadsFirst pass bottom (Err stopped) = NoneFailed pass.faults pass.old pass.new
+    × (items : List Item) × GiveItems pass.text pass.old items × (outcome bottom items ≡ Err stopped)

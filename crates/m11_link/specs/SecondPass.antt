@@ -10,7 +10,7 @@ use Rattle.m11_layout.specs.declared.fault.LinkFault.TheVariants as fault
 use Rattle.m11_link.specs.declared.emit.LinkDone.{LinkDone}
 use Rattle.m11_link.specs.Emit.{Emitting, EmitStands, written}
 use Rattle.m11_link_text.specs.Findings.{planned}
-use Rattle.m11_link.specs.FirstPass.{AreTaken, ReadsFirst}
+use Rattle.m11_link.specs.FirstPass.{AreTaken, Pass, ReadsFirst}
 use Rattle.m11_link.specs.Objects.{Item, taken, taken_item, GivesItems, BeginsItems, GiveItems, FailAfter}
 use Rattle.m11_link.specs.Outputs.{Write, Outputs, Gains, StopsIn, StopsBetween}
 use Rattle.m11_link.specs.Written.{counted, link_writes}
@@ -75,26 +75,44 @@ pub record Emitted (plan : Planned) (has_begun : Bool) (before : List Part) (ite
   pub begun : emit.has_begun ≡ begun_by has_begun items
   pub gains : Gains first now (written plan emit.has_begun parts)
 
-abbrev pub EmitsObject : Option Text → ℕ → ℕ → Planned → Bool → List Part → Outputs → Outputs → Emitting
-    → Result (Unit {0}) LinkFault → Type 0
-EmitsObject text faults faults' plan has_begun before first now emit (Ok done) = (faults' ≡ faults)
-    × (items : List Item) × GivesItems text items × Emitted plan has_begun before items first now emit
-EmitsObject text faults faults' plan has_begun before first now emit (Err fault.Read) = Rises faults faults'
-    × (items : List Item) × BeginsItems text items × WrittenAfter plan has_begun before items first now
-EmitsObject text faults faults' plan has_begun before first now emit (Err stopped) = (faults' ≡ faults)
-    × (items : List Item) × GivesItems text items × IsOfItems before items stopped
-    × StopsAt stopped plan has_begun before items first now
+-- where objects of a second pass begin: its plan, whether anything is written, the parts before them, and what the
+-- outputs were before all of them
+pub record Start : Type 0 where
+  pub plan : Planned
+  pub has_begun : Bool
+  pub before : List Part
+  pub first : Outputs
 
-abbrev pub Emits : {F : Type 0} → (F → Option Text) → (F → ℕ) → List F → List F → Planned → Bool → List Part
-    → Outputs → Outputs → Emitting → Result (Unit {0}) LinkFault → Type 0
-Emits text faults feeds feeds' plan has_begun before first now emit (Ok done) = NoneFailed faults feeds feeds'
-    × (items : List Item) × GiveItems text feeds items × Emitted plan has_begun before items first now emit
-Emits text faults feeds feeds' plan has_begun before first now emit (Err fault.Read) =
-    (items : List Item) × FailAfter text faults feeds feeds' items
-    × WrittenAfter plan has_begun before items first now
-Emits text faults feeds feeds' plan has_begun before first now emit (Err stopped) = NoneFailed faults feeds feeds'
-    × (items : List Item) × GiveItems text feeds items × IsOfItems before items stopped
-    × StopsAt stopped plan has_begun before items first now
+abbrev pub start_at : Planned → Bool → List Part → Outputs → Start
+start_at plan has_begun before first =
+    record { plan = plan; has_begun = has_begun; before = before; first = first }
+
+abbrev pub EmittedFrom : Start → List Item → Outputs → Emitting → Type 0
+EmittedFrom start items now emit = Emitted start.plan start.has_begun start.before items start.first now emit
+
+abbrev pub WrittenFrom : Start → List Item → Outputs → Type 0
+WrittenFrom start items now = WrittenAfter start.plan start.has_begun start.before items start.first now
+
+abbrev pub StopsFrom : LinkFault → Start → List Item → Outputs → Type 0
+StopsFrom stopped start items now = StopsAt stopped start.plan start.has_begun start.before items start.first now
+
+abbrev pub EmitsObject : Option Text → ℕ → ℕ → Start → Outputs → Emitting → Result (Unit {0}) LinkFault → Type 0
+EmitsObject text faults faults' start now emit (Ok done) = (faults' ≡ faults)
+    × (items : List Item) × GivesItems text items × EmittedFrom start items now emit
+EmitsObject text faults faults' start now emit (Err fault.Read) = Rises faults faults'
+    × (items : List Item) × BeginsItems text items × WrittenFrom start items now
+EmitsObject text faults faults' start now emit (Err stopped) = (faults' ≡ faults)
+    × (items : List Item) × GivesItems text items × IsOfItems start.before items stopped
+    × StopsFrom stopped start items now
+
+abbrev pub Emits : {F : Type 0} → Pass F → Start → Outputs → Emitting → Result (Unit {0}) LinkFault → Type 0
+Emits pass start now emit (Ok done) = NoneFailed pass.faults pass.old pass.new
+    × (items : List Item) × GiveItems pass.text pass.old items × EmittedFrom start items now emit
+Emits pass start now emit (Err fault.Read) =
+    (items : List Item) × FailAfter pass.text pass.faults pass.old pass.new items × WrittenFrom start items now
+Emits pass start now emit (Err stopped) = NoneFailed pass.faults pass.old pass.new
+    × (items : List Item) × GiveItems pass.text pass.old items × IsOfItems start.before items stopped
+    × StopsFrom stopped start items now
 
 -- ---- the whole second pass, and the run
 
@@ -115,33 +133,28 @@ StopsLink stopped plan items old new = StopsBefore plan false [] items stopped o
 -- the second pass by a plan: the items have no fault, and all is written; or a feed failed, or an item was refused, and
 -- exactly what is written for the items before is there; or memory was refused between two writes for items before the
 -- first fault, or an output failed in one, and nothing was written after it
-abbrev pub ReadsSecond : {F : Type 0} → (F → Option Text) → (F → ℕ) → List F → List F → Planned
-    → Outputs → Outputs → Result LinkDone LinkFault → Type 0
-ReadsSecond text faults feeds feeds' plan old new (Ok done) = NoneFailed faults feeds feeds'
-    × (items : List Item) × GiveItems text feeds items
+abbrev pub ReadsSecond : {F : Type 0} → Pass F → Planned → Outputs → Outputs → Result LinkDone LinkFault → Type 0
+ReadsSecond pass plan old new (Ok done) = NoneFailed pass.faults pass.old pass.new
+    × (items : List Item) × GiveItems pass.text pass.old items
     × (parts : List Part) × (taken [] items ≡ Ok parts) × Gains old new (link_writes (planned plan) parts)
     × (done.messages ≡ counted 0 (link_writes (planned plan) parts))
-ReadsSecond text faults feeds feeds' plan old new (Err fault.Read) =
-    (items : List Item) × FailAfter text faults feeds feeds' items × AreTaken [] items
+ReadsSecond pass plan old new (Err fault.Read) =
+    (items : List Item) × FailAfter pass.text pass.faults pass.old pass.new items × AreTaken [] items
     × WrittenAfter plan false [] items old new
-ReadsSecond text faults feeds feeds' plan old new (Err stopped) = NoneFailed faults feeds feeds'
-    × (items : List Item) × GiveItems text feeds items × IsOfItems [] items stopped
+ReadsSecond pass plan old new (Err stopped) = NoneFailed pass.faults pass.old pass.new
+    × (items : List Item) × GiveItems pass.text pass.old items × IsOfItems [] items stopped
     × StopsLink stopped plan items old new
 
 -- the run: the second pass by the plan of the first; or the fault of the first pass, and then the feeds of the
 -- second are as they were and this is untouched
-abbrev pub LinkRunsOr : {F : Type 0} → Type 0 → (F → Option Text) → (F → ℕ) → List F → List F → List F → List F → ℕ
-    → Outputs → Outputs → Result LinkDone LinkFault → Type 0
-LinkRunsOr Untouched text faults first first' second second' bottom old new (Ok done) =
-    (plan : Planned) × ReadsFirst text faults first first' bottom (Ok plan)
-    × ReadsSecond text faults second second' plan old new (Ok done)
-LinkRunsOr Untouched text faults first first' second second' bottom old new (Err stopped) =
-    (ReadsFirst text faults first first' bottom (Err stopped) × (second' ≡ second) × Untouched)
-    ⊎ ((plan : Planned) × ReadsFirst text faults first first' bottom (Ok plan)
-    × ReadsSecond text faults second second' plan old new (Err stopped))
+abbrev pub LinkRunsOr : {F : Type 0} → Type 0 → Pass F → Pass F → ℕ → Outputs → Outputs → Result LinkDone LinkFault
+    → Type 0
+LinkRunsOr Untouched first second bottom old new (Ok done) =
+    (plan : Planned) × ReadsFirst first bottom (Ok plan) × ReadsSecond second plan old new (Ok done)
+LinkRunsOr Untouched first second bottom old new (Err stopped) =
+    (ReadsFirst first bottom (Err stopped) × (second.new ≡ second.old) × Untouched)
+    ⊎ ((plan : Planned) × ReadsFirst first bottom (Ok plan) × ReadsSecond second plan old new (Err stopped))
 
 -- a refused first pass writes nothing
-abbrev pub LinkRuns : {F : Type 0} → (F → Option Text) → (F → ℕ) → List F → List F → List F → List F → ℕ
-    → Outputs → Outputs → Result LinkDone LinkFault → Type 0
-LinkRuns text faults first first' second second' bottom old new result =
-    LinkRunsOr (new ≡ old) text faults first first' second second' bottom old new result
+abbrev pub LinkRuns : {F : Type 0} → Pass F → Pass F → ℕ → Outputs → Outputs → Result LinkDone LinkFault → Type 0
+LinkRuns first second bottom old new result = LinkRunsOr (new ≡ old) first second bottom old new result

@@ -7,7 +7,7 @@ ghost use Rattle.m11_modules.specs.Parts.{Part, EndOfFile, Relocated, Relocation
 ghost use Rattle.m11_modules.specs.Steps.{RulesTake, TakesOne};
 ghost use Rattle.m11_layout.specs.Plan.{Planned};
 ghost use Rattle.m11_layout.specs.declared.fault.LinkFault.{LinkFault};
-ghost use Rattle.m11_link.specs.Emit.{EmitEnds, FailsAgain, Goes, KeepsFault, EmitStands, TakesBlock, TakesParts, begin_writes, begun_reporting, bytes_writes, held_with, held_with_all, held_writes, relocated_parts, with_bytes, with_held, with_reporting};
+ghost use Rattle.m11_link.specs.Emit.{EmitEnds, EmitStands, FailsAgain, Goes, KeepsFault, TakesBlock, TakesParts, begin_writes, begun_reporting, bytes_writes, call_of, held_with, held_with_all, held_writes, relocated_parts, with_bytes, with_held, with_reporting};
 ghost use Rattle.m11_link_text.specs.Findings.{planned};
 ghost use Rattle.m11_writes.specs.Outputs.{Output, optional_output, output_of};
 ghost use Rattle.m11_link.specs.Outputs.{Writes, outputs, outputs_of, to_tape};
@@ -72,10 +72,11 @@ impl Emit {
         map: &mut Option<T>,
         messages: &mut U,
     ) -> Result<(), LinkFault>
-        ensures takes { (plan : Planned) (before : List Part) → EmitStands plan before self.old → TakesBlock plan before
+        ensures takes { (plan : Planned) (before : List Part) → EmitStands plan before self.old
+            → TakesBlock plan before (call_of
             (outputs_of S.Sink T.Sink U.Sink tape.old map.old messages.old)
             (outputs_of S.Sink T.Sink U.Sink tape.new map.new messages.new)
-            self.old self.new block.now.items result }
+            self.old self.new) block.now.items result }
         ensures again { FailsAgain self.old self.new
             (outputs_of S.Sink T.Sink U.Sink tape.old map.old messages.old)
             (outputs_of S.Sink T.Sink U.Sink tape.new map.new messages.new) result }
@@ -103,10 +104,11 @@ impl Emit {
         map: &mut Option<T>,
         messages: &mut U,
     ) -> Result<(), LinkFault>
-        ensures takes { (plan : Planned) (before : List Part) → EmitStands plan before self.old → TakesParts plan before
+        ensures takes { (plan : Planned) (before : List Part) → EmitStands plan before self.old
+            → TakesParts plan before (call_of
             (outputs_of S.Sink T.Sink U.Sink tape.old map.old messages.old)
             (outputs_of S.Sink T.Sink U.Sink tape.new map.new messages.new)
-            self.old self.new (EndOfFile ∷ []) result }
+            self.old self.new) (EndOfFile ∷ []) result }
         ensures again { FailsAgain self.old self.new
             (outputs_of S.Sink T.Sink U.Sink tape.old map.old messages.old)
             (outputs_of S.Sink T.Sink U.Sink tape.new map.new messages.new) result }
@@ -185,10 +187,11 @@ impl Emit {
         map: &mut Option<T>,
         messages: &mut U,
     ) -> Result<(), LinkFault>
-        ensures takes { (plan : Planned) (before : List Part) → EmitStands plan before self.old → TakesBlock plan before
+        ensures takes { (plan : Planned) (before : List Part) → EmitStands plan before self.old
+            → TakesBlock plan before (call_of
             (outputs_of S.Sink T.Sink U.Sink tape.old map.old messages.old)
             (outputs_of S.Sink T.Sink U.Sink tape.new map.new messages.new)
-            self.old self.new block.now.items result }
+            self.old self.new) block.now.items result }
         ensures is_record { IfOk result (λ _. IsRecord block.now.items) }
         ensures kept { IfOk result (λ _. self.new.fault ≡ self.old.fault) }
         ensures stays { is_some map.new ≡ is_some map.old }
@@ -210,10 +213,11 @@ impl Emit {
     ) -> Result<(), LinkFault>
         requires is { IsRecord «record».now }
         requires other { record_kind «record».now ≢ Ok RecordKind.Relocations }
-        ensures takes { (plan : Planned) (before : List Part) → EmitStands plan before self.old → TakesParts plan before
+        ensures takes { (plan : Planned) (before : List Part) → EmitStands plan before self.old
+            → TakesParts plan before (call_of
             (outputs_of S.Sink T.Sink U.Sink tape.old map.old messages.old)
             (outputs_of S.Sink T.Sink U.Sink tape.new map.new messages.new)
-            self.old self.new (record_parts «record».now) result }
+            self.old self.new) (record_parts «record».now) result }
         ensures kept { IfOk result (λ _. self.new.fault ≡ self.old.fault) }
         ensures stays { is_some map.new ≡ is_some map.old }
     {
@@ -231,11 +235,10 @@ impl Emit {
         messages: &mut U,
     ) -> Result<(), LinkFault>
         ensures takes { (tape : Output) (plan : Planned) (before : List Part) → EmitStands plan before self.old
-            → TakesParts plan before
+            → TakesParts plan before (call_of
             (outputs tape (optional_output T.Sink map.old) (output_of U.Sink messages.old))
             (outputs tape (optional_output T.Sink map.new) (output_of U.Sink messages.new))
-            self.old self.new
-            (Relocations ∷ relocated_parts (record_relocations «record».now)) result }
+            self.old self.new) (Relocations ∷ relocated_parts (record_relocations «record».now)) result }
         ensures kept { IfOk result (λ _. self.new.fault ≡ self.old.fault) }
         ensures stays { is_some map.new ≡ is_some map.old }
     {
@@ -331,10 +334,10 @@ impl Emit {
         messages: &mut U,
     ) -> Result<(), LinkFault>
         ensures takes { (tape : Output) (plan : Planned) (before : List Part) → EmitStands plan before self.old
-            → TakesParts plan before
+            → TakesParts plan before (call_of
             (outputs tape (optional_output T.Sink map.old) (output_of U.Sink messages.old))
             (outputs tape (optional_output T.Sink map.new) (output_of U.Sink messages.new))
-            self.old self.new (EndOfFile ∷ []) result }
+            self.old self.new) (EndOfFile ∷ []) result }
         ensures kept { IfOk result (λ _. self.new.fault ≡ self.old.fault) }
         ensures stays { is_some map.new ≡ is_some map.old }
         ensures no_memory { IfErr result (λ fault. fault ≢ LinkFault.NoMemory) }

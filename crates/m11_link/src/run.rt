@@ -2,14 +2,14 @@
 
 ghost use Rattle.std.specs.Prelude.{◌≡◌, None, ℕ, List, is_some};
 ghost use Rattle.m11_link.specs.Objects.{AreItems, Item};
-ghost use Rattle.m11_link.specs.FirstPass.{LaysOut, LaysOutObject, ReadsFirst, StandsBetween, of_block};
+ghost use Rattle.m11_link.specs.FirstPass.{LaysOut, LaysOutObject, ReadsFirst, StandsBetween, of_block, pass_of};
 ghost use Rattle.m11_layout.specs.Layout.{LayoutStands};
 ghost use Rattle.m11_layout.specs.Plan.{Planned};
 ghost use Rattle.m11_modules.specs.Parts.{Part, EndOfFile};
 ghost use Rattle.m11_modules.specs.Rules.{fault_of};
 ghost use Rattle.m11_link.specs.Emit.{written};
 ghost use Rattle.m11_link.specs.Emit as emitting;
-ghost use Rattle.m11_link.specs.SecondPass.{Emits, EmitsObject, ReadsSecond, LinkRuns, LinkRunsOr};
+ghost use Rattle.m11_link.specs.SecondPass.{Emits, EmitsObject, LinkRuns, LinkRunsOr, ReadsSecond, start_at};
 ghost use Rattle.m11_link.specs.Outputs.{Gains, Outputs, outputs_of};
 
 use crate::emit::{Emit, LinkDone};
@@ -35,11 +35,12 @@ pub fn link_run<F: Feed, S: Sink, T: Sink, U: Sink>(
     map: &mut Option<T>,
     messages: &mut U,
 ) -> Result<LinkDone, LinkFault>
-    ensures runs { LinkRuns F.text F.faults first.old first.new second.old second.new bottom
+    ensures runs { LinkRuns
+        (pass_of F.text F.faults first.old first.new) (pass_of F.text F.faults second.old second.new) bottom
         (outputs_of S.Sink T.Sink U.Sink tape.old map.old messages.old)
         (outputs_of S.Sink T.Sink U.Sink tape.new map.new messages.new) result }
     ensures untouched { LinkRunsOr ((tape.new ≡ tape.old) × (map.new ≡ map.old) × (messages.new ≡ messages.old))
-        F.text F.faults first.old first.new second.old second.new bottom
+        (pass_of F.text F.faults first.old first.new) (pass_of F.text F.faults second.old second.new) bottom
         (outputs_of S.Sink T.Sink U.Sink tape.old map.old messages.old)
         (outputs_of S.Sink T.Sink U.Sink tape.new map.new messages.new) result }
     ensures stays { is_some map.new ≡ is_some map.old }
@@ -71,7 +72,7 @@ fn block_fault(fault: BlockFault) -> LinkFault
 
 // The first pass: the plan of all objects.
 fn read_first<F: Feed>(alloc: Global, feeds: &mut [F], bottom: u16) -> Result<Plan, LinkFault>
-    ensures { ReadsFirst F.text F.faults feeds.old feeds.new bottom result }
+    ensures { ReadsFirst (pass_of F.text F.faults feeds.old feeds.new) bottom result }
 {
     let mut layout = Layout::new(alloc, bottom);
     match lay_out(feeds, &mut layout) {
@@ -87,7 +88,7 @@ fn read_first<F: Feed>(alloc: Global, feeds: &mut [F], bottom: u16) -> Result<Pl
 // The objects of the first pass, one after another.
 fn lay_out<F: Feed>(feeds: &mut [F], layout: &mut Layout) -> Result<(), LinkFault>
     ensures { (bottom : ℕ) (before : List Part) → StandsBetween bottom before layout.old
-        → LaysOut F.text F.faults feeds.old feeds.new bottom before layout.new result }
+        → LaysOut (pass_of F.text F.faults feeds.old feeds.new) bottom before layout.new result }
 {
     'feeds: for feed in feeds.iter_mut() {
         match lay_out_object(feed, layout) {
@@ -126,7 +127,7 @@ fn read_second<F: Feed, S: Sink, T: Sink, U: Sink>(
     map: &mut Option<T>,
     messages: &mut U,
 ) -> Result<LinkDone, LinkFault>
-    ensures reads { ReadsSecond F.text F.faults feeds.old feeds.new plan
+    ensures reads { ReadsSecond (pass_of F.text F.faults feeds.old feeds.new) plan
         (outputs_of S.Sink T.Sink U.Sink tape.old map.old messages.old)
         (outputs_of S.Sink T.Sink U.Sink tape.new map.new messages.new) result }
     ensures stays { is_some map.new ≡ is_some map.old }
@@ -155,7 +156,7 @@ fn emit_all<F: Feed, S: Sink, T: Sink, U: Sink>(
         → Gains first
         (outputs_of S.Sink T.Sink U.Sink tape.old map.old messages.old)
         (written plan emit.old.has_begun before)
-        → Emits F.text F.faults feeds.old feeds.new plan emit.old.has_begun before first
+        → Emits (pass_of F.text F.faults feeds.old feeds.new) (start_at plan emit.old.has_begun before first)
         (outputs_of S.Sink T.Sink U.Sink tape.new map.new messages.new) emit.new result }
     ensures stays { is_some map.new ≡ is_some map.old }
 {
@@ -180,7 +181,8 @@ fn emit_object<F: Feed, S: Sink, T: Sink, U: Sink>(
         → Gains first
         (outputs_of S.Sink T.Sink U.Sink tape.old map.old messages.old)
         (written plan emit.old.has_begun before)
-        → EmitsObject (F.text feed.old) (F.faults feed.old) (F.faults feed.new) plan emit.old.has_begun before first
+        → EmitsObject (F.text feed.old) (F.faults feed.old) (F.faults feed.new)
+        (start_at plan emit.old.has_begun before first)
         (outputs_of S.Sink T.Sink U.Sink tape.new map.new messages.new) emit.new result }
     ensures stays { is_some map.new ≡ is_some map.old }
 {

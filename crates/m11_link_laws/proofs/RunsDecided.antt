@@ -8,7 +8,7 @@ use Rattle.m11_layout.specs.Sections.{is_too_large}
 use Rattle.m11_layout.specs.declared.fault.LinkFault.{LinkFault}
 use Rattle.m11_layout.specs.declared.fault.LinkFault.TheVariants as fault
 use Rattle.m11_link_text.specs.Findings.{findings_of, planned}
-use Rattle.m11_link.specs.FirstPass.{ReadsFirst}
+use Rattle.m11_link.specs.FirstPass.{ReadsFirst, pass_of}
 use Rattle.m11_link.specs.Objects.{◌>>=◌, AreItems, GiveItems, Item, outcome, taken, unless_too_large}
 use Rattle.m11_link.specs.Outputs.{Gains, Outputs, Write}
 use Rattle.m11_link.specs.SecondPass.{LinkRuns, ReadsSecond}
@@ -72,25 +72,25 @@ module _ {F : Type 0} (text : F → Option Text) (faults : F → ℕ) (bottom : 
   IsDevice stopped = ⊥
 
   module _ (first first' : List F) (known : AreKnown text first sources) where
-    first_says : (stopped : LinkFault) → ReadsFirst text faults first first' bottom (Err stopped)
+    first_says : (stopped : LinkFault) → ReadsFirst (pass_of text faults first first') bottom (Err stopped)
         → IsDevice stopped ⊎ (outcome bottom items ≡ Err stopped)
     first_says fault.Read h = inl tt
     first_says fault.NoMemory h = inl tt
     first_says stopped h = inr (ap (outcome bottom) (sym (same_items first known h.1 h.2)) ∙ h.3)
 
-    first_plans : (plan : Planned) → ReadsFirst text faults first first' bottom (Ok plan)
+    first_plans : (plan : Planned) → ReadsFirst (pass_of text faults first first') bottom (Ok plan)
         → (parts : List Part) × (outcome bottom items ≡ Ok parts) × IsPlanOf bottom parts plan
     first_plans plan h = (h.3, ap (outcome bottom) (sym (same_items first known h.1 h.2)) ∙ h.4, h.5)
 
   module _ (second second' : List F) (known : AreKnown text second sources) (plan : Planned) (old new : Outputs) where
-    second_says : (stopped : LinkFault) → ReadsSecond text faults second second' plan old new (Err stopped)
+    second_says : (stopped : LinkFault) → ReadsSecond (pass_of text faults second second') plan old new (Err stopped)
         → MayStop stopped ⊎ (taken [] items ≡ Err stopped)
     second_says fault.Read h = inl tt
     second_says (fault.Write output) h = inl tt
     second_says fault.NoMemory h = inl tt
     second_says stopped h = inr (ap (taken []) (sym (same_items second known h.1 h.2)) ∙ h.3)
 
-    second_writes : (done : LinkDone) → ReadsSecond text faults second second' plan old new (Ok done)
+    second_writes : (done : LinkDone) → ReadsSecond (pass_of text faults second second') plan old new (Ok done)
         → (parts : List Part) × (taken [] items ≡ Ok parts) × Gains old new (link_writes (planned plan) parts)
         × (done.messages ≡ counted 0 (link_writes (planned plan) parts))
     second_writes done h = (h.3, ap (taken []) (sym (same_items second known h.1 h.2)) ∙ h.4, h.5, h.6)
@@ -131,8 +131,8 @@ module _ {F : Type 0} (text : F → Option Text) (faults : F → ℕ) (bottom : 
   module _ (first first' second second' : List F) (known : AreKnown text first sources)
       (again : AreKnown text second sources) (old new : Outputs) where
     all_written : (parts : List Part) (done : LinkDone) → outcome bottom items ≡ Ok parts → (plan : Planned)
-        → ReadsFirst text faults first first' bottom (Ok plan)
-        → ReadsSecond text faults second second' plan old new (Ok done) → IsDecided bottom (Ok parts) old new (Ok done)
+        → ReadsFirst (pass_of text faults first first') bottom (Ok plan)
+        → ReadsSecond (pass_of text faults second second') plan old new (Ok done) → IsDecided bottom (Ok parts) old new (Ok done)
     all_written parts done e plan h k =
         let planned-so = first_plans first first' known plan h in
         let wrote = second_writes second second' again plan old new done k in
@@ -146,7 +146,7 @@ module _ {F : Type 0} (text : F → Option Text) (faults : F → ℕ) (bottom : 
         (subst G ws wrote.2, wrote.3 ∙ ap (λ these. counted 0 these) ws)
 
     decided : (o : Answer) → outcome bottom items ≡ o → (result : Result LinkDone LinkFault)
-        → LinkRuns text faults first first' second second' bottom old new result → IsDecided bottom o old new result
+        → LinkRuns (pass_of text faults first first') (pass_of text faults second second') bottom old new result → IsDecided bottom o old new result
     decided (Ok parts) e (Ok done) h = all_written parts done e h.0 h.1 h.2
     decided (Ok parts) e (Err stopped) (inl h) =
         stops_or stopped (outcome bottom items) parts e (first_or stopped (first_says first first' known stopped h.0))
@@ -165,7 +165,7 @@ module _ {F : Type 0} (text : F → Option Text) (faults : F → ℕ) (bottom : 
 pub run_decided : {F : Type 0} (text : F → Option Text) (faults : F → ℕ) (first first' second second' : List F)
     (bottom : ℕ) (sources : List (List ℕ)) (items : List Item) (old new : Outputs) (result : Result LinkDone LinkFault)
     → AreItems sources items → AreKnown text first sources → AreKnown text second sources
-    → LinkRuns text faults first first' second second' bottom old new result
+    → LinkRuns (pass_of text faults first first') (pass_of text faults second second') bottom old new result
     → IsDecided bottom (outcome bottom items) old new result
 run_decided text faults first first' second second' bottom sources items old new result are known again h =
     decided text faults bottom sources items are first first' second second' known again old new

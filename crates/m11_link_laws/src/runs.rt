@@ -7,6 +7,7 @@ ghost use Rattle.m11_link.specs.Outputs.{Outputs};
 ghost use Rattle.m11_link.specs.SecondPass.{LinkRuns};
 ghost use Rattle.m11_link.specs.declared.emit.LinkDone.{LinkDone};
 ghost use Rattle.m11_link_laws.specs.Runs.{AreKnown, IsDecided};
+ghost use Rattle.m11_link.specs.FirstPass.{pass_of};
 
 use m11_base::Feed;
 
@@ -18,6 +19,7 @@ use m11_base::Feed;
 pub fn known_objects_decide_the_run<F: Feed>()
     ensures { (first again second later : List F) (bottom : ℕ) (sources : List (List ℕ)) (items : List Item)
         (old new : Outputs) (answer : Result LinkDone LinkFault) → AreItems sources items → AreKnown F.text first sources
-        → AreKnown F.text second sources → LinkRuns F.text F.faults first again second later bottom old new answer
+        → AreKnown F.text second sources
+        → LinkRuns (pass_of F.text F.faults first again) (pass_of F.text F.faults second later) bottom old new answer
         → IsDecided bottom (outcome bottom items) old new answer }
 {}

@@ -6,6 +6,7 @@ use Rattle.m11_tasks.specs.Opened.{link_inputs}
 use Rattle.m11_cli.proofs.Linked.{emptied, kept, link_runs, same_output, seen_output, seen_sink}
 use Rattle.m11_cli.proofs.Sources.{are, seen}
 use Rattle.m11_cli.proofs.driver.run_link.Goals as goal
+use Rattle.m11_link.specs.FirstPass.{pass_of}
 
 pub returns : goal.returns
 returns g c =
@@ -21,7 +22,8 @@ returns g c =
     let map' = seen_output sink c.link_run-answer.new.map in
     let reported = seen_sink g.E.Sink c.args.err.now in
     let reported' = seen_sink g.E.Sink c.link_run-answer.new.messages in
-    let ran : LinkRuns text faults first c.link_run-answer.new.first second c.link_run-answer.new.second task.bottom
+    let ran : LinkRuns (pass_of text faults first c.link_run-answer.new.first)
+    (pass_of text faults second c.link_run-answer.new.second) task.bottom
     (outputs tape map reported) (outputs tape' map' reported') c.link_run-answer.result =
     rw (
       c.as_mut_slice.ensures.value,
