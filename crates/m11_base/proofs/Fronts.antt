@@ -6,7 +6,7 @@ use Rattle.std.specs.Io.KnownBytes.{Consumes, prepend_known}
 use Rattle.std.specs.List.{slice_get}
 use Rattle.std.specs.Option.{unwrap_or}
 use Rattle.m11_base.specs.Feed.{BeginsWith, GivesBytes, ready_within, text_of_reader}
-use Rattle.m11_base.proofs.Ready.{IsFront, is_front, front_and_rest}
+use Rattle.m11_base.proofs.Ready.{is_front, front_and_rest}
 
 -- the byte in front of the buffer is the next one; where the reader has no room for a buffer nothing is known
 pub front_taken : (is_bare : Bool) (inner new : Option (List ℕ)) (shown : List ℕ) (byte : ℕ) → slice_get shown 0 ≡ Some byte

@@ -6,7 +6,7 @@ use Rattle.std.proofs.Math.Seq.{take-append-add}
 use Rattle.m11_base.specs.Devices.{last_count}
 use Rattle.m11_base.specs.declared.fault.DeviceFault.{DeviceFault}
 use Rattle.m11_base.specs.Feed.{Text, Ending, Ends, Fails, MayFail, Gives, GivesByte, GivesBytes, GivesEnd, GivesFailure, BeginsWith, ready_within, bytes_through_fuse, text_through_fuse}
-use Rattle.m11_base.proofs.Ready.{IsFront, is_front, front_and_rest}
+use Rattle.m11_base.proofs.Ready.{is_front, front_and_rest}
 
 abbrev text : List ℕ → Ending → Text
 text bytes ending = record { bytes = bytes; ending = ending }

@@ -1,5 +1,6 @@
 -- Sources of bytes, read one byte a call, or passed by many where they are there without a read. (This project's own.)
-use Rattle.std.specs.Prelude.{◌≡◌, ◌≢◌, ℕ, List, [], ◌∷◌, ◌++◌, length, take, ◌⊎◌, ⊤, Option, Some, None, MatchOption, Result, MatchResult, if◌then◌else◌, nat_lt, ◌==◌, option_map, option_and_then}
+use Rattle.std.specs.Prelude.{◌≡◌, ◌≢◌, ℕ, List, [], ◌∷◌, ◌++◌, length, take, ◌⊎◌, ⊤, Option, Some, None, MatchOption, OnSome, Result, MatchResult, if◌then◌else◌, nat_lt, ◌==◌, option_map, option_and_then}
+use Rattle.std.specs.Io.KnownBytes.{Consumes, IsAtEnd, Keeps}
 use Rattle.m11_base.specs.Devices.{Bytes, Rises, last_count}
 
 -- how a text ends: at its end, at a failure, or perhaps at a failure before its end
@@ -57,6 +58,12 @@ abbrev pub Gives : {E : Type 0} → Option Text → Option Text → ℕ → Resu
 Gives old new count answer = MatchResult answer
     (λ byte. MatchOption byte (GivesEnd old new) (GivesByte old new))
     (λ _. GivesFailure old new count)
+
+-- one byte of a reader is read, or its end is found, or it fails and keeps what it holds
+abbrev pub ReadsByte : {E : Type 0} → Option Bytes → Option Bytes → Result (Option ℕ) E → Type 0
+ReadsByte old new answer = MatchResult answer
+    (λ byte. MatchOption byte (Consumes old new [] × OnSome old (IsAtEnd new)) (λ b. Consumes old new (b ∷ [])))
+    (λ _. Keeps old new)
 
 -- the text of a reader: each read may fail
 abbrev pub text_of_reader : Option Bytes → Option Text

@@ -1,13 +1,12 @@
 //! A feed over the buffered reader of the standard library.
 
-ghost use Rattle.std.specs.Prelude.{◌≡◌, MatchResult, MatchOption, OnSome, [], ◌∷◌};
+ghost use Rattle.std.specs.Prelude.{◌≡◌};
 ghost use Rattle.std.specs.Io.Buffered.{reader_remaining, reader_buffer};
-ghost use Rattle.std.specs.Io.KnownBytes.{Consumes, IsAtEnd, Keeps};
-ghost use Rattle.m11_base.specs.Feed.{text_of_reader, ready_within};
+ghost use Rattle.m11_base.specs.Feed.{text_of_reader, ready_within, ReadsByte};
 
 use crate::fault::DeviceFault;
 use crate::feed::Feed;
-use crate::stream::is_interrupted;
+use crate::interrupted::until_done;
 use std::io;
 use std::io::{BufRead, BufReader, Read};
 
@@ -86,12 +85,7 @@ impl<R: Read> Feed for BufferedFeed<R> {
 #[tactic(auto, using(crate::proofs::Fronts::front_taken))]
 #[inline(always)]
 fn take_byte<R: Read>(reader: &mut BufReader<R>) -> Result<Option<u8>, DeviceFault>
-    ensures { MatchResult result
-        (λ byte. MatchOption byte
-        (Consumes (reader_remaining R.remaining reader.old) (reader_remaining R.remaining reader.new) []
-        × OnSome (reader_remaining R.remaining reader.old) (IsAtEnd (reader_remaining R.remaining reader.new)))
-        (λ b. Consumes (reader_remaining R.remaining reader.old) (reader_remaining R.remaining reader.new) (b ∷ [])))
-        (λ _. Keeps (reader_remaining R.remaining reader.old) (reader_remaining R.remaining reader.new)) }
+    ensures { ReadsByte (reader_remaining R.remaining reader.old) (reader_remaining R.remaining reader.new) result }
 {
     match reader.buffer().first().copied() {
         Some(byte) => {
@@ -105,34 +99,14 @@ fn take_byte<R: Read>(reader: &mut BufReader<R>) -> Result<Option<u8>, DeviceFau
 // The same where the buffer may be empty. It isn't inlined, so that what calls it can be.
 #[inline(never)]
 fn fill_and_take<R: Read>(reader: &mut BufReader<R>) -> Result<Option<u8>, DeviceFault>
-    ensures { MatchResult result
-        (λ byte. MatchOption byte
-        (Consumes (reader_remaining R.remaining reader.old) (reader_remaining R.remaining reader.new) []
-        × OnSome (reader_remaining R.remaining reader.old) (IsAtEnd (reader_remaining R.remaining reader.new)))
-        (λ b. Consumes (reader_remaining R.remaining reader.old) (reader_remaining R.remaining reader.new) (b ∷ [])))
-        (λ _. Keeps (reader_remaining R.remaining reader.old) (reader_remaining R.remaining reader.new)) }
+    ensures { ReadsByte (reader_remaining R.remaining reader.old) (reader_remaining R.remaining reader.new) result }
 {
-    'tries: for _ in 0..u64::MAX {
-        match take_front(reader) {
-            Ok(byte) => return Ok(byte),
-            Err(error) => {
-                if !is_interrupted(&error) {
-                    return Err(DeviceFault);
-                }
-            }
-        }
-    }
-    Err(DeviceFault)
+    until_done!(take_front(reader))
 }
 
 // One try at the first byte of the buffer, which is filled where it is empty.
 fn take_front<R: BufRead>(reader: &mut R) -> io::Result<Option<u8>>
-    ensures { MatchResult result
-        (λ byte. MatchOption byte
-        (Consumes (R.Read.remaining reader.old) (R.Read.remaining reader.new) []
-        × OnSome (R.Read.remaining reader.old) (IsAtEnd (R.Read.remaining reader.new)))
-        (λ b. Consumes (R.Read.remaining reader.old) (R.Read.remaining reader.new) (b ∷ [])))
-        (λ _. Keeps (R.Read.remaining reader.old) (R.Read.remaining reader.new)) }
+    ensures { ReadsByte (R.Read.remaining reader.old) (R.Read.remaining reader.new) result }
 {
     let front = match reader.fill_buf() {
         Ok(available) => available.first().copied(),

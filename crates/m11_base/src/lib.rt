@@ -10,6 +10,7 @@ mod feed;
 mod fuse;
 mod instruction;
 mod instruction_list;
+mod interrupted;
 mod memory;
 mod mnemonics;
 mod octal;

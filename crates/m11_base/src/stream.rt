@@ -1,14 +1,15 @@
 //! A feed over any reader and a sink over any writer of the standard library.
 
-ghost use Rattle.std.specs.Prelude.{◌≡◌, ◌≤◌, length, IfOk, MatchResult, MatchOption, [], ◌∷◌};
-ghost use Rattle.std.specs.Io.KnownBytes.{Consumes, IsAtEnd, Keeps, WriteAppends};
-ghost use Rattle.m11_base.specs.Feed.{text_of_reader};
+ghost use Rattle.std.specs.Prelude.{◌≡◌, ◌≤◌, length, IfOk, []};
+ghost use Rattle.std.specs.Io.KnownBytes.{WriteAppends};
+ghost use Rattle.m11_base.specs.Feed.{text_of_reader, ReadsByte};
 
 use crate::fault::DeviceFault;
 use crate::feed::Feed;
+use crate::interrupted::until_done;
 use crate::sink::Sink;
 use std::io;
-use std::io::{ErrorKind, Read, Write};
+use std::io::{Read, Write};
 
 /// Gives the bytes of a reader, one a read, and none is ready: so nothing is read ahead, and it is for someone who
 /// types. A read that a signal interrupted is tried again. After
@@ -73,31 +74,21 @@ impl<R: Read> Feed for ReaderFeed<R> {
 
 // The next byte of a reader, or `None` at its end.
 fn read_byte<R: Read>(reader: &mut R) -> Result<Option<u8>, DeviceFault>
-    ensures { MatchResult result
-        (λ byte. MatchOption byte
-        (Consumes (R.remaining reader.old) (R.remaining reader.new) []
-        × IsAtEnd (R.remaining reader.new))
-        (λ b. Consumes (R.remaining reader.old) (R.remaining reader.new) (b ∷ [])))
-        (λ _. Keeps (R.remaining reader.old) (R.remaining reader.new)) }
+    ensures { ReadsByte (R.remaining reader.old) (R.remaining reader.new) result }
 {
-    let mut one = [0u8; 1];
-    'tries: for _ in 0..u64::MAX {
-        match reader.read(&mut one) {
-            Ok(0) => return Ok(None),
-            Ok(_) => return Ok(Some(one[0])),
-            Err(error) => {
-                if !is_interrupted(&error) {
-                    return Err(DeviceFault);
-                }
-            }
-        }
-    }
-    Err(DeviceFault)
+    until_done!(read_once(reader))
 }
 
-/// A signal came in between, and the call may be made again.
-pub(crate) fn is_interrupted(error: &io::Error) -> bool {
-    matches!(error.kind(), ErrorKind::Interrupted)
+// One try at it.
+fn read_once<R: Read>(reader: &mut R) -> io::Result<Option<u8>>
+    ensures { ReadsByte (R.remaining reader.old) (R.remaining reader.new) result }
+{
+    let mut one = [0u8; 1];
+    match reader.read(&mut one) {
+        Ok(0) => Ok(None),
+        Ok(_) => Ok(Some(one[0])),
+        Err(error) => Err(error),
+    }
 }
 
 /// Passes bytes to a writer. A write that a signal interrupted is tried again. It keeps nothing
@@ -141,15 +132,5 @@ fn write_some<W: Write>(writer: &mut W, bytes: &[u8]) -> Result<usize, DeviceFau
     ensures appends { WriteAppends (W.contents writer.old) (W.contents writer.new) result
         bytes.now }
 {
-    'tries: for _ in 0..u64::MAX {
-        match writer.write(bytes) {
-            Ok(count) => return Ok(count),
-            Err(error) => {
-                if !is_interrupted(&error) {
-                    return Err(DeviceFault);
-                }
-            }
-        }
-    }
-    Err(DeviceFault)
+    until_done!(writer.write(bytes))
 }
