@@ -9,12 +9,8 @@ use std::test::Fail;
 
 mod bottoms;
 mod failing;
-mod judged;
 mod lengths;
 mod limits;
-mod planned;
-mod records;
-mod stored;
 mod streaming;
 
 // The content of a block, in pieces that stand one after another.
@@ -435,5 +431,7 @@ pub(crate) fn refuses(
     fault: LinkFault,
 ) -> Result<(), Fail> {
     let file = file_of(rt.alloc(), object)?;
-    ends_file(rt, "an object", file.as_slice(), bottom, Err(fault))
+    let shown = ends_file(rt, "an object", file.as_slice(), bottom, Err(fault));
+    drop(file);
+    shown
 }

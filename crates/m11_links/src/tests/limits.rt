@@ -1,7 +1,7 @@
 //! Links of as many modules, sections and globals as there may be, and of one more.
 
-use self::Made::{Entries, EntriesAndTwo, Modules, ModulesAndSections};
-use super::{DIRECTORY, END_OF_GSD, END_OF_MODULE, add_block, ends_file};
+use self::Made::{Entries, EntriesAndTwo, Modules, ModulesAndSections, Relocations};
+use super::{DIRECTORY, END_OF_GSD, END_OF_MODULE, RELOCATIONS, TEXT, add_block, ends_file};
 use m11_link::{LinkDone, LinkFault};
 use std::alloc::{AllocError, Global};
 use std::process::Abort;
@@ -38,43 +38,26 @@ fn add_end(file: &mut Vec<u8>) -> Result<(), AllocError> {
     add_block(file, &[END_OF_MODULE])
 }
 
-// A file of empty modules.
-fn empty_modules(alloc: Global, count: u32) -> Result<Vec<u8>, AllocError> {
-    let mut file = Vec::new(alloc);
+// Adds empty modules.
+fn add_modules(file: &mut Vec<u8>, count: u32) -> Result<(), AllocError> {
     for _ in 0..count {
-        add_end(&mut file)?;
+        add_end(file)?;
     }
-    Ok(file)
+    Ok(())
 }
 
-// A file of modules that each have these many entries, one after another.
-fn modules_of(
-    alloc: Global,
+// Adds modules that each have these many entries, one after another.
+fn add_modules_of(
+    file: &mut Vec<u8>,
     modules: u32,
     count: u16,
     flags_and_type: [u8; 2],
-) -> Result<Vec<u8>, AllocError> {
-    let mut file = Vec::new(alloc);
+) -> Result<(), AllocError> {
     for _ in 0..modules {
-        add_entries(&mut file, count, flags_and_type)?;
-        add_end(&mut file)?;
+        add_entries(file, count, flags_and_type)?;
+        add_end(file)?;
     }
-    Ok(file)
-}
-
-// A module that has these many entries, and two more in one directory.
-fn entries_and_two(
-    alloc: Global,
-    count: u16,
-    flags_and_type: [u8; 2],
-    first: Entry,
-    second: Entry,
-) -> Result<Vec<u8>, AllocError> {
-    let mut file = Vec::new(alloc);
-    add_entries(&mut file, count, flags_and_type)?;
-    add_two(&mut file, first, second)?;
-    add_end(&mut file)?;
-    Ok(file)
+    Ok(())
 }
 
 // Adds a directory of two entries.
@@ -91,6 +74,26 @@ fn add_two(file: &mut Vec<u8>, first: Entry, second: Entry) -> Result<(), AllocE
     )
 }
 
+// Adds a module of 8,191 globals, a text of two bytes, a relocation that names one more, and a displaced relocation at a
+// place, of a global by its number.
+fn add_relocations(file: &mut Vec<u8>, displacement: u8, number: u16) -> Result<(), AllocError> {
+    let [low, high] = number.to_le_bytes();
+    add_entries(file, 8_191, WEAK_REFERENCE)?;
+    // A section, . ABS., of 8 bytes, flags 040.
+    add_block(
+        file,
+        &[DIRECTORY, &[0x01, 0xAF, 0x94, 0x0F, 0x20, 0x05, 0x08, 0x00]],
+    )?;
+    add_block(file, &[END_OF_GSD])?;
+    add_block(file, &[TEXT, &[0x00, 0x00, 0x00, 0x00]])?;
+    add_block(file, &[RELOCATIONS, &[0x02, 0x04, 0x28, 0x23, 0x00, 0x00]])?;
+    add_block(
+        file,
+        &[RELOCATIONS, &[0x04, displacement, low, high, 0x00, 0x00]],
+    )?;
+    add_block(file, &[END_OF_MODULE])
+}
+
 // What a file is made of. Entries have a number each, from 0 on, and flags and type.
 #[derive(Clone, Copy)]
 enum Made {
@@ -102,25 +105,40 @@ enum Made {
     EntriesAndTwo(u16, [u8; 2], Entry, Entry),
     // Empty modules, and one that begins with the same section twice.
     ModulesAndSections(u32),
+    // A relocation of the 8,192nd global, and a displaced one at a place, of a global by its number.
+    Relocations(u8, u16),
+}
+
+fn add(file: &mut Vec<u8>, made: Made) -> Result<(), AllocError> {
+    match made {
+        Modules(count) => add_modules(file, count),
+        Entries(modules, count, kind) => add_modules_of(file, modules, count, kind),
+        EntriesAndTwo(count, kind, first, second) => {
+            add_entries(file, count, kind)?;
+            add_two(file, first, second)?;
+            add_end(file)
+        }
+        ModulesAndSections(count) => {
+            add_modules(file, count)?;
+            add_two(file, (1, SECTION), (1, SECTION))
+        }
+        Relocations(displacement, number) => add_relocations(file, displacement, number),
+    }
 }
 
 fn make(alloc: Global, made: Made) -> Result<Vec<u8>, AllocError> {
-    match made {
-        Modules(count) => empty_modules(alloc, count),
-        Entries(modules, count, kind) => modules_of(alloc, modules, count, kind),
-        EntriesAndTwo(count, kind, first, second) => {
-            entries_and_two(alloc, count, kind, first, second)
-        },
-        ModulesAndSections(count) => {
-            let mut file = empty_modules(alloc, count)?;
-            add_two(&mut file, (1, SECTION), (1, SECTION))?;
-            Ok(file)
+    let mut file = Vec::new(alloc);
+    match add(&mut file, made) {
+        Ok(()) => Ok(file),
+        Err(fault) => {
+            drop(file);
+            Err(fault)
         }
     }
 }
 
 // What a file shows, how it is made, and why it is refused, if it is.
-static FILES: [(&str, Made, Option<LinkFault>); 12] = [
+static FILES: [(&str, Made, Option<LinkFault>); 15] = [
     ("32 modules", Modules(32), None),
     ("33 modules", Modules(33), Some(LinkFault::TooManyModules)),
     (
@@ -165,6 +183,21 @@ static FILES: [(&str, Made, Option<LinkFault>); 12] = [
         ),
         Some(LinkFault::BadOrder),
     ),
+    (
+        "a global that is named again, and a section of a global's name",
+        EntriesAndTwo(8_192, WEAK_REFERENCE, (8_191, WEAK_REFERENCE), (0, SECTION)),
+        None,
+    ),
+    (
+        "the 8193rd global in a relocation",
+        Relocations(4, 9_001),
+        Some(LinkFault::TooManyGlobals),
+    ),
+    (
+        "the place of a relocation is told before a global too many",
+        Relocations(5, 9_001),
+        Some(LinkFault::BadDisplacement),
+    ),
     ("no module", Modules(0), None),
 ];
 
@@ -179,7 +212,9 @@ fn end_as_they_should(
             None => Ok(LinkDone { messages: 0 }),
             Some(fault) => Err(fault),
         };
-        ends_file(rt, name, file.as_slice(), 0o1000, outcome)?;
+        let shown = ends_file(rt, name, file.as_slice(), 0o1000, outcome);
+        drop(file);
+        shown?;
     }
     Ok(())
 }
