@@ -1,11 +1,12 @@
 -- What instructions leave of the processor status word that they store to.
-use Rattle.std.proofs.Common.{◌≡◌, ℕ, ◌/◌, ◌%◌, ◌≤◌, true, false, List, ◌++◌, length, Result, Ok, refl, sym, ◌∙◌, ap, subst, arith}
+use Rattle.std.proofs.Common.{◌≡◌, ℕ, ◌/◌, ◌%◌, ◌≤◌, true, false, List, ◌++◌, length, Result, Ok, refl, sym, ◌∙◌, ap, subst, arith, true≢false, Bool}
 use Rattle.std.proofs.lemmas.Bool.{le-ltb}
 use Rattle.m11_base.specs.declared.instruction.BareOp.{BareOp}
 use Rattle.m11_base.specs.declared.instruction.BareOp.TheVariants.{Halt, Wait, Rti, Bpt, Iot, Reset, Rtt}
 use Rattle.m11_base.specs.declared.instruction.DoubleOp.{DoubleOp}
 use Rattle.m11_base.specs.declared.instruction.DoubleOp.TheVariants.{Mov, Cmp, Bit, Bic, Bis, Add, Sub}
 use Rattle.m11_base.specs.declared.instruction.Insn.TheVariants as insn
+use Rattle.m11_base.specs.declared.instruction.RegisterOp.TheVariants.{Jsr, Xor}
 use Rattle.m11_base.specs.declared.instruction.SingleOp.{SingleOp}
 use Rattle.m11_base.specs.declared.instruction.SingleOp.TheVariants.{Jmp, Swab, Clr, Com, Inc, Dec, Neg, Adc, Sbc, Tst, Ror, Rol, Asr, Asl, Sxt}
 use Rattle.m11_base.specs.declared.operand.Operand.{Operand}
@@ -34,7 +35,7 @@ use Rattle.m11_cpu.specs.declared.machine.Machine.{Machine}
 use Rattle.m11_cpu.specs.declared.status.ProcessorStatus.{ProcessorStatus}
 use Rattle.m11_cpu.proofs.AtOnce.{bind_at, cond_not}
 use Rattle.m11_cpu.proofs.Dialogues.{leads_after}
-use Rattle.m11_cpu_laws.specs.StatusWord.{CallsAtStatus, DoublesAtStatus, EndsBeforeDevices, ExclusivesAtStatus, ReturnsLoad, SinglesAtStatus, with_status_word}
+use Rattle.m11_cpu_laws.specs.StatusWord.{CallsAtStatus, DoublesAtStatus, EndsAs, EndsBeforeDevices, ExclusivesAtStatus, ReturnsLoad, SinglesAtStatus, with_status_word}
 use Rattle.m11_cpu_laws.specs.Writes.{push_address, stack_deepened, stores_double, stores_single}
 use Rattle.m11_cpu_laws.proofs.StepsInMemory.{bind_leads}
 
@@ -180,18 +181,17 @@ double_leads operation size source destination m n formed left first second valu
 
 pub doubles_at_status : (operation : DoubleOp) (size : Size) (source destination : Operand) (m : Machine)
     → DoublesAtStatus operation size source destination m
-doubles_at_status operation size source destination m first second value address n formed e h k i = (
-  λ at.
-      let P : ℕ → Type 0 = λ a. Leads (place_of destination size n) second (Ok (InMemory a), formed) in
-      double_leads operation size source destination m n formed _ first second value (InMemory 0o177776) h
-      (subst P at k) (double_stored operation size value formed e i),
-  λ at byte.
-      let P : ℕ → Type 0 = λ a. Leads (place_of destination size n) second (Ok (InMemory a), formed) in
-      let Q : Size → Type 0 = λ s. double_at operation s value (InMemory 0o177777) formed
-      ≡ Comes (Ok tt, with_condition_codes (double_result operation s value 0 formed.status.codes).codes formed) in
-      double_leads operation size source destination m n formed _ first second value (InMemory 0o177777) h
-      (subst P at k) (subst Q (sym byte) (double_ignored operation value formed e i)),
-)
+doubles_at_status operation size source destination m first second value address n formed e h k i =
+    let P : ℕ → Type 0 = λ a. Leads (place_of destination size n) second (Ok (InMemory a), formed) in
+    let Q : Size → Type 0 = λ s. double_at operation s value (InMemory 0o177777) formed
+    ≡ Comes (Ok tt, with_condition_codes (double_result operation s value 0 formed.status.codes).codes formed) in
+    record {
+      stored = λ at. double_leads operation size source destination m n formed _ first second value (InMemory 0o177776) h
+          (subst P at k) (double_stored operation size value formed e i);
+      ignored = λ at byte.
+          double_leads operation size source destination m n formed _ first second value (InMemory 0o177777) h
+          (subst P at k) (subst Q (sym byte) (double_ignored operation value formed e i));
+    }
 
 -- ---- of one operand
 
@@ -286,26 +286,42 @@ pub singles_at_status : (operation : SingleOp) (size : Size) (operand : Operand)
     → SinglesAtStatus operation size operand m
 singles_at_status operation size operand m es address formed e k h =
     let f = finishing operation size operand formed e h in
-    let P : ℕ → Type 0 = λ a. Leads (place_of operand size m) es (Ok (InMemory a), formed) in (
-      λ at.
-          single_leads operation size operand m formed _ es f.next (InMemory 0o177776) f.same (subst P at k) f.stored,
-      λ at byte.
+    let P : ℕ → Type 0 = λ a. Leads (place_of operand size m) es (Ok (InMemory a), formed) in
+    record {
+      stored = λ at.
+          single_leads operation size operand m formed _ es f.next (InMemory 0o177776) f.same (subst P at k) f.stored;
+      ignored = λ at byte.
           single_leads operation size operand m formed _ es f.next (InMemory 0o177777) f.same (subst P at k)
-          (f.ignored byte),
-    )
+          (f.ignored byte);
+    }
 
 -- ---- XOR, JSR, RTI and RTT
 
-pub exclusives_at_status : (register : Register) (operand : Operand) (m : Machine)
-    → ExclusivesAtStatus register operand m
+exclusive_leads : (register : Register) (operand : Operand) (m formed : Machine) (es : List Exchange)
+    → Leads (place_of operand Word m) es (Ok (InMemory 0o177776), formed) → EndsBeforeDevices formed
+    → EndsAs (insn.Register Xor register operand) m es
+    (with_status_word (exclusive_or_result (register_of register m) (psw_in formed) formed.status.codes).value formed)
 unfolding execute on_register exclusive_or change_exclusive
-exclusives_at_status register operand m es formed k h =
+exclusive_leads register operand m formed es k h =
     let v = register_of register m in
     let n = with_status_word (exclusive_or_result v (psw_in formed) formed.status.codes).value formed in
     bind_leads (exclusive_or register operand) _ m n es tt (Ok ending.Next, n)
     (bind_leads (place_of operand Word) (change_exclusive v) m formed es (InMemory 0o177776) (Ok tt, n) k
     (bind_at (fetch (InMemory 0o177776) Word) _ formed formed (psw_in formed) (status_fetched Word formed h)
     ∙ result_stored Word _ formed h)) refl
+
+abbrev is_byte : Size → Bool
+is_byte Word = false
+is_byte Byte = true
+
+pub exclusives_at_status : (register : Register) (operand : Operand) (m : Machine)
+    → ExclusivesAtStatus register operand m
+exclusives_at_status register operand m es address formed k h =
+    let P : ℕ → Type 0 = λ a. Leads (place_of operand Word m) es (Ok (InMemory a), formed) in
+    record {
+      stored = λ at. exclusive_leads register operand m formed es (subst P at k) h;
+      ignored = λ at byte. absurd (true≢false (sym (ap is_byte byte)));
+    }
 
 status_pushed : (v : ℕ) (m : Machine) → push_address m ≡ 0o177776 → EndsBeforeDevices m
     → push v m ≡ Comes (Ok tt, with_status_word v (stack_deepened m))

@@ -43,53 +43,51 @@ EndsBeforeDevices m = memory_size m ≤ 0o160000
 abbrev pub with_status_word : ℕ → Machine → Machine
 with_status_word word m = record m { status = status_written word m.status }
 
--- the result of an operation is stored at 177776: it alone decides the status. A byte is stored at 177777: it goes nowhere,
--- and the codes are those of the result
-abbrev pub AtStatus : (Machine → Computed) → (ℕ → Computed) → Size → Insn → Machine → List Exchange → ℕ → Machine → Type 0
-AtStatus of_status of_zero size code m exchanges address formed =
-    (address ≡ 0o177776 → Leads (execute code m) exchanges (Ok ending.Next, with_status_word (of_status formed).value formed))
-    × (address ≡ 0o177777 → size ≡ Byte
-    → Leads (execute code m) exchanges (Ok ending.Next, with_condition_codes (of_zero 0).codes formed))
+-- an instruction ends so, after these exchanges
+abbrev pub EndsAs : Insn → Machine → List Exchange → Machine → Type 0
+EndsAs code m exchanges left = Leads (execute code m) exchanges (Ok ending.Next, left)
 
--- instructions of two operands: the status is read where the operation changes its destination
+-- what is left where an instruction goes on from a destination that was formed, by the result that it has for what is read
+-- there. Stored at 177776, the result alone decides the status. A byte stored at 177777 goes nowhere, 0 is read there, and
+-- the codes are those of the result
+pub record AtStatus (result : ℕ → Computed) (size : Size) (address : ℕ) (formed : Machine) (Leaves : Machine → Type 0) : Type 0
+  where
+    pub stored : address ≡ 0o177776 → Leaves (with_status_word (result (psw_in formed)).value formed)
+    pub ignored : address ≡ 0o177777 → size ≡ Byte → Leaves (with_condition_codes (result 0).codes formed)
+
+-- instructions of two operands, the source of which was fetched
 abbrev pub DoublesAtStatus : DoubleOp → Size → Operand → Operand → Machine → Type 0
 DoublesAtStatus operation size source destination m =
     (first second : List Exchange) (value address : ℕ) (n formed : Machine) → stores_double operation ≡ true
     → Leads (fetch_operand source size m) first (Ok value, n)
     → Leads (place_of destination size n) second (Ok (InMemory address), formed) → EndsBeforeDevices formed
-    → AtStatus (λ o. double_result operation size value (psw_in o) o.status.codes)
-    (λ zero. double_result operation size value zero formed.status.codes) size
-    (insn.Double operation size source destination) m (first ++ second) address formed
+    → AtStatus (λ read. double_result operation size value read formed.status.codes) size address formed
+    (EndsAs (insn.Double operation size source destination) m (first ++ second))
 
 -- of one operand
 abbrev pub SinglesAtStatus : SingleOp → Size → Operand → Machine → Type 0
 SinglesAtStatus operation size operand m =
     (exchanges : List Exchange) (address : ℕ) (formed : Machine) → stores_single operation ≡ true
     → Leads (place_of operand size m) exchanges (Ok (InMemory address), formed) → EndsBeforeDevices formed
-    → AtStatus (λ o. single_result operation size (psw_in o) o.status.codes)
-    (λ zero. single_result operation size zero formed.status.codes) size (insn.Single operation size operand) m exchanges
-    address formed
+    → AtStatus (λ read. single_result operation size read formed.status.codes) size address formed
+    (EndsAs (insn.Single operation size operand) m exchanges)
 
 -- XOR, of words alone
 abbrev pub ExclusivesAtStatus : Register → Operand → Machine → Type 0
 ExclusivesAtStatus register operand m =
-    (exchanges : List Exchange) (formed : Machine)
-    → Leads (place_of operand Word m) exchanges (Ok (InMemory 0o177776), formed) → EndsBeforeDevices formed
-    → Leads (execute (insn.Register Xor register operand) m) exchanges (
-      Ok ending.Next,
-      with_status_word (exclusive_or_result (register_of register m) (psw_in formed) formed.status.codes).value formed,
-    )
+    (exchanges : List Exchange) (address : ℕ) (formed : Machine)
+    → Leads (place_of operand Word m) exchanges (Ok (InMemory address), formed) → EndsBeforeDevices formed
+    → AtStatus (λ read. exclusive_or_result (register_of register m) read formed.status.codes) Word address formed
+    (EndsAs (insn.Register Xor register operand) m exchanges)
 
 -- JSR pushes its register there, and goes
 abbrev pub CallsAtStatus : Register → Operand → Machine → Type 0
 CallsAtStatus register operand m =
     (exchanges : List Exchange) (address : ℕ) (formed : Machine)
     → Leads (target operand m) exchanges (Ok address, formed) → push_address formed ≡ 0o177776 → EndsBeforeDevices formed
-    → Leads (execute (insn.Register Jsr register operand) m) exchanges (
-      Ok ending.Next,
-      with_register Pc address (with_register register (register_of Pc (stack_deepened formed))
-          (with_status_word (register_of register formed) (stack_deepened formed))),
-    )
+    → EndsAs (insn.Register Jsr register operand) m exchanges
+    (with_register Pc address (with_register register (register_of Pc (stack_deepened formed))
+    (with_status_word (register_of register formed) (stack_deepened formed))))
 
 -- ---- T
 

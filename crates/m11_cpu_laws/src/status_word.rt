@@ -20,7 +20,7 @@ ghost use Rattle.m11_cpu_laws.specs.StatusWord.{CallsAtStatus, DoublesAtStatus, 
 /// byte, its result decides all of the status but T, and the codes of the instruction are dropped; so does the register
 /// that JSR pushes there. A byte that is stored at 177777 goes nowhere, is read as 0, and leaves the codes of its
 /// instruction. (PDP-11/40 Processor Handbook, "Processor status word".)
-#[tactic(auto, using(crate::proofs::StatusStored::exclusives_at_status, crate::proofs::StatusStored::calls_at_status))]
+#[tactic(auto, using(crate::proofs::StatusStored::calls_at_status))]
 pub fn status_word_takes_what_is_stored()
     ensures doubles { (operation : DoubleOp) (size : Size) (source destination : Operand) (m : Machine)
         → DoublesAtStatus operation size source destination m }
