@@ -2,6 +2,7 @@ pub mod AbortsLeave
 pub mod AccessesTrap
 pub mod AddressesTrap
 pub mod BothWords
+pub mod BranchesGo
 pub mod CallMade
 pub mod CallsBack
 pub mod ConsoleExact

@@ -1,5 +1,6 @@
 pub mod Accesses
 pub mod Addresses
+pub mod Branching
 pub mod Exchanges
 pub mod Failures
 pub mod Laws

@@ -3,6 +3,7 @@
 #![tactic(auto)]
 
 mod addresses;
+mod branching;
 mod devices;
 mod laws;
 mod operands;
@@ -14,6 +15,7 @@ mod witnesses;
 mod writes;
 
 pub use addresses::{accesses_alone_trap, bad_addresses_trap};
+pub use branching::branches_go;
 pub use devices::{failures_stop, receiver_hears};
 pub use laws::{console_is_exact, runs_are_joined, stops_stand};
 pub use operands::modes_find_their_operands;
