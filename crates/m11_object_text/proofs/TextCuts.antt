@@ -144,7 +144,7 @@ alone x = both_of (leb (length (text_bytes (x ∷ []))) 32)
 
 -- ---- one more piece
 
-same_words : (a b : ℕ × ℕ) → same_name a b ≡ true → a ≡ b
+pub same_words : (a b : ℕ × ℕ) → same_name a b ≡ true → a ≡ b
 same_words a b e =
     let first : a.0 ≡ b.0 = eqb-true a.0 b.0 (left_of (a.0 == b.0) (a.1 == b.1) e) in
     let second : a.1 ≡ b.1 = eqb-true a.1 b.1 (right_of (a.0 == b.0) (a.1 == b.1) e) in

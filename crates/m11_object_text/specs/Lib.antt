@@ -4,5 +4,6 @@ pub mod Fronts
 pub mod Laws
 pub mod OpenText
 pub mod Pieces
+pub mod Reading
 pub mod RelocationList
 pub mod Texts

@@ -2,6 +2,7 @@
 
 ghost use Rattle.std.specs.Prelude.{◌≡◌, ◌<◌, ◌^◌, ◌++◌, ◌∷◌, List, true};
 ghost use Rattle.m11_object_text.specs.Laws.{HoldsPieces, HoldsRows, LiesInText};
+ghost use Rattle.m11_object_text.specs.Reading.{AreReadAgain};
 ghost use Rattle.m11_object_text.specs.Texts.{is_one_text};
 ghost use Rattle.m11_object_text.specs.declared.directory.DirectoryRow.{DirectoryRow};
 ghost use Rattle.m11_object_text.specs.declared.pieces.Piece.{Piece};
@@ -15,6 +16,12 @@ pub fn texts_hold_the_pieces()
 pub fn pieces_lie_in_their_text()
     ensures { (before after : List Piece) (piece : Piece) → piece.place < 2 ^ 16
         → is_one_text (before ++ piece ∷ after) ≡ true → LiesInText before piece after }
+{}
+
+/// A reader of the records, which goes by the sections that they select, finds each text again: its section, its place, its bytes and
+/// its relocations.
+pub fn texts_are_read_again()
+    ensures { (pieces : List Piece) → AreReadAgain pieces }
 {}
 
 /// Records of a directory hold exactly the entries of its rows, in order, and only the last one may have less than 15.

@@ -10,7 +10,9 @@ mod relocation_list;
 mod texts;
 
 pub use directory::{DirectoryRow, OpenDirectory};
-pub use laws::{pieces_lie_in_their_text, records_hold_the_rows, texts_hold_the_pieces};
+pub use laws::{
+    pieces_lie_in_their_text, records_hold_the_rows, texts_are_read_again, texts_hold_the_pieces,
+};
 pub use open_text::OpenText;
 pub use pieces::{Piece, PieceContent, RelocationKind, Stored};
 pub use texts::Text;
