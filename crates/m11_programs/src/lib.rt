@@ -4,4 +4,6 @@
 #![tactic(auto)]
 
 #[cfg(test)]
+mod console_words;
+#[cfg(test)]
 mod tests;
