@@ -22,13 +22,27 @@ pub enum DirectoryRow {
     /// The identification of the module.
     Identification(Name),
     /// A section, its attributes, and its size in bytes. The definitions after it stand in it.
-    Section(Name, SectionFlags, u16),
+    Section {
+        name: Name,
+        flags: SectionFlags,
+        size: u16,
+    },
     /// A global that is defined, whether it moves with its section, and its value.
-    Definition(Name, bool, u16),
+    Definition {
+        name: Name,
+        is_relocatable: bool,
+        value: u16,
+    },
     /// A global that is referred to, and whether only weakly.
-    Reference(Name, bool),
+    Reference {
+        name: Name,
+        is_weak: bool,
+    },
     /// The section of the transfer address, and the address from the beginning of that section.
-    Transfer(Name, u16),
+    Transfer {
+        section: Name,
+        value: u16,
+    },
 }
 
 impl DirectoryRow {
@@ -39,19 +53,23 @@ impl DirectoryRow {
         match *self {
             DirectoryRow::Module(name) => entry(name, 0, GsdKind::ModuleName, 0),
             DirectoryRow::Identification(name) => entry(name, 0, GsdKind::Identification, 0),
-            DirectoryRow::Section(name, flags, size) => {
+            DirectoryRow::Section { name, flags, size } => {
                 entry(name, flags.bits(), GsdKind::ProgramSection, size)
             }
-            DirectoryRow::Definition(name, is_relocatable, value) => entry(
+            DirectoryRow::Definition {
+                name,
+                is_relocatable,
+                value,
+            } => entry(
                 name,
                 definition_flags(is_relocatable),
                 GsdKind::GlobalSymbol,
                 value,
             ),
-            DirectoryRow::Reference(name, is_weak) => {
+            DirectoryRow::Reference { name, is_weak } => {
                 entry(name, reference_flags(is_weak), GsdKind::GlobalSymbol, 0)
             }
-            DirectoryRow::Transfer(section, value) => {
+            DirectoryRow::Transfer { section, value } => {
                 entry(section, 0, GsdKind::TransferAddress, value)
             }
         }

@@ -27,13 +27,38 @@ fn rows_have_their_entries(rt: HostRuntime) -> Result<(), Fail> {
     let rows = [
         DirectoryRow::Module(name(b".MAIN.")?),
         DirectoryRow::Identification(name(b"ABCDEF")?),
-        DirectoryRow::Section(absolute, SectionFlags::GLOBAL | SectionFlags::OVERLAID, 0),
-        DirectoryRow::Definition(name(b"B     ")?, false, 2),
-        DirectoryRow::Reference(name(b"A     ")?, false),
-        DirectoryRow::Reference(name(b"Q     ")?, true),
-        DirectoryRow::Section(blank, SectionFlags::RELOCATABLE, 4),
-        DirectoryRow::Definition(name(b"Z     ")?, true, 1),
-        DirectoryRow::Transfer(absolute, 1),
+        DirectoryRow::Section {
+            name: absolute,
+            flags: SectionFlags::GLOBAL | SectionFlags::OVERLAID,
+            size: 0,
+        },
+        DirectoryRow::Definition {
+            name: name(b"B     ")?,
+            is_relocatable: false,
+            value: 2,
+        },
+        DirectoryRow::Reference {
+            name: name(b"A     ")?,
+            is_weak: false,
+        },
+        DirectoryRow::Reference {
+            name: name(b"Q     ")?,
+            is_weak: true,
+        },
+        DirectoryRow::Section {
+            name: blank,
+            flags: SectionFlags::RELOCATABLE,
+            size: 4,
+        },
+        DirectoryRow::Definition {
+            name: name(b"Z     ")?,
+            is_relocatable: true,
+            value: 1,
+        },
+        DirectoryRow::Transfer {
+            section: absolute,
+            value: 1,
+        },
     ];
     same(
         &rt,
@@ -53,7 +78,10 @@ fn rows_have_their_entries(rt: HostRuntime) -> Result<(), Fail> {
 
 #[test]
 fn a_record_has_at_most_fifteen_entries(rt: HostRuntime) -> Result<(), Fail> {
-    let row = DirectoryRow::Reference(name(b"Q     ")?, false);
+    let row = DirectoryRow::Reference {
+        name: name(b"Q     ")?,
+        is_weak: false,
+    };
     let cases: [(&str, usize, &[usize]); 6] = [
         ("no row", 0, &[]),
         ("one row", 1, &[10]),
