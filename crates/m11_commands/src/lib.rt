@@ -1,5 +1,5 @@
-//! Tests alone, of what the cases of the suite can't show of a command: tasks of words, each status and line, devices
-//! that fail, and the files and words of the system.
+//! Tests alone, of what the cases of the suite can't show of a command: statuses and lines of other outcomes, devices that
+//! fail, and the files and words of the system.
 #![tactic(auto)]
 
 #[cfg(test)]

@@ -1,6 +1,5 @@
-//! What the command line makes of words, outcomes, devices that fail, and the system.
+//! What the command line makes of outcomes, devices that fail, and the system.
 
 mod failing;
 mod outcomes;
 mod system;
-mod tasks;
