@@ -1,6 +1,6 @@
 -- Takers of bytes. (This project's own.) A known text of a sink is all that it has taken; adding to
 -- a known text is `Appends` of the standard library, which says nothing of an unknown one.
-use Rattle.std.specs.Prelude.{◌≡◌, ℕ, zero, suc, List, [], ◌++◌, length, take, Option, Result, MatchResult}
+use Rattle.std.specs.Prelude.{◌≡◌, ℕ, zero, suc, [], ◌++◌, length, take, Option, Result, MatchResult}
 use Rattle.std.specs.Io.KnownBytes.{Appends}
 use Rattle.m11_base.specs.Devices.{Bytes, Rises}
 
