@@ -10,10 +10,9 @@ use Rattle.m11_base.specs.declared.instruction.Insn.TheVariants as insn
 use Rattle.m11_base.specs.declared.instruction.NumberOp.TheVariants.{Mark}
 use Rattle.m11_base.specs.declared.operand.Register.{Register}
 use Rattle.m11_base.specs.declared.operand.Register.TheVariants.{R5, Sp, Pc}
-use Rattle.m11_cpu.specs.Acts.{◌>>=◌}
 use Rattle.m11_cpu.specs.Dialogue.{Comes, Dialogue}
 use Rattle.m11_cpu.specs.Execution.{execute, numbered}
-use Rattle.m11_cpu.specs.Jumps.{branched, counted_down, mark, pop, words_on}
+use Rattle.m11_cpu.specs.Jumps.{mark, pop, words_on}
 use Rattle.m11_cpu.specs.Machine.{advanced, register_of, with_register}
 use Rattle.m11_cpu.specs.declared.abort.Abort.{Abort}
 use Rattle.m11_cpu.specs.declared.execution.Ending.{Ending}
@@ -25,7 +24,7 @@ use Rattle.m11_cpu_laws.specs.Branching.{BranchGoes, Leaves, MarkGoes, SobGoes}
 use Rattle.m11_cpu_laws.specs.Operands.{less, memory_at}
 use Rattle.m11_cpu_laws.specs.Returns.{IsWordInside}
 use Rattle.m11_cpu_laws.proofs.StepsInMemory.{pop_inside}
-use Rattle.m11_cpu_laws.proofs.WordsPut.{put_length, put_other}
+use Rattle.m11_cpu_laws.proofs.WordsPut.{put_other}
 
 abbrev ended_in : Machine → Dialogue (Result Ending Abort × Machine)
 ended_in m = Comes (Ok ending.Next, m)

@@ -6,7 +6,7 @@ use Rattle.m11_base.specs.declared.instruction.BareOp.TheVariants.{Halt, Wait, R
 use Rattle.m11_base.specs.declared.instruction.DoubleOp.{DoubleOp}
 use Rattle.m11_base.specs.declared.instruction.DoubleOp.TheVariants.{Mov, Cmp, Bit, Bic, Bis, Add, Sub}
 use Rattle.m11_base.specs.declared.instruction.Insn.TheVariants as insn
-use Rattle.m11_base.specs.declared.instruction.RegisterOp.TheVariants.{Jsr, Xor}
+use Rattle.m11_base.specs.declared.instruction.RegisterOp.TheVariants.{Xor}
 use Rattle.m11_base.specs.declared.instruction.SingleOp.{SingleOp}
 use Rattle.m11_base.specs.declared.instruction.SingleOp.TheVariants.{Jmp, Swab, Clr, Com, Inc, Dec, Neg, Adc, Sbc, Tst, Ror, Rol, Asr, Asl, Sxt}
 use Rattle.m11_base.specs.declared.operand.Operand.{Operand}

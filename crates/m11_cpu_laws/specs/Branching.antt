@@ -1,5 +1,5 @@
 -- Where branches, SOB and MARK go. (PDP-11/40 Processor Handbook, "Instruction set": branches, SOB, MARK.)
-use Rattle.std.specs.Prelude.{◌≡◌, ◌≢◌, ℕ, ◌+◌, ◌-◌, ◌*◌, ◌%◌, ◌<◌, true, false, length, ℤ, pos, negsuc, Ok}
+use Rattle.std.specs.Prelude.{◌≡◌, ◌≢◌, ℕ, ◌+◌, ◌*◌, ◌%◌, ◌<◌, true, false, length, ℤ, pos, negsuc, Ok}
 use Rattle.m11_arithmetic.specs.Branches.{is_taken}
 use Rattle.m11_base.specs.Operand.{register_number}
 use Rattle.m11_base.specs.declared.instruction.BranchOp.{BranchOp}
