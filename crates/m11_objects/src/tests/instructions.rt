@@ -9,11 +9,11 @@ use std::process::Abort;
 
 #[test]
 fn each_word_is_the_code_of_its_instruction(rt: HostRuntime) {
-    let mut reserved = 0;
+    let mut reserved = 0u32;
     for word in 0..=u16::MAX {
         let instruction = decode(word);
         if matches!(instruction, Insn::Reserved(_)) {
-            reserved += 1;
+            reserved = reserved.saturating_add(1);
         }
         // by the tables as by the list
         let again = (encode(&instruction), decode_by_list(word));
