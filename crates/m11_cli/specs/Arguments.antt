@@ -1,6 +1,7 @@
 -- Words that the system does not give. (This project's own.)
-use Rattle.std.specs.Prelude.{◌≡◌, ◌++◌, ◌⊎◌, List, ℕ, codes}
+use Rattle.std.specs.Prelude.{◌≡◌, ◌++◌, ◌⊎◌, ℕ, codes}
 use Rattle.std.specs.Fmt.{decimal}
+use Rattle.m11_base.specs.Devices.{Bytes}
 use Rattle.m11_cpu.specs.Dialogue.{Output}
 use Rattle.m11_cli.specs.Driver.{Reports}
 use Rattle.m11_cli.specs.FaultLines.{line_of}
@@ -14,7 +15,7 @@ words_status NoMemory = 5
 words_status (NotText number) = 2
 
 -- the line of a word that is no text
-unfoldable pub refusal_line : ℕ → List ℕ
+unfoldable pub refusal_line : ℕ → Bytes
 refusal_line number = codes "error: word " ++ decimal number ++ codes " is not valid UTF-8\n"
 
 -- that line, or nothing where memory is refused for it; or the line for want of memory

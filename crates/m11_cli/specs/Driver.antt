@@ -2,7 +2,7 @@
 use Rattle.std.specs.Prelude.{◌≡◌, ◌⊎◌, ℕ, List, [], Option, None, Result, Ok, Err}
 use Rattle.std.specs.Io.KnownBytes.{Appends}
 use Rattle.clap.specs.Words.{Text}
-use Rattle.m11_base.specs.Devices.{Rises}
+use Rattle.m11_base.specs.Devices.{Bytes, Rises}
 use Rattle.m11_base.specs.Feed as feed
 use Rattle.m11_base.specs.Sink.{AppendsBeginning}
 use Rattle.m11_base.specs.declared.sink.Sink.{Ghosts}
@@ -44,7 +44,7 @@ pub record Streams : Type 0 where
   pub printed : Output
   pub reported : Output
 
-abbrev pub streams : Option feed.Text → ℕ → Option (List ℕ) → ℕ → Option (List ℕ) → ℕ → Streams
+abbrev pub streams : Option feed.Text → ℕ → Option Bytes → ℕ → Option Bytes → ℕ → Streams
 streams input input_faults printed printed_faults reported reported_faults = record {
   input = input_of input input_faults;
   printed = output_of printed printed_faults;
@@ -62,13 +62,13 @@ store files refusals = record { files = files; refusals = refusals }
 -- ---- what is reported
 
 -- a text was reported whole; or the device failed, after a beginning of it
-abbrev pub Reports : List ℕ → Output → Output → Type 0
+abbrev pub Reports : Bytes → Output → Output → Type 0
 Reports text old new = (Appends old.text new.text text × (new.faults ≡ old.faults))
     ⊎ (AppendsBeginning old.text new.text text × Rises old.faults new.faults)
 
 -- a text in words of the parser's own was reported: none, where memory was refused for it
 abbrev pub ReportsSome : Output → Output → Type 0
-ReportsSome old new = (text : List ℕ) × Reports text old new
+ReportsSome old new = (text : Bytes) × Reports text old new
 
 -- what the parser has to say is printed, where it is help, or reported, where it is a refusal
 abbrev pub Explains : UsageFault → Output → Output → Output → Output → Type 0
@@ -79,14 +79,14 @@ Explains fault printed printed' reported reported' = (printed' ≡ printed) × (
 -- ---- files that are not all open
 
 -- memory was refused while the files were opened: nothing is reported
-abbrev pub RunsOutOpening : List (List ℕ) → List (List ℕ) → Store → Store → Output → Output → Type 0
+abbrev pub RunsOutOpening : List Bytes → List Bytes → Store → Store → Output → Output → Type 0
 RunsOutOpening inputs outputs old new reported reported' = (reported' ≡ reported) × (new.refusals ≡ old.refusals)
     × ((new.files ≡ old.files) ⊎ CreatesSome old.files new.files inputs outputs)
 
 -- a file was refused, the first of them, and its path is reported
-abbrev pub RefusesFile : List (List ℕ) → List (List ℕ) → Store → Store → Output → Output → Type 0
+abbrev pub RefusesFile : List Bytes → List Bytes → Store → Store → Output → Output → Type 0
 RefusesFile inputs outputs old new reported reported' = Rises old.refusals new.refusals
-    × (path : List ℕ) × StopsAt old.files new.files inputs outputs path × Reports (open_line path) reported reported'
+    × (path : Bytes) × StopsAt old.files new.files inputs outputs path × Reports (open_line path) reported reported'
 
 -- ---- an assembly
 
@@ -172,12 +172,12 @@ MayRun sim old new before after answer = RunsTape sim old new before after answe
 -- ---- a command
 
 -- the paths that a task reads, and those that it writes
-abbrev pub inputs_of : Task → List (List ℕ)
+abbrev pub inputs_of : Task → List Bytes
 inputs_of (task.Asm asm) = asm_inputs asm
 inputs_of (task.Link link) = link_inputs link
 inputs_of (task.Sim sim) = sim_inputs sim
 
-abbrev pub outputs_of_task : Task → List (List ℕ)
+abbrev pub outputs_of_task : Task → List Bytes
 outputs_of_task (task.Asm asm) = asm_outputs asm
 outputs_of_task (task.Link link) = link_outputs link
 outputs_of_task (task.Sim sim) = []

@@ -4,6 +4,7 @@
 use Rattle.std.specs.Prelude.{List, [], ◌∷◌, ◌++◌, ℕ, Ok, Err, codes}
 use Rattle.std.specs.List.{join_with_byte}
 use Rattle.std.specs.Fmt.{decimal}
+use Rattle.m11_base.specs.Devices.{Bytes}
 use Rattle.m11_asm.specs.Fault.{name_of, number_of, output_name}
 use Rattle.m11_asm.specs.declared.fault.AsmFault.{AsmFault}
 use Rattle.m11_asm.specs.declared.fault.AsmFault.TheVariants as asm
@@ -24,16 +25,16 @@ use Rattle.m11_tasks.specs.declared.usage.UsageFault.{UsageFault}
 use Rattle.m11_tasks.specs.declared.usage.UsageFault.TheVariants.{Help, Words}
 
 -- a line of words: a blank is 32, a line feed 10
-abbrev pub line : List (List ℕ) → List ℕ
+abbrev pub line : List Bytes → Bytes
 line words = join_with_byte 32 words ++ 10 ∷ []
 
 -- the line of a fault
-abbrev pub line_for : List ℕ → ℕ → List ℕ → List (List ℕ) → List ℕ
+abbrev pub line_for : Bytes → ℕ → Bytes → List Bytes → Bytes
 line_for command number name more =
     line (codes "?M11" ∷ command ∷ decimal number ∷ name ∷ more)
 
 -- what a fault of an assembly adds: the output that could not be written
-abbrev pub added : AsmFault → List (List ℕ)
+abbrev pub added : AsmFault → List Bytes
 added (asm.Write output) = output_name output ∷ []
 added asm.Read = []
 added asm.TooMuchSource = []
@@ -41,18 +42,18 @@ added asm.NotYet = []
 added asm.NoMemory = []
 
 -- the line of a fault of an assembly
-abbrev pub asm_line : AsmFault → List ℕ
+abbrev pub asm_line : AsmFault → Bytes
 asm_line fault = line_for (codes "ASM") (number_of fault) (name_of fault) (added fault)
 
 -- the name of an output of a link
-abbrev pub link_output_name : LinkOutput → List ℕ
+abbrev pub link_output_name : LinkOutput → Bytes
 link_output_name Tape = codes "TAPE"
 link_output_name Map = codes "MAP"
 link_output_name Messages = codes "MESSAGES"
 
 -- what a fault of a link adds: the output that could not be written, or the number and the name of
 -- what is wrong with a block or with a record
-abbrev pub link_added : LinkFault → List (List ℕ)
+abbrev pub link_added : LinkFault → List Bytes
 link_added link.Read = []
 link_added (link.Write output) = link_output_name output ∷ []
 link_added (link.Block inner) = decimal (block_fault_number inner) ∷ block_fault_name inner ∷ []
@@ -70,30 +71,30 @@ link_added link.TextOutside = []
 link_added link.NoMemory = []
 
 -- the line of a fault of a link
-abbrev pub link_line : LinkFault → List ℕ
+abbrev pub link_line : LinkFault → Bytes
 link_line fault =
     line_for (codes "LINK") (link_fault_number fault) (link_fault_name fault) (link_added fault)
 
 -- what a fault of a run adds: the messages, where they could not be written
-abbrev pub sim_added : SimFault → List (List ℕ)
+abbrev pub sim_added : SimFault → List Bytes
 sim_added (sim.Load fault) = []
 sim_added sim.Write = codes "MESSAGES" ∷ []
 sim_added sim.NoMemory = []
 
 -- the line of a fault of a run
-abbrev pub sim_line : SimFault → List ℕ
+abbrev pub sim_line : SimFault → Bytes
 sim_line fault =
     line_for (codes "SIM") (sim_fault_number fault) (sim_fault_name fault) (sim_added fault)
 
 -- the line of a fault of the words; the parser's own text stands for a line where it has one
-abbrev pub usage_line : UsageFault → List ℕ
+abbrev pub usage_line : UsageFault → Bytes
 usage_line (Help error) = []
 usage_line (Words error) = []
 usage_line fault = line_for (codes "USAGE") (usage_number fault) (usage_name fault) []
 
 -- the line of what a command yielded; none where there is no fault, and none where the words or the
 -- paths have been returned with a text of their own
-abbrev pub line_of : Outcome → List ℕ
+abbrev pub line_of : Outcome → Bytes
 line_of (Usage fault) = usage_line fault
 line_of (Asm (Ok done)) = []
 line_of (Asm (Err fault)) = asm_line fault
@@ -104,5 +105,5 @@ line_of (Sim (Err fault)) = sim_line fault
 line_of NotOpened = []
 
 -- the line for a file that could not be opened
-abbrev pub open_line : List ℕ → List ℕ
+abbrev pub open_line : Bytes → Bytes
 open_line path = line (codes "?M11" ∷ codes "OPEN" ∷ path ∷ [])

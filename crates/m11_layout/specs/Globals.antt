@@ -3,6 +3,7 @@
 use Rattle.std.specs.Prelude.{ℕ, ◌+◌, ◌%◌, map, option_map, Bool, ◌&&◌, not, List, [], ◌∷◌, Option, Some, None, if◌then◌else◌}
 use Rattle.std.specs.List.{filter_map, list_any}
 use Rattle.std.specs.Map.{keys_of, lookup}
+use Rattle.m11_base.specs.Rad50.{Name}
 use Rattle.m11_obj.specs.declared.gsd.GsdEntry.{GsdEntry}
 use Rattle.m11_obj.specs.declared.gsd.GsdKind.{GsdKind}
 use Rattle.m11_obj.specs.declared.gsd.GsdKind.TheVariants.{GlobalSymbol}
@@ -25,30 +26,30 @@ last_of (x ∷ []) = Some x
 last_of (x ∷ y ∷ xs) = last_of (y ∷ xs)
 
 -- the section that a module entered last
-unfoldable pub last_section : List Part → Option (ℕ × ℕ)
+unfoldable pub last_section : List Part → Option Name
 last_section parts = last_of (keys_of (sections_in parts))
 
 -- a relocatable symbol stands in the section that its module entered last, octal 40 being its bit
-abbrev pub place_in : Option (ℕ × ℕ) → ℕ → GlobalPlace
+abbrev pub place_in : Option Name → ℕ → GlobalPlace
 place_in None value = Absolute value
 place_in (Some section) value = In section value
 
-abbrev pub place_of : Option (ℕ × ℕ) → GsdEntry → GlobalPlace
+abbrev pub place_of : Option Name → GsdEntry → GlobalPlace
 place_of section entry = if has_bits 0o40 entry.flags then place_in section entry.value else Absolute entry.value
 
-abbrev pub definition_by : GsdKind → GsdEntry → ℕ → Option (ℕ × ℕ) → Option ((ℕ × ℕ) × Definition)
+abbrev pub definition_by : GsdKind → GsdEntry → ℕ → Option Name → Option (Name × Definition)
 definition_by GlobalSymbol entry modules section =
     if defines entry then Some (entry.name, record { module_index = modules; place = place_of section entry }) else None
 definition_by kind entry modules section = None
 
 -- the definition in a part, after the parts before it
-abbrev pub definition_in : List Part → Part → Option ((ℕ × ℕ) × Definition)
+abbrev pub definition_in : List Part → Part → Option (Name × Definition)
 definition_in before (Entry entry) =
     definition_by entry.kind entry (modules_in before) (last_section (this_module before))
 definition_in before part = None
 
 -- all definitions, in order
-unfoldable pub definitions_of : List Part → List ((ℕ × ℕ) × Definition)
+unfoldable pub definitions_of : List Part → List (Name × Definition)
 definitions_of parts = reported_after definition_in [] parts
 
 -- ---- values
@@ -62,21 +63,21 @@ abbrev pub definition_value : ℕ → List Part → Definition → ℕ
 definition_value bottom parts definition = place_value bottom parts definition.module_index definition.place
 
 -- the first definition of a global
-abbrev pub first_definition : List Part → ℕ × ℕ → Option Definition
+abbrev pub first_definition : List Part → Name → Option Definition
 first_definition parts name = lookup (is_name name) (definitions_of parts)
 
 -- its value, where it is defined
-unfoldable pub global_value : ℕ → List Part → ℕ × ℕ → Option ℕ
+unfoldable pub global_value : ℕ → List Part → Name → Option ℕ
 global_value bottom parts name = option_map (definition_value bottom parts) (first_definition parts name)
 
-abbrev pub global_reported : ℕ → List Part → ℕ × ℕ → Definition → PlannedGlobal
+abbrev pub global_reported : ℕ → List Part → Name → Definition → PlannedGlobal
 global_reported bottom parts name definition = record {
   name = name;
   value = definition_value bottom parts definition;
   module_name = name_at parts definition.module_index;
 }
 
-abbrev pub global_defined : ℕ → List Part → ℕ × ℕ → Option PlannedGlobal
+abbrev pub global_defined : ℕ → List Part → Name → Option PlannedGlobal
 global_defined bottom parts name = option_map (global_reported bottom parts name) (first_definition parts name)
 
 -- the globals that are defined, in order of first definition, each with its value and the name of the module that
@@ -87,41 +88,41 @@ globals_of bottom parts = filter_map (global_defined bottom parts) (distinct (ke
 -- ---- references
 
 -- an entry that defines nothing refers; weakly where its bit 001 is set
-abbrev pub weak_by : GsdKind → GsdEntry → Option (ℕ × ℕ)
+abbrev pub weak_by : GsdKind → GsdEntry → Option Name
 weak_by GlobalSymbol entry = if not (defines entry) && has_bits 1 entry.flags then Some entry.name else None
 weak_by kind entry = None
 
-abbrev pub weak_in : Part → Option (ℕ × ℕ)
+abbrev pub weak_in : Part → Option Name
 weak_in (Entry entry) = weak_by entry.kind entry
 weak_in part = None
 
 -- the names that a module's entries refer to weakly
-unfoldable pub weak_names : List Part → List (ℕ × ℕ)
+unfoldable pub weak_names : List Part → List Name
 weak_names parts = filter_map weak_in parts
 
 -- a reference, and whether it is strong: an entry's by its bit, a relocation's where its module has no weak entry
-abbrev pub reference_by : GsdKind → GsdEntry → Option ((ℕ × ℕ) × Bool)
+abbrev pub reference_by : GsdKind → GsdEntry → Option (Name × Bool)
 reference_by GlobalSymbol entry = if defines entry then None else Some (entry.name, not (has_bits 1 entry.flags))
 reference_by kind entry = None
 
-abbrev pub relocated_reference : List (ℕ × ℕ) → Option (ℕ × ℕ) → Option ((ℕ × ℕ) × Bool)
+abbrev pub relocated_reference : List Name → Option Name → Option (Name × Bool)
 relocated_reference weak None = None
 relocated_reference weak (Some name) = Some (name, not (is_among weak name))
 
-abbrev pub reference_in : List Part → Part → Option ((ℕ × ℕ) × Bool)
+abbrev pub reference_in : List Part → Part → Option (Name × Bool)
 reference_in before (Entry entry) = reference_by entry.kind entry
 reference_in before (Relocated relocation) =
     relocated_reference (weak_names (this_module before)) (global_of relocation.target)
 reference_in before part = None
 
 -- all references, in order
-unfoldable pub references_of : List Part → List ((ℕ × ℕ) × Bool)
+unfoldable pub references_of : List Part → List (Name × Bool)
 references_of parts = reported_after reference_in [] parts
 
-abbrev pub is_strong_to : ℕ × ℕ → (ℕ × ℕ) × Bool → Bool
+abbrev pub is_strong_to : Name → Name × Bool → Bool
 is_strong_to name reference = is_name name reference.0 && reference.1
 
 -- the names that are referred to, in order of first reference, each with whether some reference is strong
-unfoldable pub referred : List Part → List ((ℕ × ℕ) × Bool)
+unfoldable pub referred : List Part → List (Name × Bool)
 referred parts =
     map (λ name. (name, list_any (is_strong_to name) (references_of parts))) (distinct (keys_of (references_of parts)))

@@ -3,6 +3,7 @@
 use Rattle.std.specs.Prelude.{ℕ, ◌+◌, nat_eq, nat_lt, List, [], ◌∷◌, ◌++◌, Option, Some, None, if◌then◌else◌}
 use Rattle.std.specs.List.{cons_option, filter_map}
 use Rattle.std.specs.Option.{unwrap_or}
+use Rattle.m11_base.specs.Rad50.{Name}
 use Rattle.m11_obj.specs.declared.gsd.GsdEntry.{GsdEntry}
 use Rattle.m11_obj.specs.declared.gsd.GsdKind.{GsdKind}
 use Rattle.m11_obj.specs.declared.gsd.GsdKind.TheVariants.{ModuleName}
@@ -35,11 +36,11 @@ reported_after report before [] = []
 reported_after report before (part ∷ parts) =
     cons_option (report before part) (reported_after report (before ++ part ∷ []) parts)
 
-abbrev pub name_by : GsdKind → GsdEntry → Option (ℕ × ℕ)
+abbrev pub name_by : GsdKind → GsdEntry → Option Name
 name_by ModuleName entry = Some entry.name
 name_by kind entry = None
 
-abbrev pub name_in : Part → Option (ℕ × ℕ)
+abbrev pub name_in : Part → Option Name
 name_in (Entry entry) = name_by entry.kind entry
 name_in part = None
 
@@ -48,12 +49,12 @@ first_of [] = None
 first_of (x ∷ xs) = Some x
 
 -- the first name that a module gives, wherever its entry stands; without one the name is blank
-unfoldable pub name_reported : List Part → Option (ℕ × ℕ)
+unfoldable pub name_reported : List Part → Option Name
 name_reported parts = first_of (filter_map name_in parts)
 
-abbrev pub module_name : List Part → ℕ × ℕ
+abbrev pub module_name : List Part → Name
 module_name parts = unwrap_or (name_reported parts) (0, 0)
 
 -- the name of the module of an index; past the last module that ended it is blank
-abbrev pub name_at : List Part → ℕ → ℕ × ℕ
+abbrev pub name_at : List Part → ℕ → Name
 name_at parts index = if nat_lt index (modules_in parts) then module_name (module_at parts index) else (0, 0)

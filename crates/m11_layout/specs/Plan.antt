@@ -4,6 +4,7 @@ use Rattle.std.specs.Prelude.{◌≡◌, get_or, map, min, option_and_then, true
 use Rattle.std.specs.Map.{keys_of, lookup}
 use Rattle.std.specs.Option.{unwrap_or}
 use Rattle.indexmap.specs.IndexMap.{insert_entry}
+use Rattle.m11_base.specs.Rad50.{Name}
 use Rattle.m11_modules.specs.Names.{is_name}
 use Rattle.m11_layout.specs.Tables.{Gathered, gathered_after_all, is_contribution, nothing_gathered, settled}
 use Rattle.m11_layout.specs.Globals.{definitions_of, first_definition, global_value, globals_of, referred}
@@ -32,11 +33,11 @@ address_limit = 0o160000
 
 -- the bases of sections from an address on, and the address after them
 pub record Bases : Type 0 where
-  pub bases : List ((ℕ × ℕ) × ℕ)
+  pub bases : List (Name × ℕ)
   pub top : ℕ
 
 -- a section at the next address, or an absolute one at 0; none where a relocatable one ends past the limit
-abbrev pub placed : List ((ℕ × ℕ) × ℕ) → ℕ → (ℕ × ℕ) × Total → Option Bases
+abbrev pub placed : List (Name × ℕ) → ℕ → Name × Total → Option Bases
 placed bases next section =
     if is_relocatable section.1.attributes.0
     then (if nat_lt address_limit (next + section.1.size) then None
@@ -44,13 +45,13 @@ placed bases next section =
     else Some (record { bases = insert_entry is_name bases section.0 0; top = next })
 
 -- sections one after another
-abbrev pub bases_onto : List ((ℕ × ℕ) × ℕ) → ℕ → List ((ℕ × ℕ) × Total) → Option Bases
+abbrev pub bases_onto : List (Name × ℕ) → ℕ → List (Name × Total) → Option Bases
 bases_onto bases next [] = Some (record { bases = bases; top = next })
 bases_onto bases next (section ∷ sections) =
     option_and_then (λ following. bases_onto following.bases following.top sections) (placed bases next section)
 
 -- a section was placed, or it ends past the limit
-abbrev pub Places : Option Bases → List ((ℕ × ℕ) × ℕ) → Result ℕ LinkFault → Type 0
+abbrev pub Places : Option Bases → List (Name × ℕ) → Result ℕ LinkFault → Type 0
 Places placed new (Ok top) = placed ≡ Some (record { bases = new; top = top })
 Places placed new (Err TooLarge) = placed ≡ None
 Places placed new (Err NoMemory) = ⊤
@@ -60,12 +61,12 @@ Places placed new (Err fault) = ⊥
 
 pub record Planned : Type 0 where
   pub gathered : Gathered
-  pub bases : List ((ℕ × ℕ) × ℕ)
+  pub bases : List (Name × ℕ)
   pub bottom : ℕ
   pub top : ℕ
 
 -- the base of a section; 0 where there is none of that name
-abbrev pub planned_section_base : Planned → ℕ × ℕ → ℕ
+abbrev pub planned_section_base : Planned → Name → ℕ
 planned_section_base plan name = unwrap_or (lookup (is_name name) plan.bases) 0
 
 abbrev pub after_offset : Option ℕ → ℕ → ℕ
@@ -73,7 +74,7 @@ after_offset None base = 0
 after_offset (Some offset) base = (base + offset) % 0o200000
 
 -- the base of a module's contribution; 0 where it has none
-abbrev pub planned_base : Planned → ℕ → ℕ × ℕ → ℕ
+abbrev pub planned_base : Planned → ℕ → Name → ℕ
 planned_base plan module_index name = after_offset
     (lookup (is_contribution (module_index, name)) plan.gathered.contributions)
     (planned_section_base plan name)
@@ -87,7 +88,7 @@ defined_value plan None = None
 defined_value plan (Some definition) = Some (value_at plan definition.module_index definition.place)
 
 -- the value of a global, where it is defined
-abbrev pub planned_value : Planned → ℕ × ℕ → Option ℕ
+abbrev pub planned_value : Planned → Name → Option ℕ
 planned_value plan name = defined_value plan (lookup (is_name name) plan.gathered.definitions)
 
 -- without an even transfer address it is 1, which starts nothing
@@ -100,7 +101,7 @@ abbrev pub planned_transfer : Planned → ℕ
 planned_transfer plan = transfer_at plan (settled plan.gathered)
 
 -- the name of the module of an index, blank past the last
-abbrev pub planned_module : Planned → ℕ → ℕ × ℕ
+abbrev pub planned_module : Planned → ℕ → Name
 planned_module plan module_index = get_or plan.gathered.names module_index (0, 0)
 
 abbrev pub attributes_reported : Option Total → Option ℕ
@@ -108,10 +109,10 @@ attributes_reported None = None
 attributes_reported (Some total) = Some total.attributes.0
 
 -- the attributes of a section, where there is one of that name
-abbrev pub planned_attributes : Planned → ℕ × ℕ → Option ℕ
+abbrev pub planned_attributes : Planned → Name → Option ℕ
 planned_attributes plan name = attributes_reported (lookup (is_name name) plan.gathered.sections)
 
-abbrev pub section_planned : Planned → (ℕ × ℕ) × Total → PlannedSection
+abbrev pub section_planned : Planned → Name × Total → PlannedSection
 section_planned plan section = record {
   name = section.0;
   base = planned_section_base plan section.0;
@@ -123,7 +124,7 @@ section_planned plan section = record {
 unfoldable pub planned_sections : Planned → List PlannedSection
 planned_sections plan = map (section_planned plan) plan.gathered.sections
 
-abbrev pub global_planned : Planned → (ℕ × ℕ) × Definition → PlannedGlobal
+abbrev pub global_planned : Planned → Name × Definition → PlannedGlobal
 global_planned plan global = record {
   name = global.0;
   value = value_at plan global.1.module_index global.1.place;
@@ -165,14 +166,14 @@ pub record IsPlan (bottom : ℕ) (parts : List Part) (plan : Planned) : Type 0 w
 -- relocatable sections lie; and how large its tables are
 pub record IsPlanOf (bottom : ℕ) (parts : List Part) (plan : Planned) : Type 0 where
   pub fits : is_too_large bottom parts ≡ false
-  pub bases : (module_index : ℕ) (name : ℕ × ℕ)
+  pub bases : (module_index : ℕ) (name : Name)
       → planned_base plan module_index name ≡ module_base bottom parts module_index name
-  pub values : (name : ℕ × ℕ) → planned_value plan name ≡ global_value bottom parts name
+  pub values : (name : Name) → planned_value plan name ≡ global_value bottom parts name
   pub transfer : planned_transfer plan ≡ transfer_address bottom parts
   pub sections : planned_sections plan ≡ sections_of bottom parts
   pub globals : planned_globals plan ≡ globals_of bottom parts
-  pub attributes : (name : ℕ × ℕ) → planned_attributes plan name ≡ entered_attributes parts name
-  pub definitions : (name : ℕ × ℕ) → lookup (is_name name) plan.gathered.definitions ≡ first_definition parts name
+  pub attributes : (name : Name) → planned_attributes plan name ≡ entered_attributes parts name
+  pub definitions : (name : Name) → lookup (is_name name) plan.gathered.definitions ≡ first_definition parts name
   pub defined : keys_of plan.gathered.definitions ≡ distinct (keys_of (definitions_of parts))
   pub references : plan.gathered.references ≡ referred parts
   pub names : (module_index : ℕ) → planned_module plan module_index ≡ name_at parts module_index

@@ -6,6 +6,7 @@ use Rattle.std.specs.Int.RustNames.{bit_and}
 use Rattle.std.specs.List.{filter_map, list_any}
 use Rattle.std.specs.Map.{lookup}
 use Rattle.std.specs.Option.{unwrap_or}
+use Rattle.m11_base.specs.Rad50.{Name}
 use Rattle.m11_obj.specs.declared.flags.SectionFlags.{SectionFlags}
 use Rattle.m11_obj.specs.declared.gsd.GsdEntry.{GsdEntry}
 use Rattle.m11_obj.specs.declared.gsd.GsdKind.{GsdKind}
@@ -29,25 +30,25 @@ flags_of attributes = record { 0 = attributes }
 
 -- a control section has the attributes of its directive: octal 104 for `.ASECT`, octal 40 for `.CSECT` without a
 -- name, octal 144 for one with a name
-abbrev pub control_attributes : ℕ × ℕ → ℕ
+abbrev pub control_attributes : Name → ℕ
 control_attributes name =
     if is_name name absolute_name then 0o104 else if is_name name (0, 0) then 0o40 else 0o144
 
-abbrev pub attributes_by : GsdKind → GsdEntry → Option ((ℕ × ℕ) × ℕ)
+abbrev pub attributes_by : GsdKind → GsdEntry → Option (Name × ℕ)
 attributes_by ControlSection entry = Some (entry.name, control_attributes entry.name)
 attributes_by ProgramSection entry = Some (entry.name, bit_and entry.flags attribute_bits)
 attributes_by kind entry = None
 
-abbrev pub attributes_in : Part → Option ((ℕ × ℕ) × ℕ)
+abbrev pub attributes_in : Part → Option (Name × ℕ)
 attributes_in (Entry entry) = attributes_by entry.kind entry
 attributes_in part = None
 
 -- the attributes of a section's first entry, where there is one
-unfoldable pub entered_attributes : List Part → ℕ × ℕ → Option ℕ
+unfoldable pub entered_attributes : List Part → Name → Option ℕ
 entered_attributes parts name = lookup (is_name name) (filter_map attributes_in parts)
 
 -- a section has the attributes of its first entry
-unfoldable pub first_attributes : List Part → ℕ × ℕ → ℕ
+unfoldable pub first_attributes : List Part → Name → ℕ
 first_attributes parts name = unwrap_or (lookup (is_name name) (filter_map attributes_in parts)) 0
 
 -- octal 40 and octal 4
@@ -60,10 +61,10 @@ is_overlaid attributes = has_bits 4 attributes
 -- ---- sizes
 
 -- the sizes of a section in the modules that enter it, in their order
-abbrev pub size_under : ℕ × ℕ → (ℕ × ℕ) × ℕ → Option ℕ
+abbrev pub size_under : Name → Name × ℕ → Option ℕ
 size_under name entered = if is_name name entered.0 then Some entered.1 else None
 
-unfoldable pub sizes_of : List Part → ℕ × ℕ → List ℕ
+unfoldable pub sizes_of : List Part → Name → List ℕ
 sizes_of parts name = filter_map (size_under name) (sections_in parts)
 
 abbrev pub rounded : ℕ → ℕ
@@ -80,21 +81,21 @@ total attributes sizes =
     if is_relocatable attributes
     then (if is_overlaid attributes then greatest (map rounded sizes) else sum (map rounded sizes)) else greatest sizes
 
-unfoldable pub section_size : List Part → ℕ × ℕ → ℕ
+unfoldable pub section_size : List Part → Name → ℕ
 section_size parts name = total (first_attributes parts name) (sizes_of parts name)
 
 -- ---- bases
 
 -- the addresses that a section takes from the bottom on: an absolute one none
-abbrev pub room_of : List Part → ℕ × ℕ → ℕ
+abbrev pub room_of : List Part → Name → ℕ
 room_of parts name = if is_relocatable (first_attributes parts name) then section_size parts name else 0
 
-abbrev pub names_before : ℕ × ℕ → List (ℕ × ℕ) → List (ℕ × ℕ)
+abbrev pub names_before : Name → List Name → List Name
 names_before name [] = []
 names_before name (other ∷ others) = if is_name name other then [] else other ∷ names_before name others
 
 -- relocatable sections lie from the bottom on, in the order of their first entries; absolute ones at 0
-unfoldable pub section_base : ℕ → List Part → ℕ × ℕ → ℕ
+unfoldable pub section_base : ℕ → List Part → Name → ℕ
 section_base bottom parts name =
     if is_relocatable (first_attributes parts name)
     then bottom + sum_by (room_of parts) (names_before name (section_names parts)) else 0
@@ -104,7 +105,7 @@ unfoldable pub top : ℕ → List Part → ℕ
 top bottom parts = bottom + sum_by (room_of parts) (section_names parts)
 
 -- a relocatable section that ends past octal 160000, where the devices are
-abbrev pub ends_too_high : ℕ → List Part → ℕ × ℕ → Bool
+abbrev pub ends_too_high : ℕ → List Part → Name → Bool
 ends_too_high bottom parts name = is_relocatable (first_attributes parts name)
     && nat_lt 0o160000 (section_base bottom parts name + section_size parts name)
 
@@ -118,7 +119,7 @@ is_too_large bottom parts = list_any (ends_too_high bottom parts) (section_names
 abbrev pub most_size : ℕ
 most_size = 0o177777
 
-abbrev pub section_reported : ℕ → List Part → ℕ × ℕ → PlannedSection
+abbrev pub section_reported : ℕ → List Part → Name → PlannedSection
 section_reported bottom parts name = record {
   name = name;
   base = section_base bottom parts name;
@@ -143,11 +144,11 @@ abbrev pub base_entered : Option ℕ → ℕ → ℕ
 base_entered None base = 0
 base_entered (Some size) base = base
 
-unfoldable pub contribution_base : ℕ → List Part → List Part → List Part → ℕ × ℕ → ℕ
+unfoldable pub contribution_base : ℕ → List Part → List Part → List Part → Name → ℕ
 contribution_base bottom parts earlier own name = base_entered (lookup (is_name name) (sections_in own))
     (section_base bottom parts name + offset_after (first_attributes parts name) (sizes_of earlier name))
 
 -- the same for the module of an index, as an address: octal 200000 is after the last one
-unfoldable pub module_base : ℕ → List Part → ℕ → ℕ × ℕ → ℕ
+unfoldable pub module_base : ℕ → List Part → ℕ → Name → ℕ
 module_base bottom parts index name =
     contribution_base bottom parts (modules_before parts index) (module_at parts index) name % 0o200000

@@ -6,6 +6,7 @@ use Rattle.std.specs.Map.{lookup}
 use Rattle.std.specs.Option.{is_some, option_or, unwrap_or}
 use Rattle.indexmap.specs.IndexMap.{insert_entry}
 use Rattle.indexmap.specs.IndexSet.{insert_key}
+use Rattle.m11_base.specs.Rad50.{Name}
 use Rattle.m11_obj.specs.declared.gsd.GsdEntry.{GsdEntry}
 use Rattle.m11_obj.specs.declared.gsd.GsdKind.{GsdKind}
 use Rattle.m11_obj.specs.declared.gsd.GsdKind.TheVariants.{ModuleName, ControlSection, TransferAddress, GlobalSymbol, ProgramSection}
@@ -23,18 +24,18 @@ use Rattle.m11_layout.specs.Globals.{place_of}
 
 pub record Gathered : Type 0 where
   -- sections, in order of first appearance
-  pub sections : List ((ℕ × ℕ) × Total)
+  pub sections : List (Name × Total)
   -- the offsets of contributions, by the module's index and the section
-  pub contributions : List ((ℕ × (ℕ × ℕ)) × ℕ)
+  pub contributions : List ((ℕ × Name) × ℕ)
   -- the names of the modules that ended, and that of this one, as far as it is given
-  pub names : List (ℕ × ℕ)
-  pub name : Option (ℕ × ℕ)
+  pub names : List Name
+  pub name : Option Name
   -- the section that this module entered last, and the names that it refers to weakly
-  pub section : Option (ℕ × ℕ)
-  pub weak : List (ℕ × ℕ)
+  pub section : Option Name
+  pub weak : List Name
   -- globals in order of first definition, and in order of first reference with whether one is strong
-  pub definitions : List ((ℕ × ℕ) × Definition)
-  pub references : List ((ℕ × ℕ) × Bool)
+  pub definitions : List (Name × Definition)
+  pub references : List (Name × Bool)
   -- the first transfer address that is even; and the one that is, should this module still enter `. ABS.` as
   -- relocatable
   pub transfer : Option Transfer
@@ -71,13 +72,13 @@ abbrev pub next_offset : Option Total → ℕ
 next_offset None = 0
 next_offset (Some total) = if is_concatenated total.attributes.0 then total.size else 0
 
-abbrev pub is_contribution : ℕ × (ℕ × ℕ) → ℕ × (ℕ × ℕ) → Bool
+abbrev pub is_contribution : ℕ × Name → ℕ × Name → Bool
 is_contribution one other = (one.0 == other.0) && is_name one.1 other.1
 
-abbrev pub with_total : ℕ × ℕ → Total → Gathered → Gathered
+abbrev pub with_total : Name → Total → Gathered → Gathered
 with_total name total g = record g { sections = insert_entry is_name g.sections name total }
 
-abbrev pub with_contribution : ℕ × ℕ → ℕ → Gathered → Gathered
+abbrev pub with_contribution : Name → ℕ → Gathered → Gathered
 with_contribution name offset g = record g {
   contributions = insert_entry is_contribution g.contributions (length g.names, name) offset;
   section = Some name;
@@ -92,14 +93,14 @@ with_section entry attributes g = with_section_after (lookup (is_name entry.name
 
 -- ---- globals
 
-abbrev pub with_reference : ℕ × ℕ → Bool → Gathered → Gathered
+abbrev pub with_reference : Name → Bool → Gathered → Gathered
 with_reference name is_strong g = record g {
   references = insert_entry is_name g.references name
       (unwrap_or (lookup (is_name name) g.references) false || is_strong);
 }
 
 -- a pair counts where it is the first of its name
-abbrev pub with_first : {X : Type 0} → List ((ℕ × ℕ) × X) → Option ((ℕ × ℕ) × X) → List ((ℕ × ℕ) × X)
+abbrev pub with_first : {X : Type 0} → List (Name × X) → Option (Name × X) → List (Name × X)
 with_first found None = found
 with_first found (Some pair) =
     if is_some (lookup (is_name pair.0) found) then found else insert_entry is_name found pair.0 pair.1
@@ -110,7 +111,7 @@ with_definition entry g = record g {
       (Some (entry.name, record { module_index = length g.names; place = place_of g.section entry }));
 }
 
-abbrev pub with_weak : ℕ × ℕ → Gathered → Gathered
+abbrev pub with_weak : Name → Gathered → Gathered
 with_weak name g = record (with_reference name false g) { weak = insert_key is_name g.weak name }
 
 abbrev pub with_symbol : GsdEntry → Gathered → Gathered
@@ -118,7 +119,7 @@ with_symbol entry g =
     if defines entry then with_definition entry g
     else if has_bits 1 entry.flags then with_weak entry.name g else with_reference entry.name true g
 
-abbrev pub with_relocated : Option (ℕ × ℕ) → Gathered → Gathered
+abbrev pub with_relocated : Option Name → Gathered → Gathered
 with_relocated None g = g
 with_relocated (Some name) g = with_reference name (not (is_among g.weak name)) g
 
@@ -135,7 +136,7 @@ is_relocated None assumed = assumed
 is_relocated (Some total) assumed = is_relocatable total.attributes.0
 
 -- the section, where the module entered it
-abbrev pub entered_total : Gathered → ℕ × ℕ → Option Total
+abbrev pub entered_total : Gathered → Name → Option Total
 entered_total g name =
     if is_some (lookup (is_contribution (length g.names, name)) g.contributions)
     then lookup (is_name name) g.sections else None
@@ -163,7 +164,7 @@ with_settled g = record g { transfer = settled g; moved = settled g }
 
 -- ---- parts
 
-abbrev pub with_name : ℕ × ℕ → Gathered → Gathered
+abbrev pub with_name : Name → Gathered → Gathered
 with_name name g = record g { name = option_or g.name (Some name) }
 
 abbrev pub with_entry : ℕ → GsdKind → GsdEntry → Gathered → Gathered

@@ -1,10 +1,11 @@
 -- One line as it is kept. (MACRO-11 Language Reference Manual, "Source program format": a line has at most 132
 -- characters; that the rest is dropped is this project's own.)
-use Rattle.std.specs.Prelude.{ℕ, Bool, false, nat_lt, ◌||◌, List, [], ◌++◌, length, take}
+use Rattle.std.specs.Prelude.{ℕ, Bool, false, nat_lt, ◌||◌, [], ◌++◌, length, take}
+use Rattle.m11_base.specs.Devices.{Bytes}
 
 -- the characters that count, and whether there were more
 pub record SourceLine : Type 0 where
-  pub text : List ℕ
+  pub text : Bytes
   pub is_over_long : Bool
 
 abbrev pub line_limit : ℕ
@@ -14,11 +15,11 @@ abbrev pub no_line : SourceLine
 no_line = record { text = []; is_over_long = false }
 
 -- the line of some characters
-abbrev pub line_of : List ℕ → SourceLine
+abbrev pub line_of : Bytes → SourceLine
 line_of bytes = record { text = take line_limit bytes; is_over_long = nat_lt line_limit (length bytes) }
 
 -- more characters
-abbrev pub with_bytes : SourceLine → List ℕ → SourceLine
+abbrev pub with_bytes : SourceLine → Bytes → SourceLine
 with_bytes line bytes = record {
   text = take line_limit (line.text ++ bytes);
   is_over_long = line.is_over_long || nat_lt line_limit (length (line.text ++ bytes));

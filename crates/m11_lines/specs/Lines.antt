@@ -2,27 +2,28 @@
 -- of a CR before a line feed and of form feeds is this project's own.)
 use Rattle.std.specs.Prelude.{◌≡◌, ℕ, ◌+◌, ⊤, Bool, true, false, not, ◌||◌, ◌&&◌, ◌==◌, if◌then◌else◌, List, [], ◌∷◌, ◌++◌, length, map, filter, sum_by, count_by, Option, Some, None}
 use Rattle.std.specs.List.{flat_map}
+use Rattle.m11_base.specs.Devices.{Bytes}
 
 -- what comes of sources, in order: their bytes, and after each source its end
-abbrev pub input_of : List (List ℕ) → List (Option ℕ)
+abbrev pub input_of : List Bytes → List (Option ℕ)
 input_of sources = flat_map (λ source. map (λ byte. Some byte) source ++ None ∷ []) sources
 
 -- the bytes up to a line feed, or up to the end of a source
 pub record RawLine : Type 0 where
-  pub bytes : List ℕ
+  pub bytes : Bytes
   pub has_line_feed : Bool
 
 -- an input cut at its line feeds and at the ends of its sources; what stands after the last of
 -- them is not closed
 pub record Cut : Type 0 where
   pub lines : List RawLine
-  pub unclosed : List ℕ
+  pub unclosed : Bytes
 
 abbrev pub closed_by : Bool → Cut → Cut
 closed_by has_line_feed c =
     record { lines = record { bytes = []; has_line_feed = has_line_feed } ∷ c.lines; unclosed = c.unclosed }
 
-abbrev pub in_front : ℕ → List RawLine → List ℕ → Cut
+abbrev pub in_front : ℕ → List RawLine → Bytes → Cut
 in_front byte [] unclosed = record { lines = []; unclosed = byte ∷ unclosed }
 in_front byte (line ∷ lines) unclosed = record {
   lines = record { bytes = byte ∷ line.bytes; has_line_feed = line.has_line_feed } ∷ lines;
@@ -39,21 +40,21 @@ cut (Some byte ∷ input) =
 abbrev pub as_read : ℕ → ℕ
 as_read byte = if byte == 12 then 32 else byte
 
-abbrev pub cleaned : List ℕ → List ℕ
+abbrev pub cleaned : Bytes → Bytes
 cleaned bytes = map as_read (filter (λ byte. not (byte == 0)) bytes)
 
-abbrev pub is_empty : List ℕ → Bool
+abbrev pub is_empty : Bytes → Bool
 is_empty [] = true
 is_empty (byte ∷ bytes) = false
 
 -- without the CR that stands last
-abbrev pub without_return : List ℕ → List ℕ
+abbrev pub without_return : Bytes → Bytes
 without_return [] = []
 without_return (byte ∷ bytes) =
     if is_empty bytes && byte == 13 then [] else byte ∷ without_return bytes
 
 -- the text of a line: a CR before the line feed belongs to the line's end
-abbrev pub line_text : RawLine → List ℕ
+abbrev pub line_text : RawLine → Bytes
 line_text line =
     if line.has_line_feed then without_return (cleaned line.bytes) else cleaned line.bytes
 
@@ -79,6 +80,6 @@ most_bytes = 4194304
 abbrev pub most_lines : ℕ
 most_lines = 65535
 
-abbrev pub HasNoLineFeed : List ℕ → Type 0
+abbrev pub HasNoLineFeed : Bytes → Type 0
 HasNoLineFeed [] = ⊤
 HasNoLineFeed (byte ∷ bytes) = ((byte == 10) ≡ false) × HasNoLineFeed bytes

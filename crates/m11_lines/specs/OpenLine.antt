@@ -1,5 +1,6 @@
 -- A line whose end has not come yet, kept in bounded room. (This project's own.)
-use Rattle.std.specs.Prelude.{ℕ, Bool, true, false, not, ◌||◌, ◌==◌, if◌then◌else◌, List, [], ◌∷◌}
+use Rattle.std.specs.Prelude.{ℕ, Bool, true, false, not, ◌||◌, ◌==◌, if◌then◌else◌, [], ◌∷◌}
+use Rattle.m11_base.specs.Devices.{Bytes}
 use Rattle.m11_lines.specs.Line.{SourceLine, no_line, with_bytes}
 use Rattle.m11_lines.specs.Lines.{as_read, is_empty}
 
@@ -16,7 +17,7 @@ abbrev pub with_return : OpenLine → SourceLine
 with_return line = if line.has_return then with_bytes line.kept (13 ∷ []) else line.kept
 
 -- characters that are kept as they are
-abbrev pub with_plain : OpenLine → List ℕ → OpenLine
+abbrev pub with_plain : OpenLine → Bytes → OpenLine
 with_plain line [] = line
 with_plain line (byte ∷ bytes) = record { kept = with_bytes (with_return line) (byte ∷ bytes); has_return = false }
 
@@ -27,7 +28,7 @@ with_byte line byte =
     else if byte == 13 then record { kept = with_return line; has_return = true }
     else record { kept = with_bytes (with_return line) (as_read byte ∷ []); has_return = false }
 
-abbrev pub with_all : OpenLine → List ℕ → OpenLine
+abbrev pub with_all : OpenLine → Bytes → OpenLine
 with_all line [] = line
 with_all line (byte ∷ bytes) = with_all (with_byte line byte) bytes
 

@@ -1,7 +1,7 @@
 -- Reading of the lines of sources one after another: the next line, or the first fault in the order of the bytes.
 -- (That all sources have at most 4,194,304 bytes and 65,535 lines, and which faults there are, is this project's own.)
 use Rattle.std.specs.Prelude.{◌≡◌, ◌==◌, ℕ, ◌+◌, true, false, List, [], ◌∷◌, ◌++◌, length, map, drop, slice_index, slice_set, Option, Some, None, Result, Ok, Err}
-use Rattle.m11_base.specs.Devices.{Rises}
+use Rattle.m11_base.specs.Devices.{Bytes, Rises}
 use Rattle.m11_base.specs.Feed.{Text, GivesByte, GivesBytes, GivesEnd, GivesFailure}
 use Rattle.m11_lines.specs.declared.fault.LineFault.{LineFault}
 use Rattle.m11_lines.specs.declared.fault.LineFault.TheVariants.{Read, TooMuchSource, TooManyLines}
@@ -49,7 +49,7 @@ Gave (text ∷ texts) new (None ∷ input) = (text' : Option Text) × GivesEnd t
 -- pieces of sources came that are no lines, and bytes after them, all within the limits
 pub record Came (old new : Place) (given : List (Option ℕ)) : Type 0 where
   pub passed : List RawLine
-  pub unclosed : List ℕ
+  pub unclosed : Bytes
   pub gave : Gave old.texts new.texts given
   pub is_cut : cut given ≡ record { lines = passed; unclosed = unclosed }
   pub none : lines_in passed ≡ 0

@@ -1,6 +1,6 @@
 -- Reading of one source to the end of a line: what its feed gave, and why the reading stopped. (This project's own.)
-use Rattle.std.specs.Prelude.{◌≡◌, ◌==◌, ℕ, ◌+◌, Bool, true, false, List, [], ◌∷◌, ◌++◌, length, take, Option, Result, Ok, Err}
-use Rattle.m11_base.specs.Devices.{Rises}
+use Rattle.std.specs.Prelude.{◌≡◌, ◌==◌, ℕ, ◌+◌, Bool, true, false, [], ◌∷◌, ◌++◌, length, take, Option, Result, Ok, Err}
+use Rattle.m11_base.specs.Devices.{Bytes, Rises}
 use Rattle.m11_base.specs.Feed.{Text, GivesByte, GivesBytes, GivesEnd, GivesFailure}
 use Rattle.m11_lines.specs.declared.fault.LineFault.{LineFault}
 use Rattle.m11_lines.specs.declared.fault.LineFault.TheVariants.{Read, TooMuchSource, TooManyLines}
@@ -21,7 +21,7 @@ source text faults bytes_left line =
     record { text = text; faults = faults; bytes_left = bytes_left; line = line }
 
 -- bytes were given, all within the limits and none of them a line feed
-pub record Took (may_begin : Bool) (old new : Source) (given : List ℕ) : Type 0 where
+pub record Took (may_begin : Bool) (old new : Source) (given : Bytes) : Type 0 where
   pub gave : GivesBytes old.text new.text given
   pub faults : new.faults ≡ old.faults
   pub bytes_left : old.bytes_left ≡ length given + new.bytes_left
@@ -45,18 +45,18 @@ CameLast may_begin old new (Err TooManyLines) = (byte : ℕ) × GivesByte old.te
 -- a source was read up to there
 pub record StopsAt (may_begin : Bool) (old new : Source) (result : Result LineEnd LineFault) : Type 0 where
   pub middle : Source
-  pub given : List ℕ
+  pub given : Bytes
   pub took : Took may_begin old middle given
   pub last : CameLast may_begin middle new result
 
 -- ready bytes were taken, up to a line feed or without one
 abbrev pub TookReady : Bool → Source → Source → Bool → Type 0
 TookReady may_begin old new true = StopsAt may_begin old new (Ok LineFeed)
-TookReady may_begin old new false = (given : List ℕ) × Took may_begin old new given
+TookReady may_begin old new false = (given : Bytes) × Took may_begin old new given
 
 -- bytes of a slice were taken up to a line feed, or all of them
-abbrev pub TookOf : List ℕ → OpenLine → OpenLine → ℕ → Bool → Type 0
-TookOf bytes old new count true = (given : List ℕ) × (take count bytes ≡ given ++ 10 ∷ []) × (count ≡ length given + 1)
+abbrev pub TookOf : Bytes → OpenLine → OpenLine → ℕ → Bool → Type 0
+TookOf bytes old new count true = (given : Bytes) × (take count bytes ≡ given ++ 10 ∷ []) × (count ≡ length given + 1)
     × HasNoLineFeed given × (new ≡ with_all old given)
 TookOf bytes old new count false = (count ≡ length bytes) × HasNoLineFeed bytes × (new ≡ with_all old bytes)
 

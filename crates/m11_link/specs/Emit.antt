@@ -2,6 +2,8 @@
 -- own. That it yields what Written.antt says is proved.)
 use Rattle.std.specs.Prelude.{◌≡◌, ◌⊎◌, ℕ, Bool, true, false, List, [], ◌∷◌, ◌++◌, map, ⊤, Option, Some, None, Result, Ok, Err, if◌then◌else◌}
 use Rattle.indexmap.specs.IndexSet.{insert_key}
+use Rattle.m11_base.specs.Devices.{Bytes}
+use Rattle.m11_base.specs.Rad50.{Name}
 use Rattle.m11_obj.specs.Reading.{IsRecord, content_of, record_entries, record_kind, record_relocations, record_text}
 use Rattle.m11_obj.specs.declared.records.RecordKind.{RecordKind}
 use Rattle.m11_obj.specs.declared.records.RecordKind.TheVariants as kind
@@ -30,7 +32,7 @@ use Rattle.m11_link.specs.Written.{PlacedText, placed_text, text_writes, with_re
 -- the names defined so far, the text that may still be relocated, and the count of messages
 pub record Reporting : Type 0 where
   pub plan : Planned
-  pub defined : List (ℕ × ℕ)
+  pub defined : List Name
   pub held : Option PlacedText
   pub messages : ℕ
 
@@ -73,21 +75,21 @@ held_text found parts = held_after found [] None parts
 
 -- ---- entries
 
-abbrev pub defined_if : Bool → List (ℕ × ℕ) → ℕ × ℕ → List (ℕ × ℕ)
+abbrev pub defined_if : Bool → List Name → Name → List Name
 defined_if defines defined name = if defines then insert_key is_name defined name else defined
 
-abbrev pub defined_by : GsdKind → List (ℕ × ℕ) → GsdEntry → List (ℕ × ℕ)
+abbrev pub defined_by : GsdKind → List Name → GsdEntry → List Name
 defined_by GlobalSymbol defined entry = defined_if (defines entry) defined entry.name
 defined_by kind defined entry = defined
 
-abbrev pub defined_with : List (ℕ × ℕ) → GsdEntry → List (ℕ × ℕ)
+abbrev pub defined_with : List Name → GsdEntry → List Name
 defined_with defined entry = defined_by entry.kind defined entry
 
-abbrev pub defined_with_all : List (ℕ × ℕ) → List GsdEntry → List (ℕ × ℕ)
+abbrev pub defined_with_all : List Name → List GsdEntry → List Name
 defined_with_all defined [] = defined
 defined_with_all defined (entry ∷ entries) = defined_with_all (defined_with defined entry) entries
 
-abbrev pub entries_writes : Findings → ℕ → List (ℕ × ℕ) → List GsdEntry → List Write
+abbrev pub entries_writes : Findings → ℕ → List Name → List GsdEntry → List Write
 entries_writes found module_index defined [] = []
 entries_writes found module_index defined (entry ∷ entries) = entry_writes found module_index defined entry
     ++ entries_writes found module_index (defined_with defined entry) entries
@@ -98,7 +100,7 @@ with_symbol module_index entry t = record t {
   messages = counted t.messages (symbol_writes (planned t.plan) module_index t.defined entry);
 }
 
-abbrev pub with_name : ℕ × ℕ → Reporting → Reporting
+abbrev pub with_name : Name → Reporting → Reporting
 with_name name t = record t { defined = insert_key is_name t.defined name }
 
 abbrev pub with_entry : ℕ → GsdEntry → Reporting → Reporting
@@ -120,7 +122,7 @@ abbrev pub relocated_parts : List Relocation → List Part
 relocated_parts relocations = map (λ relocation. Relocated relocation) relocations
 
 -- a text record's text counts from its section
-abbrev pub text_held : Findings → ℕ → ℕ × ℕ → Option (ℕ × List ℕ) → Option PlacedText
+abbrev pub text_held : Findings → ℕ → Name → Option (ℕ × Bytes) → Option PlacedText
 text_held found module_index section None = None
 text_held found module_index section (Some text) = Some (placed_text found module_index section text.0 text.1)
 
@@ -134,7 +136,7 @@ record_writes module_index (Ok other) entries t = held_writes t.held
 record_writes module_index (Err refused) entries t = []
 
 -- and what stands after it, texts going to this section
-abbrev pub with_record : ℕ → ℕ × ℕ → Result RecordKind RecordFault → List GsdEntry → Option (ℕ × List ℕ)
+abbrev pub with_record : ℕ → Name → Result RecordKind RecordFault → List GsdEntry → Option (ℕ × Bytes)
     → List Relocation → Reporting → Reporting
 with_record module_index section (Ok kind.Gsd) entries text relocations t =
     with_entries module_index entries (with_held None t)
@@ -147,10 +149,10 @@ with_record module_index section (Ok other) entries text relocations t = with_he
 with_record module_index section (Err refused) entries text relocations t = t
 
 -- the same by the bytes of a record
-abbrev pub bytes_writes : ℕ → List ℕ → Reporting → List Write
+abbrev pub bytes_writes : ℕ → Bytes → Reporting → List Write
 bytes_writes module_index bytes t = record_writes module_index (record_kind bytes) (record_entries bytes) t
 
-abbrev pub with_bytes : ℕ → ℕ × ℕ → List ℕ → Reporting → Reporting
+abbrev pub with_bytes : ℕ → Name → Bytes → Reporting → Reporting
 with_bytes module_index section bytes t = with_record module_index section (record_kind bytes) (record_entries bytes)
     (record_text bytes) (record_relocations bytes) t
 
@@ -236,7 +238,7 @@ TakesParts plan before call parts (Ok done) = EmitStands plan (before ++ parts) 
 TakesParts plan before call parts (Err stopped) = StopsInParts plan before call.old call.new call.stood parts stopped
 
 -- a block is no record, or its parts were taken
-abbrev pub TakesBlock : Planned → List Part → Call → List ℕ → Result (Unit {0}) LinkFault → Type 0
+abbrev pub TakesBlock : Planned → List Part → Call → Bytes → Result (Unit {0}) LinkFault → Type 0
 TakesBlock plan before call bytes (Err (fault.Record inner)) = (content_of bytes ≡ Err inner) × (call.new ≡ call.old)
 TakesBlock plan before call bytes (Err (fault.Write output)) = IsRecord bytes
     × TakesParts plan before call (record_parts bytes) (Err (fault.Write output))

@@ -1,6 +1,7 @@
 -- What is written before the tape: the messages on undefined globals, and the map. (This project's own.)
-use Rattle.std.specs.Prelude.{ℕ, Bool, true, false, ◌&&◌, not, is_none, List, [], ◌∷◌, ◌++◌, map, codes, Option, Some, None, if◌then◌else◌}
+use Rattle.std.specs.Prelude.{Bool, true, false, ◌&&◌, not, is_none, List, [], ◌∷◌, ◌++◌, map, codes, Option, Some, None, if◌then◌else◌}
 use Rattle.std.specs.List.{filter_map}
+use Rattle.m11_base.specs.Rad50.{Name}
 use Rattle.m11_layout.specs.declared.planned.PlannedGlobal.{PlannedGlobal}
 use Rattle.m11_layout.specs.declared.planned.PlannedSection.{PlannedSection}
 use Rattle.m11_link_text.specs.Findings.{Findings}
@@ -14,17 +15,17 @@ is_strength true is_strong = is_strong
 is_strength false is_strong = not is_strong
 
 -- a name that is referred to and defined nowhere, where its references are of this strength: strong if one of them is
-abbrev pub undefined_by : Findings → Bool → (ℕ × ℕ) × Bool → Option (ℕ × ℕ)
+abbrev pub undefined_by : Findings → Bool → Name × Bool → Option Name
 undefined_by found is_strong reference =
     if is_none (found.value reference.0) && is_strength is_strong reference.1 then Some reference.0 else None
 
 -- the write for a name, if there is one
-abbrev pub written_if : (ℕ × ℕ → Write) → Option (ℕ × ℕ) → List Write
+abbrev pub written_if : (Name → Write) → Option Name → List Write
 written_if write None = []
 written_if write (Some name) = write name ∷ []
 
 -- in order of first reference
-unfoldable pub undefined_names : Findings → Bool → List ((ℕ × ℕ) × Bool) → List (ℕ × ℕ)
+unfoldable pub undefined_names : Findings → Bool → List (Name × Bool) → List Name
 undefined_names found is_strong references = filter_map (undefined_by found is_strong) references
 
 -- ---- the map
@@ -35,7 +36,7 @@ section_write section = to_map (line.section_line section.name section.base sect
 abbrev pub global_write : PlannedGlobal → Write
 global_write global = to_map (line.global_line global.name global.value global.module_name)
 
-abbrev pub name_write : ℕ × ℕ → Write
+abbrev pub name_write : Name → Write
 name_write name = to_map (line.name_line name)
 
 unfoldable pub section_writes : List PlannedSection → List Write
@@ -44,7 +45,7 @@ section_writes sections = map section_write sections
 unfoldable pub global_writes : List PlannedGlobal → List Write
 global_writes globals = map global_write globals
 
-unfoldable pub name_writes : Findings → Bool → List ((ℕ × ℕ) × Bool) → List Write
+unfoldable pub name_writes : Findings → Bool → List (Name × Bool) → List Write
 name_writes found is_strong references = map name_write (undefined_names found is_strong references)
 
 abbrev pub is_empty : List Write → Bool
@@ -68,11 +69,11 @@ map_writes found = (to_map (codes "SECTIONS\n") ∷ section_writes found.section
 
 -- ---- in order
 
-abbrev pub undefined_write : ℕ × ℕ → Write
+abbrev pub undefined_write : Name → Write
 undefined_write name = to_messages (line.undefined_line name)
 
 -- a message for each global with a strong reference that is defined nowhere
-unfoldable pub undefined_writes : Findings → List ((ℕ × ℕ) × Bool) → List Write
+unfoldable pub undefined_writes : Findings → List (Name × Bool) → List Write
 undefined_writes found references = map undefined_write (undefined_names found true references)
 
 unfoldable pub front_writes : Findings → List Write

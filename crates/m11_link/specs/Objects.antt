@@ -2,6 +2,7 @@
 -- first fault in the order of the bytes. (RT-11 Volume and File Formats Manual, "Object file format". The limit of an
 -- object, and the faults and their order, are this project's own.)
 use Rattle.std.specs.Prelude.{◌≡◌, ◌<◌, ◌≤◌, ℕ, ◌+◌, List, [], ◌∷◌, ◌++◌, length, take, Option, Some, None, Result, Ok, Err, if◌then◌else◌}
+use Rattle.m11_base.specs.Devices.{Bytes}
 use Rattle.m11_base.specs.Feed.{Text, HasBytes, BeginsWith, GiveAll, OneFailed}
 use Rattle.m11_blocks.specs.Blocks.{first_block}
 use Rattle.m11_blocks.specs.Limited.{Between, Inside, IsShort, most_bytes}
@@ -23,44 +24,44 @@ use Rattle.m11_layout.specs.declared.fault.LinkFault.TheVariants as fault
 
 pub data Item : Type 0 where
   -- a block of this content
-  BlockOf : List ℕ → Item
+  BlockOf : Bytes → Item
   -- the end of an object, before a block
   ObjectEnds : Item
   -- bytes that are refused; nothing after them counts
   Refused : LinkFault → Item
 
 -- the bytes of one object yield these items, n bytes of it being within the limit
-pub data ObjectItems : ℕ → List ℕ → List Item → Type 0 where
+pub data ObjectItems : ℕ → Bytes → List Item → Type 0 where
   -- a block whose bytes are within the limit, and the items of the bytes after it
-  Begins : {room left : ℕ} {bytes rest content : List ℕ} {items : List Item}
+  Begins : {room left : ℕ} {bytes rest content : Bytes} {items : List Item}
       → first_block bytes ≡ Ok (content, rest) → length bytes + left ≡ length rest + room
       → ObjectItems left rest items → ObjectItems room bytes (BlockOf content ∷ items)
   -- no block follows
-  Ends : {room : ℕ} {bytes : List ℕ} → first_block bytes ≡ Err Between → length bytes ≤ room
+  Ends : {room : ℕ} {bytes : Bytes} → first_block bytes ≡ Err Between → length bytes ≤ room
       → ObjectItems room bytes (ObjectEnds ∷ [])
   -- the bytes end inside a block
-  IsCut : {room : ℕ} {bytes : List ℕ} → first_block bytes ≡ Err Inside → length bytes ≤ room
+  IsCut : {room : ℕ} {bytes : Bytes} → first_block bytes ≡ Err Inside → length bytes ≤ room
       → ObjectItems room bytes (Refused (fault.Block block.Truncated) ∷ [])
   -- bytes that are no block, of which the one that shows it is within the limit
-  IsBad : {room : ℕ} {bytes rest : List ℕ} {inner : BlockFault}
+  IsBad : {room : ℕ} {bytes rest : Bytes} {inner : BlockFault}
       → first_block bytes ≡ Err (limited.Refused inner rest) → length bytes ≤ length rest + room
       → ObjectItems room bytes (Refused (fault.Block inner) ∷ [])
   -- the bytes within the limit are too few to decide, and there are more
-  Passes : {room : ℕ} {bytes : List ℕ} → room < length bytes → IsShort (first_block (take room bytes))
+  Passes : {room : ℕ} {bytes : Bytes} → room < length bytes → IsShort (first_block (take room bytes))
       → ObjectItems room bytes (Refused fault.TooMuch ∷ [])
 
 -- the same of a beginning of an object, after which nothing is known: its whole blocks
-pub data BeginningItems : ℕ → List ℕ → List Item → Type 0 where
-  Begins : {room left : ℕ} {bytes rest content : List ℕ} {items : List Item}
+pub data BeginningItems : ℕ → Bytes → List Item → Type 0 where
+  Begins : {room left : ℕ} {bytes rest content : Bytes} {items : List Item}
       → first_block bytes ≡ Ok (content, rest) → length bytes + left ≡ length rest + room
       → BeginningItems left rest items → BeginningItems room bytes (BlockOf content ∷ items)
-  IsOpen : {room : ℕ} {bytes : List ℕ} → IsShort (first_block bytes) → length bytes ≤ room
+  IsOpen : {room : ℕ} {bytes : Bytes} → IsShort (first_block bytes) → length bytes ≤ room
       → BeginningItems room bytes []
 
 -- objects yield their items one after another
-pub data AreItems : List (List ℕ) → List Item → Type 0 where
+pub data AreItems : List Bytes → List Item → Type 0 where
   Nothing : AreItems [] []
-  Object : {source : List ℕ} {sources : List (List ℕ)} {own items : List Item}
+  Object : {source : Bytes} {sources : List Bytes} {own items : List Item}
       → ObjectItems most_bytes source own → AreItems sources items → AreItems (source ∷ sources) (own ++ items)
 
 -- ---- the parts of items
@@ -110,27 +111,27 @@ outcome bottom items = taken [] items >>= unless_too_large bottom
 
 -- the object that a feed gives yields these items
 pub record GivesItems (text : Option Text) (items : List Item) : Type 0 where
-  pub source : List ℕ
+  pub source : Bytes
   pub has : HasBytes text source
   pub are : ObjectItems most_bytes source items
 
 -- the object that it gave a beginning of had yielded these
 pub record BeginsItems (text : Option Text) (items : List Item) : Type 0 where
-  pub beginning : List ℕ
+  pub beginning : Bytes
   pub has : BeginsWith text beginning
   pub are : BeginningItems most_bytes beginning items
 
 -- the objects that feeds give yield these items
 pub record GiveItems {F : Type 0} (text : F → Option Text) (feeds : List F) (items : List Item) : Type 0 where
-  pub sources : List (List ℕ)
+  pub sources : List Bytes
   pub given : GiveAll text feeds sources
   pub are : AreItems sources items
 
 -- a feed failed after a beginning of its object, and what had come till then yields these items
 pub record FailAfter {F : Type 0} (text : F → Option Text) (faults : F → ℕ) (feeds feeds' : List F)
     (items : List Item) : Type 0 where
-  pub sources : List (List ℕ)
-  pub beginning : List ℕ
+  pub sources : List Bytes
+  pub beginning : Bytes
   pub failed : OneFailed text faults feeds feeds' sources beginning
   pub before : List Item
   pub own : List Item

@@ -1,6 +1,7 @@
 -- The outputs of a link, and writes to them in one order. (This project's own. What becomes of such writes stands in
 -- m11_writes.)
-use Rattle.std.specs.Prelude.{◌≡◌, ℕ, Bool, true, false, List, Option, Some, None, Result, refl}
+use Rattle.std.specs.Prelude.{◌≡◌, Bool, true, false, List, Option, Some, None, Result, refl}
+use Rattle.m11_base.specs.Devices.{Bytes}
 use Rattle.m11_base.specs.declared.sink.Sink.{Ghosts}
 use Rattle.m11_layout.specs.declared.fault.LinkFault.{LinkFault}
 use Rattle.m11_layout.specs.declared.fault.LinkFault.TheVariants as fault
@@ -62,13 +63,13 @@ link = record { is = is_output; same = same_output; itself = output_itself; stop
 abbrev pub Write : Type 0
 Write = writes.Write LinkOutput
 
-abbrev pub to_tape : List ℕ → Write
+abbrev pub to_tape : Bytes → Write
 to_tape bytes = writes.to_output Tape bytes
 
-abbrev pub to_map : List ℕ → Write
+abbrev pub to_map : Bytes → Write
 to_map bytes = writes.to_output Map bytes
 
-abbrev pub to_messages : List ℕ → Write
+abbrev pub to_messages : Bytes → Write
 to_messages bytes = writes.to_output Messages bytes
 
 -- ---- what became of them

@@ -4,6 +4,8 @@
 -- outputs, are this project's own.)
 use Rattle.std.specs.Prelude.{ℕ, ◌+◌, ◌==◌, ◌&&◌, min, Bool, true, false, List, [], ◌∷◌, ◌++◌, Option, Some, None, if◌then◌else◌}
 use Rattle.std.specs.Map.{keys_of}
+use Rattle.m11_base.specs.Devices.{Bytes}
+use Rattle.m11_base.specs.Rad50.{Name}
 use Rattle.m11_blocks.specs.Tapes.{tape_block}
 use Rattle.m11_obj.specs.declared.gsd.GsdEntry.{GsdEntry}
 use Rattle.m11_obj.specs.declared.gsd.GsdKind.{GsdKind}
@@ -30,10 +32,10 @@ pub record PlacedText : Type 0 where
   pub module_index : ℕ
   pub base : ℕ
   pub address : ℕ
-  pub bytes : List ℕ
+  pub bytes : Bytes
 
 -- a text that counts from the base of a section in a module
-abbrev pub placed_text : Findings → ℕ → ℕ × ℕ → ℕ → List ℕ → PlacedText
+abbrev pub placed_text : Findings → ℕ → Name → ℕ → Bytes → PlacedText
 placed_text found module_index section address bytes = record {
   module_index = module_index;
   base = found.base module_index section;
@@ -53,7 +55,7 @@ with_relocations found text (relocation ∷ relocations) =
     with_relocations found (with_relocation found text relocation) relocations
 
 -- a text with data is a block of the tape
-abbrev pub block_at : ℕ → List ℕ → List Write
+abbrev pub block_at : ℕ → Bytes → List Write
 block_at address [] = []
 block_at address (byte ∷ bytes) = to_tape (tape_block address (byte ∷ bytes)) ∷ []
 
@@ -87,28 +89,28 @@ attributes_agree None attributes = true
 attributes_agree (Some first) attributes = attributes == first
 
 -- a section has the attributes of its first entry; another entry that says otherwise is reported
-abbrev pub different_writes : Findings → ℕ → Option ((ℕ × ℕ) × ℕ) → List Write
+abbrev pub different_writes : Findings → ℕ → Option (Name × ℕ) → List Write
 different_writes found module_index None = []
 different_writes found module_index (Some section) =
     if attributes_agree (found.attributes section.0) section.1 then []
     else to_messages (different_line section.0 (found.module_name module_index)) ∷ []
 
 -- the names that are defined
-unfoldable pub defined_names : List Part → List (ℕ × ℕ)
+unfoldable pub defined_names : List Part → List Name
 defined_names parts = distinct (keys_of (definitions_of parts))
 
 -- a definition of a name that was defined before is reported
-abbrev pub symbol_writes : Findings → ℕ → List (ℕ × ℕ) → GsdEntry → List Write
+abbrev pub symbol_writes : Findings → ℕ → List Name → GsdEntry → List Write
 symbol_writes found module_index defined entry =
     if defines entry && is_among defined entry.name
     then to_messages (multiple_line entry.name (found.module_name module_index)) ∷ [] else []
 
 -- the messages of an entry in a module, these names being defined before it
-abbrev pub writes_by : GsdKind → Findings → ℕ → List (ℕ × ℕ) → GsdEntry → List Write
+abbrev pub writes_by : GsdKind → Findings → ℕ → List Name → GsdEntry → List Write
 writes_by GlobalSymbol found module_index defined entry = symbol_writes found module_index defined entry
 writes_by kind found module_index defined entry = different_writes found module_index (attributes_by kind entry)
 
-abbrev pub entry_writes : Findings → ℕ → List (ℕ × ℕ) → GsdEntry → List Write
+abbrev pub entry_writes : Findings → ℕ → List Name → GsdEntry → List Write
 entry_writes found module_index defined entry = writes_by entry.kind found module_index defined entry
 
 -- ---- in order

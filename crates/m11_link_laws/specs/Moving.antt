@@ -5,6 +5,7 @@
 use Rattle.std.specs.Prelude.{◌≡◌, ℕ, ◌+◌, ◌-◌, ◌%◌, Bool, true, false, ◌&&◌, ◌||◌, not, nat_le, nat_lt, List, [], ◌∷◌, ◌++◌, length, map, option_map, is_some, Option, Some, None, if◌then◌else◌}
 use Rattle.std.specs.List.{find, list_all}
 use Rattle.std.specs.Map.{lookup}
+use Rattle.m11_base.specs.Rad50.{Name}
 use Rattle.m11_blocks.specs.Frames.{word_bytes}
 use Rattle.m11_obj.specs.declared.relocations.Relocation.{Relocation}
 use Rattle.m11_obj.specs.declared.relocations.Target.{Target}
@@ -32,11 +33,11 @@ use Rattle.m11_link.specs.Written.{PlacedText, has_ended, placed_text, relocatio
 -- ---- what moves
 
 -- a section, by the attributes of its first entry
-abbrev pub section_moves : List Part → ℕ × ℕ → Bool
+abbrev pub section_moves : List Part → Name → Bool
 section_moves parts name = is_relocatable (first_attributes parts name)
 
 -- the contribution of the module of an index, where the module enters the section; where it doesn't, it stands at 0
-abbrev pub moves : List Part → ℕ → ℕ × ℕ → Bool
+abbrev pub moves : List Part → ℕ → Name → Bool
 moves parts index name =
     is_some (lookup (is_name name) (sections_in (module_at parts index))) && section_moves parts name
 
@@ -49,7 +50,7 @@ abbrev pub definition_moves : List Part → Option Definition → Bool
 definition_moves parts None = false
 definition_moves parts (Some definition) = place_moves parts definition.module_index definition.place
 
-unfoldable pub global_moves : List Part → ℕ × ℕ → Bool
+unfoldable pub global_moves : List Part → Name → Bool
 global_moves parts name = definition_moves parts (first_definition parts name)
 
 -- the transfer entry that counts: the first one with an even address
@@ -117,10 +118,10 @@ global_moved distance parts global = record global {
 -- the findings of the same parts at two bottoms: names, sizes, attributes and references are the same. An even distance
 -- leaves odd what was odd, so that the same transfer entry counts
 pub record Moved (distance : ℕ) (parts : List Part) (near far : Findings) : Type 0 where
-  pub base : (index : ℕ) (name : ℕ × ℕ)
+  pub base : (index : ℕ) (name : Name)
       → far.base index name ≡ moved distance (moves parts index name) (near.base index name)
-  pub value : (name : ℕ × ℕ) → far.value name ≡ option_map (moved distance (global_moves parts name)) (near.value name)
-  pub attributes : (name : ℕ × ℕ) → far.attributes name ≡ near.attributes name
+  pub value : (name : Name) → far.value name ≡ option_map (moved distance (global_moves parts name)) (near.value name)
+  pub attributes : (name : Name) → far.attributes name ≡ near.attributes name
   pub module_name : (index : ℕ) → far.module_name index ≡ near.module_name index
   pub sections : far.sections ≡ map (section_moved distance) near.sections
   pub globals : far.globals ≡ map (global_moved distance parts) near.globals

@@ -3,6 +3,7 @@
 use Rattle.std.specs.Prelude.{ℕ, ◌+◌, Bool, List, [], ◌∷◌, Option}
 use Rattle.std.specs.List.{filter}
 use Rattle.std.specs.Map.{lookup}
+use Rattle.m11_base.specs.Rad50.{Name}
 use Rattle.m11_modules.specs.Names.{is_name}
 use Rattle.m11_modules.specs.Parts.{Part}
 use Rattle.m11_modules.specs.Places.{section_names, sections_in}
@@ -20,17 +21,17 @@ pub data LieInOrder : ℕ → List Span → ℕ → Type 0 where
   Section : {base size top : ℕ} {spans : List Span} → LieInOrder (base + size) spans top
       → LieInOrder base (record { base = base; size = size } ∷ spans) top
 
-abbrev pub lies_from_bottom : List Part → ℕ × ℕ → Bool
+abbrev pub lies_from_bottom : List Part → Name → Bool
 lies_from_bottom parts name = is_relocatable (first_attributes parts name)
 
 -- the names of relocatable sections, in the order of their first entries
-unfoldable pub relocatable_names : List Part → List (ℕ × ℕ)
+unfoldable pub relocatable_names : List Part → List Name
 relocatable_names parts = filter (lies_from_bottom parts) (section_names parts)
 
 -- where a section lies
-abbrev pub span_of : ℕ → List Part → ℕ × ℕ → Span
+abbrev pub span_of : ℕ → List Part → Name → Span
 span_of bottom parts name = record { base = section_base bottom parts name; size = section_size parts name }
 
 -- the size of a section in the module of an index, if that module enters it
-abbrev pub size_entered : List Part → ℕ → ℕ × ℕ → Option ℕ
+abbrev pub size_entered : List Part → ℕ → Name → Option ℕ
 size_entered parts index name = lookup (is_name name) (sections_in (module_at parts index))

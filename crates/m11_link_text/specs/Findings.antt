@@ -2,6 +2,7 @@
 -- the values of globals, and what the map lists. (This project's own: a name for what Sections.antt, Globals.antt and
 -- Transfers.antt of the layout say.)
 use Rattle.std.specs.Prelude.{◌≡◌, ℕ, Bool, List, Option}
+use Rattle.m11_base.specs.Rad50.{Name}
 use Rattle.m11_modules.specs.Parts.{Part}
 use Rattle.m11_layout.specs.Globals.{global_value, globals_of, referred}
 use Rattle.m11_layout.specs.Modules.{name_at}
@@ -13,15 +14,15 @@ use Rattle.m11_layout.specs.declared.planned.PlannedSection.{PlannedSection}
 
 pub record Findings : Type 0 where
   -- the base of a module's contribution to a section, and the value of a global
-  pub base : ℕ → ℕ × ℕ → ℕ
-  pub value : ℕ × ℕ → Option ℕ
+  pub base : ℕ → Name → ℕ
+  pub value : Name → Option ℕ
   -- the attributes of a section's first entry, where there is one, and the name of a module
-  pub attributes : ℕ × ℕ → Option ℕ
-  pub module_name : ℕ → ℕ × ℕ
+  pub attributes : Name → Option ℕ
+  pub module_name : ℕ → Name
   -- sections and globals, and the names referred to, each with whether a reference is strong
   pub sections : List PlannedSection
   pub globals : List PlannedGlobal
-  pub references : List ((ℕ × ℕ) × Bool)
+  pub references : List (Name × Bool)
   -- the transfer address, and the addresses between which relocatable sections lie
   pub transfer : ℕ
   pub bottom : ℕ
@@ -59,9 +60,9 @@ planned plan = record {
 
 -- two agree in all that they say
 pub record Agree (some others : Findings) : Type 0 where
-  pub base : (module_index : ℕ) (name : ℕ × ℕ) → some.base module_index name ≡ others.base module_index name
-  pub value : (name : ℕ × ℕ) → some.value name ≡ others.value name
-  pub attributes : (name : ℕ × ℕ) → some.attributes name ≡ others.attributes name
+  pub base : (module_index : ℕ) (name : Name) → some.base module_index name ≡ others.base module_index name
+  pub value : (name : Name) → some.value name ≡ others.value name
+  pub attributes : (name : Name) → some.attributes name ≡ others.attributes name
   pub module_name : (module_index : ℕ) → some.module_name module_index ≡ others.module_name module_index
   pub sections : some.sections ≡ others.sections
   pub globals : some.globals ≡ others.globals

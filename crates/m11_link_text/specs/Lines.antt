@@ -1,75 +1,76 @@
 -- The lines of a link's map and messages. (This project's own: the columns, the words, and that blanks at the end of a
 -- line are removed.)
-use Rattle.std.specs.Prelude.{ℕ, if◌then◌else◌, List, [], ◌∷◌, ◌++◌, codes}
+use Rattle.std.specs.Prelude.{ℕ, if◌then◌else◌, [], ◌∷◌, ◌++◌, codes}
+use Rattle.m11_base.specs.Devices.{Bytes}
 use Rattle.m11_base.specs.Blanks.{without_last_blanks}
 use Rattle.m11_base.specs.Octal.{octal_text}
-use Rattle.m11_base.specs.Rad50.{name_text}
+use Rattle.m11_base.specs.Rad50.{Name, name_text}
 use Rattle.m11_modules.specs.Rules.{has_bits}
 
-abbrev pub line_of : List ℕ → List ℕ
+abbrev pub line_of : Bytes → Bytes
 line_of text = without_last_blanks text ++ 10 ∷ []
 
 -- ---- messages
 
 -- a global that is referred to, and defined nowhere
-abbrev pub undefined_line : ℕ × ℕ → List ℕ
+abbrev pub undefined_line : Name → Bytes
 undefined_line name = line_of (codes "UNDEFINED GLOBAL " ++ name_text name)
 
 -- a definition after the first one
-abbrev pub multiple_line : ℕ × ℕ → ℕ × ℕ → List ℕ
+abbrev pub multiple_line : Name → Name → Bytes
 multiple_line name module_name =
     line_of ((codes "MULTIPLE DEFINITION " ++ name_text name) ++ (codes " IN MODULE " ++ name_text module_name))
 
 -- an entry of a section whose attributes aren't those of the first
-abbrev pub different_line : ℕ × ℕ → ℕ × ℕ → List ℕ
+abbrev pub different_line : Name → Name → Bytes
 different_line section module_name =
     line_of ((codes "DIFFERENT ATTRIBUTES " ++ name_text section) ++ (codes " IN MODULE " ++ name_text module_name))
 
 -- ---- the map
 
 -- octal 20 RO, 200 D, 100 GBL, 40 REL, 4 OVR, 1 SAV
-abbrev pub access_text : ℕ → List ℕ
+abbrev pub access_text : ℕ → Bytes
 access_text attributes = if has_bits 0o20 attributes then codes "RO," else codes "RW,"
 
-abbrev pub content_text : ℕ → List ℕ
+abbrev pub content_text : ℕ → Bytes
 content_text attributes = if has_bits 0o200 attributes then codes "D," else codes "I,"
 
-abbrev pub scope_text : ℕ → List ℕ
+abbrev pub scope_text : ℕ → Bytes
 scope_text attributes = if has_bits 0o100 attributes then codes "GBL," else codes "LCL,"
 
-abbrev pub relocation_text : ℕ → List ℕ
+abbrev pub relocation_text : ℕ → Bytes
 relocation_text attributes = if has_bits 0o40 attributes then codes "REL," else codes "ABS,"
 
-abbrev pub allocation_text : ℕ → List ℕ
+abbrev pub allocation_text : ℕ → Bytes
 allocation_text attributes = if has_bits 4 attributes then codes "OVR" else codes "CON"
 
-abbrev pub saved_text : ℕ → List ℕ
+abbrev pub saved_text : ℕ → Bytes
 saved_text attributes = if has_bits 1 attributes then codes ",SAV" else []
 
-abbrev pub attributes_text : ℕ → List ℕ
+abbrev pub attributes_text : ℕ → Bytes
 attributes_text attributes = access_text attributes ++ content_text attributes ++ scope_text attributes
     ++ relocation_text attributes ++ allocation_text attributes ++ saved_text attributes
 
-abbrev pub columns : ℕ × ℕ → ℕ → ℕ → List ℕ
+abbrev pub columns : Name → ℕ → ℕ → Bytes
 columns name first second =
     ((((name_text name ++ 32 ∷ []) ++ octal_text first) ++ 32 ∷ []) ++ octal_text second) ++ 32 ∷ []
 
 -- a section: its name, base, size and attributes
-abbrev pub section_line : ℕ × ℕ → ℕ → ℕ → ℕ → List ℕ
+abbrev pub section_line : Name → ℕ → ℕ → ℕ → Bytes
 section_line name base size attributes = line_of (columns name base size ++ attributes_text attributes)
 
 -- a global: its name, value, and the module that defines it
-abbrev pub global_line : ℕ × ℕ → ℕ → ℕ × ℕ → List ℕ
+abbrev pub global_line : Name → ℕ → Name → Bytes
 global_line name value module_name =
     line_of ((((name_text name ++ 32 ∷ []) ++ octal_text value) ++ 32 ∷ []) ++ name_text module_name)
 
 -- a global that is defined nowhere
-abbrev pub name_line : ℕ × ℕ → List ℕ
+abbrev pub name_line : Name → Bytes
 name_line name = line_of (name_text name)
 
-abbrev pub transfer_line : ℕ → List ℕ
+abbrev pub transfer_line : ℕ → Bytes
 transfer_line address = line_of (codes "TRANSFER " ++ octal_text address)
 
 -- the first address of relocatable sections, and the first one after them
-abbrev pub limit_line : ℕ → ℕ → List ℕ
+abbrev pub limit_line : ℕ → ℕ → Bytes
 limit_line bottom top = line_of (((codes "LIMIT " ++ octal_text bottom) ++ 32 ∷ []) ++ octal_text top)

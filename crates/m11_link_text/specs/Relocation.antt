@@ -1,8 +1,10 @@
 -- What a relocation stores, and where. (RT-11 Volume and File Formats Manual, "Object file format", RLD block. That the
 -- value replaces the bytes that stood there, and that a displaced byte is counted from its own address and 2, is this
 -- project's own.)
-use Rattle.std.specs.Prelude.{ℕ, ◌+◌, ◌-◌, ◌%◌, Bool, List, [], ◌∷◌, ◌++◌, length, take, drop, if◌then◌else◌}
+use Rattle.std.specs.Prelude.{ℕ, ◌+◌, ◌-◌, ◌%◌, Bool, [], ◌∷◌, ◌++◌, length, take, drop, if◌then◌else◌}
 use Rattle.std.specs.Option.{unwrap_or}
+use Rattle.m11_base.specs.Devices.{Bytes}
+use Rattle.m11_base.specs.Rad50.{Name}
 use Rattle.m11_blocks.specs.Frames.{word_bytes}
 use Rattle.m11_obj.specs.declared.relocations.Relocation.{Relocation}
 use Rattle.m11_obj.specs.declared.relocations.Target.{Target}
@@ -21,7 +23,7 @@ less number other = (number + (0o200000 - other)) % 0o200000
 -- ---- what is stored
 
 -- a global that is defined nowhere counts as 0
-abbrev pub symbol : Findings → ℕ × ℕ → ℕ
+abbrev pub symbol : Findings → Name → ℕ
 symbol found name = unwrap_or (found.value name) 0
 
 -- the address after the stored word, from which a displacement is counted
@@ -47,12 +49,12 @@ value_of found module_index own location (target.SectionAdditiveDisplaced name c
 value_of found module_index own location other = 0
 
 -- a byte is the low byte of the value
-abbrev pub value_bytes : Bool → ℕ → List ℕ
+abbrev pub value_bytes : Bool → ℕ → Bytes
 value_bytes is_byte value = if is_byte then (value % 256) ∷ [] else word_bytes value
 
 -- the bytes that a relocation stores: the two limits of the program, no bytes for the commands that only select a
 -- place, and else those of the value
-abbrev pub stored_bytes : Findings → ℕ → ℕ → ℕ → Bool → Target → List ℕ
+abbrev pub stored_bytes : Findings → ℕ → ℕ → ℕ → Bool → Target → Bytes
 stored_bytes found module_index own location is_byte target.ProgramLimits =
     word_bytes found.bottom ++ word_bytes found.top
 stored_bytes found module_index own location is_byte (target.LocationCounterDefinition name constant) = []
@@ -63,12 +65,12 @@ stored_bytes found module_index own location is_byte other =
 -- ---- where
 
 -- bytes in the place of those that stood there
-abbrev pub replaced : List ℕ → ℕ → List ℕ → List ℕ
+abbrev pub replaced : Bytes → ℕ → Bytes → Bytes
 replaced text index bytes = take index text ++ bytes ++ drop (index + length bytes) text
 
 -- a text that stands at an address, after this base, with a relocation: its first byte has the displacement 4. One
 -- that doesn't lie within the text, which is refused before, changes nothing
-abbrev pub relocated : Findings → ℕ → ℕ → ℕ → Relocation → List ℕ → List ℕ
+abbrev pub relocated : Findings → ℕ → ℕ → ℕ → Relocation → Bytes → Bytes
 relocated found module_index own address relocation text =
     let index = relocation.displacement - 4 in
     let location = modulo (address + index) in

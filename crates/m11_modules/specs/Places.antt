@@ -6,6 +6,7 @@ use Rattle.std.specs.List.{filter_map, list_any}
 use Rattle.std.specs.Map.{keys_of, lookup}
 use Rattle.std.specs.Option.{option_or}
 use Rattle.indexmap.specs.IndexSet.{insert_key}
+use Rattle.m11_base.specs.Rad50.{Name}
 use Rattle.m11_obj.specs.declared.gsd.GsdEntry.{GsdEntry}
 use Rattle.m11_obj.specs.declared.gsd.GsdKind.{GsdKind}
 use Rattle.m11_obj.specs.declared.gsd.GsdKind.TheVariants.{ControlSection, GlobalSymbol, ProgramSection}
@@ -48,36 +49,36 @@ stage_after parts = stage_from Between parts
 -- ---- sections
 
 -- a section entry's name, and its size in its module
-abbrev pub section_by : GsdKind → GsdEntry → Option ((ℕ × ℕ) × ℕ)
+abbrev pub section_by : GsdKind → GsdEntry → Option (Name × ℕ)
 section_by ControlSection entry = Some (entry.name, entry.value)
 section_by ProgramSection entry = Some (entry.name, entry.value)
 section_by kind entry = None
 
-abbrev pub section_in : Part → Option ((ℕ × ℕ) × ℕ)
+abbrev pub section_in : Part → Option (Name × ℕ)
 section_in (Entry entry) = section_by entry.kind entry
 section_in part = None
 
 -- the sections that are entered in these parts, in order, with their sizes
-unfoldable pub sections_in : List Part → List ((ℕ × ℕ) × ℕ)
+unfoldable pub sections_in : List Part → List (Name × ℕ)
 sections_in parts = filter_map section_in parts
 
 -- the size of a section that a module knows: one that it entered, or else `. ABS.`, of which it then has nothing
-abbrev pub size_known : List ((ℕ × ℕ) × ℕ) → ℕ × ℕ → Option ℕ
+abbrev pub size_known : List (Name × ℕ) → Name → Option ℕ
 size_known sections name =
     option_or (lookup (is_name name) sections) (if is_name name absolute_name then Some 0 else None)
 
 -- the section that a location counter definition selects
-abbrev pub selected_by : ℕ × ℕ → Target → ℕ × ℕ
+abbrev pub selected_by : Name → Target → Name
 selected_by section (target.LocationCounterDefinition name constant) = name
 selected_by section other = section
 
-abbrev pub section_after : ℕ × ℕ → List Part → ℕ × ℕ
+abbrev pub section_after : Name → List Part → Name
 section_after section [] = section
 section_after section (Relocated relocation ∷ parts) = section_after (selected_by section relocation.target) parts
 section_after section (part ∷ parts) = section_after section parts
 
 -- the section that was selected last in a module; before any, texts go to `. ABS.`
-unfoldable pub current_section : List Part → ℕ × ℕ
+unfoldable pub current_section : List Part → Name
 current_section parts = section_after absolute_name parts
 
 -- ---- texts
@@ -94,15 +95,15 @@ text_length parts = length_after None parts
 -- ---- names
 
 -- names in order of first appearance, each once
-abbrev pub distinct_after : List (ℕ × ℕ) → List (ℕ × ℕ) → List (ℕ × ℕ)
+abbrev pub distinct_after : List Name → List Name → List Name
 distinct_after seen [] = seen
 distinct_after seen (name ∷ names) = distinct_after (insert_key is_name seen name) names
 
-unfoldable pub distinct : List (ℕ × ℕ) → List (ℕ × ℕ)
+unfoldable pub distinct : List Name → List Name
 distinct names = distinct_after [] names
 
 -- the global symbol that a relocation stores
-abbrev pub global_of : Target → Option (ℕ × ℕ)
+abbrev pub global_of : Target → Option Name
 global_of (target.Global name) = Some name
 global_of (target.GlobalDisplaced name) = Some name
 global_of (target.GlobalAdditive name constant) = Some name
@@ -110,19 +111,19 @@ global_of (target.GlobalAdditiveDisplaced name constant) = Some name
 global_of other = None
 
 -- the global symbol that a part names, defined or only referred to
-abbrev pub global_by : GsdKind → GsdEntry → Option (ℕ × ℕ)
+abbrev pub global_by : GsdKind → GsdEntry → Option Name
 global_by GlobalSymbol entry = Some entry.name
 global_by kind entry = None
 
-abbrev pub global_in : Part → Option (ℕ × ℕ)
+abbrev pub global_in : Part → Option Name
 global_in (Entry entry) = global_by entry.kind entry
 global_in (Relocated relocation) = global_of relocation.target
 global_in part = None
 
-unfoldable pub global_names : List Part → List (ℕ × ℕ)
+unfoldable pub global_names : List Part → List Name
 global_names parts = distinct (filter_map global_in parts)
 
-unfoldable pub section_names : List Part → List (ℕ × ℕ)
+unfoldable pub section_names : List Part → List Name
 section_names parts = distinct (keys_of (sections_in parts))
 
 -- ---- all that a part is judged by
@@ -132,12 +133,12 @@ pub record Known : Type 0 where
   -- the modules that ended
   pub modules : ℕ
   -- the names of sections and of globals over all modules
-  pub sections : List (ℕ × ℕ)
-  pub globals : List (ℕ × ℕ)
+  pub sections : List Name
+  pub globals : List Name
   -- the sections that this module entered, with their sizes in it
-  pub entered : List ((ℕ × ℕ) × ℕ)
+  pub entered : List (Name × ℕ)
   -- the section that its texts go to
-  pub section : ℕ × ℕ
+  pub section : Name
   -- the length of its last text
   pub text : Option ℕ
 

@@ -5,6 +5,7 @@ use Rattle.std.specs.Prelude.{ℕ, ◌+◌, ◌<◌, ◌≤◌, ◌&&◌, not, n
 use Rattle.std.specs.Int.RustNames.{bit_and}
 use Rattle.std.specs.Option.{is_none, is_some, option_or, unwrap_or}
 use Rattle.std.specs.Map.{lookup}
+use Rattle.m11_base.specs.Rad50.{Name}
 use Rattle.m11_obj.specs.declared.gsd.GsdEntry.{GsdEntry}
 use Rattle.m11_obj.specs.declared.gsd.GsdKind.{GsdKind}
 use Rattle.m11_obj.specs.declared.gsd.GsdKind.TheVariants.{ControlSection, TransferAddress, GlobalSymbol, ProgramSection}
@@ -50,7 +51,7 @@ abbrev pub most_globals : ℕ
 most_globals = 8192
 
 -- a name for which there is no room
-abbrev pub is_past : ℕ → List (ℕ × ℕ) → ℕ × ℕ → Bool
+abbrev pub is_past : ℕ → List Name → Name → Bool
 is_past most names name = not (is_among names name) && nat_le most (length names)
 
 -- ---- the faults of a part
@@ -76,26 +77,26 @@ abbrev pub defines_relocatable : GsdEntry → Bool
 defines_relocatable entry = defines entry && has_bits 0o40 entry.flags
 
 -- a section is entered once in a module
-abbrev pub entering_fault : List ((ℕ × ℕ) × ℕ) → List (ℕ × ℕ) → ℕ × ℕ → Option ModuleFault
+abbrev pub entering_fault : List (Name × ℕ) → List Name → Name → Option ModuleFault
 entering_fault entered sections name = first_there
     ((is_some (lookup (is_name name) entered), BadOrder) ∷ (is_past most_sections sections name, TooManySections) ∷ [])
 
 -- a section that is named has to be known
-abbrev pub section_fault : List ((ℕ × ℕ) × ℕ) → ℕ × ℕ → Option ModuleFault
+abbrev pub section_fault : List (Name × ℕ) → Name → Option ModuleFault
 section_fault entered name = first_there ((is_none (size_known entered name), UnknownSection) ∷ [])
 
 -- for a global's name there has to be room
-abbrev pub global_fault : List (ℕ × ℕ) → ℕ × ℕ → Option ModuleFault
+abbrev pub global_fault : List Name → Name → Option ModuleFault
 global_fault globals name = first_there ((is_past most_globals globals name, TooManyGlobals) ∷ [])
 
 -- a relocatable symbol is defined after an entry of a section
-abbrev pub symbol_fault : GsdEntry → List ((ℕ × ℕ) × ℕ) → List (ℕ × ℕ) → Option ModuleFault
+abbrev pub symbol_fault : GsdEntry → List (Name × ℕ) → List Name → Option ModuleFault
 symbol_fault entry entered globals = option_or
     (first_there ((defines_relocatable entry && nat_eq (length entered) 0, BadOrder) ∷ []))
     (global_fault globals entry.name)
 
 -- an entry, the module's sections, and all sections and globals, being these so far
-abbrev pub entry_fault : GsdKind → GsdEntry → List ((ℕ × ℕ) × ℕ) → List (ℕ × ℕ) → List (ℕ × ℕ) → Option ModuleFault
+abbrev pub entry_fault : GsdKind → GsdEntry → List (Name × ℕ) → List Name → List Name → Option ModuleFault
 entry_fault ControlSection entry entered sections globals = entering_fault entered sections entry.name
 entry_fault ProgramSection entry entered sections globals = entering_fault entered sections entry.name
 entry_fault TransferAddress entry entered sections globals = section_fault entered entry.name
@@ -123,7 +124,7 @@ place_fault relocation None = Some NoText
 place_fault relocation (Some count) = first_there ((not (lies_within relocation count), BadDisplacement) ∷ [])
 
 -- the faults of what is stored
-abbrev pub target_fault : Target → List ((ℕ × ℕ) × ℕ) → List (ℕ × ℕ) → Option ModuleFault
+abbrev pub target_fault : Target → List (Name × ℕ) → List Name → Option ModuleFault
 target_fault (target.Section name) entered globals = section_fault entered name
 target_fault (target.SectionDisplaced name) entered globals = section_fault entered name
 target_fault (target.SectionAdditive name constant) entered globals = section_fault entered name
@@ -135,13 +136,13 @@ target_fault (target.GlobalAdditiveDisplaced name constant) entered globals = gl
 target_fault other entered globals = None
 
 -- commands 7 and 10 store nothing: the first has to select a known section, and nothing is asked of the other
-abbrev pub relocation_by : Target → Relocation → List ((ℕ × ℕ) × ℕ) → Option ℕ → List (ℕ × ℕ) → Option ModuleFault
+abbrev pub relocation_by : Target → Relocation → List (Name × ℕ) → Option ℕ → List Name → Option ModuleFault
 relocation_by (target.LocationCounterDefinition name constant) relocation entered text globals = section_fault entered name
 relocation_by (target.LocationCounterModification constant) relocation entered text globals = None
 relocation_by other relocation entered text globals =
     option_or (place_fault relocation text) (target_fault other entered globals)
 
-abbrev pub relocation_fault : Relocation → List ((ℕ × ℕ) × ℕ) → Option ℕ → List (ℕ × ℕ) → Option ModuleFault
+abbrev pub relocation_fault : Relocation → List (Name × ℕ) → Option ℕ → List Name → Option ModuleFault
 relocation_fault relocation entered text globals = relocation_by relocation.target relocation entered text globals
 
 -- what is wrong with a part that stands in the right order

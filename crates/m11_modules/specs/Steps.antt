@@ -1,9 +1,10 @@
 -- What is known after a part, from what was known before it. (This project's own: how the rules are kept while records
 -- come. That it is what Places.antt says of all parts is proved.)
-use Rattle.std.specs.Prelude.{◌≡◌, ℕ, ◌+◌, List, [], ◌∷◌, length, ⊤, Option, Some, None, Result, Ok, Err}
+use Rattle.std.specs.Prelude.{◌≡◌, ◌+◌, List, [], ◌∷◌, length, ⊤, Option, Some, None, Result, Ok, Err}
 use Rattle.std.specs.Option.{option_or}
 use Rattle.indexmap.specs.IndexMap.{insert_entry}
 use Rattle.indexmap.specs.IndexSet.{insert_key}
+use Rattle.m11_base.specs.Rad50.{Name}
 use Rattle.m11_obj.specs.declared.gsd.GsdEntry.{GsdEntry}
 use Rattle.m11_obj.specs.declared.gsd.GsdKind.{GsdKind}
 use Rattle.m11_obj.specs.declared.gsd.GsdKind.TheVariants.{ControlSection, GlobalSymbol, ProgramSection}
@@ -23,7 +24,7 @@ with_section entry known = record known {
   entered = insert_entry is_name known.entered entry.name entry.value;
 }
 
-abbrev pub with_global : ℕ × ℕ → Known → Known
+abbrev pub with_global : Name → Known → Known
 with_global name known = record known { globals = insert_key is_name known.globals name }
 
 abbrev pub with_entry : GsdKind → GsdEntry → Known → Known
@@ -32,7 +33,7 @@ with_entry ProgramSection entry known = with_section entry known
 with_entry GlobalSymbol entry known = with_global entry.name known
 with_entry kind entry known = known
 
-abbrev pub with_optional_global : Option (ℕ × ℕ) → Known → Known
+abbrev pub with_optional_global : Option Name → Known → Known
 with_optional_global None known = known
 with_optional_global (Some name) known = with_global name known
 

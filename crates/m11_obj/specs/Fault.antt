@@ -1,5 +1,6 @@
 -- How the faults of records are reported. (This project's own.)
-use Rattle.std.specs.Prelude.{ℕ, List, codes}
+use Rattle.std.specs.Prelude.{ℕ, codes}
+use Rattle.m11_base.specs.Devices.{Bytes}
 use Rattle.m11_obj.specs.declared.fault.RecordFault.{RecordFault}
 use Rattle.m11_obj.specs.declared.fault.RecordFault.TheVariants.{UnknownType, BadLength, Library, MappedArray, Complex, UnknownRelocation, BadName}
 
@@ -12,7 +13,7 @@ record_fault_number Complex = 5
 record_fault_number UnknownRelocation = 6
 record_fault_number BadName = 7
 
-abbrev pub record_fault_name : RecordFault → List ℕ
+abbrev pub record_fault_name : RecordFault → Bytes
 record_fault_name UnknownType = codes "UnknownType"
 record_fault_name BadLength = codes "BadLength"
 record_fault_name Library = codes "Library"

@@ -3,7 +3,8 @@
 -- project's own.
 use Rattle.std.specs.Prelude.{ℕ, ◌<◌, ◌^◌, List, ◌∷◌, ◌++◌, All}
 use Rattle.std.specs.List.{flat_map}
-use Rattle.m11_base.specs.Rad50.{IsName}
+use Rattle.m11_base.specs.Devices.{Bytes}
+use Rattle.m11_base.specs.Rad50.{Name, IsName}
 use Rattle.m11_obj.specs.declared.gsd.GsdKind.{GsdKind}
 use Rattle.m11_obj.specs.declared.gsd.GsdKind.TheVariants.{ModuleName, ControlSection, InternalSymbol, TransferAddress, GlobalSymbol, ProgramSection, Identification}
 use Rattle.m11_obj.specs.declared.gsd.GsdEntry.{GsdEntry}
@@ -20,15 +21,15 @@ kind_code ProgramSection = 5
 kind_code Identification = 6
 
 -- the two words of a name
-abbrev pub name_bytes : ℕ × ℕ → List ℕ
+abbrev pub name_bytes : Name → Bytes
 name_bytes name = word_bytes name.0 ++ word_bytes name.1
 
 -- eight bytes: two name words, the flags byte, the type byte, the value word
-abbrev pub entry_bytes : GsdEntry → List ℕ
+abbrev pub entry_bytes : GsdEntry → Bytes
 entry_bytes entry =
     name_bytes entry.name ++ entry.flags ∷ kind_code entry.kind ∷ word_bytes entry.value
 
-abbrev pub entries_bytes : List GsdEntry → List ℕ
+abbrev pub entries_bytes : List GsdEntry → Bytes
 entries_bytes entries = flat_map entry_bytes entries
 
 -- an entry that has such bytes

@@ -1,11 +1,12 @@
 -- Names that stand in objects by themselves. (MACRO-11 Language Reference Manual, ".ASECT and .CSECT directives".)
-use Rattle.std.specs.Prelude.{ℕ, List, codes, unwrap_or}
-use Rattle.m11_base.specs.Rad50.{name_of}
+use Rattle.std.specs.Prelude.{codes, unwrap_or}
+use Rattle.m11_base.specs.Devices.{Bytes}
+use Rattle.m11_base.specs.Rad50.{Name, name_of}
 
 -- the name of six characters
-abbrev pub name_in_words : List ℕ → ℕ × ℕ
+abbrev pub name_in_words : Bytes → Name
 name_in_words text = unwrap_or (name_of text) (0, 0)
 
 -- the section that each module knows, entered or not
-abbrev pub absolute_name : ℕ × ℕ
+abbrev pub absolute_name : Name
 absolute_name = name_in_words (codes ". ABS.")

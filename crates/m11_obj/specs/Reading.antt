@@ -4,6 +4,7 @@
 -- BadLength at the place where the bytes end.
 use Rattle.std.specs.Prelude.{◌≡◌, is_ok, true, ℕ, zero, suc, ◌+◌, ◌*◌, ◌%◌, ◌≤◌, Bool, ◌&&◌, List, [], ◌∷◌, length, slice_get, unwrap_or, Option, Some, None, Result, Ok, Err, nat_lt, nat_le, if◌then◌else◌}
 use Rattle.std.specs.Result.{result_unwrap_or}
+use Rattle.m11_base.specs.Devices.{Bytes}
 use Rattle.m11_base.specs.Rad50.{word_limit}
 use Rattle.m11_blocks.specs.Frames.{content_limit}
 use Rattle.m11_obj.specs.declared.fault.RecordFault.{RecordFault}
@@ -25,22 +26,22 @@ abbrev pub ◌>>=◌ : {A B : Type 0} → Result A RecordFault → (A → Result
 
 -- what stands first, and the bytes after it
 
-abbrev pub first_byte : List ℕ → Result (ℕ × List ℕ) RecordFault
+abbrev pub first_byte : Bytes → Result (ℕ × Bytes) RecordFault
 first_byte [] = Err BadLength
 first_byte (byte ∷ rest) = Ok (byte, rest)
 
-unfoldable pub first_word : List ℕ → Result (ℕ × List ℕ) RecordFault
+unfoldable pub first_word : Bytes → Result (ℕ × Bytes) RecordFault
 first_word [] = Err BadLength
 first_word (low ∷ []) = Err BadLength
 first_word (low ∷ high ∷ rest) = Ok (low + 256 * high, rest)
 
 -- a word of a name has to be one that has characters
-unfoldable pub first_name_word : List ℕ → Result (ℕ × List ℕ) RecordFault
+unfoldable pub first_name_word : Bytes → Result (ℕ × Bytes) RecordFault
 first_name_word bytes = do
   word ← first_word bytes
   if nat_lt word.0 word_limit then Ok word else Err BadName
 
-unfoldable pub first_name : List ℕ → Result ((ℕ × ℕ) × List ℕ) RecordFault
+unfoldable pub first_name : Bytes → Result ((ℕ × ℕ) × Bytes) RecordFault
 first_name bytes = do
   first ← first_name_word bytes
   second ← first_name_word first.1
@@ -49,7 +50,7 @@ first_name bytes = do
 -- ---- items one after another
 
 -- items up to the end of the bytes, of which there are no more than the number
-unfoldable pub items_within : {A : Type 0} → (List ℕ → Result (A × List ℕ) RecordFault) → ℕ → List ℕ
+unfoldable pub items_within : {A : Type 0} → (Bytes → Result (A × Bytes) RecordFault) → ℕ → Bytes
     → Result (List A) RecordFault
 items_within first zero bytes = Ok []
 items_within first (suc n) [] = Ok []
@@ -59,7 +60,7 @@ items_within first (suc n) (byte ∷ bytes) = do
   Ok (item.0 ∷ others)
 
 -- items up to the end of the bytes; each takes some, so there are no more of them than bytes
-unfoldable pub items_of : {A : Type 0} → (List ℕ → Result (A × List ℕ) RecordFault) → List ℕ
+unfoldable pub items_of : {A : Type 0} → (Bytes → Result (A × Bytes) RecordFault) → Bytes
     → Result (List A) RecordFault
 items_of first bytes = items_within first (length bytes) bytes
 
@@ -74,7 +75,7 @@ kinds =
 unfoldable pub entry_kind : ℕ → Result GsdKind RecordFault
 entry_kind code = unwrap_or (slice_get kinds code) (Err UnknownType)
 
-unfoldable pub first_entry : List ℕ → Result (GsdEntry × List ℕ) RecordFault
+unfoldable pub first_entry : Bytes → Result (GsdEntry × Bytes) RecordFault
 first_entry bytes = do
   name ← first_name bytes
   flags ← first_byte name.1
@@ -83,7 +84,7 @@ first_entry bytes = do
   value ← first_word code.1
   Ok (record { name = name.0; flags = flags.0; kind = kind; value = value.0 }, value.1)
 
-unfoldable pub entries_of : List ℕ → Result (List GsdEntry) RecordFault
+unfoldable pub entries_of : Bytes → Result (List GsdEntry) RecordFault
 entries_of bytes = items_of first_entry bytes
 
 -- ---- entries of a relocation directory
@@ -127,7 +128,7 @@ unfoldable pub form_of : Bool → ℕ → Result Form RecordFault
 form_of is_byte code =
     if is_byte && is_without_byte_form code then Err UnknownRelocation else row_of code
 
-unfoldable pub first_target : Form → List ℕ → Result (Target × List ℕ) RecordFault
+unfoldable pub first_target : Form → Bytes → Result (Target × Bytes) RecordFault
 first_target (Nothing target) bytes = Ok (target, bytes)
 first_target (Constant target) bytes = do
   constant ← first_word bytes
@@ -141,7 +142,7 @@ first_target (NameAndConstant target) bytes = do
   Ok (target name.0 constant.0, constant.1)
 
 -- the bit 200 of a command byte asks for a byte, the others are the command
-unfoldable pub first_relocation : List ℕ → Result (Relocation × List ℕ) RecordFault
+unfoldable pub first_relocation : Bytes → Result (Relocation × Bytes) RecordFault
 first_relocation bytes = do
   code ← first_byte bytes
   form ← form_of (nat_le 0o200 code.0) (code.0 % 0o200)
@@ -149,7 +150,7 @@ first_relocation bytes = do
   target ← first_target form displacement.1
   Ok (record { is_byte = nat_le 0o200 code.0; displacement = displacement.0; target = target.0 }, target.1)
 
-unfoldable pub relocations_of : List ℕ → Result (List Relocation) RecordFault
+unfoldable pub relocations_of : Bytes → Result (List Relocation) RecordFault
 relocations_of bytes = items_of first_relocation bytes
 
 -- ---- records
@@ -164,7 +165,7 @@ unfoldable pub record_kind_of : ℕ → Result RecordKind RecordFault
 record_kind_of code = unwrap_or (slice_get types code) (Err UnknownType)
 
 -- what stands after the type word; nothing is asked of it after types 2, 5 and 6
-unfoldable pub content_after : RecordKind → List ℕ → Result Content RecordFault
+unfoldable pub content_after : RecordKind → Bytes → Result Content RecordFault
 content_after kind.Gsd bytes = do
   entries ← entries_of bytes
   Ok (Gsd entries)
@@ -178,31 +179,31 @@ content_after kind.Relocations bytes = do
 content_after kind.InternalSymbols bytes = Ok InternalSymbols
 content_after kind.EndOfModule bytes = Ok EndOfModule
 
-unfoldable pub first_type : List ℕ → Result (RecordKind × List ℕ) RecordFault
+unfoldable pub first_type : Bytes → Result (RecordKind × Bytes) RecordFault
 first_type bytes = do
   code ← first_word bytes
   type ← record_kind_of code.0
   Ok (type, code.1)
 
-unfoldable pub content_of : List ℕ → Result Content RecordFault
+unfoldable pub content_of : Bytes → Result Content RecordFault
 content_of bytes = do
   type ← first_type bytes
   content_after type.0 type.1
 
 -- the bytes are those of some record
-abbrev pub IsRecord : List ℕ → Type 0
+abbrev pub IsRecord : Bytes → Type 0
 IsRecord bytes = is_ok (content_of bytes) ≡ true
 
 -- and no more than a block holds
-abbrev pub IsHeldRecord : List ℕ → Type 0
+abbrev pub IsHeldRecord : Bytes → Type 0
 IsHeldRecord bytes = IsRecord bytes × (length bytes ≤ content_limit)
 
 -- what is read stands in the bytes as it is written
-abbrev pub SaysWhatStands : List ℕ → Type 0
+abbrev pub SaysWhatStands : Bytes → Type 0
 SaysWhatStands bytes = (content : Content) × (content_of bytes ≡ Ok content) × IsRecordOf content bytes
 
 -- the record of a block's content, held as that content, or the first fault
-abbrev pub record_of : List ℕ → Result (List ℕ) RecordFault
+abbrev pub record_of : Bytes → Result Bytes RecordFault
 record_of bytes = content_of bytes >>= λ content. Ok bytes
 
 -- ---- the fields of a record
@@ -216,7 +217,7 @@ kind_in InternalSymbols = kind.InternalSymbols
 kind_in EndOfModule = kind.EndOfModule
 
 -- the type of a record
-abbrev pub record_kind : List ℕ → Result RecordKind RecordFault
+abbrev pub record_kind : Bytes → Result RecordKind RecordFault
 record_kind bytes = content_of bytes >>= λ content. Ok (kind_in content)
 
 abbrev pub entries_in : Result Content RecordFault → List GsdEntry
@@ -224,15 +225,15 @@ entries_in (Ok (Gsd entries)) = entries
 entries_in content = []
 
 -- the directory entries of a record, of which only a directory has any
-abbrev pub record_entries : List ℕ → List GsdEntry
+abbrev pub record_entries : Bytes → List GsdEntry
 record_entries bytes = entries_in (content_of bytes)
 
-abbrev pub text_in : Result Content RecordFault → Option (ℕ × List ℕ)
+abbrev pub text_in : Result Content RecordFault → Option (ℕ × Bytes)
 text_in (Ok (Text address bytes)) = Some (address, bytes)
 text_in content = None
 
 -- the load address and the bytes of a text record
-abbrev pub record_text : List ℕ → Option (ℕ × List ℕ)
+abbrev pub record_text : Bytes → Option (ℕ × Bytes)
 record_text bytes = text_in (content_of bytes)
 
 abbrev pub relocations_in : Result Content RecordFault → List Relocation
@@ -240,15 +241,15 @@ relocations_in (Ok (Relocations relocations)) = relocations
 relocations_in content = []
 
 -- the relocations of a record, of which only a relocation directory has any
-abbrev pub record_relocations : List ℕ → List Relocation
+abbrev pub record_relocations : Bytes → List Relocation
 record_relocations bytes = relocations_in (content_of bytes)
 
 -- the bytes are those of relocations, up to their end
-abbrev pub AreRelocations : List ℕ → Type 0
+abbrev pub AreRelocations : Bytes → Type 0
 AreRelocations bytes = is_ok (relocations_of bytes) ≡ true
 
 -- the relocations in such bytes
-abbrev pub relocations_left : List ℕ → List Relocation
+abbrev pub relocations_left : Bytes → List Relocation
 relocations_left bytes = result_unwrap_or (relocations_of bytes) []
 
 -- whether something is there, or its fault

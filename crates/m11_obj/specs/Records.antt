@@ -1,6 +1,7 @@
 -- The records of an object, one in each block. (RT-11 Volume and File Formats Manual, "Object file
 -- format".) What a record says, and its one form in bytes as it is written.
 use Rattle.std.specs.Prelude.{◌≡◌, ℕ, ◌+◌, ◌≤◌, ◌<◌, ◌^◌, List, [], ◌++◌, length}
+use Rattle.m11_base.specs.Devices.{Bytes}
 use Rattle.m11_obj.specs.declared.gsd.GsdEntry.{GsdEntry}
 use Rattle.m11_obj.specs.declared.relocations.Relocation.{Relocation}
 use Rattle.m11_blocks.specs.Frames.{word_bytes, content_limit}
@@ -11,13 +12,13 @@ use Rattle.m11_obj.specs.Relocations.{relocations_bytes, RelocationsFit}
 pub data Content : Type 0 where
   Gsd : List GsdEntry → Content
   EndOfGsd : Content
-  Text : ℕ → List ℕ → Content
+  Text : ℕ → Bytes → Content
   Relocations : List Relocation → Content
   InternalSymbols : Content
   EndOfModule : Content
 
 -- the bytes that are written for it: a type word, and what belongs to the type
-abbrev pub record_data : Content → List ℕ
+abbrev pub record_data : Content → Bytes
 record_data (Gsd entries) = word_bytes 1 ++ entries_bytes entries
 record_data EndOfGsd = word_bytes 2
 record_data (Text address bytes) = word_bytes 3 ++ word_bytes address ++ bytes
@@ -46,8 +47,8 @@ HasFields InternalSymbols = ⊥
 HasFields EndOfModule = ⊥
 
 -- bytes of a block that are a record of this content: what is written for it, and bytes that are ignored
-pub record IsRecordOf (content : Content) (bytes : List ℕ) : Type 0 where
+pub record IsRecordOf (content : Content) (bytes : Bytes) : Type 0 where
   pub fits : Fits content
-  pub ignored : List ℕ
+  pub ignored : Bytes
   pub written : bytes ≡ record_data content ++ ignored
   pub nothing : HasFields content → ignored ≡ []

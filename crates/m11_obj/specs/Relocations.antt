@@ -2,7 +2,8 @@
 -- RLD block.)
 use Rattle.std.specs.Prelude.{ℕ, ◌+◌, ◌<◌, ◌^◌, Bool, true, false, List, [], ◌∷◌, ◌++◌, Option, Some, None, IfSome, All, if◌then◌else◌}
 use Rattle.std.specs.List.{flat_map}
-use Rattle.m11_base.specs.Rad50.{IsName}
+use Rattle.m11_base.specs.Devices.{Bytes}
+use Rattle.m11_base.specs.Rad50.{Name, IsName}
 use Rattle.m11_obj.specs.declared.relocations.Target.{Target}
 use Rattle.m11_obj.specs.declared.relocations.Target.TheVariants.{Internal, Global, InternalDisplaced, GlobalDisplaced, GlobalAdditive, GlobalAdditiveDisplaced, LocationCounterDefinition, LocationCounterModification, ProgramLimits, Section, SectionDisplaced, SectionAdditive, SectionAdditiveDisplaced}
 use Rattle.m11_obj.specs.declared.relocations.Relocation.{Relocation}
@@ -13,10 +14,10 @@ use Rattle.m11_obj.specs.Gsd.{name_bytes}
 -- does, and the constant that comes last, if one does
 pub record Parts : Type 0 where
   pub command : ℕ
-  pub name : Option (ℕ × ℕ)
+  pub name : Option Name
   pub constant : Option ℕ
 
-abbrev pub parts : ℕ → Option (ℕ × ℕ) → Option ℕ → Parts
+abbrev pub parts : ℕ → Option Name → Option ℕ → Parts
 parts command name constant = record { command = command; name = name; constant = constant }
 
 abbrev pub parts_of : Target → Parts
@@ -34,11 +35,11 @@ parts_of (SectionDisplaced name) = parts 0o14 (Some name) None
 parts_of (SectionAdditive name constant) = parts 0o15 (Some name) (Some constant)
 parts_of (SectionAdditiveDisplaced name constant) = parts 0o16 (Some name) (Some constant)
 
-abbrev pub optional_name : Option (ℕ × ℕ) → List ℕ
+abbrev pub optional_name : Option Name → Bytes
 optional_name None = []
 optional_name (Some name) = name_bytes name
 
-abbrev pub optional_word : Option ℕ → List ℕ
+abbrev pub optional_word : Option ℕ → Bytes
 optional_word None = []
 optional_word (Some word) = word_bytes word
 
@@ -47,12 +48,12 @@ abbrev pub byte_form : Bool → ℕ
 byte_form is_byte = if is_byte then 0o200 else 0
 
 -- the command byte, the displacement byte, the name if there is one, the constant if there is one
-abbrev pub relocation_bytes : Relocation → List ℕ
+abbrev pub relocation_bytes : Relocation → Bytes
 relocation_bytes relocation =
     ((parts_of relocation.target).command + byte_form relocation.is_byte) ∷ relocation.displacement
     ∷ optional_name (parts_of relocation.target).name ++ optional_word (parts_of relocation.target).constant
 
-abbrev pub relocations_bytes : List Relocation → List ℕ
+abbrev pub relocations_bytes : List Relocation → Bytes
 relocations_bytes relocations = flat_map relocation_bytes relocations
 
 -- commands that store a value of one word have a byte form: all but 7, 10 and 11

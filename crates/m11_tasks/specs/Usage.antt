@@ -1,8 +1,9 @@
 -- The faults of a command line, each with its number and its name. (This project's own.)
-use Rattle.std.specs.Prelude.{◌≡◌, ◌≢◌, ℕ, List, codes}
+use Rattle.std.specs.Prelude.{◌≡◌, ◌≢◌, ℕ, codes}
 use Rattle.clap.specs.Words.{kind_of}
 use Rattle.clap.specs.declared.error.Error.{Error}
 use Rattle.clap.specs.declared.error.kind.ErrorKind.TheVariants as kind
+use Rattle.m11_base.specs.Devices.{Bytes}
 use Rattle.m11_tasks.specs.declared.usage.UsageFault.{UsageFault}
 use Rattle.m11_tasks.specs.declared.usage.UsageFault.TheVariants.{Help, Words, BadOctal, OddAddress, BadAddress, NoMemory}
 
@@ -16,7 +17,7 @@ usage_number BadAddress = 5
 usage_number NoMemory = 90
 
 -- the name of a fault
-abbrev pub usage_name : UsageFault → List ℕ
+abbrev pub usage_name : UsageFault → Bytes
 usage_name (Help error) = codes "Help"
 usage_name (Words error) = codes "Words"
 usage_name BadOctal = codes "BadOctal"

@@ -1,13 +1,13 @@
 -- Outputs, as what is known of them. (This project's own.)
-use Rattle.std.specs.Prelude.{◌≡◌, ℕ, List, Option, Some, None, Result, Ok, Err}
+use Rattle.std.specs.Prelude.{◌≡◌, ℕ, Option, Some, None, Result, Ok, Err}
 use Rattle.std.specs.Io.KnownBytes.{Appends}
-use Rattle.m11_base.specs.Devices.{Rises}
+use Rattle.m11_base.specs.Devices.{Bytes, Rises}
 use Rattle.m11_base.specs.Sink.{AppendsBeginning}
 use Rattle.m11_base.specs.declared.sink.Sink.{Ghosts}
 
 -- an output: what it has taken, where that is known, and its count of failures
 pub record Output : Type 0 where
-  pub text : Option (List ℕ)
+  pub text : Option Bytes
   pub faults : ℕ
 
 -- the output that a sink is
@@ -23,7 +23,7 @@ optional_output known None = no_output
 optional_output known (Some sink) = output_of known sink
 
 -- bytes put to one output: all; or it failed after a beginning of them, and this fault says so
-abbrev pub Puts : {A E : Type 0} → Output → Output → List ℕ → E → Result A E → Type 0
+abbrev pub Puts : {A E : Type 0} → Output → Output → Bytes → E → Result A E → Type 0
 Puts old new bytes fault (Ok done) = Appends old.text new.text bytes × (new.faults ≡ old.faults)
 Puts old new bytes fault (Err stopped) =
     (stopped ≡ fault) × AppendsBeginning old.text new.text bytes × Rises old.faults new.faults

@@ -1,8 +1,8 @@
 -- Writes to several outputs in one order, and what became of them. (This project's own.)
-use Rattle.std.specs.Prelude.{◌≡◌, ◌≢◌, ℕ, Bool, true, List, [], ◌∷◌, ◌++◌, Option, Some, None, Result, Ok, Err, if◌then◌else◌}
+use Rattle.std.specs.Prelude.{◌≡◌, ◌≢◌, Bool, true, List, [], ◌∷◌, ◌++◌, Option, Some, None, Result, Ok, Err, if◌then◌else◌}
 use Rattle.std.specs.List.{flat_map}
 use Rattle.std.specs.Io.KnownBytes.{Appends}
-use Rattle.m11_base.specs.Devices.{Rises}
+use Rattle.m11_base.specs.Devices.{Bytes, Rises}
 use Rattle.m11_writes.specs.Outputs.{Output}
 
 -- ---- the outputs of a program
@@ -24,17 +24,17 @@ pub record Kinds (O E : Type 0) : Type 0 where
 -- bytes that go to one output
 pub record Write (O : Type 0) : Type 0 where
   pub output : O
-  pub bytes : List ℕ
+  pub bytes : Bytes
 
-abbrev pub to_output : {O : Type 0} → O → List ℕ → Write O
+abbrev pub to_output : {O : Type 0} → O → Bytes → Write O
 to_output output bytes = record { output = output; bytes = bytes }
 
 -- the bytes that an output gains by a write to another one or to itself
-abbrev pub gained_by : {O E : Type 0} → Kinds O E → O → Write O → List ℕ
+abbrev pub gained_by : {O E : Type 0} → Kinds O E → O → Write O → Bytes
 gained_by kinds output write = if kinds.is output write.output then write.bytes else []
 
 -- the text that writes make for an output
-unfoldable pub gained : {O E : Type 0} → Kinds O E → O → List (Write O) → List ℕ
+unfoldable pub gained : {O E : Type 0} → Kinds O E → O → List (Write O) → Bytes
 gained kinds output writes = flat_map (gained_by kinds output) writes
 
 -- ---- what became of them
@@ -54,8 +54,8 @@ pub record Gains {O E : Type 0} (kinds : Kinds O E) (old new : O → Output) (wr
 pub record StopsIn {O E : Type 0} (kinds : Kinds O E) (failed : O) (old new : O → Output) (writes : List (Write O))
     : Type 0 where
   pub done : List (Write O)
-  pub part : List ℕ
-  pub rest : List ℕ
+  pub part : Bytes
+  pub rest : Bytes
   pub more : List (Write O)
   pub split : writes ≡ done ++ to_output failed (part ++ rest) ∷ more
   pub texts : GainTexts kinds old new (done ++ to_output failed part ∷ [])
@@ -86,5 +86,5 @@ Writes kinds old new writes (Err stopped) = Stops kinds old new writes stopped
 
 -- each output has a beginning of what all of the writes make for it
 abbrev pub LeavesBeginnings : {O E : Type 0} → Kinds O E → (O → Output) → (O → Output) → List (Write O) → Type 0
-LeavesBeginnings {O} kinds old new writes = (output : O) → (part : List ℕ) × (rest : List ℕ)
+LeavesBeginnings {O} kinds old new writes = (output : O) → (part : Bytes) × (rest : Bytes)
     × (gained kinds output writes ≡ part ++ rest) × Appends (old output).text (new output).text part
