@@ -20,8 +20,8 @@ pub fn read_name(text: &[u8]) -> Option<Name>
     Name::pack(&six_characters(text))
 }
 
-// The first six characters of a text in upper case, with blanks where there are fewer.
-pub(crate) fn six_characters(text: &[u8]) -> [u8; 6]
+/// The first six characters of a text in upper case, with blanks where there are fewer.
+pub fn six_characters(text: &[u8]) -> [u8; 6]
     ensures { result ≡ six_of text.now }
 {
     [
