@@ -3,6 +3,7 @@
 ghost use Rattle.std.specs.Prelude.{◌≡◌};
 ghost use Rattle.m11_values.specs.Kinds.{is_register, kind_of, refusal};
 ghost use Rattle.m11_scan.specs.Views.{bits_of};
+ghost use Rattle.m11_values.specs.Operations.{absence};
 
 use crate::operators::Operator;
 use m11_base::Name;
@@ -27,6 +28,17 @@ impl Kind {
         ensures { result ≡ is_register self }
     {
         matches!(&self, Kind::Register)
+    }
+
+    /// The letter of the kind where only an absolute number may stand: R for a register, A for any other.
+    pub fn absence(self) -> Letters
+        ensures { bits_of result ≡ absence self }
+    {
+        match self {
+            Kind::Absolute => Letters::none(),
+            Kind::Register => refusal(true),
+            Kind::Section(_) | Kind::Reference(_) => refusal(false),
+        }
     }
 }
 

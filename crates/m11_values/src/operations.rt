@@ -2,7 +2,7 @@
 
 ghost use Rattle.std.specs.Prelude.{◌≡◌, ◌≢◌};
 ghost use Rattle.m11_scan.specs.Views.{bits_of};
-ghost use Rattle.m11_values.specs.Operations.{absence, as_register, combined, complemented, division_letters, limited, negated, number_of, quotient, replaced, settled};
+ghost use Rattle.m11_values.specs.Operations.{as_register, combined, complemented, division_letters, limited, negated, number_of, quotient, replaced, settled};
 ghost use Rattle.m11_values.specs.Quantities.{quantity};
 
 use crate::kinds::{Kind, kind_of, refusal};
@@ -105,18 +105,7 @@ pub(crate) fn complemented(value: Value) -> Value
 fn replaced(value: Value, number: u16) -> Value
     ensures { quantity result ≡ replaced (quantity value) number }
 {
-    Value::absolute(number, value.letters.with(absence(value.kind)))
-}
-
-// The letter of a kind where only an absolute number may stand.
-fn absence(kind: Kind) -> Letters
-    ensures { bits_of result ≡ absence kind }
-{
-    match kind {
-        Kind::Absolute => Letters::none(),
-        Kind::Register => refusal(true),
-        Kind::Section(_) | Kind::Reference(_) => refusal(false),
-    }
+    Value::absolute(number, value.letters.with(value.kind.absence()))
 }
 
 // The register of a number.
@@ -126,6 +115,6 @@ pub(crate) fn as_register(value: Value) -> Value
     limited(Value {
         number: value.number,
         kind: Kind::Register,
-        letters: value.letters.with(absence(value.kind)),
+        letters: value.letters.with(value.kind.absence()),
     })
 }
