@@ -69,6 +69,7 @@ pub fn next_actual(line: &Line, place: usize, gives_digits: bool) -> Option<Actu
     requires { place ≤ length line.now.text }
     ensures actual { result ≡ spec.next_actual line.now.text place gives_digits }
     ensures least { IfSome result (λ actual. place ≤ actual.end) }
+    ensures begins { IfSome result (λ actual. actual.inside.start ≤ actual.end) }
     ensures most { IfSome result (λ actual. actual.end ≤ length line.now.text) }
 {
     let start = place + blanks_length(text_from(line, place));
@@ -84,6 +85,7 @@ fn bracketed_actual(line: &Line, start: usize) -> Actual
     requires { start ≤ length line.now.text }
     ensures actual { result ≡ spec.bracketed_actual line.now.text start }
     ensures least { start ≤ result.end }
+    ensures begins { result.inside.start ≤ result.end }
     ensures most { result.end ≤ length line.now.text }
 {
     let Enclosed { length, is_closed } = bracketed(text_from(line, start));
@@ -104,6 +106,7 @@ fn digits_actual(line: &Line, start: usize) -> Actual
     requires { start ≤ length line.now.text }
     ensures actual { result ≡ spec.digits_actual line.now.text start }
     ensures least { start ≤ result.end }
+    ensures begins { result.inside.start ≤ result.end }
     ensures most { result.end ≤ length line.now.text }
 {
     let end = expression_end(line, start);
@@ -114,6 +117,7 @@ fn bare_actual(line: &Line, start: usize) -> Actual
     requires { start ≤ length line.now.text }
     ensures actual { result ≡ spec.bare_actual line.now.text start }
     ensures least { start ≤ result.end }
+    ensures begins { result.inside.start ≤ result.end }
     ensures most { result.end ≤ length line.now.text }
 {
     let end = start + bare_length(text_from(line, start));
