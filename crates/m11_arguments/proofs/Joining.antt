@@ -1,0 +1,26 @@
+-- What is noted in parts is what is noted at once.
+use Rattle.std.proofs.Common.{◌≡◌, ℕ, List, ◌++◌, max, sym, ap, ◌∙◌, arith}
+use Rattle.std.proofs.lemmas.List.{append_assoc}
+use Rattle.std.proofs.lemmas.Nat.Bits.{bit_at_or, same_from_bits}
+use Rattle.std.specs.Int.{bit_at}
+use Rattle.std.specs.Int.RustNames.{bit_or}
+use Rattle.m11_values.specs.declared.names.Symbol.{Symbol}
+use Rattle.m11_arguments.specs.Notes.{Notes, joined}
+
+max_joins : (a b c : ℕ) → max (max a b) c ≡ max a (max b c)
+max_joins a b c = omega arith
+
+pub or_joins : (a b c : ℕ) → bit_or (bit_or a b) c ≡ bit_or a (bit_or b c)
+or_joins a b c =
+    same_from_bits (bit_or (bit_or a b) c) (bit_or a (bit_or b c))
+    (λ i. bit_at_or (bit_or a b) c i ∙ ap (λ n. max n (bit_at c i)) (bit_at_or a b i)
+    ∙ max_joins (bit_at a i) (bit_at b i) (bit_at c i)
+    ∙ sym (bit_at_or a (bit_or b c) i ∙ ap (λ n. max (bit_at a i) n) (bit_at_or b c i)))
+
+abbrev pair : ℕ → List Symbol → Notes
+pair letters symbols = record { letters = letters; symbols = symbols }
+
+pub joined_joins : (a b c : Notes) → joined (joined a b) c ≡ joined a (joined b c)
+joined_joins a b c =
+    ap (λ (l : ℕ). pair l ((a.symbols ++ b.symbols) ++ c.symbols)) (or_joins a.letters b.letters c.letters)
+    ∙ ap (λ (s : List Symbol). pair (bit_or a.letters (bit_or b.letters c.letters)) s) (append_assoc a.symbols b.symbols c.symbols)

@@ -1,0 +1,4 @@
+mod Immediately
+mod Joining
+mod Tests
+mod Tokens

@@ -1,0 +1,12 @@
+use Rattle.m11_arguments.specs.Conditions.{condition}
+use Rattle.m11_arguments.specs.Expressions.{known_by}
+use Rattle.m11_arguments.proofs.Immediately.{noted_at_once}
+use Rattle.m11_arguments.proofs.immediate.immediate_condition.Goals as goal
+
+pub returns-clause-notes : goal.returns-clause-notes
+returns-clause-notes g c =
+    noted_at_once c.args.line.now.text c.args.notes.now c.condition.new.notes _
+    (condition (known_by (g.N.Names.base c.args.names.now) (g.N.Names.stands_for c.args.names.now)) c.args.line.now.text
+    c.args.place)
+    c.in_ok-answer.answer _ _ c.in_ok-answer.ensures.answer c.in_ok-answer.ensures.notes c.from-end.ensures
+    c.statement_at-statement.ensures.statement c.comma_letters.ensures c.add_letters.ensures

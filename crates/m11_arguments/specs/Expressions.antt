@@ -1,0 +1,53 @@
+-- An expression that stands at a place of a line, where only an absolute number may stand. (MACRO-11 Language Reference Manual,
+-- "Expressions".)
+use Rattle.std.specs.Prelude.{ℕ, List, [], ◌∷◌, map, take}
+use Rattle.std.specs.Int.RustNames.{bit_or}
+use Rattle.m11_scan.specs.Cutting.{Lexeme, tokens_from}
+use Rattle.m11_scan.specs.Ends.{expression_end, sort_in}
+use Rattle.m11_scan.specs.Expressions.{expression_length}
+use Rattle.m11_scan.specs.declared.radix.Radix.{Radix}
+use Rattle.m11_values.specs.declared.names.Symbol.{Symbol}
+use Rattle.m11_values.specs.Operations.{absence}
+use Rattle.m11_values.specs.Quantities.{Quantity}
+use Rattle.m11_values.specs.Symbols.{with_symbol}
+use Rattle.m11_values.specs.Terms.{item, symbol_in}
+use Rattle.m11_values.specs.Values.{value_of}
+use Rattle.m11_arguments.specs.LeftOvers.{skip_letters}
+
+-- what names tell: the radix, and what each symbol stands for
+pub record Known : Type 0 where
+  pub radix : Radix
+  pub stands_for : Symbol → Quantity
+
+abbrev pub known_by : Radix → (Symbol → Quantity) → Known
+known_by radix stands_for = record { radix = radix; stands_for = stands_for }
+
+-- the expression that tokens begin with
+abbrev pub expression_in : List Lexeme → List Lexeme
+expression_in tokens = take (expression_length (map sort_in tokens)) tokens
+
+abbrev pub value_in : Known → List Lexeme → Quantity
+value_in known tokens = value_of known.radix (map (item known.stands_for) (expression_in tokens))
+
+-- the symbols that tokens read, in order
+abbrev pub symbols_in : List Lexeme → List Symbol
+symbols_in [] = []
+symbols_in (token ∷ tokens) = with_symbol (symbol_in token.sort token.text) (symbols_in tokens)
+
+-- the value of the expression at a place
+abbrev pub value_at : Known → List ℕ → ℕ → Quantity
+value_at known line place = value_in known (tokens_from line place)
+
+-- its number, whatever its kind
+abbrev pub number_at : Known → List ℕ → ℕ → ℕ
+number_at known line place = (value_at known line place).number
+
+-- its letters: those of its value, that of a kind which isn't absolute, and I for a skipped character in it
+abbrev pub number_letters : Known → List ℕ → ℕ → ℕ
+number_letters known line place =
+    bit_or (bit_or (value_at known line place).letters (absence (value_at known line place).kind))
+    (skip_letters line place (expression_end line place))
+
+-- the symbols that it reads
+abbrev pub symbols_at : List ℕ → ℕ → List Symbol
+symbols_at line place = symbols_in (expression_in (tokens_from line place))

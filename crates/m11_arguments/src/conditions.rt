@@ -1,0 +1,297 @@
+//! The conditions of `.IF` and `.IIF`. (MACRO-11 Language Reference Manual, "Conditional assembly block directives".)
+
+ghost use Rattle.std.specs.Prelude.{◌≡◌, ◌≤◌, length, IfOk};
+ghost use Rattle.m11_scan.specs.Cutting.{tokens_from};
+ghost use Rattle.m11_scan.specs.Views.{bits_of, lexeme};
+ghost use Rattle.m11_statements.specs.Actuals.{separator_at};
+ghost use Rattle.m11_arguments.specs.Conditions as spec;
+ghost use Rattle.m11_arguments.specs.Conditions.{IsFound, answer_of, notes_of};
+ghost use Rattle.m11_arguments.specs.Expressions.{known_by};
+ghost use Rattle.m11_arguments.specs.Notes.{joined, with_symbols};
+
+use crate::definedness::{is_as, names_at};
+use crate::expressions::number_at;
+use crate::left_overs::{has_token, letters_before, place_in, skip_letters};
+use crate::notes::Notes;
+use m11_scan::{Condition, Letters, Line, Sort, Token, blanks_length, next_token, read_condition};
+use m11_statements::{Actual, next_actual, separator_at};
+use m11_values::Names;
+use std::alloc::AllocError;
+
+/// What a condition tells.
+#[derive(Clone, Copy, PartialEq, Eq, Debug)]
+pub struct Answer {
+    /// Whether it holds.
+    pub holds: bool,
+    /// The place after it. What stands from there on isn't the condition's.
+    pub end: u8,
+}
+
+// What is found of a condition.
+#[derive(Clone, Copy, PartialEq, Eq, Debug)]
+pub struct Finding {
+    pub(crate) holds: bool,
+    pub(crate) end: u8,
+    pub(crate) letters: Letters,
+}
+
+/// The condition whose name stands next in a line from a place on, under names. An unknown one, a bad name in DF and NDF, and a
+/// missing argument have A, and don't hold. The letters and the symbols of its arguments are noted.
+pub fn condition<N: Names>(
+    line: &Line,
+    place: usize,
+    names: &N,
+    notes: &mut Notes,
+) -> Result<Answer, AllocError>
+    requires { place ≤ length line.now.text }
+    ensures answer { IfOk result (λ answer. answer ≡ answer_of
+        (spec.condition (known_by (N.base names.now) (N.stands_for names.now)) line.now.text place)) }
+    ensures notes { IfOk result (λ _. notes.new ≡ joined notes.old (notes_of
+        (spec.condition (known_by (N.base names.now) (N.stands_for names.now)) line.now.text place))) }
+    ensures most { IfOk result (λ answer. answer.end ≤ length line.now.text) }
+{
+    let before = letters_before(line, place);
+    let finding = named_by(line, place, names, notes)?;
+    notes.add_letters(before.with(finding.letters));
+    Ok(Answer {
+        holds: finding.holds,
+        end: finding.end,
+    })
+}
+
+// The condition that is named at a place.
+fn named_by<N: Names>(
+    line: &Line,
+    place: usize,
+    names: &N,
+    notes: &mut Notes,
+) -> Result<Finding, AllocError>
+    requires { place ≤ length line.now.text }
+    ensures found { IfOk result (λ finding. IsFound finding (spec.named_by
+        (known_by (N.base names.now) (N.stands_for names.now)) line.now.text (tokens_from line.now.text place))) }
+    ensures notes { IfOk result (λ _. notes.new ≡ with_symbols notes.old (spec.named_by
+        (known_by (N.base names.now) (N.stands_for names.now)) line.now.text (tokens_from line.now.text place)).symbols) }
+    ensures most { IfOk result (λ finding. finding.end ≤ length line.now.text) }
+{
+    match next_token(line, place) {
+        Some(name) => asked_by(line, name, names, notes),
+        None => Ok(refused(place_in(line, line.text().len()))),
+    }
+}
+
+// The condition that a token names, with its arguments after it.
+fn asked_by<N: Names>(
+    line: &Line,
+    name: Token,
+    names: &N,
+    notes: &mut Notes,
+) -> Result<Finding, AllocError>
+    requires { name.end ≤ length line.now.text }
+    ensures found { IfOk result (λ finding. IsFound finding (spec.asked_at
+        (known_by (N.base names.now) (N.stands_for names.now)) line.now.text (lexeme line.now.text name))) }
+    ensures notes { IfOk result (λ _. notes.new ≡ with_symbols notes.old (spec.asked_at
+        (known_by (N.base names.now) (N.stands_for names.now)) line.now.text (lexeme line.now.text name)).symbols) }
+    ensures most { IfOk result (λ finding. finding.end ≤ length line.now.text) }
+{
+    let begin = separator_at(line, usize::from(name.end)).end;
+    match condition_of(name.sort, name.text(line)) {
+        Some(condition) => asked(line, usize::from(begin), condition, names, notes),
+        None => Ok(refused(place_in(line, line.text().len()))),
+    }
+}
+
+// The condition that a token names, if it is one.
+fn condition_of(sort: Sort, text: &[u8]) -> Option<Condition>
+    ensures { result ≡ spec.condition_of sort text.now }
+{
+    match sort {
+        Sort::Name => read_condition(text),
+        _ => None,
+    }
+}
+
+// What a condition asks of its arguments, which begin at a place.
+fn asked<N: Names>(
+    line: &Line,
+    place: usize,
+    condition: Condition,
+    names: &N,
+    notes: &mut Notes,
+) -> Result<Finding, AllocError>
+    requires { place ≤ length line.now.text }
+    ensures found { IfOk result (λ finding. IsFound finding (spec.asked
+        (known_by (N.base names.now) (N.stands_for names.now)) line.now.text place condition)) }
+    ensures notes { IfOk result (λ _. notes.new ≡ with_symbols notes.old (spec.asked
+        (known_by (N.base names.now) (N.stands_for names.now)) line.now.text place condition).symbols) }
+    ensures most { IfOk result (λ finding. finding.end ≤ length line.now.text) }
+{
+    match condition {
+        Condition::Defined => defined(line, place, true, names, notes),
+        Condition::NotDefined => defined(line, place, false, names, notes),
+        Condition::Blank => Ok(blank(line, place, true)),
+        Condition::NotBlank => Ok(blank(line, place, false)),
+        Condition::Identical => Ok(same(line, place, true)),
+        Condition::Different => Ok(same(line, place, false)),
+        _ => numeric(line, place, condition, names, notes),
+    }
+}
+
+// A condition with a bad or missing argument.
+fn refused(end: u8) -> Finding
+    ensures { IsFound result (spec.refused end) }
+{
+    Finding {
+        holds: false,
+        end,
+        letters: Letters::A,
+    }
+}
+
+// EQ NE GT LT GE LE.
+fn numeric<N: Names>(
+    line: &Line,
+    place: usize,
+    condition: Condition,
+    names: &N,
+    notes: &mut Notes,
+) -> Result<Finding, AllocError>
+    requires { place ≤ length line.now.text }
+    ensures found { IfOk result (λ finding. IsFound finding (spec.numeric
+        (known_by (N.base names.now) (N.stands_for names.now)) line.now.text place condition)) }
+    ensures notes { IfOk result (λ _. notes.new ≡ with_symbols notes.old (spec.numeric
+        (known_by (N.base names.now) (N.stands_for names.now)) line.now.text place condition).symbols) }
+    ensures most { IfOk result (λ finding. finding.end ≤ length line.now.text) }
+{
+    if !has_token(line, place) {
+        return Ok(refused(place_in(line, place)));
+    }
+    let number = number_at(line, place, names, notes)?;
+    Ok(Finding {
+        holds: passes(condition, number.value),
+        end: number.end,
+        letters: number.letters,
+    })
+}
+
+// Whether a number passes a condition on numbers.
+fn passes(condition: Condition, number: u16) -> bool
+    ensures { result ≡ spec.passes condition number }
+{
+    match condition {
+        Condition::Zero => number == 0,
+        Condition::NotZero => !(number == 0),
+        Condition::Positive => !(number == 0 || is_negative(number)),
+        Condition::Negative => is_negative(number),
+        Condition::NotNegative => !is_negative(number),
+        Condition::NotPositive => number == 0 || is_negative(number),
+        _ => false,
+    }
+}
+
+// Whether a number, with its sign, is under 0.
+pub(crate) fn is_negative(number: u16) -> bool
+    ensures { result ≡ spec.is_negative number }
+{
+    number >= 0o100000
+}
+
+// DF NDF.
+fn defined<N: Names>(
+    line: &Line,
+    place: usize,
+    wants_defined: bool,
+    names: &N,
+    notes: &mut Notes,
+) -> Result<Finding, AllocError>
+    requires { place ≤ length line.now.text }
+    ensures found { IfOk result (λ finding. IsFound finding (spec.defined
+        (known_by (N.base names.now) (N.stands_for names.now)) line.now.text place wants_defined)) }
+    ensures notes { IfOk result (λ _. notes.new ≡ with_symbols notes.old (spec.defined
+        (known_by (N.base names.now) (N.stands_for names.now)) line.now.text place wants_defined).symbols) }
+    ensures most { IfOk result (λ finding. finding.end ≤ length line.now.text) }
+{
+    let tested = names_at(line, place, wants_defined, names, notes)?;
+    let skipped = skip_letters(line, place, usize::from(tested.end));
+    match tested.answer {
+        Some(answer) => Ok(Finding {
+            holds: answer,
+            end: tested.end,
+            letters: skipped,
+        }),
+        None => Ok(Finding {
+            holds: false,
+            end: tested.end,
+            letters: Letters::A.with(skipped),
+        }),
+    }
+}
+
+// B NB.
+fn blank(line: &Line, place: usize, wants_blank: bool) -> Finding
+    requires { place ≤ length line.now.text }
+    ensures found { IsFound result (spec.blank line.now.text place wants_blank) }
+    ensures most { result.end ≤ length line.now.text }
+{
+    match next_actual(line, place, false) {
+        Some(actual) => Finding {
+            holds: is_as(wants_blank, is_blank_text(actual.inside.text(line))),
+            end: actual.end,
+            letters: actual_letters(&actual),
+        },
+        None => Finding {
+            holds: wants_blank,
+            end: place_in(line, place),
+            letters: Letters::none(),
+        },
+    }
+}
+
+fn is_blank_text(text: &[u8]) -> bool
+    ensures { result ≡ spec.is_blank_text text.now }
+{
+    blanks_length(text) == text.len()
+}
+
+// A for an argument without its `>`.
+pub(crate) fn actual_letters(actual: &Actual) -> Letters
+    ensures { bits_of result ≡ spec.actual_letters actual.now }
+{
+    Letters::A.when(!actual.is_closed)
+}
+
+// IDN DIF.
+fn same(line: &Line, place: usize, wants_same: bool) -> Finding
+    requires { place ≤ length line.now.text }
+    ensures found { IsFound result (spec.same line.now.text place wants_same) }
+    ensures most { result.end ≤ length line.now.text }
+{
+    match next_actual(line, place, false) {
+        Some(first) => second_at(line, wants_same, first),
+        None => refused(place_in(line, place)),
+    }
+}
+
+// The second argument of IDN and DIF: after a comma it may be empty.
+fn second_at(line: &Line, wants_same: bool, first: Actual) -> Finding
+    requires { first.end ≤ length line.now.text }
+    ensures found { IsFound result (spec.second_at line.now.text wants_same first
+        (separator_at line.now.text first.end)) }
+    ensures most { result.end ≤ length line.now.text }
+{
+    let separator = separator_at(line, usize::from(first.end));
+    let text = first.inside.text(line);
+    let letters = actual_letters(&first);
+    match next_actual(line, usize::from(separator.end), false) {
+        Some(second) => Finding {
+            holds: is_as(wants_same, text == second.inside.text(line)),
+            end: second.end,
+            letters: letters.with(actual_letters(&second)),
+        },
+        None if separator.has_comma => Finding {
+            holds: is_as(wants_same, text.is_empty()),
+            end: separator.end,
+            letters,
+        },
+        None => refused(separator.end),
+    }
+}

@@ -1,0 +1,67 @@
+//! What is left over of a line after its arguments. (MACRO-11 Language Reference Manual, "Diagnostic error message summary".)
+
+ghost use Rattle.std.specs.Prelude.{◌≡◌, ◌≤◌, length};
+ghost use Rattle.m11_scan.specs.Cutting.{tokens_from};
+ghost use Rattle.m11_scan.specs.Views.{bits_of};
+ghost use Rattle.m11_arguments.specs.LeftOvers as spec;
+
+use m11_scan::{Letters, Line, next_token, skipped_between};
+
+/// The letters of what stands in a line from a place on, where nothing more is wanted: Q for a token, I for a skipped character.
+pub fn left_over(line: &Line, place: usize) -> Letters
+    requires { place ≤ length line.now.text }
+    ensures { bits_of result ≡ spec.left_over line.now.text place }
+{
+    Letters::Q
+        .when(has_token(line, place))
+        .with(rest_letters(line, place))
+}
+
+// Whether a token stands in a line from a place on.
+pub(crate) fn has_token(line: &Line, place: usize) -> bool
+    requires { place ≤ length line.now.text }
+    ensures { result ≡ spec.has_token (tokens_from line.now.text place) }
+{
+    match next_token(line, place) {
+        Some(_) => true,
+        None => false,
+    }
+}
+
+// I for a skipped character from a place on.
+pub(crate) fn rest_letters(line: &Line, place: usize) -> Letters
+    requires { place ≤ length line.now.text }
+    ensures { bits_of result ≡ spec.rest_letters line.now.text place }
+{
+    skip_letters(line, place, line.text().len())
+}
+
+// I for a skipped character before the token that stands next from a place on.
+pub(crate) fn letters_before(line: &Line, place: usize) -> Letters
+    requires { place ≤ length line.now.text }
+    ensures { bits_of result ≡ spec.letters_before line.now.text place }
+{
+    match next_token(line, place) {
+        Some(token) => skip_letters(line, place, usize::from(token.start)),
+        None => rest_letters(line, place),
+    }
+}
+
+// I for a skipped character between two places, if both are in the line and in this order.
+pub(crate) fn skip_letters(line: &Line, start: usize, end: usize) -> Letters
+    ensures { bits_of result ≡ spec.skip_letters line.now.text start end }
+{
+    if start <= end && end <= line.text().len() {
+        Letters::I.when(skipped_between(line, start, end))
+    } else {
+        Letters::none()
+    }
+}
+
+// A place of a line in one byte.
+pub(crate) fn place_in(line: &Line, place: usize) -> u8
+    requires { place ≤ length line.now.text }
+    ensures { result ≡ place }
+{
+    place.min(line.text().len()) as u8
+}

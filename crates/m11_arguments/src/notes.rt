@@ -1,0 +1,81 @@
+//! What reading the arguments of a directive or of a call leaves beside their values. (MACRO-11 Language Reference Manual, "Diagnostic
+//! error message summary" and "Symbols".)
+
+ghost use Rattle.std.specs.Prelude.{◌≡◌, ◌∷◌, [], IfOk};
+ghost use Rattle.m11_scan.specs.Views.{bits_of};
+ghost use Rattle.m11_values.specs.Symbols.{symbols_of};
+ghost use Rattle.m11_arguments.specs.Notes.{no_notes, with_letters, with_symbols};
+
+use m11_scan::{Letters, Line, Token};
+use m11_values::{Symbol, next_symbol};
+use std::alloc::{AllocError, Global};
+use std::marker::Model;
+
+/// Letters that flag arguments, and the symbols that they read, in order. Each call that reads arguments adds its own.
+#[derive(Drop)]
+pub struct Notes {
+    letters: Letters,
+    symbols: Vec<Symbol>,
+}
+
+impl Model for Notes {
+    ghost use Rattle.m11_scan.specs.Views.{bits_of};
+    ghost use Rattle.m11_arguments.specs.Notes.{Notes};
+
+    ghost Value = { Notes };
+
+    ghost view = { λ notes. record { letters = bits_of notes.letters; symbols = notes.symbols.items } };
+}
+
+impl Notes {
+    /// No letter and no symbol.
+    pub fn new(alloc: Global) -> Notes
+        ensures { result ≡ no_notes }
+    {
+        Notes {
+            letters: Letters::none(),
+            symbols: Vec::new(alloc),
+        }
+    }
+
+    /// The letters so far.
+    pub fn letters(&self) -> Letters
+        ensures { bits_of result ≡ self.now.letters }
+    {
+        self.letters
+    }
+
+    /// The symbols so far, in the order in which they were read.
+    pub fn symbols(&self) -> &[Symbol]
+        ensures { result.now ≡ self.now.symbols }
+    {
+        self.symbols.as_slice()
+    }
+
+    // Further letters.
+    pub(crate) fn add_letters(&mut self, letters: Letters)
+        ensures { self.new ≡ with_letters self.old (bits_of letters) }
+    {
+        self.letters = self.letters.with(letters);
+    }
+
+    // One more symbol.
+    pub(crate) fn add_symbol(&mut self, symbol: Symbol) -> Result<(), AllocError>
+        ensures { IfOk result (λ _. self.new ≡ with_symbols self.old (symbol ∷ [])) }
+    {
+        self.symbols.push(symbol)?;
+        Ok(())
+    }
+
+    // The symbols that tokens of a line read.
+    pub(crate) fn add_symbols(&mut self, tokens: &[Token], line: &Line) -> Result<(), AllocError>
+        ensures { IfOk result (λ _. self.new ≡ with_symbols self.old (symbols_of line.now.text tokens.now)) }
+    {
+        let mut rest = tokens;
+        'symbols: while let Some((symbol, others)) = next_symbol(rest, line) {
+            self.add_symbol(symbol)?;
+            rest = others;
+        }
+        Ok(())
+    }
+}
