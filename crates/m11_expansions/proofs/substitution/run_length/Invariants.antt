@@ -1,0 +1,13 @@
+use Rattle.std.proofs.Common.{◌≡◌, ◌+◌, length}
+use Rattle.std.specs.List.{prefix_len}
+use Rattle.m11_base.specs.Mnemonics.{is_name_character}
+use Rattle.m11_expansions.proofs.substitution.run_length.Given as goal
+
+abbrev pub invariant-characters : goal.invariant-characters
+invariant-characters l = record {
+  run : l.count + prefix_len is_name_character l.rest ≡ prefix_len is_name_character l.text;
+  all : l.count + length l.rest ≡ length l.text;
+}
+
+abbrev pub decreases-characters : goal.decreases-characters
+decreases-characters l = length l.rest

@@ -1,0 +1,4 @@
+pub mod Substitution
+pub mod Conditions
+pub mod Left
+pub mod Bodies

@@ -1,0 +1,18 @@
+//! Bodies of macros and repeats, the lines that expansions put in place of them, and what is left to take. No directive is
+//! known here: which lines open and close bodies and conditions is the caller's to say. (MACRO-11 Language Reference Manual,
+//! "Macro directives", "Repeat block" and "Conditional assembly block directives".)
+#![tactic(auto)]
+
+mod conditions;
+mod mark;
+mod open_body;
+mod substitution;
+mod template;
+mod text;
+
+pub use conditions::{CONDITION_LIMIT, Conditions, OpenCondition, Part};
+pub use mark::Mark;
+pub use open_body::{Nesting, OpenBody};
+pub use substitution::substitute;
+pub use template::Template;
+pub use text::{Text, Texts};

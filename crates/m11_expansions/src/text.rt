@@ -1,0 +1,100 @@
+//! Texts that are kept: actuals, and the lines of bodies. (This project's own.)
+
+ghost use Rattle.std.specs.Prelude.{◌≡◌, ◌<◌, ◌∷◌, ◌++◌, [], ℕ, List, length, get_or, IfOk, OnOk, OnErr};
+
+use std::alloc::{AllocError, Global};
+use std::marker::Model;
+
+/// A text that is kept.
+#[derive(Drop, Debug)]
+pub struct Text {
+    bytes: Vec<u8>,
+}
+
+impl Model for Text {
+    ghost use Rattle.std.specs.Prelude.{ℕ, List};
+
+    ghost Value = { List ℕ };
+
+    ghost view = { λ text. text.bytes.items };
+}
+
+impl Text {
+    /// Keeps a text.
+    ///
+    /// Errors: want of memory.
+    pub fn from_bytes(alloc: Global, bytes: &[u8]) -> Result<Text, AllocError>
+        ensures { IfOk result (λ text. text ≡ bytes.now) }
+    {
+        let bytes = bytes.to_vec(alloc)?;
+        Ok(Text { bytes })
+    }
+
+    /// Its characters.
+    pub fn bytes(&self) -> &[u8]
+        ensures { result.now ≡ self.now }
+    {
+        self.bytes.as_slice()
+    }
+}
+
+/// Texts that are kept, in order: the lines of a body, or the actuals of one round of an expansion.
+#[derive(Drop, Debug)]
+pub struct Texts {
+    alloc: Global,
+    texts: Vec<Text>,
+}
+
+impl Model for Texts {
+    ghost use Rattle.std.specs.Prelude.{ℕ, List};
+
+    ghost Value = { List (List ℕ) };
+
+    ghost view = { λ texts. texts.texts.items };
+}
+
+impl Texts {
+    /// None.
+    pub fn new(alloc: Global) -> Texts
+        ensures { result ≡ [] }
+    {
+        Texts {
+            alloc,
+            texts: Vec::new(alloc),
+        }
+    }
+
+    /// One text more.
+    ///
+    /// Errors: want of memory. The texts are then unchanged.
+    pub fn push(&mut self, text: &[u8]) -> Result<(), AllocError>
+        ensures ok { OnOk result (self.new ≡ self.old ++ text.now ∷ []) }
+        ensures err { OnErr result (self.new ≡ self.old) }
+    {
+        let text = Text::from_bytes(self.alloc, text)?;
+        self.texts.push(text)?;
+        Ok(())
+    }
+
+    /// How many there are.
+    pub fn len(&self) -> usize
+        ensures { result ≡ length self.now }
+    {
+        self.texts.len()
+    }
+
+    /// The text with an index, counted from 0.
+    pub fn text(&self, index: usize) -> &[u8]
+        requires { index < length self.now }
+        ensures { result.now ≡ get_or self.now index [] }
+    {
+        self.texts[index].bytes()
+    }
+
+    /// All of them.
+    pub fn as_slice(&self) -> &[Text]
+        ensures { result.now ≡ self.now }
+    {
+        self.texts.as_slice()
+    }
+}
