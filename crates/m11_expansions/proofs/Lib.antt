@@ -1,1 +1,2 @@
 mod Pieces
+mod Stacks

@@ -1,12 +1,12 @@
 -- A body's line goes piece after piece.
-use Rattle.std.proofs.Common.{◌≡◌, ℕ, zero, suc, ◌+◌, ◌<◌, Bool, true, false, List, [], ◌∷◌, ◌++◌, length, drop, take, refl, sym, ap, ◌∙◌, subst, arith, append_assoc}
+use Rattle.std.proofs.Common.{◌≡◌, ℕ, suc, ◌+◌, ◌<◌, Bool, true, false, List, [], ◌∷◌, ◌++◌, drop, take, refl, sym, ap, ◌∙◌, subst, arith, append_assoc}
 use Rattle.std.specs.Prelude.{◌&&◌, ◌||◌, if◌then◌else◌}
 use Rattle.std.specs.List.{prefix_len}
 use Rattle.std.proofs.lemmas.List.{append-nil}
 use Rattle.m11_base.specs.Mnemonics.{is_name_character}
 use Rattle.m11_lines.specs.Line.{SourceLine, line_of, with_bytes}
 use Rattle.m11_lines.proofs.MoreBytes.{line_of-more}
-use Rattle.m11_expansions.specs.Substitution.{Piece, Run, Other, pieces_of, piece_of, text_of, is_quote, begins_replaced, put_or, actual_for, is_replaced, joined, substituted}
+use Rattle.m11_expansions.specs.Substitution.{Run, Other, pieces_of, piece_of, text_of, is_quote, begins_replaced, put_or, actual_for, is_replaced, joined, substituted}
 
 -- a name character before a text begins the run that goes on in it
 pub run_first : (byte : ℕ) (text : List ℕ) → is_name_character byte ≡ true

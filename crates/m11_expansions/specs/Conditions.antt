@@ -1,7 +1,7 @@
 -- The conditions that are open in one expansion, or in the source around all expansions. (MACRO-11 Language Reference Manual,
 -- "Conditional assembly block directives" and "Subconditional assembly block directives". How many may be open, and that each belongs
 -- to its expansion, is this project's own.)
-use Rattle.std.specs.Prelude.{ℕ, zero, suc, ◌+◌, ◌-◌, Bool, true, false, not, ◌||◌, ◌==◌, ◌&&◌, if◌then◌else◌, List, [], ◌∷◌, length}
+use Rattle.std.specs.Prelude.{ℕ, ◌+◌, ◌-◌, Bool, true, false, not, ◌||◌, ◌==◌, ◌&&◌, if◌then◌else◌, List, [], ◌∷◌, length}
 use Rattle.m11_expansions.specs.declared.conditions.OpenCondition.{OpenCondition}
 use Rattle.m11_expansions.specs.declared.conditions.Part.{Part}
 use Rattle.m11_expansions.specs.declared.conditions.Part.TheVariants.{False, True, Both}

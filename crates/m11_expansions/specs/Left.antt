@@ -1,10 +1,12 @@
 -- What is left to take: lines, and the ends of open expansions. (MACRO-11 Language Reference Manual, "Macro directives" and
 -- "Repeat block". That it is one list is this project's own.)
-use Rattle.std.specs.Prelude.{ℕ, ◌+◌, Bool, true, false, List, [], ◌∷◌, ◌++◌, map, length, Option, Some, None}
+use Rattle.std.specs.Prelude.{◌≡◌, ℕ, ◌+◌, Bool, true, false, List, [], ◌∷◌, ◌++◌, map, length, Option, Some, None}
 use Rattle.std.specs.List.{flat_map}
 use Rattle.m11_lines.specs.Line.{SourceLine}
 use Rattle.m11_expansions.specs.Substitution.{line_with}
 use Rattle.m11_expansions.specs.declared.mark.Mark.{Mark}
+use Rattle.m11_expansions.specs.declared.left.Taken.{Taken}
+use Rattle.m11_expansions.specs.declared.left.Taken.TheVariants as taken
 
 pub data Left : Type 0 where
   Line : SourceLine → Left
@@ -73,3 +75,14 @@ round formals body actuals = map (λ text. Line (line_with formals actuals text)
 -- an expansion before what was left: for each round's actuals the body's lines with them put in, then the expansion's end
 abbrev pub expanded : List (ℕ × ℕ) → List (List (List ℕ)) → List (List ℕ) → Mark → List Left → List Left
 expanded formals rounds body mark left = flat_map (round formals body) rounds ++ End mark ∷ left
+
+-- what is left, and whether its head is a statement that was put there
+pub record Remains : Type 0 where
+  pub left : List Left
+  pub has_statement : Bool
+
+-- what is left loses its head
+abbrev pub Takes : List Left → List Left → Option Taken → Type 0
+Takes old new None = (old ≡ []) × (new ≡ [])
+Takes old new (Some (taken.Line line is_expanded)) = (old ≡ Line line ∷ new) × (is_expanded ≡ is_expanding new)
+Takes old new (Some (taken.End mark)) = old ≡ End mark ∷ new

@@ -2,3 +2,4 @@ pub mod Substitution
 pub mod Conditions
 pub mod Left
 pub mod Bodies
+pub mod Frames

@@ -4,15 +4,20 @@
 #![tactic(auto)]
 
 mod conditions;
+mod frame;
+mod left;
 mod mark;
 mod open_body;
+mod rounds;
 mod substitution;
 mod template;
 mod text;
 
 pub use conditions::{CONDITION_LIMIT, Conditions, OpenCondition, Part};
+pub use left::{EXPANSION_LIMIT, Remaining, Taken};
 pub use mark::Mark;
 pub use open_body::{Nesting, OpenBody};
+pub use rounds::Rounds;
 pub use substitution::substitute;
 pub use template::Template;
 pub use text::{Text, Texts};

@@ -9,8 +9,8 @@ use std::marker::Model;
 /// A body with the formals that stand in it. A repeat's has none.
 #[derive(Drop, Debug)]
 pub struct Template {
-    formals: Vec<Name>,
-    body: Texts,
+    pub(crate) formals: Vec<Name>,
+    pub(crate) body: Texts,
 }
 
 impl Model for Template {

@@ -1,0 +1,230 @@
+//! What is left to take: lines, and the ends of open expansions. (MACRO-11 Language Reference Manual, "Macro directives" and
+//! "Repeat block".)
+
+ghost use Rattle.std.specs.Prelude.{◌≡◌, ◌<◌, ◌≤◌, ◌∷◌, ◌+◌, [], false, true, length, None, OnOk, OnErr};
+ghost use Rattle.m11_expansions.specs.Frames as stack;
+ghost use Rattle.m11_expansions.specs.Left as spec;
+
+use crate::frame::Frame;
+use crate::mark::Mark;
+use crate::rounds::Rounds;
+use crate::template::Template;
+use m11_scan::Line;
+use std::alloc::{AllocError, Global};
+use std::marker::Model;
+use std::rc::Rc;
+
+/// The most expansions that are open.
+pub const EXPANSION_LIMIT: usize = 16;
+
+/// What was taken.
+#[derive(Drop, Debug)]
+pub enum Taken {
+    /// A line, and whether it stands in an expansion.
+    Line(Line, bool),
+    /// The end of an expansion.
+    End(Mark),
+}
+
+/// What is left to take: the lines of open expansions and their ends, the innermost expansion's first, and the line of the
+/// source that was fed.
+#[derive(Drop)]
+pub struct Remaining {
+    // The statement of an `.IIF`.
+    statement: Option<Line>,
+    // The innermost expansion is last.
+    frames: Vec<Frame>,
+    fed: Option<Line>,
+}
+
+impl Model for Remaining {
+    ghost use Rattle.std.specs.Prelude.{◌≤◌, length};
+    ghost use Rattle.m11_expansions.specs.Frames.{remains};
+    ghost use Rattle.m11_expansions.specs.Left.{Remains};
+
+    ghost Value = { Remains };
+
+    ghost view = { λ r. remains r.statement r.frames.items r.fed };
+
+    ghost invariant = { λ r. length r.frames.items ≤ 16 };
+}
+
+impl Remaining {
+    /// Nothing is left.
+    pub fn new(alloc: Global) -> Remaining
+        ensures left { result.left ≡ [] }
+        ensures free { result.has_statement ≡ false }
+    {
+        Remaining {
+            statement: None,
+            frames: Vec::new(alloc),
+            fed: None,
+        }
+    }
+
+    /// The next line of the source, where nothing is left.
+    pub fn feed(&mut self, line: Line)
+        requires { self.old.left ≡ [] }
+        ensures left { self.new.left ≡ spec.Line line ∷ [] }
+        ensures free { self.new.has_statement ≡ false }
+    {
+        self.fed = Some(line);
+    }
+
+    /// Puts a statement before what is left, where none stands there.
+    pub fn put(&mut self, statement: Line)
+        requires { self.old.has_statement ≡ false }
+        ensures left { self.new.left ≡ spec.Line statement ∷ self.old.left }
+    {
+        self.statement = Some(statement);
+    }
+
+    /// Takes what is next, if anything is left.
+    pub fn take(&mut self) -> Option<Taken>
+        ensures taken { spec.Takes self.old.left self.new.left result }
+        ensures free { self.new.has_statement ≡ false }
+    {
+        if let Some(statement) = self.statement.take() {
+            return Some(Taken::Line(statement, self.is_expanding()));
+        }
+        let Some(mut frame) = self.frames.pop() else {
+            let line = self.fed.take()?;
+            return Some(Taken::Line(line, false));
+        };
+        match frame.next() {
+            Some(line) => {
+                self.frames.push_reserved(frame);
+                Some(Taken::Line(line, true))
+            }
+            None => Some(Taken::End(frame.into_mark())),
+        }
+    }
+
+    /// Puts an expansion before what is left: for each round's actuals the body's lines with them put in, and its end.
+    ///
+    /// Errors: want of memory. What is left is then unchanged.
+    pub fn expand(
+        &mut self,
+        template: Rc<Template>,
+        rounds: Rounds,
+        mark: Mark,
+    ) -> Result<(), AllocError>
+        requires room { spec.depth self.old.left < spec.most_expansions }
+        requires free { self.old.has_statement ≡ false }
+        ensures ok { OnOk result (self.new.left
+            ≡ spec.expanded template.value.formals rounds template.value.body mark self.old.left) }
+        ensures err { OnErr result (self.new.left ≡ self.old.left) }
+        ensures free { self.new.has_statement ≡ false }
+    {
+        self.frames.push(Frame::new(template, rounds, mark))?;
+        Ok(())
+    }
+
+    /// Leaves out all lines up to the end of the innermost expansion, which stays.
+    pub fn leave(&mut self)
+        ensures left { self.new.left ≡ spec.after_mark self.old.left }
+        ensures free { self.new.has_statement ≡ false }
+    {
+        self.statement = None;
+        match self.frames.pop() {
+            Some(mut frame) => {
+                frame.leave();
+                self.frames.push_reserved(frame);
+            }
+            None => self.fed = None,
+        }
+    }
+
+    /// Whether an expansion is open.
+    pub fn is_expanding(&self) -> bool
+        ensures { result ≡ spec.is_expanding self.now.left }
+    {
+        has_frame(self.frames.as_slice())
+    }
+
+    /// How many expansions are open: at most 16.
+    pub fn depth(&self) -> usize
+        ensures depth { result ≡ spec.depth self.now.left }
+        ensures limited { result ≤ spec.most_expansions }
+    {
+        self.frames.as_slice().len()
+    }
+
+    /// The number of actuals of the innermost call of a macro, if one is open.
+    pub fn argument_count(&self) -> Option<u16>
+        ensures { result ≡ spec.argument_count self.now.left }
+    {
+        argument_count(self.frames.as_slice())
+    }
+
+    /// The bytes of the bodies of open repeats.
+    pub fn bytes_held(&self) -> u64
+        ensures { result ≡ spec.bytes_held self.now.left }
+    {
+        bytes_held(self.frames.as_slice())
+    }
+
+    /// How many conditions are open around open expansions.
+    pub fn conditions_open(&self) -> usize
+        ensures { result ≡ spec.conditions_open self.now.left }
+    {
+        conditions_open(self.frames.as_slice())
+    }
+}
+
+fn has_frame(frames: &[Frame]) -> bool
+    ensures { result ≡ stack.has_frame frames.now }
+{
+    match frames {
+        [_, ..] => true,
+        [] => false,
+    }
+}
+
+// The number of actuals of the last call of a macro.
+fn argument_count(frames: &[Frame]) -> Option<u16>
+    ensures { result ≡ stack.count_from None frames.now }
+{
+    let mut count = None;
+    let mut rest = frames;
+    'frames: while let Some((frame, inner)) = rest.split_first() {
+        count = inner_count(frame.mark().arguments, count);
+        rest = inner;
+    }
+    count
+}
+
+fn inner_count(arguments: Option<u16>, outer: Option<u16>) -> Option<u16>
+    ensures { result ≡ spec.or_else arguments outer }
+{
+    match arguments {
+        Some(count) => Some(count),
+        None => outer,
+    }
+}
+
+fn bytes_held(frames: &[Frame]) -> u64
+    requires { length frames.now ≤ 16 }
+    ensures { result ≡ stack.bytes_from 0 frames.now }
+{
+    let mut bytes = 0;
+    let mut rest = frames;
+    'frames: while let Some((frame, inner)) = rest.split_first() {
+        bytes += u64::from(frame.mark().bytes);
+        rest = inner;
+    }
+    bytes
+}
+
+fn conditions_open(frames: &[Frame]) -> usize
+    requires { length frames.now ≤ 16 }
+    ensures { result ≡ stack.conditions_from 0 frames.now }
+{
+    let mut count = 0;
+    let mut rest = frames;
+    'frames: while let Some((frame, inner)) = rest.split_first() {
+        count += frame.mark().conditions.count();
+        rest = inner;
+    }
+    count
+}
