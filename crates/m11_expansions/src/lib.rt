@@ -5,6 +5,7 @@
 
 mod conditions;
 mod frame;
+mod laws;
 mod left;
 mod mark;
 mod open_body;
@@ -14,6 +15,9 @@ mod template;
 mod text;
 
 pub use conditions::{CONDITION_LIMIT, Conditions, OpenCondition, Part};
+pub use laws::{
+    expansions_are_rounds_and_an_end, formals_alone_are_replaced, half_taken_bodies_go_on,
+};
 pub use left::{EXPANSION_LIMIT, Remaining, Taken};
 pub use mark::Mark;
 pub use open_body::{Nesting, OpenBody};
