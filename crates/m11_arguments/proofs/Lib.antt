@@ -1,3 +1,4 @@
+mod Headers
 mod Immediately
 mod Joining
 mod Tests

@@ -4,5 +4,6 @@ pub mod Directives
 pub mod Expressions
 pub mod Immediate
 pub mod LeftOvers
+pub mod Macros
 pub mod Notes
 pub mod Repeats

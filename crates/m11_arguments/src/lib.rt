@@ -1,6 +1,6 @@
-//! What the directives of conditions and repeats take from their lines. What stands around a line is the caller's: no condition is
-//! open here, and no expansion. (MACRO-11 Language Reference Manual, "Conditional assembly block directives", "Immediate conditional
-//! assembly directive" and "Repeat block directive".)
+//! What the directives of conditions, repeats and macros, and calls of macros, take from their lines. What stands around a line is
+//! the caller's: no condition is open here, and no expansion. (MACRO-11 Language Reference Manual, "Conditional assembly block
+//! directives", "Macro definition", "Arguments in macro definitions and macro calls" and "Indefinite repeat block directives".)
 #![tactic(auto)]
 
 mod conditions;
@@ -9,6 +9,7 @@ mod directives;
 mod expressions;
 mod immediate;
 mod left_overs;
+mod macros;
 mod notes;
 mod repeats;
 
@@ -16,5 +17,6 @@ pub use conditions::{Answer, condition};
 pub use directives::{Directive, directive_named, directive_of, operator};
 pub use immediate::{Immediate, immediate_condition};
 pub use left_overs::left_over;
+pub use macros::{Header, MacroFormal, header_at};
 pub use notes::Notes;
 pub use repeats::repeat_count;

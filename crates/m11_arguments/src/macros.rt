@@ -1,0 +1,201 @@
+//! The name of a macro and its formals. (MACRO-11 Language Reference Manual, "Macro definition" and "Automatic creation of local
+//! symbols".)
+
+ghost use Rattle.std.specs.Prelude.{◌≡◌, ◌≤◌, [], length, IfOk, IfSome};
+ghost use Rattle.m11_scan.specs.Cutting.{tokens_from};
+ghost use Rattle.m11_scan.specs.Views.{bits_of};
+ghost use Rattle.m11_statements.specs.Labels.{is_counter};
+ghost use Rattle.m11_arguments.specs.Macros as spec;
+ghost use Rattle.m11_arguments.specs.Macros.{header_seen, listed_seen};
+ghost use Rattle.m11_arguments.specs.Notes.{joined, noting};
+
+use crate::left_overs::{letters_before, rest_letters, skip_letters};
+use crate::notes::Notes;
+use m11_base::Name;
+use m11_scan::{LINE_LIMIT, Letters, Line, Sort, next_token, read_name};
+use m11_statements::{Formal, NextFormal, next_formal, separator_at};
+use std::alloc::{AllocError, Global};
+
+/// A formal of a macro.
+#[derive(Clone, Copy, PartialEq, Eq, Debug)]
+pub struct MacroFormal {
+    /// Its name.
+    pub name: Name,
+    /// Whether a local symbol is created where its actual is empty.
+    pub is_created: bool,
+}
+
+/// What a `.MACRO` defines.
+#[derive(Drop)]
+pub struct Header {
+    /// The macro's name.
+    pub name: Name,
+    /// Its formals, in order.
+    pub formals: Vec<MacroFormal>,
+}
+
+/// The name and the formals that stand in a line from a place on. Without a name nothing is defined, and the line has A. What is no
+/// formal ends the list, and has A.
+pub fn header_at(
+    alloc: Global,
+    line: &Line,
+    place: usize,
+    notes: &mut Notes,
+) -> Result<Option<Header>, AllocError>
+    requires { place ≤ length line.now.text }
+    ensures header { IfOk result (λ header. header_seen header ≡ (spec.header line.now.text place).named) }
+    ensures notes { IfOk result (λ _. notes.new
+        ≡ joined notes.old (noting (spec.header line.now.text place).letters [])) }
+{
+    let Some(name) = name_at(line, place) else {
+        notes.add_letters(Letters::A.with(rest_letters(line, place)));
+        return Ok(None);
+    };
+    let formals = formals_within(alloc, line, usize::from(name.end), LINE_LIMIT)?;
+    notes.add_letters(letters_before(line, place).with(formals.letters));
+    Ok(Some(Header {
+        name: name.name,
+        formals: formals.list,
+    }))
+}
+
+// A name that stands in a line, and the place after it.
+#[derive(Clone, Copy, PartialEq, Eq, Debug)]
+pub struct NameAt {
+    pub(crate) name: Name,
+    pub(crate) end: u8,
+}
+
+// The name that stands next in a line from a place on, if one that a line can define does.
+pub(crate) fn name_at(line: &Line, place: usize) -> Option<NameAt>
+    requires { place ≤ length line.now.text }
+    ensures name { result ≡ spec.name_at (tokens_from line.now.text place) }
+    ensures within { IfSome result (λ name. name.end ≤ length line.now.text) }
+{
+    let token = next_token(line, place)?;
+    let name = name_in(token.sort, token.text(line))?;
+    Some(NameAt {
+        name,
+        end: token.end,
+    })
+}
+
+fn name_in(sort: Sort, text: &[u8]) -> Option<Name>
+    ensures { result ≡ spec.name_in sort text.now }
+{
+    match sort {
+        Sort::Name if is_counter(text) => None,
+        Sort::Name => read_name(text),
+        _ => None,
+    }
+}
+
+fn is_counter(text: &[u8]) -> bool
+    ensures { result ≡ is_counter text.now }
+{
+    matches!(text, [b'.'])
+}
+
+// A list of formals, and its letters.
+#[derive(Drop)]
+struct Formals {
+    list: Vec<MacroFormal>,
+    letters: Letters,
+}
+
+// At most so many formals after a place.
+fn formals_within(
+    alloc: Global,
+    line: &Line,
+    place: usize,
+    bound: usize,
+) -> Result<Formals, AllocError>
+    requires { place ≤ length line.now.text }
+    ensures list { IfOk result (λ formals. formals.list.items
+        ≡ (spec.formals_within bound line.now.text place).list) }
+    ensures letters { IfOk result (λ formals. bits_of formals.letters
+        ≡ (spec.formals_within bound line.now.text place).letters) }
+{
+    let mut list = Vec::new(alloc);
+    let mut letters = Letters::none();
+    let mut end = place;
+    let mut left = bound;
+    'formals: while left > 0 {
+        let begin = usize::from(separator_at(line, end).end);
+        match listed_at(line, begin) {
+            Listed::More(next) => {
+                list.push(next.formal)?;
+                letters = letters.with(next.letters);
+                end = usize::from(next.end);
+            }
+            Listed::Last(last) => {
+                return Ok(Formals {
+                    list,
+                    letters: letters.with(last),
+                });
+            }
+        }
+        left -= 1;
+    }
+    Ok(Formals { list, letters })
+}
+
+// A formal, its letters, and the place after it.
+#[derive(Clone, Copy, PartialEq, Eq, Debug)]
+pub struct FormalAt {
+    pub(crate) formal: MacroFormal,
+    pub(crate) letters: Letters,
+    pub(crate) end: u8,
+}
+
+// What stands in a list of formals.
+#[derive(Clone, Copy, PartialEq, Eq, Debug)]
+pub enum Listed {
+    // Its end, with the letters of what stands from there on.
+    Last(Letters),
+    // A formal.
+    More(FormalAt),
+}
+
+// What stands in a list of formals at a place.
+fn listed_at(line: &Line, place: usize) -> Listed
+    requires { place ≤ length line.now.text }
+    ensures listed { listed_seen result ≡ spec.listed_at line.now.text place }
+    ensures within { spec.IsWithin (length line.now.text) result }
+{
+    match next_formal(line, place) {
+        NextFormal::Ends => Listed::Last(rest_letters(line, place)),
+        NextFormal::Bad => Listed::Last(bad_letters(line, place)),
+        NextFormal::Named(formal) => match read_name(formal.name.text(line)) {
+            Some(name) => Listed::More(FormalAt {
+                formal: MacroFormal {
+                    name,
+                    is_created: formal.is_created,
+                },
+                letters: skip_letters(line, place, formal_start(formal)),
+                end: formal.name.end,
+            }),
+            None => Listed::Last(bad_letters(line, place)),
+        },
+    }
+}
+
+// The place where a formal begins, with the `?` directly before it.
+fn formal_start(formal: Formal) -> usize
+    ensures { result ≡ spec.formal_start formal }
+{
+    let start = usize::from(formal.name.start);
+    if formal.is_created {
+        start.saturating_sub(1)
+    } else {
+        start
+    }
+}
+
+// What is no formal has A; what stands from there on isn't looked at, but for I.
+fn bad_letters(line: &Line, place: usize) -> Letters
+    requires { place ≤ length line.now.text }
+    ensures { bits_of result ≡ spec.bad_letters line.now.text place }
+{
+    Letters::A.with(rest_letters(line, place))
+}
