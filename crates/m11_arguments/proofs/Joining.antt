@@ -1,11 +1,12 @@
 -- What is noted in parts is what is noted at once.
-use Rattle.std.proofs.Common.{◌≡◌, ℕ, List, ◌++◌, max, sym, ap, ◌∙◌, arith}
-use Rattle.std.proofs.lemmas.List.{append_assoc}
+use Rattle.std.proofs.Common.{◌≡◌, ℕ, List, [], ◌++◌, max, sym, ap, ◌∙◌, arith}
+use Rattle.std.proofs.lemmas.List.{append-nil, append_assoc}
 use Rattle.std.proofs.lemmas.Nat.Bits.{bit_at_or, same_from_bits}
 use Rattle.std.specs.Int.{bit_at}
+use Rattle.std.specs.Int.Bits.{or_zero_r}
 use Rattle.std.specs.Int.RustNames.{bit_or}
 use Rattle.m11_values.specs.declared.names.Symbol.{Symbol}
-use Rattle.m11_arguments.specs.Notes.{Notes, joined}
+use Rattle.m11_arguments.specs.Notes.{Notes, joined, no_notes, noting, with_letters}
 
 max_joins : (a b c : ℕ) → max (max a b) c ≡ max a (max b c)
 max_joins a b c = omega arith
@@ -24,3 +25,11 @@ pub joined_joins : (a b c : Notes) → joined (joined a b) c ≡ joined a (joine
 joined_joins a b c =
     ap (λ (l : ℕ). pair l ((a.symbols ++ b.symbols) ++ c.symbols)) (or_joins a.letters b.letters c.letters)
     ∙ ap (λ (s : List Symbol). pair (bit_or a.letters (bit_or b.letters c.letters)) s) (append_assoc a.symbols b.symbols c.symbols)
+
+pub joined_nothing : (a : Notes) → joined a no_notes ≡ a
+joined_nothing a =
+    ap (λ (l : ℕ). pair l (a.symbols ++ [])) (or_zero_r a.letters)
+    ∙ ap (λ (s : List Symbol). pair a.letters s) (append-nil a.symbols)
+
+pub joined_letters : (a : Notes) (letters : ℕ) → with_letters a letters ≡ joined a (noting letters [])
+joined_letters a letters = ap (λ (s : List Symbol). pair (bit_or a.letters letters) s) (sym (append-nil a.symbols))

@@ -1,5 +1,7 @@
+pub mod Actuals
 pub mod Conditions
 pub mod Definedness
+pub mod Digits
 pub mod Directives
 pub mod Expressions
 pub mod Immediate

@@ -3,8 +3,10 @@
 //! directives", "Macro definition", "Arguments in macro definitions and macro calls" and "Indefinite repeat block directives".)
 #![tactic(auto)]
 
+mod actuals;
 mod conditions;
 mod definedness;
+mod digits;
 mod directives;
 mod expressions;
 mod immediate;
@@ -13,6 +15,7 @@ mod macros;
 mod notes;
 mod repeats;
 
+pub use actuals::actuals_from;
 pub use conditions::{Answer, condition};
 pub use directives::{Directive, directive_named, directive_of, operator};
 pub use immediate::{Immediate, immediate_condition};
