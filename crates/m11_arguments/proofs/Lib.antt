@@ -1,4 +1,5 @@
 mod Calls
+mod Fillings
 mod Headers
 mod Immediately
 mod Joining

@@ -4,6 +4,7 @@ pub mod Definedness
 pub mod Digits
 pub mod Directives
 pub mod Expressions
+pub mod Filling
 pub mod Immediate
 pub mod LeftOvers
 pub mod Macros
