@@ -2,8 +2,10 @@ mod Calls
 mod Fillings
 mod Headers
 mod Immediately
+mod Insides
 mod Joining
 mod Numerals
+mod Repetitions
 mod Tests
 mod Texts
 mod Tokens

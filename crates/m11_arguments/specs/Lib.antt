@@ -6,6 +6,7 @@ pub mod Directives
 pub mod Expressions
 pub mod Filling
 pub mod Immediate
+pub mod Indefinite
 pub mod LeftOvers
 pub mod Macros
 pub mod Notes
