@@ -1,0 +1,38 @@
+-- What unfolding leaves alone. (MACRO-11 Language Reference Manual, "Source program format".)
+use Rattle.std.specs.Prelude.{◌≡◌, false, List, [], ◌∷◌, ◌++◌, ◌+◌, length, map, None, ⊤}
+use Rattle.m11_lines.specs.Line.{SourceLine}
+use Rattle.m11_arguments.specs.Expressions.{Known}
+use Rattle.m11_arguments.specs.Notes.{no_notes}
+use Rattle.m11_expansions.specs.Conditions.{is_skipping}
+use Rattle.m11_expansions.specs.Left.{Left, argument_count, is_expanding}
+use Rattle.m11_unfolding.specs.Acting.{Foreign, operation}
+use Rattle.m11_unfolding.specs.Stages.{Stage, line_left}
+use Rattle.m11_unfolding.specs.Unfolding.{Given}
+
+-- the next line becomes live: none is skipped, or taken into a body, and `.END` didn't come
+pub record IsLive (stage : Stage) : Type 0 where
+  pub taking : is_skipping stage.conditions ≡ false
+  pub no_body : stage.opening ≡ None
+  pub going_on : stage.has_ended ≡ false
+
+-- lines whose operators are no macros, and no directives of unfolding
+abbrev pub AreForeign : Stage → List SourceLine → Type 0
+AreForeign stage [] = ⊤
+AreForeign stage (line ∷ lines) = (operation stage.conditions stage.macros line.text ≡ Foreign) × AreForeign stage lines
+
+-- a line that is none of unfolding's own, before what is left
+abbrev pub foreign_given : Known → List Left → SourceLine → Given
+foreign_given known left line = record {
+  live = record { line = line; is_expanded = is_expanding left };
+  known = known;
+  is_own = false;
+  notes = no_notes;
+  arguments = argument_count left;
+}
+
+-- a stage before these lines, and the one after them
+abbrev pub before_lines : Stage → List SourceLine → List Left → Stage
+before_lines stage lines left = record stage { left = map line_left lines ++ left }
+
+abbrev pub after_lines : Stage → List SourceLine → List Left → Stage
+after_lines stage lines left = record stage { left = left; taken = stage.taken + length lines }

@@ -1,0 +1,8 @@
+pub mod Acting
+pub mod Fault
+pub mod Laws
+pub mod Limits
+pub mod Macros
+pub mod Stages
+pub mod Taking
+pub mod Unfolding
