@@ -211,6 +211,6 @@ fn a_section_that_only_the_second_reading_enters_gives_no_message(
     reports_after_prog(
         &rt,
         OF_PROG_TO_READ,
-        &["DIFFERENT ATTRIBUTES PROG IN MODULE A"],
+        &["DIFFERENT ATTRIBUTES PROG   IN MODULE A"],
     )
 }
