@@ -2,13 +2,11 @@
 //! calls" and "Concatenation of macro arguments".)
 
 ghost use Rattle.std.specs.Prelude.{◌≡◌, ◌<◌, ◌≤◌, ◌∷◌, ◌++◌, length, IfSome, IfNone, Some, None, take, drop, [], if◌then◌else◌, ◌&&◌, ◌||◌};
-ghost use Rattle.std.specs.List.{prefix_len};
-ghost use Rattle.m11_base.specs.Mnemonics.{is_name_character};
 ghost use Rattle.m11_expansions.specs.Substitution as spec;
 
 use crate::text::Text;
 use m11_base::Name;
-use m11_scan::{Line, read_name};
+use m11_scan::{Line, is_name_character, name_length, read_name};
 
 /// The line of a body's text in a round of an expansion: each run of name characters that is a formal by its first six gives
 /// way to that formal's actual, and with it one `'` directly before it and one directly after it. What is past 132
@@ -66,32 +64,8 @@ fn piece_length(text: &[u8]) -> usize
         ≡ spec.piece_of (take result text.now) ∷ spec.pieces_of (drop result text.now) }
     ensures text { spec.text_of (spec.piece_of (take result text.now)) ≡ take result text.now }
 {
-    let length = run_length(text);
+    let length = name_length(text);
     if length == 0 { 1 } else { length }
-}
-
-// The length of the run of name characters that a text begins with.
-fn run_length(text: &[u8]) -> usize
-    ensures run { result ≡ prefix_len is_name_character text.now }
-    ensures within { result ≤ length text.now }
-{
-    let mut count = 0;
-    let mut rest = text;
-    'characters: while let [byte, tail @ ..] = rest {
-        if !is_name_character(*byte) {
-            return count;
-        }
-        count += 1;
-        rest = tail;
-    }
-    count
-}
-
-// A letter of either case, a digit, `$` or `.`.
-fn is_name_character(byte: u8) -> bool
-    ensures { result ≡ is_name_character byte }
-{
-    matches!(byte, b'A'..=b'Z' | b'a'..=b'z' | b'0'..=b'9' | b'$' | b'.')
 }
 
 fn is_quote(piece: &[u8]) -> bool

@@ -18,8 +18,8 @@ pub(crate) fn is_digit(byte: u8) -> bool
     byte >= b'0' && byte <= b'9'
 }
 
-// A letter of either case, a digit, `$` or `.`.
-pub(crate) fn is_name_character(byte: u8) -> bool
+/// Whether a byte may stand in a name: a letter of either case, a digit, `$` or `.`.
+pub fn is_name_character(byte: u8) -> bool
     ensures { result ≡ is_name_character byte }
 {
     matches!(byte, b'A'..=b'Z' | b'a'..=b'z' | b'0'..=b'9' | b'$' | b'.')
@@ -42,8 +42,8 @@ pub fn digits_length(text: &[u8]) -> usize
     count
 }
 
-// The length of the run of name characters that a text begins with.
-pub(crate) fn name_length(text: &[u8]) -> usize
+/// How many characters of names a text begins with.
+pub fn name_length(text: &[u8]) -> usize
     ensures run { result ≡ prefix_len is_name_character text.now }
     ensures within { result ≤ length text.now }
 {

@@ -18,7 +18,7 @@ mod skipped;
 mod sort;
 mod texts;
 
-pub use characters::digits_length;
+pub use characters::{digits_length, is_name_character, name_length};
 pub use conditions::{Condition, read_condition};
 pub use cutting::{Token, next_token, text_between, tokens, tokens_from};
 pub use ends::expression_end;
