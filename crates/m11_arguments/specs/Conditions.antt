@@ -4,6 +4,7 @@ use Rattle.std.specs.Prelude.{◌≡◌, ℕ, Bool, true, false, not, ◌||◌, 
 use Rattle.std.specs.List.{prefix_len}
 use Rattle.std.specs.Str.{bytes_eq}
 use Rattle.std.specs.Int.RustNames.{bit_or}
+use Rattle.m11_base.specs.Devices.{Bytes}
 use Rattle.m11_base.specs.Mnemonics.{six_of}
 use Rattle.m11_scan.specs.Characters.{is_blank}
 use Rattle.m11_scan.specs.Conditions.{condition_named}
@@ -63,7 +64,7 @@ passes NotPositive number = number == 0 || is_negative number
 passes condition number = false
 
 -- EQ NE GT LT GE LE: the number at a place
-abbrev pub compared : Known → List ℕ → ℕ → Condition → Asked
+abbrev pub compared : Known → Bytes → ℕ → Condition → Asked
 compared known line place condition = record {
   holds = passes condition (number_at known line place);
   end = expression_end line place;
@@ -71,12 +72,12 @@ compared known line place condition = record {
   symbols = symbols_at line place;
 }
 
-abbrev pub numeric : Known → List ℕ → ℕ → Condition → Asked
+abbrev pub numeric : Known → Bytes → ℕ → Condition → Asked
 numeric known line place condition =
     if has_token (tokens_from line place) then compared known line place condition else refused place
 
 -- DF NDF: the answer of names
-abbrev pub named : List ℕ → ℕ → Option Bool → Tested → Asked
+abbrev pub named : Bytes → ℕ → Option Bool → Tested → Asked
 named line place (Some answer) names =
     record { holds = answer; end = names.end; letters = skip_letters line place names.end; symbols = names.symbols }
 named line place None names = record {
@@ -86,14 +87,14 @@ named line place None names = record {
   symbols = names.symbols;
 }
 
-abbrev pub asked_names : List ℕ → ℕ → Tested → Asked
+abbrev pub asked_names : Bytes → ℕ → Tested → Asked
 asked_names line place names = named line place names.answer names
 
-abbrev pub defined : Known → List ℕ → ℕ → Bool → Asked
+abbrev pub defined : Known → Bytes → ℕ → Bool → Asked
 defined known line place wants_defined = asked_names line place (names_at known wants_defined line place)
 
 -- the characters of an argument
-abbrev pub text_of : List ℕ → Actual → List ℕ
+abbrev pub text_of : Bytes → Actual → Bytes
 text_of line actual = text_between line actual.inside.start actual.inside.end
 
 -- A for an argument without its `>`
@@ -101,11 +102,11 @@ abbrev pub actual_letters : Actual → ℕ
 actual_letters actual = letter_if (not actual.is_closed) letter_A
 
 -- blanks and tabs alone
-abbrev pub is_blank_text : List ℕ → Bool
+abbrev pub is_blank_text : Bytes → Bool
 is_blank_text text = prefix_len is_blank text == length text
 
 -- B NB: one argument, which is empty where it is missing
-abbrev pub blank_by : List ℕ → ℕ → Bool → Option Actual → Asked
+abbrev pub blank_by : Bytes → ℕ → Bool → Option Actual → Asked
 blank_by line place wants_blank None = record { holds = wants_blank; end = place; letters = 0; symbols = [] }
 blank_by line place wants_blank (Some actual) = record {
   holds = is_as wants_blank (is_blank_text (text_of line actual));
@@ -114,16 +115,16 @@ blank_by line place wants_blank (Some actual) = record {
   symbols = [];
 }
 
-abbrev pub blank : List ℕ → ℕ → Bool → Asked
+abbrev pub blank : Bytes → ℕ → Bool → Asked
 blank line place wants_blank = blank_by line place wants_blank (next_actual line place false)
 
 -- IDN DIF: two texts, byte for byte
-abbrev pub matched : Bool → List ℕ → List ℕ → ℕ → ℕ → Asked
+abbrev pub matched : Bool → Bytes → Bytes → ℕ → ℕ → Asked
 matched wants_same first second end letters =
     record { holds = is_as wants_same (bytes_eq first second); end = end; letters = letters; symbols = [] }
 
 -- the second argument: after a comma it may be empty
-abbrev pub second_by : List ℕ → Bool → Actual → Separator → Option Actual → Asked
+abbrev pub second_by : Bytes → Bool → Actual → Separator → Option Actual → Asked
 second_by line wants_same first separator (Some second) =
     matched wants_same (text_of line first) (text_of line second) second.end
     (bit_or (actual_letters first) (actual_letters second))
@@ -131,19 +132,19 @@ second_by line wants_same first separator None =
     if separator.has_comma then matched wants_same (text_of line first) [] separator.end (actual_letters first)
     else refused separator.end
 
-abbrev pub second_at : List ℕ → Bool → Actual → Separator → Asked
+abbrev pub second_at : Bytes → Bool → Actual → Separator → Asked
 second_at line wants_same first separator =
     second_by line wants_same first separator (next_actual line separator.end false)
 
-abbrev pub first_by : List ℕ → ℕ → Bool → Option Actual → Asked
+abbrev pub first_by : Bytes → ℕ → Bool → Option Actual → Asked
 first_by line place wants_same None = refused place
 first_by line place wants_same (Some first) = second_at line wants_same first (separator_at line first.end)
 
-abbrev pub same : List ℕ → ℕ → Bool → Asked
+abbrev pub same : Bytes → ℕ → Bool → Asked
 same line place wants_same = first_by line place wants_same (next_actual line place false)
 
 -- what a condition asks of its arguments, which begin at a place
-abbrev pub asked : Known → List ℕ → ℕ → Condition → Asked
+abbrev pub asked : Known → Bytes → ℕ → Condition → Asked
 asked known line place Defined = defined known line place true
 asked known line place NotDefined = defined known line place false
 asked known line place Blank = blank line place true
@@ -153,21 +154,21 @@ asked known line place Different = same line place false
 asked known line place condition = numeric known line place condition
 
 -- the condition that a token names, if it is one
-abbrev pub condition_of : Sort → List ℕ → Option Condition
+abbrev pub condition_of : Sort → Bytes → Option Condition
 condition_of sorts.Name text = condition_named (six_of text)
 condition_of sort text = None
 
 -- an unknown one is false, and its arguments aren't looked at
-abbrev pub asked_by : Known → List ℕ → ℕ → Option Condition → Asked
+abbrev pub asked_by : Known → Bytes → ℕ → Option Condition → Asked
 asked_by known line place (Some condition) = asked known line place condition
 asked_by known line place None = refused (length line)
 
 -- blanks, a comma or both stand after the name
-abbrev pub asked_at : Known → List ℕ → Lexeme → Asked
+abbrev pub asked_at : Known → Bytes → Lexeme → Asked
 asked_at known line name =
     asked_by known line (separator_at line name.end).end (condition_of name.sort name.text)
 
-abbrev pub named_by : Known → List ℕ → List Lexeme → Asked
+abbrev pub named_by : Known → Bytes → List Lexeme → Asked
 named_by known line [] = refused (length line)
 named_by known line (name ∷ tokens) = asked_at known line name
 
@@ -180,6 +181,6 @@ with_earlier letters asked = record {
 }
 
 -- the condition at a place, with I for a character that is skipped before its name
-abbrev pub condition : Known → List ℕ → ℕ → Asked
+abbrev pub condition : Known → Bytes → ℕ → Asked
 condition known line place =
     with_earlier (letters_before line place) (named_by known line (tokens_from line place))

@@ -2,6 +2,7 @@
 -- itself, and that a bad one makes the condition false, is this project's own.)
 use Rattle.std.specs.Prelude.{ℕ, Bool, not, ◌&&◌, ◌||◌, ◌==◌, if◌then◌else◌, List, [], ◌∷◌, length, Option, Some, None}
 use Rattle.std.specs.Int.RustNames.{bit_and}
+use Rattle.m11_base.specs.Devices.{Bytes}
 use Rattle.m11_scan.specs.Cutting.{Lexeme, tokens_from}
 use Rattle.m11_scan.specs.declared.sort.Sort.{Sort}
 use Rattle.m11_scan.specs.declared.sort.Sort.TheVariants as sorts
@@ -92,6 +93,6 @@ names_in test size before (name ∷ (mark ∷ tokens)) =
     after_symbol size (symbol_in name.sort name.text) (λ symbol.
     after_joint (joined_to before (test symbol)) name.end (joining mark.sort) (λ next. names_in test size next tokens))
 
-abbrev pub names_at : Known → Bool → List ℕ → ℕ → Tested
+abbrev pub names_at : Known → Bool → Bytes → ℕ → Tested
 names_at known wants_defined line place =
     names_in (tested known wants_defined) (length line) None (tokens_from line place)

@@ -1,8 +1,10 @@
 -- The directives of conditions, repeats and macros, and `.END`, by their names. (MACRO-11 Language Reference Manual, "Conditional
 -- assembly block directives", "Macro definition", "Indefinite repeat block directives" and ".END directive".)
-use Rattle.std.specs.Prelude.{ℕ, Bool, true, List, [], ◌∷◌, codes, find, Option, Some, None}
+use Rattle.std.specs.Prelude.{Bool, true, List, [], ◌∷◌, codes, find, Option, Some, None}
 use Rattle.std.specs.Str.{bytes_eq}
+use Rattle.m11_base.specs.Devices.{Bytes}
 use Rattle.m11_base.specs.Mnemonics.{six_of}
+use Rattle.m11_base.specs.Rad50.{Name}
 use Rattle.m11_scan.specs.Cutting.{text_between}
 use Rattle.m11_statements.specs.declared.bodies.Body.{Body}
 use Rattle.m11_statements.specs.declared.bodies.Body.TheVariants.{Nothing, Assigns, SetsCounter, Operates, Words}
@@ -12,7 +14,7 @@ use Rattle.m11_arguments.specs.declared.directives.Directive.{Directive}
 use Rattle.m11_arguments.specs.declared.directives.Directive.TheVariants.{If, IfFalse, IfTrue, IfTrueFalse, EndCondition, ImmediateIf, Macro, EndMacro, Repeat, EndRepeat, IndefiniteRepeat, CharacterRepeat, MacroExit, ArgumentCount, CharacterCount, End}
 use Rattle.m11_arguments.specs.declared.directives.DirectiveRow.{DirectiveRow}
 
-abbrev pub named : List ℕ → Directive → DirectiveRow
+abbrev pub named : Bytes → Directive → DirectiveRow
 named name directive = record { name = name; directive = directive }
 
 -- the directives, each with its name of six characters
@@ -41,7 +43,7 @@ directive_in (Some row) = Some row.directive
 directive_in None = None
 
 -- the directive of a name of six characters, if it is one
-abbrev pub directive_named : List ℕ → Option Directive
+abbrev pub directive_named : Bytes → Option Directive
 directive_named name = directive_in (find (λ row. bytes_eq row.name name) directive_rows)
 
 -- the name in an operator's place
@@ -53,17 +55,17 @@ operator_in (Operates name) = Some name
 operator_in (Words start) = None
 
 -- any name may be an operator
-abbrev pub every_name : ℕ × ℕ → Bool
+abbrev pub every_name : Name → Bool
 every_name name = true
 
 -- the name that stands after a line's labels, where no assignment stands
-abbrev pub operator : List ℕ → Option Span
+abbrev pub operator : Bytes → Option Span
 operator line = operator_in (body_of every_name line)
 
-abbrev pub directive_at : List ℕ → Option Span → Option Directive
+abbrev pub directive_at : Bytes → Option Span → Option Directive
 directive_at line (Some name) = directive_named (six_of (text_between line name.start name.end))
 directive_at line None = None
 
 -- the directive that a line's operator is by its word alone
-abbrev pub directive : List ℕ → Option Directive
+abbrev pub directive : Bytes → Option Directive
 directive line = directive_at line (operator line)

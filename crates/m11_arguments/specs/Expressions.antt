@@ -2,6 +2,7 @@
 -- "Expressions".)
 use Rattle.std.specs.Prelude.{ℕ, List, [], ◌∷◌, map, take}
 use Rattle.std.specs.Int.RustNames.{bit_or}
+use Rattle.m11_base.specs.Devices.{Bytes}
 use Rattle.m11_scan.specs.Cutting.{Lexeme, tokens_from}
 use Rattle.m11_scan.specs.Ends.{expression_end, sort_in}
 use Rattle.m11_scan.specs.Expressions.{expression_length}
@@ -35,19 +36,19 @@ symbols_in [] = []
 symbols_in (token ∷ tokens) = with_symbol (symbol_in token.sort token.text) (symbols_in tokens)
 
 -- the value of the expression at a place
-abbrev pub value_at : Known → List ℕ → ℕ → Quantity
+abbrev pub value_at : Known → Bytes → ℕ → Quantity
 value_at known line place = value_in known (tokens_from line place)
 
 -- its number, whatever its kind
-abbrev pub number_at : Known → List ℕ → ℕ → ℕ
+abbrev pub number_at : Known → Bytes → ℕ → ℕ
 number_at known line place = (value_at known line place).number
 
 -- its letters: those of its value, that of a kind which isn't absolute, and I for a skipped character in it
-abbrev pub number_letters : Known → List ℕ → ℕ → ℕ
+abbrev pub number_letters : Known → Bytes → ℕ → ℕ
 number_letters known line place =
     bit_or (bit_or (value_at known line place).letters (absence (value_at known line place).kind))
     (skip_letters line place (expression_end line place))
 
 -- the symbols that it reads
-abbrev pub symbols_at : List ℕ → ℕ → List Symbol
+abbrev pub symbols_at : Bytes → ℕ → List Symbol
 symbols_at line place = symbols_in (expression_in (tokens_from line place))

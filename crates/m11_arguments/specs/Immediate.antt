@@ -2,6 +2,7 @@
 -- all of the text after the comma is the statement is this project's own.)
 use Rattle.std.specs.Prelude.{ℕ, if◌then◌else◌, List, [], ◌∷◌, Option, Some, None}
 use Rattle.std.specs.Int.RustNames.{bit_or}
+use Rattle.m11_base.specs.Devices.{Bytes}
 use Rattle.m11_scan.specs.Cutting.{Lexeme, tokens_from}
 use Rattle.m11_scan.specs.Letters.{letter_A}
 use Rattle.m11_statements.specs.Listed.{is_comma}
@@ -17,27 +18,27 @@ after_comma [] = None
 after_comma (token ∷ tokens) = if is_comma token.sort then Some token.end else None
 
 -- where the statement begins
-abbrev pub statement_at : List ℕ → ℕ → Option ℕ
+abbrev pub statement_at : Bytes → ℕ → Option ℕ
 statement_at line place = after_comma (tokens_from line place)
 
 -- I for a skipped character before the comma; without it A, and what is left over
-abbrev pub comma_letters : List ℕ → ℕ → Option ℕ → ℕ
+abbrev pub comma_letters : Bytes → ℕ → Option ℕ → ℕ
 comma_letters line place (Some end) = skip_letters line place end
 comma_letters line place None = bit_or letter_A (left_over line place)
 
-abbrev pub statement_by : List ℕ → Asked → Option ℕ → Immediate
+abbrev pub statement_by : Bytes → Asked → Option ℕ → Immediate
 statement_by line asked place = record { holds = asked.holds; statement = place }
 
-abbrev pub immediate_of : List ℕ → Asked → Immediate
+abbrev pub immediate_of : Bytes → Asked → Immediate
 immediate_of line asked = statement_by line asked (statement_at line asked.end)
 
-abbrev pub immediate_notes : List ℕ → Asked → Notes
+abbrev pub immediate_notes : Bytes → Asked → Notes
 immediate_notes line asked =
     noting (bit_or asked.letters (comma_letters line asked.end (statement_at line asked.end))) asked.symbols
 
 -- whether the condition holds, and where the statement begins
-abbrev pub immediate : Known → List ℕ → ℕ → Immediate
+abbrev pub immediate : Known → Bytes → ℕ → Immediate
 immediate known line place = immediate_of line (condition known line place)
 
-abbrev pub notes : Known → List ℕ → ℕ → Notes
+abbrev pub notes : Known → Bytes → ℕ → Notes
 notes known line place = immediate_notes line (condition known line place)

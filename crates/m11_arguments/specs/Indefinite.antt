@@ -2,6 +2,8 @@
 -- brackets is one actual, and that a missing one has A, is this project's own.)
 use Rattle.std.specs.Prelude.{ℕ, Bool, true, false, List, [], ◌∷◌, map, Option, Some, None}
 use Rattle.std.specs.Int.RustNames.{bit_or}
+use Rattle.m11_base.specs.Devices.{Bytes}
+use Rattle.m11_base.specs.Rad50.{Name}
 use Rattle.m11_lines.specs.Line.{line_limit}
 use Rattle.m11_scan.specs.Cutting.{tokens_from}
 use Rattle.m11_scan.specs.Letters.{letter_A}
@@ -21,8 +23,8 @@ use Rattle.m11_arguments.specs.declared.indefinite.Rounds.{Rounds}
 
 -- a formal, and its actual in each round
 pub record Repetition : Type 0 where
-  pub formal : ℕ × ℕ
-  pub texts : List (List ℕ)
+  pub formal : Name
+  pub texts : List Bytes
 
 -- what is repeated, if nothing is missing
 pub record Repeated : Type 0 where
@@ -30,67 +32,67 @@ pub record Repeated : Type 0 where
   pub notes : Notes
 
 -- brackets with a list of actuals, which is read as a line of its own
-abbrev pub listed_in : Known → List ℕ → Actual → Given
+abbrev pub listed_in : Known → Bytes → Actual → Given
 listed_in known line actual =
     followed_by (record { texts = []; notes = noting (actual_letters actual) [] })
     (actuals_from known (text_of line actual) line_limit 0)
 
 -- any other actual is the one actual of the list
-abbrev pub listed_as : Known → List ℕ → Actual → ActualKind → Given
+abbrev pub listed_as : Known → Bytes → Actual → ActualKind → Given
 listed_as known line actual Bare = given_by known line actual
 listed_as known line actual Bracketed = listed_in known line actual
 listed_as known line actual Digits = given_by known line actual
 
 -- the actuals of `.IRP`
-abbrev pub listed : Known → List ℕ → Actual → Given
+abbrev pub listed : Known → Bytes → Actual → Given
 listed known line actual = listed_as known line actual actual.kind
 
-abbrev pub alone : ℕ → List ℕ
+abbrev pub alone : ℕ → Bytes
 alone byte = byte ∷ []
 
 -- the actuals of `.IRPC`: each character of a text
-abbrev pub spelled : List ℕ → Actual → Given
+abbrev pub spelled : Bytes → Actual → Given
 spelled line actual =
     record { texts = map alone (text_of line actual); notes = noting (actual_letters actual) [] }
 
-abbrev pub begun : ℕ × ℕ → Option Actual → Option Begun
+abbrev pub begun : Name → Option Actual → Option Begun
 begun formal None = None
 begun formal (Some list) = Some (record { formal = formal; list = list })
 
 -- blanks, a comma or both stand between the formal and the list
-abbrev pub begun_by : List ℕ → Bool → Option NameAt → Option Begun
+abbrev pub begun_by : Bytes → Bool → Option NameAt → Option Begun
 begun_by line gives_digits None = None
 begun_by line gives_digits (Some name) =
     begun name.name (next_actual line (separator_at line name.end).end gives_digits)
 
 -- the formal and the list that stand from a place on, if neither is bad or missing
-abbrev pub begun_at : List ℕ → ℕ → Bool → Option Begun
+abbrev pub begun_at : Bytes → ℕ → Bool → Option Begun
 begun_at line place gives_digits = begun_by line gives_digits (name_at (tokens_from line place))
 
 -- where one is, nothing more is looked at
-abbrev pub missing : List ℕ → ℕ → Repeated
+abbrev pub missing : Bytes → ℕ → Repeated
 missing line place =
     record { rounds = None; notes = noting (bit_or (letters_before line place) letter_A) [] }
 
 -- the rounds of some texts, with what is left over after the list
-abbrev pub with_rounds : List ℕ → ℕ → Begun → Given → Repeated
+abbrev pub with_rounds : Bytes → ℕ → Begun → Given → Repeated
 with_rounds line place begun given = record {
   rounds = Some (record { formal = begun.formal; texts = given.texts });
   notes = joined (joined (noting (letters_before line place) []) given.notes)
       (noting (left_over line begun.list.end) []);
 }
 
-abbrev pub repeated : List ℕ → ℕ → (Actual → Given) → Option Begun → Repeated
+abbrev pub repeated : Bytes → ℕ → (Actual → Given) → Option Begun → Repeated
 repeated line place texts None = missing line place
 repeated line place texts (Some begun) = with_rounds line place begun (texts begun.list)
 
 -- `.IRP`
-abbrev pub indefinite_repeat : Known → List ℕ → ℕ → Repeated
+abbrev pub indefinite_repeat : Known → Bytes → ℕ → Repeated
 indefinite_repeat known line place =
     repeated line place (λ list. listed known line list) (begun_at line place true)
 
 -- `.IRPC`
-abbrev pub character_repeat : List ℕ → ℕ → Repeated
+abbrev pub character_repeat : Bytes → ℕ → Repeated
 character_repeat line place = repeated line place (λ list. spelled line list) (begun_at line place false)
 
 -- the rounds that the code holds

@@ -1,17 +1,18 @@
 -- What is left over of a line after its arguments. (MACRO-11 Language Reference Manual, "Diagnostic error message summary", Q and I.)
 use Rattle.std.specs.Prelude.{ℕ, Bool, true, false, List, [], ◌∷◌, length}
 use Rattle.std.specs.Int.RustNames.{bit_or}
+use Rattle.m11_base.specs.Devices.{Bytes}
 use Rattle.m11_scan.specs.Cutting.{Lexeme, tokens_from}
 use Rattle.m11_scan.specs.Letters.{letter_I, letter_Q}
 use Rattle.m11_scan.specs.Skipped.{skipped_between}
 use Rattle.m11_statements.specs.Statements.{letter_if}
 
 -- I for a skipped character between two places
-abbrev pub skip_letters : List ℕ → ℕ → ℕ → ℕ
+abbrev pub skip_letters : Bytes → ℕ → ℕ → ℕ
 skip_letters line start end = letter_if (skipped_between line start end) letter_I
 
 -- I for a skipped character from a place on
-abbrev pub rest_letters : List ℕ → ℕ → ℕ
+abbrev pub rest_letters : Bytes → ℕ → ℕ
 rest_letters line place = skip_letters line place (length line)
 
 -- some token stands there
@@ -20,15 +21,15 @@ has_token [] = false
 has_token (token ∷ tokens) = true
 
 -- Q for a token from a place on, I for a skipped character
-abbrev pub left_over : List ℕ → ℕ → ℕ
+abbrev pub left_over : Bytes → ℕ → ℕ
 left_over line place =
     bit_or (letter_if (has_token (tokens_from line place)) letter_Q) (rest_letters line place)
 
 -- the place where the first of some tokens begins, or the line's end
-abbrev pub start_of : List ℕ → List Lexeme → ℕ
+abbrev pub start_of : Bytes → List Lexeme → ℕ
 start_of line [] = length line
 start_of line (token ∷ tokens) = token.start
 
 -- I for a skipped character before the token that stands next from a place on
-abbrev pub letters_before : List ℕ → ℕ → ℕ
+abbrev pub letters_before : Bytes → ℕ → ℕ
 letters_before line place = skip_letters line place (start_of line (tokens_from line place))

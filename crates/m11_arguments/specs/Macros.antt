@@ -2,8 +2,9 @@
 -- symbols". That a bad formal ends the list is this project's own.)
 use Rattle.std.specs.Prelude.{ℕ, zero, suc, ◌-◌, ◌≤◌, if◌then◌else◌, List, [], ◌∷◌, Option, Some, None}
 use Rattle.std.specs.Int.RustNames.{bit_or}
+use Rattle.m11_base.specs.Devices.{Bytes}
 use Rattle.m11_base.specs.Mnemonics.{six_of}
-use Rattle.m11_base.specs.Rad50.{name_of}
+use Rattle.m11_base.specs.Rad50.{Name, name_of}
 use Rattle.m11_lines.specs.Line.{line_limit}
 use Rattle.m11_scan.specs.Cutting.{Lexeme, text_between, tokens_from}
 use Rattle.m11_scan.specs.Letters.{letter_A}
@@ -24,12 +25,12 @@ use Rattle.m11_arguments.specs.declared.macros.NameAt.{NameAt}
 use Rattle.m11_arguments.specs.LeftOvers.{letters_before, rest_letters, skip_letters}
 
 -- the name that a token is, if it is one that a line can define
-abbrev pub name_in : Sort → List ℕ → Option (ℕ × ℕ)
+abbrev pub name_in : Sort → Bytes → Option Name
 name_in sorts.Name text = if is_counter text then None else name_of (six_of text)
 name_in sort text = None
 
 -- a name, and the place after it
-abbrev pub name_before : ℕ → Option (ℕ × ℕ) → Option NameAt
+abbrev pub name_before : ℕ → Option Name → Option NameAt
 name_before end None = None
 name_before end (Some name) = Some (record { name = name; end = end })
 
@@ -44,7 +45,7 @@ pub data NextListed : Type 0 where
   Formally : MacroFormal → ℕ → ℕ → NextListed
 
 -- what is no formal has A; what stands from there on isn't looked at, but for I
-abbrev pub bad_letters : List ℕ → ℕ → ℕ
+abbrev pub bad_letters : Bytes → ℕ → ℕ
 bad_letters line place = bit_or letter_A (rest_letters line place)
 
 -- the place where a formal begins, with the `?` directly before it
@@ -52,21 +53,21 @@ abbrev pub formal_start : Formal → ℕ
 formal_start formal = if formal.is_created then formal.name.start - 1 else formal.name.start
 
 -- a formal has I for a character that is skipped before it
-abbrev pub listed_named : List ℕ → ℕ → Formal → Option (ℕ × ℕ) → NextListed
+abbrev pub listed_named : Bytes → ℕ → Formal → Option Name → NextListed
 listed_named line place formal None = Ending (bad_letters line place)
 listed_named line place formal (Some name) =
     Formally (record { name = name; is_created = formal.is_created }) (skip_letters line place (formal_start formal))
     formal.name.end
 
-abbrev pub formal_name : List ℕ → Formal → Option (ℕ × ℕ)
+abbrev pub formal_name : Bytes → Formal → Option Name
 formal_name line formal = name_of (six_of (text_between line formal.name.start formal.name.end))
 
-abbrev pub listed_by : List ℕ → ℕ → NextFormal → NextListed
+abbrev pub listed_by : Bytes → ℕ → NextFormal → NextListed
 listed_by line place Ends = Ending (rest_letters line place)
 listed_by line place Bad = Ending (bad_letters line place)
 listed_by line place (Named formal) = listed_named line place formal (formal_name line formal)
 
-abbrev pub listed_at : List ℕ → ℕ → NextListed
+abbrev pub listed_at : Bytes → ℕ → NextListed
 listed_at line place = listed_by line place (next_formal line place)
 
 -- formals, and the letters of their list
@@ -80,18 +81,18 @@ formals_by more (Formally formal letters end) =
     record { list = formal ∷ (more end).list; letters = bit_or letters (more end).letters }
 
 -- at most so many formals after a place: blanks, a comma or both stand before each
-abbrev pub formals_within : ℕ → List ℕ → ℕ → FormalList
+abbrev pub formals_within : ℕ → Bytes → ℕ → FormalList
 formals_within zero line place = record { list = []; letters = 0 }
 formals_within (suc bound) line place =
     formals_by (λ next. formals_within bound line next) (listed_at line (separator_at line place).end)
 
 -- the formals after a place: a line has no more than it has characters
-abbrev pub formals_after : List ℕ → ℕ → FormalList
+abbrev pub formals_after : Bytes → ℕ → FormalList
 formals_after line place = formals_within line_limit line place
 
 -- a macro's name, and its formals
 pub record MacroNamed : Type 0 where
-  pub name : ℕ × ℕ
+  pub name : Name
   pub formals : List MacroFormal
 
 -- what a `.MACRO` tells; without a name nothing is defined
@@ -99,21 +100,21 @@ pub record Told : Type 0 where
   pub named : Option MacroNamed
   pub letters : ℕ
 
-abbrev pub without_name : List ℕ → ℕ → Told
+abbrev pub without_name : Bytes → ℕ → Told
 without_name line place = record { named = None; letters = bit_or letter_A (rest_letters line place) }
 
-abbrev pub with_name : List ℕ → ℕ → ℕ × ℕ → FormalList → Told
+abbrev pub with_name : Bytes → ℕ → Name → FormalList → Told
 with_name line place name formals = record {
   named = Some (record { name = name; formals = formals.list });
   letters = bit_or (letters_before line place) formals.letters;
 }
 
-abbrev pub told_by : List ℕ → ℕ → Option NameAt → Told
+abbrev pub told_by : Bytes → ℕ → Option NameAt → Told
 told_by line place None = without_name line place
 told_by line place (Some name) = with_name line place name.name (formals_after line name.end)
 
 -- the header that stands at a place of a line
-abbrev pub header : List ℕ → ℕ → Told
+abbrev pub header : Bytes → ℕ → Told
 header line place = told_by line place (name_at (tokens_from line place))
 
 -- the header that the code holds

@@ -1,7 +1,8 @@
 -- The number of rounds of `.REPT`. (MACRO-11 Language Reference Manual, "Repeat block directive". That a missing number is 0 with A is
 -- this project's own.)
-use Rattle.std.specs.Prelude.{ℕ, if◌then◌else◌, List, []}
+use Rattle.std.specs.Prelude.{ℕ, if◌then◌else◌, []}
 use Rattle.std.specs.Int.RustNames.{bit_or}
+use Rattle.m11_base.specs.Devices.{Bytes}
 use Rattle.m11_scan.specs.Cutting.{tokens_from}
 use Rattle.m11_scan.specs.Ends.{expression_end}
 use Rattle.m11_scan.specs.Letters.{letter_A}
@@ -14,11 +15,11 @@ use Rattle.m11_arguments.specs.Notes.{Notes, noting}
 abbrev pub rounds_of : ℕ → ℕ
 rounds_of number = if is_negative number then 0 else number
 
-abbrev pub repeat_count : Known → List ℕ → ℕ → ℕ
+abbrev pub repeat_count : Known → Bytes → ℕ → ℕ
 repeat_count known line place =
     if has_token (tokens_from line place) then rounds_of (number_at known line place) else 0
 
-abbrev pub notes : Known → List ℕ → ℕ → Notes
+abbrev pub notes : Known → Bytes → ℕ → Notes
 notes known line place =
     if has_token (tokens_from line place) then
     noting (bit_or (number_letters known line place) (left_over line (expression_end line place))) (symbols_at line place)

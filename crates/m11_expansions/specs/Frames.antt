@@ -1,6 +1,8 @@
 -- One open expansion: a place in a body, the rounds that are left, and its end. (This project's own.)
 use Rattle.std.specs.Prelude.{◌≡◌, ◌<◌, ◌⊎◌, ℕ, ◌+◌, List, [], ◌∷◌, ◌++◌, length, drop, Bool, true, false, Option, Some, None}
 use Rattle.std.specs.List.{flat_map}
+use Rattle.m11_base.specs.Devices.{Bytes}
+use Rattle.m11_base.specs.Rad50.{Name}
 use Rattle.m11_lines.specs.Line.{SourceLine}
 use Rattle.m11_expansions.specs.Bodies.{Template}
 use Rattle.m11_expansions.specs.Left.{Left, Line, End, Remains, or_else, round}
@@ -11,11 +13,11 @@ use Rattle.m11_expansions.specs.declared.mark.Mark.{Mark}
 pub record Frame : Type 0 where
   pub template : Template
   pub place : ℕ
-  pub rounds : List (List (List ℕ))
+  pub rounds : List (List Bytes)
   pub mark : Mark
 
 -- the lines that are left of rounds, where some of the first one's are taken
-abbrev pub of_rounds : List (ℕ × ℕ) → List (List ℕ) → List (List ℕ) → List (List (List ℕ)) → List Left
+abbrev pub of_rounds : List Name → List Bytes → List Bytes → List (List Bytes) → List Left
 of_rounds formals body rest [] = []
 of_rounds formals body rest (actuals ∷ rounds) = round formals rest actuals ++ flat_map (round formals body) rounds
 
@@ -46,11 +48,11 @@ remains statement frames fed =
     record { left = line_left statement ++ stacked frames (line_left fed); has_statement = is_there statement }
 
 -- the actuals of the first round
-abbrev pub first_of : List (List (List ℕ)) → Option (List (List ℕ))
+abbrev pub first_of : List (List Bytes) → Option (List Bytes)
 first_of [] = None
 first_of (actuals ∷ rounds) = Some actuals
 
-abbrev pub without_first : List (List (List ℕ)) → List (List (List ℕ))
+abbrev pub without_first : List (List Bytes) → List (List Bytes)
 without_first [] = []
 without_first (actuals ∷ rounds) = rounds
 

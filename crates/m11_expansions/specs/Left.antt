@@ -2,6 +2,8 @@
 -- "Repeat block". That it is one list is this project's own.)
 use Rattle.std.specs.Prelude.{◌≡◌, ℕ, ◌+◌, Bool, true, false, List, [], ◌∷◌, ◌++◌, map, length, Option, Some, None}
 use Rattle.std.specs.List.{flat_map}
+use Rattle.m11_base.specs.Devices.{Bytes}
+use Rattle.m11_base.specs.Rad50.{Name}
 use Rattle.m11_lines.specs.Line.{SourceLine}
 use Rattle.m11_expansions.specs.Substitution.{line_with}
 use Rattle.m11_expansions.specs.declared.mark.Mark.{Mark}
@@ -69,11 +71,11 @@ after_mark (Line line ∷ left) = after_mark left
 after_mark (End mark ∷ left) = End mark ∷ left
 
 -- a body's lines with one round's actuals put in
-abbrev pub round : List (ℕ × ℕ) → List (List ℕ) → List (List ℕ) → List Left
+abbrev pub round : List Name → List Bytes → List Bytes → List Left
 round formals body actuals = map (λ text. Line (line_with formals actuals text)) body
 
 -- an expansion before what was left: for each round's actuals the body's lines with them put in, then the expansion's end
-abbrev pub expanded : List (ℕ × ℕ) → List (List (List ℕ)) → List (List ℕ) → Mark → List Left → List Left
+abbrev pub expanded : List Name → List (List Bytes) → List Bytes → Mark → List Left → List Left
 expanded formals rounds body mark left = flat_map (round formals body) rounds ++ End mark ∷ left
 
 -- what is left, and whether its head is a statement that was put there

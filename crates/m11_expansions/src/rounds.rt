@@ -18,9 +18,10 @@ pub struct Rounds {
 }
 
 impl Model for Rounds {
-    ghost use Rattle.std.specs.Prelude.{◌++◌, [], ℕ, List, replicate};
+    ghost use Rattle.std.specs.Prelude.{◌++◌, [], List, replicate};
+    ghost use Rattle.m11_base.specs.Devices.{Bytes};
 
-    ghost Value = { List (List (List ℕ)) };
+    ghost Value = { List (List Bytes) };
 
     ghost view = { λ rounds. replicate rounds.plain [] ++ rounds.listed.items };
 }

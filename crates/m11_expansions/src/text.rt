@@ -1,6 +1,6 @@
 //! Texts that are kept: actuals, and the lines of bodies. (This project's own.)
 
-ghost use Rattle.std.specs.Prelude.{◌≡◌, ◌<◌, ◌∷◌, ◌++◌, [], ℕ, List, length, get_or, IfOk, OnOk, OnErr};
+ghost use Rattle.std.specs.Prelude.{◌≡◌, ◌<◌, ◌∷◌, ◌++◌, [], List, length, get_or, IfOk, OnOk, OnErr};
 
 use std::alloc::{AllocError, Global};
 use std::marker::Model;
@@ -12,9 +12,9 @@ pub struct Text {
 }
 
 impl Model for Text {
-    ghost use Rattle.std.specs.Prelude.{ℕ, List};
+    ghost use Rattle.m11_base.specs.Devices.{Bytes};
 
-    ghost Value = { List ℕ };
+    ghost Value = { Bytes };
 
     ghost view = { λ text. text.bytes.items };
 }
@@ -46,9 +46,10 @@ pub struct Texts {
 }
 
 impl Model for Texts {
-    ghost use Rattle.std.specs.Prelude.{ℕ, List};
+    ghost use Rattle.std.specs.Prelude.{List};
+    ghost use Rattle.m11_base.specs.Devices.{Bytes};
 
-    ghost Value = { List (List ℕ) };
+    ghost Value = { List Bytes };
 
     ghost view = { λ texts. texts.texts.items };
 }

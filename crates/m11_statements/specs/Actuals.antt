@@ -1,8 +1,9 @@
 -- The arguments of a call of a macro, of `.IRP` and of conditions. (MACRO-11 Language Reference Manual, "Arguments in macro definitions
 -- and macro calls". That an actual without its `>` goes to the end of the line, and that `\` takes what is an expression, is this
 -- project's own.)
-use Rattle.std.specs.Prelude.{ℕ, ◌+◌, Bool, true, false, ◌&&◌, ◌==◌, if◌then◌else◌, List, [], ◌∷◌, drop, Option, Some, None}
+use Rattle.std.specs.Prelude.{ℕ, ◌+◌, Bool, true, false, ◌&&◌, ◌==◌, if◌then◌else◌, [], ◌∷◌, drop, Option, Some, None}
 use Rattle.std.specs.List.{prefix_len}
+use Rattle.m11_base.specs.Devices.{Bytes}
 use Rattle.m11_scan.specs.declared.texts.Enclosed.{Enclosed}
 use Rattle.m11_scan.specs.Characters.{is_blank}
 use Rattle.m11_scan.specs.Ends.{expression_end}
@@ -12,16 +13,16 @@ use Rattle.m11_statements.specs.declared.actuals.ActualKind.{ActualKind}
 use Rattle.m11_statements.specs.declared.actuals.ActualKind.TheVariants.{Bare, Bracketed, Digits}
 use Rattle.m11_statements.specs.declared.actuals.Separator.{Separator}
 
-abbrev pub begins_with_comma : List ℕ → Bool
+abbrev pub begins_with_comma : Bytes → Bool
 begins_with_comma [] = false
 begins_with_comma (byte ∷ text) = byte == 44
 
 -- the place after the blanks that stand from a place on
-abbrev pub after_blanks : List ℕ → ℕ → ℕ
+abbrev pub after_blanks : Bytes → ℕ → ℕ
 after_blanks line place = place + prefix_len is_blank (drop place line)
 
 -- blanks, one comma with the blanks after it, or both
-abbrev pub separator_at : List ℕ → ℕ → Separator
+abbrev pub separator_at : Bytes → ℕ → Separator
 separator_at line place = record {
   has_comma = begins_with_comma (drop (prefix_len is_blank (drop place line)) (drop place line));
   end = place + separator_length (drop place line);
@@ -41,19 +42,19 @@ in_brackets start enclosed = record {
   end = if enclosed.is_closed then start + enclosed.length + 1 else start + enclosed.length;
 }
 
-abbrev pub bracketed_actual : List ℕ → ℕ → Actual
+abbrev pub bracketed_actual : Bytes → ℕ → Actual
 bracketed_actual line start = in_brackets start (bracketed (drop start line))
 
 -- an expression, from the place after the `\` on
-abbrev pub digits_actual : List ℕ → ℕ → Actual
+abbrev pub digits_actual : Bytes → ℕ → Actual
 digits_actual line start = whole_actual Digits start (expression_end line start)
 
 -- characters up to a comma, a blank, a tab or a `;`
-abbrev pub bare_actual : List ℕ → ℕ → Actual
+abbrev pub bare_actual : Bytes → ℕ → Actual
 bare_actual line start = whole_actual Bare start (start + prefix_len is_bare (drop start line))
 
 -- an actual by its first character: `<`, `\` where digits are given, or any other but `;`
-abbrev pub actual_in : List ℕ → ℕ → Bool → List ℕ → Option Actual
+abbrev pub actual_in : Bytes → ℕ → Bool → Bytes → Option Actual
 actual_in line start gives_digits [] = None
 actual_in line start gives_digits (byte ∷ text) =
     if byte == 59 then None
@@ -61,6 +62,6 @@ actual_in line start gives_digits (byte ∷ text) =
     else (if byte == 92 && gives_digits then Some (digits_actual line (start + 1)) else Some (bare_actual line start)))
 
 -- the actual that stands next from a place on, after blanks
-abbrev pub next_actual : List ℕ → ℕ → Bool → Option Actual
+abbrev pub next_actual : Bytes → ℕ → Bool → Option Actual
 next_actual line place gives_digits =
     actual_in line (after_blanks line place) gives_digits (drop (after_blanks line place) line)

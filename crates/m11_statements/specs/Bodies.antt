@@ -1,10 +1,11 @@
 -- What stands after the labels of a line. (MACRO-11 Language Reference Manual, "Operator field", "Direct assignment statements" and
 -- ".WORD directive". That `.==` is no form, and that a line which begins with anything else counts as words, is this project's own.)
 use Rattle.std.specs.Prelude.{ℕ, Bool, true, false, if◌then◌else◌, List, [], ◌∷◌, Option, Some, None}
+use Rattle.m11_base.specs.Devices.{Bytes}
 use Rattle.m11_base.specs.Mnemonics.{six_of}
-use Rattle.m11_base.specs.Rad50.{name_of}
+use Rattle.m11_base.specs.Rad50.{Name, name_of}
 use Rattle.m11_scan.specs.declared.sort.Sort.{Sort}
-use Rattle.m11_scan.specs.declared.sort.Sort.TheVariants.{Name, Equals, TwoEquals}
+use Rattle.m11_scan.specs.declared.sort.Sort.TheVariants as sorts
 use Rattle.m11_scan.specs.Cutting.{Lexeme}
 use Rattle.m11_statements.specs.Labels.{is_counter}
 use Rattle.m11_statements.specs.declared.bodies.Body.{Body}
@@ -12,7 +13,7 @@ use Rattle.m11_statements.specs.declared.bodies.Body.TheVariants.{Nothing, Assig
 
 -- `=` after the counter
 abbrev pub counter_set : Sort → ℕ → Option Body
-counter_set Equals end = Some (SetsCounter end)
+counter_set sorts.Equals end = Some (SetsCounter end)
 counter_set _ end = None
 
 abbrev pub assigns : ℕ → ℕ → Bool → ℕ → Option Body
@@ -21,12 +22,12 @@ assigns start end is_global value =
 
 -- `=` or `==` after a name
 abbrev pub name_set : ℕ → ℕ → Sort → ℕ → Option Body
-name_set start end Equals value = assigns start end false value
-name_set start end TwoEquals value = assigns start end true value
+name_set start end sorts.Equals value = assigns start end false value
+name_set start end sorts.TwoEquals value = assigns start end true value
 name_set start end _ value = None
 
 abbrev pub set_by : Sort → Lexeme → Lexeme → Option Body
-set_by Name target equals =
+set_by sorts.Name target equals =
     if is_counter target.text then counter_set equals.sort equals.end
     else name_set target.start target.end equals.sort equals.end
 set_by _ target equals = None
@@ -39,24 +40,24 @@ abbrev pub assignment_to : Lexeme → List Lexeme → Option Body
 assignment_to target [] = None
 assignment_to target (equals ∷ tokens) = assigned target equals
 
-abbrev pub is_known_name : (ℕ × ℕ → Bool) → Option (ℕ × ℕ) → Bool
+abbrev pub is_known_name : (Name → Bool) → Option Name → Bool
 is_known_name known None = false
 is_known_name known (Some name) = known name
 
 -- a text whose first six characters, in upper case, are a known name
-abbrev pub is_known : (ℕ × ℕ → Bool) → List ℕ → Bool
+abbrev pub is_known : (Name → Bool) → Bytes → Bool
 is_known known text = is_known_name known (name_of (six_of text))
 
-abbrev pub operates : (ℕ × ℕ → Bool) → Sort → List ℕ → Bool
-operates known Name text = if is_counter text then false else is_known known text
+abbrev pub operates : (Name → Bool) → Sort → Bytes → Bool
+operates known sorts.Name text = if is_counter text then false else is_known known text
 operates known _ text = false
 
 -- a known operator
-abbrev pub is_operator : (ℕ × ℕ → Bool) → Lexeme → Bool
+abbrev pub is_operator : (Name → Bool) → Lexeme → Bool
 is_operator known token = operates known token.sort token.text
 
 -- a known operator, or else words
-abbrev pub operation : (ℕ × ℕ → Bool) → Lexeme → Body
+abbrev pub operation : (Name → Bool) → Lexeme → Body
 operation known token =
     if is_operator known token then Operates (record { start = token.start; end = token.end }) else Words token.start
 
@@ -65,11 +66,11 @@ body_or (Some body) other = body
 body_or None other = other
 
 -- an assignment, or else an operator or words
-abbrev pub begun_body : (ℕ × ℕ → Bool) → Lexeme → List Lexeme → Body
+abbrev pub begun_body : (Name → Bool) → Lexeme → List Lexeme → Body
 begun_body known first tokens = body_or (assignment_to first tokens) (operation known first)
 
 -- what some tokens say
-abbrev pub body_in : (ℕ × ℕ → Bool) → List Lexeme → Body
+abbrev pub body_in : (Name → Bool) → List Lexeme → Body
 body_in known [] = Nothing
 body_in known (first ∷ tokens) = begun_body known first tokens
 

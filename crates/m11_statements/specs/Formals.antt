@@ -1,6 +1,7 @@
 -- The formals of a macro. (MACRO-11 Language Reference Manual, "Arguments in macro definitions and macro calls" and "Automatic creation
 -- of local symbols". That a `?` counts only directly before a name is this project's own.)
 use Rattle.std.specs.Prelude.{ℕ, ◌+◌, ◌<◌, ◌≤◌, Bool, true, false, ◌&&◌, ◌==◌, if◌then◌else◌, List, [], ◌∷◌, drop}
+use Rattle.m11_base.specs.Devices.{Bytes}
 use Rattle.m11_scan.specs.Cutting.{Lexeme, tokens_from}
 use Rattle.m11_statements.specs.Actuals.{after_blanks}
 use Rattle.m11_statements.specs.Listed.{is_name}
@@ -16,21 +17,21 @@ plain_formal [] = Ends
 plain_formal (token ∷ tokens) = if is_name token then named token.start token.end false else Bad
 
 -- a `?`, with some tokens from the place after it on: it counts where a name stands directly after it, and else is skipped
-abbrev pub created_by : List ℕ → ℕ → ℕ → List Lexeme → NextFormal
+abbrev pub created_by : Bytes → ℕ → ℕ → List Lexeme → NextFormal
 created_by line mark after [] = plain_formal (tokens_from line mark)
 created_by line mark after (token ∷ tokens) =
     if token.start == after && is_name token then named token.start token.end true else plain_formal (tokens_from line mark)
 
-abbrev pub created_formal : List ℕ → ℕ → ℕ → NextFormal
+abbrev pub created_formal : Bytes → ℕ → ℕ → NextFormal
 created_formal line mark after = created_by line mark after (tokens_from line after)
 
-abbrev pub formal_in : List ℕ → ℕ → List ℕ → NextFormal
+abbrev pub formal_in : Bytes → ℕ → Bytes → NextFormal
 formal_in line start [] = plain_formal (tokens_from line start)
 formal_in line start (byte ∷ text) =
     if byte == 63 then created_formal line start (start + 1) else plain_formal (tokens_from line start)
 
 -- what stands next from a place on, after blanks
-abbrev pub next_formal : List ℕ → ℕ → NextFormal
+abbrev pub next_formal : Bytes → ℕ → NextFormal
 next_formal line place = formal_in line (after_blanks line place) (drop (after_blanks line place) line)
 
 -- a formal ends after a place, and no later than another

@@ -1,6 +1,7 @@
 -- Names in a list. (MACRO-11 Language Reference Manual, ".GLOBL directive". That what is no name is passed over up to the next comma,
 -- and that a list ends where no comma stands after a name, is this project's own.)
 use Rattle.std.specs.Prelude.{ℕ, Bool, true, false, not, if◌then◌else◌, List, [], ◌∷◌, Option, Some, None}
+use Rattle.m11_base.specs.Devices.{Bytes}
 use Rattle.m11_scan.specs.declared.sort.Sort.{Sort}
 use Rattle.m11_scan.specs.declared.sort.Sort.TheVariants.{Name, Comma}
 use Rattle.m11_scan.specs.Cutting.{Lexeme}
@@ -12,7 +13,7 @@ abbrev pub is_comma : Sort → Bool
 is_comma Comma = true
 is_comma _ = false
 
-abbrev pub names : Sort → List ℕ → Bool
+abbrev pub names : Sort → Bytes → Bool
 names Name text = not (is_counter text)
 names _ text = false
 

@@ -3,6 +3,7 @@
 -- own.)
 use Rattle.std.specs.Prelude.{◌≡◌, ℕ, ◌+◌, Bool, true, false, not, ◌&&◌, ◌||◌, ◌==◌, nat_le, nat_lt, if◌then◌else◌, List, [], ◌∷◌, drop, Option, Some, None}
 use Rattle.std.specs.List.{prefix_len}
+use Rattle.m11_base.specs.Devices.{Bytes}
 use Rattle.m11_scan.specs.declared.sort.Sort.{Sort}
 use Rattle.m11_scan.specs.declared.sort.Sort.TheVariants.{Greater}
 use Rattle.m11_scan.specs.declared.texts.Enclosed.{Enclosed}
@@ -31,7 +32,7 @@ delimited_part start enclosed = record {
   end = if enclosed.is_closed then start + enclosed.length + 1 else start + enclosed.length;
 }
 
-abbrev pub text_part : List ℕ → ℕ → ℕ → Part
+abbrev pub text_part : Bytes → ℕ → ℕ → Part
 text_part line start delimiter = delimited_part start (delimited delimiter (drop start line))
 
 abbrev pub expression : ℕ → ℕ → Bool → ℕ → Part
@@ -44,26 +45,26 @@ closed_by start end [] = expression start end false end
 closed_by start end (token ∷ tokens) =
     if is_closing token.sort then expression start end true token.end else expression start end false end
 
-abbrev pub expression_part : List ℕ → ℕ → Part
+abbrev pub expression_part : Bytes → ℕ → Part
 expression_part line start = closed_by start (expression_end line start) (tokens_from line (expression_end line start))
 
 -- a part by its first character: an expression after `<`, or else a text after its delimiter
-abbrev pub part_in : List ℕ → ℕ → Bool → List ℕ → Option Part
+abbrev pub part_in : Bytes → ℕ → Bool → Bytes → Option Part
 part_in line start is_first [] = None
 part_in line start is_first (byte ∷ text) =
     if byte == 59 && not is_first then None
     else (if byte == 60 then Some (expression_part line (start + 1)) else Some (text_part line (start + 1) byte))
 
 -- the place of the next character that prints
-abbrev pub next_printed : List ℕ → ℕ → ℕ
+abbrev pub next_printed : Bytes → ℕ → ℕ
 next_printed line place = place + prefix_len is_unprinted (drop place line)
 
 -- the part that stands next from a place on
-abbrev pub next_part : List ℕ → ℕ → Bool → Option Part
+abbrev pub next_part : Bytes → ℕ → Bool → Option Part
 next_part line place is_first = part_in line (next_printed line place) is_first (drop (next_printed line place) line)
 
 -- parts that stand one after the other from a place on, the first of which is the text's first or not, and the place after them
-pub data AreParts (line : List ℕ) : Bool → ℕ → List Part → ℕ → Type 0 where
+pub data AreParts (line : Bytes) : Bool → ℕ → List Part → ℕ → Type 0 where
   -- where no part stands, they end
   End : (is_first : Bool) (place : ℕ) → next_part line place is_first ≡ None → AreParts line is_first place [] place
   -- a part without its end is the last

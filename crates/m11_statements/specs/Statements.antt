@@ -2,6 +2,8 @@
 use Rattle.std.specs.Prelude.{ℕ, Bool, true, false, if◌then◌else◌, List, length}
 use Rattle.std.specs.List.{list_any}
 use Rattle.std.specs.Int.RustNames.{bit_or}
+use Rattle.m11_base.specs.Devices.{Bytes}
+use Rattle.m11_base.specs.Rad50.{Name}
 use Rattle.m11_scan.specs.Cutting.{tokens_from}
 use Rattle.m11_scan.specs.Letters.{letter_A, letter_I, letter_L}
 use Rattle.m11_lines.specs.Line.{SourceLine}
@@ -14,7 +16,7 @@ use Rattle.m11_statements.specs.declared.labels.LabelKind.{LabelKind}
 use Rattle.m11_statements.specs.declared.labels.LabelKind.TheVariants.{Ordinary, Global, Local, Outside}
 
 -- what stands after a line's labels
-abbrev pub body_of : (ℕ × ℕ → Bool) → List ℕ → Body
+abbrev pub body_of : (Name → Bool) → Bytes → Body
 body_of known line = body_in known (tokens_from line (labels_end line))
 
 abbrev pub is_outside : LabelKind → Bool
@@ -40,6 +42,6 @@ abbrev pub label_letters : SourceLine → ℕ
 label_letters line = letters_of line (labels_at line.text) (labels_end line.text)
 
 -- I for a skipped character after the labels, as far as the line is cut
-abbrev pub body_letters : (ℕ × ℕ → Bool) → List ℕ → ℕ
+abbrev pub body_letters : (Name → Bool) → Bytes → ℕ
 body_letters known line =
     letter_if (skipped_between line (labels_end line) (reach (body_of known line) (length line))) letter_I

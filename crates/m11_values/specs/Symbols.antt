@@ -1,6 +1,7 @@
 -- The symbols that an expression reads, and tokens that differ in the case of letters alone. (MACRO-11 Language Reference Manual,
 -- "Symbols" and "Character set".)
-use Rattle.std.specs.Prelude.{◌≡◌, ℕ, List, [], ◌∷◌, map, Option, Some, None}
+use Rattle.std.specs.Prelude.{◌≡◌, List, [], ◌∷◌, map, Option, Some, None}
+use Rattle.m11_base.specs.Devices.{Bytes}
 use Rattle.m11_base.specs.Mnemonics.{folded}
 use Rattle.m11_scan.specs.Cutting.{Lexeme, text_between}
 use Rattle.m11_scan.specs.declared.cutting.Token.{Token}
@@ -15,7 +16,7 @@ with_symbol (Some symbol) symbols = symbol ∷ symbols
 with_symbol None symbols = symbols
 
 -- the symbols that tokens of a line read, in order
-abbrev pub symbols_of : List ℕ → List Token → List Symbol
+abbrev pub symbols_of : Bytes → List Token → List Symbol
 symbols_of line [] = []
 symbols_of line (token ∷ tokens) =
     with_symbol (symbol_in token.sort (text_between line token.start token.end)) (symbols_of line tokens)
@@ -27,7 +28,7 @@ AgreeOn (symbol ∷ symbols) first second = (first symbol ≡ second symbol) × 
 
 -- texts of a sort that differ in the case of letters at most, and that only where the case tells nothing: in names, after `^R`, and
 -- in `^B`, `^O`, `^D` and `^C`
-abbrev pub IsSameText : Sort → List ℕ → List ℕ → Type 0
+abbrev pub IsSameText : Sort → Bytes → Bytes → Type 0
 IsSameText Name first second = map folded first ≡ map folded second
 IsSameText Packed first second = map folded first ≡ map folded second
 IsSameText BinaryRadix first second = map folded first ≡ map folded second

@@ -1,6 +1,7 @@
 -- What values expressions have. (MACRO-11 Language Reference Manual, "Terms" and "Expressions": operators go from left to right, and
 -- none before another.) An expression is a list of tokens, each with its value as a term.
 use Rattle.std.specs.Prelude.{ℕ, zero, suc, nat_lt, List, [], ◌∷◌, length, map, take, drop, Option, Some, None}
+use Rattle.m11_base.specs.Devices.{Bytes}
 use Rattle.m11_scan.specs.Expressions.{begin, expression_length, sort_of}
 use Rattle.m11_scan.specs.Views.{lexeme}
 use Rattle.m11_scan.specs.declared.cutting.Token.{Token}
@@ -50,10 +51,10 @@ unfoldable pub value_of : Radix → List Item → Quantity
 value_of radix items = value_within (length items) radix items
 
 -- what tokens of a line are, where symbols stand for something
-abbrev pub seen : (Symbol → Quantity) → List ℕ → Token → Item
+abbrev pub seen : (Symbol → Quantity) → Bytes → Token → Item
 seen stands_for line token = item stands_for (lexeme line token)
 
-abbrev pub items_of : (Symbol → Quantity) → List ℕ → List Token → List Item
+abbrev pub items_of : (Symbol → Quantity) → Bytes → List Token → List Item
 items_of stands_for line tokens = map (seen stands_for line) tokens
 
 -- the expression that tokens begin with

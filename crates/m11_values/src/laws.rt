@@ -1,6 +1,7 @@
 //! Laws of the values of expressions. Each is the contract of a function that does nothing.
 
-ghost use Rattle.std.specs.Prelude.{◌≡◌, ◌∷◌, ◌++◌, [], ℕ, List, length, map};
+ghost use Rattle.std.specs.Prelude.{◌≡◌, ◌∷◌, ◌++◌, [], List, length, map};
+ghost use Rattle.m11_base.specs.Devices.{Bytes};
 ghost use Rattle.m11_scan.specs.Cutting.{Lexeme};
 ghost use Rattle.m11_scan.specs.Expressions.{expression_length, role_of};
 ghost use Rattle.m11_scan.specs.declared.expressions.Role.TheVariants.{Term};
@@ -43,7 +44,7 @@ pub fn brackets_keep_the_value()
 /// Two meanings of symbols that agree on those which an expression reads give it the same value in the same radix.
 #[tactic(auto, using(crate::proofs::Meanings::agreeing_values))]
 pub fn symbols_that_are_read_decide()
-    ensures { (radix : Radix) (line : List ℕ) (first second : Symbol → Quantity) (tokens : List Token)
+    ensures { (radix : Radix) (line : Bytes) (first second : Symbol → Quantity) (tokens : List Token)
         → AgreeOn (symbols_of line tokens) first second
         → value_of radix (items_of first line tokens) ≡ value_of radix (items_of second line tokens) }
 {}
