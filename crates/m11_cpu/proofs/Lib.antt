@@ -8,7 +8,6 @@ pub mod QuickJumps
 pub mod RegistersPut
 pub mod RunsDone
 pub mod SimulationDone
-pub mod SixDigits
 pub mod StepsDone
 pub mod TapePut
 pub mod WordsAsBytes

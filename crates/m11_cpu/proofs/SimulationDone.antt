@@ -1,5 +1,5 @@
 -- How whole runs end in a fault.
-use Rattle.std.proofs.Common.{◌≡◌, ℕ, List, Option, Ok, Err, refl, subst, ap₂, inr}
+use Rattle.std.proofs.Common.{◌≡◌, ℕ, List, Option, Ok, Err, refl, subst}
 use Rattle.std.specs.Prelude.{unwrap_or}
 use Rattle.m11_cpu.specs.declared.fault.LoadFault.{LoadFault}
 use Rattle.m11_cpu.specs.declared.fault.SimFault.{SimFault}
@@ -41,7 +41,5 @@ not_reported request before after ran m psw Write run e h =
     let P : ℕ → Type 0 = λ n. PutsMessages {A = Unit {0}} before.messages.text after.messages.text
     before.messages.faults after.messages.faults (messages_of ran.stop ran.steps m.registers n) (Err Write) in
     (ran, m, run, (subst P e h).0, (subst P e h).1)
-not_reported request before after ran m psw NoMemory run e h =
-    let to : Option (List ℕ) → ℕ → Output = λ t f. record { text = t; faults = f } in
-    (ap₂ to h.0 h.1, inr (ran, m, run))
+not_reported request before after ran m psw NoMemory run e h = absurd h
 not_reported request before after ran m psw (Load fault) run e h = absurd h

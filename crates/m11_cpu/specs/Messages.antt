@@ -37,9 +37,9 @@ register_line registers psw =
 abbrev pub messages_of : Stop → ℕ → List ℕ → ℕ → List ℕ
 messages_of stop steps registers psw = stop_line stop steps ++ register_line registers psw
 
--- the text was put whole; or a beginning of it before the sink failed; or nothing, where memory was refused
+-- the text was put whole; or a beginning of it before the sink failed
 abbrev pub PutsMessages : {A : Type 0} → Option (List ℕ) → Option (List ℕ) → ℕ → ℕ → List ℕ → Result A SimFault → Type 0
 PutsMessages old new faults faults' text (Ok done) = Appends old new text × (faults' ≡ faults)
 PutsMessages old new faults faults' text (Err Write) = AppendsBeginning old new text × Rises faults faults'
-PutsMessages old new faults faults' text (Err NoMemory) = (new ≡ old) × (faults' ≡ faults)
+PutsMessages old new faults faults' text (Err NoMemory) = ⊥
 PutsMessages old new faults faults' text (Err (Load fault)) = ⊥

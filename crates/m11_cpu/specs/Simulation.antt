@@ -1,5 +1,5 @@
 -- A whole run: a tape is loaded into a new machine and started, and its stop is reported. (This project's own.)
-use Rattle.std.specs.Prelude.{◌≡◌, ℕ, ◌%◌, ◌==◌, if◌then◌else◌, List, Option, unwrap_or, Result, Ok, Err, ◌⊎◌}
+use Rattle.std.specs.Prelude.{◌≡◌, ℕ, ◌%◌, ◌==◌, if◌then◌else◌, List, Option, unwrap_or, Result, Ok, Err}
 use Rattle.std.specs.Io.KnownBytes.{Appends}
 use Rattle.m11_base.specs.Devices.{Rises}
 use Rattle.m11_base.specs.Sink.{AppendsBeginning}
@@ -56,7 +56,7 @@ abbrev pub text_at_stop : Ran → Machine → List ℕ
 text_at_stop ran m = messages_of ran.stop ran.steps m.registers (psw_in m)
 
 -- what a whole run yields: its stop, which the messages report; or the tape was not loaded, and nothing was run or
--- reported; or the messages were reported in part; or memory was refused, at first or when the program had stopped
+-- reported; or the messages were reported in part; or memory was refused before anything was read
 abbrev pub Simulates : Request → RunDevices → RunDevices → Result SimDone SimFault → Type 0
 Simulates request before after (Ok done) =
     (ran : Ran) × (m : Machine) × HasRun request before after ran m × (done.stop ≡ ran.stop)
@@ -70,5 +70,4 @@ Simulates request before after (Err Write) =
     × AppendsBeginning before.messages.text after.messages.text (text_at_stop ran m)
     × Rises before.messages.faults after.messages.faults
 Simulates request before after (Err NoMemory) =
-    (after.messages ≡ before.messages) × (((after.tape ≡ before.tape) × (after.console ≡ before.console))
-    ⊎ ((ran : Ran) × (m : Machine) × HasRun request before after ran m))
+    (after.tape ≡ before.tape) × (after.console ≡ before.console) × (after.messages ≡ before.messages)

@@ -1,34 +1,74 @@
-//! What a run reports at its stop.
+//! What a run reports at its stop. It takes no memory.
 
-ghost use Rattle.std.specs.Prelude.{◌≡◌, IfOk, string_bytes};
+ghost use Rattle.std.specs.Prelude.{◌≡◌, ◌≤◌, ◌+◌, ◌++◌, length};
+ghost use Rattle.arrayvec.specs.ArrayVec.{array_vec_len};
+ghost use Rattle.m11_base.specs.Octal.{octal_text};
 ghost use Rattle.m11_cpu.specs.Messages.{stop_line, register_line, messages_of, PutsMessages};
 
 use crate::fault::SimFault;
 use crate::stop::Stop;
-use m11_base::{Sink, put_all};
-use std::alloc::{AllocError, Global};
+use arrayvec::ArrayVec;
+use itoa::Buffer;
+use m11_base::{Sink, octal6, put_all};
 
-#[tactic(auto, unfolding(crate::specs::Messages::stop_line))]
-fn stop_line(alloc: Global, stop: Stop, steps: u32) -> Result<String, AllocError>
-    ensures { IfOk result (λ s. string_bytes s ≡ stop_line stop steps) }
+// Both lines of a stop have at most 127 characters.
+type Messages = ArrayVec<u8, 160>;
+
+// Adds bytes to the messages.
+fn add(text: &mut Messages, bytes: &[u8])
+    requires { array_vec_len text.old + length bytes.now ≤ 160 }
+    ensures items { text.new.items ≡ text.old.items ++ bytes.now }
+    ensures size { array_vec_len text.new ≡ array_vec_len text.old + length bytes.now }
 {
-    format!(in alloc; "{} AFTER {steps} STEPS\n", stop.name())
+    text.try_extend_from_slice(bytes).unwrap();
 }
 
-#[tactic(auto, using(crate::proofs::SixDigits::printed_in_octal), unfolding(crate::specs::Messages::register_line))]
-fn register_line(alloc: Global, registers: &[u16; 8], psw: u16) -> Result<String, AllocError>
-    ensures { IfOk result (λ s. string_bytes s ≡ register_line registers.now psw) }
+// Adds a label and the six octal digits of a word.
+fn add_word(text: &mut Messages, label: &[u8], word: u16)
+    requires { array_vec_len text.old + (length label.now + 6) ≤ 160 }
+    ensures items { text.new.items ≡ text.old.items ++ (label.now ++ octal_text word) }
+    ensures size { array_vec_len text.new ≡ array_vec_len text.old + (length label.now + 6) }
+{
+    add(text, label);
+    add(text, &octal6(word));
+}
+
+// The line of a stop after n steps.
+#[tactic(auto, unfolding(crate::specs::Messages::stop_line))]
+fn stop_line(stop: Stop, steps: u32) -> Messages
+    ensures line { result.items ≡ stop_line stop steps }
+    ensures size { array_vec_len result ≤ 66 }
+{
+    let mut text = Messages::new();
+    add(&mut text, stop.name().as_bytes());
+    add(&mut text, b" AFTER ");
+    add(&mut text, Buffer::new().format(steps).as_bytes());
+    add(&mut text, b" STEPS\n");
+    text
+}
+
+// Adds the line of the registers from R0 to PC and the PSW.
+#[tactic(auto, unfolding(crate::specs::Messages::register_line))]
+fn add_registers(text: &mut Messages, registers: &[u16; 8], psw: u16)
+    requires { array_vec_len text.old ≤ 66 }
+    ensures { text.new.items ≡ text.old.items ++ register_line registers.now psw }
 {
     let [r0, r1, r2, r3, r4, r5, sp, pc] = *registers;
-    format!(in alloc;
-        "R0 {r0:06o} R1 {r1:06o} R2 {r2:06o} R3 {r3:06o} R4 {r4:06o} R5 {r5:06o} SP {sp:06o} PC {pc:06o} PSW {psw:06o}\n"
-    )
+    add_word(text, b"R0 ", r0);
+    add_word(text, b" R1 ", r1);
+    add_word(text, b" R2 ", r2);
+    add_word(text, b" R3 ", r3);
+    add_word(text, b" R4 ", r4);
+    add_word(text, b" R5 ", r5);
+    add_word(text, b" SP ", sp);
+    add_word(text, b" PC ", pc);
+    add_word(text, b" PSW ", psw);
+    add(text, b"\n");
 }
 
 /// Puts the two lines of a stop, after n steps, with the registers from R0 to PC and the PSW. Write:
-/// the sink failed after a beginning of them. NoMemory: nothing was put.
+/// the sink failed after a beginning of them.
 pub(crate) fn put_messages<M: Sink>(
-    alloc: Global,
     messages: &mut M,
     stop: Stop,
     steps: u32,
@@ -38,9 +78,9 @@ pub(crate) fn put_messages<M: Sink>(
     ensures { PutsMessages (M.text messages.old) (M.text messages.new) (M.faults messages.old) (M.faults messages.new)
         (messages_of stop steps registers.now psw) result }
 {
-    let mut text = stop_line(alloc, stop, steps)?;
-    text.push_str(register_line(alloc, registers, psw)?.as_str())?;
-    match put_all(messages, text.as_bytes()) {
+    let mut text = stop_line(stop, steps);
+    add_registers(&mut text, registers, psw);
+    match put_all(messages, text.as_slice()) {
         Ok(()) => Ok(()),
         Err(_) => Err(SimFault::Write),
     }

@@ -18,8 +18,7 @@ use std::alloc::Global;
 /// nothing. At the stop two lines go to `messages`: the stop with the number of steps, and the registers.
 ///
 /// Faults: the tape was not loaded, and nothing was run; the messages could not be written, and a beginning of
-/// them was; memory was refused, before anything was read or when the run had stopped. A failing console is no
-/// fault but a stop.
+/// them was; memory was refused, before anything was read. A failing console is no fault but a stop.
 pub fn sim_run<T: Feed, I: Feed, O: Sink, M: Sink>(
     alloc: Global,
     tape: &mut T,
@@ -45,7 +44,6 @@ pub fn sim_run<T: Feed, I: Feed, O: Sink, M: Sink>(
     let transfer = machine.load(tape)?;
     let ran = machine.started(start.unwrap_or(transfer), limit, input, output);
     put_messages(
-        alloc,
         messages,
         ran.stop,
         ran.steps,
