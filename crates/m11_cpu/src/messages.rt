@@ -11,10 +11,10 @@ use arrayvec::ArrayVec;
 use itoa::Buffer;
 use m11_base::{Sink, octal6, put_all};
 
-// Both lines of a stop have at most 127 characters.
+// A stop's line has at most 66 characters, and the line of registers 91.
 type Messages = ArrayVec<u8, 160>;
 
-// Adds bytes to the messages.
+// There is room for what is added, so nothing of it is left out.
 fn add(text: &mut Messages, bytes: &[u8])
     requires { array_vec_len text.old + length bytes.now ≤ 160 }
     ensures items { text.new.items ≡ text.old.items ++ bytes.now }
