@@ -1,8 +1,9 @@
 //! The directives of conditions, repeats and macros, and `.END`, by their names. (MACRO-11 Language Reference Manual, "Conditional
 //! assembly block directives", "Macro definition", "Indefinite repeat block directives" and ".END directive".)
 
-ghost use Rattle.std.specs.Prelude.{◌≡◌, true};
+ghost use Rattle.std.specs.Prelude.{◌≡◌, ◌≤◌, ℕ, true, length, IfSome};
 ghost use Rattle.m11_base.specs.Mnemonics.{six_of};
+ghost use Rattle.m11_statements.specs.Bodies.{end_of};
 ghost use Rattle.m11_arguments.specs.Directives as spec;
 ghost use Rattle.m11_arguments.specs.Directives.{every_name};
 
@@ -146,13 +147,15 @@ impl Operators for EveryName {
 
 /// The name that stands after a line's labels, where no assignment stands.
 pub fn operator(line: &Line) -> Option<Span>
-    ensures { result ≡ spec.operator line.now.text }
+    ensures operator { result ≡ spec.operator line.now.text }
+    ensures within { IfSome result (λ name. name.end ≤ length line.now.text) }
 {
     operator_in(statement(line, &EveryName).body)
 }
 
 fn operator_in(body: Body) -> Option<Span>
-    ensures { result ≡ spec.operator_in body }
+    ensures operator { result ≡ spec.operator_in body }
+    ensures within { IfSome result (λ name. (size : ℕ) → end_of body size ≡ name.end) }
 {
     match body {
         Body::Operates(name) => Some(name),

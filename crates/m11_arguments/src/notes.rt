@@ -52,8 +52,8 @@ impl Notes {
         self.symbols.as_slice()
     }
 
-    // Further letters.
-    pub(crate) fn add_letters(&mut self, letters: Letters)
+    /// Further letters.
+    pub fn add_letters(&mut self, letters: Letters)
         ensures { self.new ≡ with_letters self.old (bits_of letters) }
     {
         self.letters = self.letters.with(letters);

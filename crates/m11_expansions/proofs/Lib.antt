@@ -1,3 +1,3 @@
 mod Pieces
-mod Stacks
+pub mod Stacks
 mod Whole

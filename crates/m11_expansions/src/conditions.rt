@@ -69,6 +69,13 @@ impl Conditions {
         self.is_past || !is_live_inside(self.entered.as_slice())
     }
 
+    /// Whether a condition past the last that may be open is skipped.
+    pub fn is_past(&self) -> bool
+        ensures { result ≡ self.now.is_past }
+    {
+        self.is_past
+    }
+
     /// How many `.IF`s are open in the lines that are skipped.
     pub fn nested(&self) -> u32
         ensures { result ≡ self.now.nested }

@@ -48,6 +48,15 @@ impl OpenBody {
         }
     }
 
+    /// Whether a line ends the body.
+    pub fn is_closed_by(&self, nesting: Nesting) -> bool
+        ensures closes { result ≡ true → spec.depth_after nesting self.now.depth ≡ None }
+        ensures stays { result ≡ false
+            → spec.depth_after nesting self.now.depth ≡ Some (spec.depth_inside nesting self.now.depth) }
+    {
+        is_close(nesting, self.depth)
+    }
+
     /// Takes a line, unless it is the one that ends the body. The answer is whether it is.
     ///
     /// Errors: want of memory. What was taken is then unchanged.

@@ -81,3 +81,11 @@ reach (Assigns assignment) size = size
 reach (SetsCounter value) size = size
 reach (Operates name) size = name.start
 reach (Words start) size = size
+
+-- the place after the known operator of a line of a size, or the line's end where none stands
+abbrev pub end_of : Body → ℕ → ℕ
+end_of Nothing size = size
+end_of (Assigns assignment) size = size
+end_of (SetsCounter value) size = size
+end_of (Operates name) size = name.end
+end_of (Words start) size = size

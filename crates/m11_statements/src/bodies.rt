@@ -53,6 +53,7 @@ pub(crate) fn body_at<O: Operators>(line: &Line, place: usize, operators: &O) ->
     ensures body { result ≡ spec.body_in (O.known operators.now) (tokens_from line.now.text place) }
     ensures least { place ≤ spec.reach result (length line.now.text) }
     ensures most { spec.reach result (length line.now.text) ≤ length line.now.text }
+    ensures within { spec.end_of result (length line.now.text) ≤ length line.now.text }
 {
     match next_token(line, place) {
         Some(first) => begun_body(line, first, operators),
@@ -68,6 +69,7 @@ fn begun_body<O: Operators>(line: &Line, first: Token, operators: &O) -> Body
         (tokens_from line.now.text first.end) }
     ensures least { first.start ≤ spec.reach result (length line.now.text) }
     ensures most { spec.reach result (length line.now.text) ≤ length line.now.text }
+    ensures within { spec.end_of result (length line.now.text) ≤ length line.now.text }
 {
     match assignment_to(line, first) {
         Some(body) => body,

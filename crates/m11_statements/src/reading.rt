@@ -2,6 +2,7 @@
 
 ghost use Rattle.std.specs.Prelude.{◌≡◌, ◌≤◌, length};
 ghost use Rattle.m11_scan.specs.Views.{bits_of};
+ghost use Rattle.m11_statements.specs.Bodies.{end_of};
 ghost use Rattle.m11_statements.specs.Labels.{labels_at, labels_end};
 ghost use Rattle.m11_statements.specs.Statements as spec;
 
@@ -15,6 +16,7 @@ pub fn statement<O: Operators>(line: &Line, operators: &O) -> Statement
     ensures labels { result.labels.items ≡ labels_at line.now.text }
     ensures labels_end { result.labels_end ≡ labels_end line.now.text }
     ensures body { result.body ≡ spec.body_of (O.known operators.now) line.now.text }
+    ensures within { end_of result.body (length line.now.text) ≤ length line.now.text }
     ensures label_letters { bits_of result.label_letters ≡ spec.label_letters line.now }
     ensures body_letters { bits_of result.body_letters ≡ spec.body_letters (O.known operators.now) line.now.text }
 {
