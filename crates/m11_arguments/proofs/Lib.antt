@@ -3,7 +3,7 @@ mod Fillings
 mod Headers
 mod Immediately
 mod Insides
-mod Joining
+pub mod Joining
 mod Numerals
 mod Repetitions
 mod Tests

@@ -18,7 +18,7 @@ module _ (formals : List (ℕ × ℕ)) where
   marks-round [] actuals left = refl
   marks-round (text ∷ body) actuals left = marks-round body actuals left
 
-  marks-rounds : (body : List (List ℕ)) (rounds : List (List (List ℕ))) (left : List Left)
+  pub marks-rounds : (body : List (List ℕ)) (rounds : List (List (List ℕ))) (left : List Left)
       → marks (flat_map (round formals body) rounds ++ left) ≡ marks left
   marks-rounds body [] left = refl
   marks-rounds body (actuals ∷ rounds) left =

@@ -1,0 +1,175 @@
+-- No operator passes a limit without its fault.
+use Rattle.std.proofs.Common.{◌≡◌, ◌≤◌, ◌<◌, ◌+◌, ℕ, Bool, true, false, List, [], ◌∷◌, length, Option, Some, None, refl, arith}
+use Rattle.std.specs.Prelude.{if◌then◌else◌, nat_le, nat_lt, drop, map}
+use Rattle.std.proofs.lemmas.Bool.Decides.{nat_tests}
+use Rattle.m11_arguments.specs.Actuals.{actuals_from}
+use Rattle.m11_arguments.specs.Conditions.{Asked, condition}
+use Rattle.m11_arguments.specs.Expressions.{Known}
+use Rattle.m11_arguments.specs.Filling.{filled}
+use Rattle.m11_arguments.specs.Immediate as immediate
+use Rattle.m11_arguments.specs.Indefinite.{character_repeat, indefinite_repeat}
+use Rattle.m11_arguments.specs.Macros.{header}
+use Rattle.m11_arguments.specs.declared.directives.Directive.TheVariants as word
+use Rattle.m11_expansions.specs.Conditions.{OpenConditions, closed, has_none, most_conditions, switched, with_part, without_first}
+use Rattle.m11_expansions.specs.Left.{Left, Line, End, after_mark, conditions_open, depth, is_expanding, marks, most_expansions}
+use Rattle.m11_expansions.specs.declared.conditions.OpenCondition.{OpenCondition}
+use Rattle.m11_expansions.specs.declared.conditions.Part.{Part}
+use Rattle.m11_expansions.specs.declared.conditions.Part.TheVariants as part
+use Rattle.m11_lines.specs.Line.{line_of}
+use Rattle.m11_unfolding.specs.Acting.{Acted, Operation, Foreign, Calls, Directs, act, act_fault, acted_by, acted_exit, acted_within, condition_opened, defining, fault_by, flagged, formal_name, letter_O, operation, opens, own, repeating, with_statement}
+use Rattle.m11_unfolding.specs.Limits.{has_room}
+use Rattle.m11_unfolding.specs.Stages.{Purpose, Stage}
+use Rattle.m11_unfold.specs.Kept.{IsKept}
+use Rattle.m11_unfold.proofs.Keeping.{not_so, opened_kept, under}
+
+-- either of two
+kept_if : (b : Bool) (one other : Acted) → (b ≡ true → IsKept one.after) → (b ≡ false → IsKept other.after)
+    → IsKept (if b then one else other).after
+kept_if true one other first second = first refl
+kept_if false one other first second = second refl
+
+below : (n most : ℕ) → nat_lt n most ≡ true → n < most
+below n most is = grind (arith, nat_tests, is)
+
+same_ends : (left : List Left) → marks (after_mark left) ≡ marks left
+same_ends [] = refl
+same_ends (Line line ∷ left) = same_ends left
+same_ends (End mark ∷ left) = refl
+
+with_part_same : (p : Part) (entered : List OpenCondition) → length (with_part p entered) ≡ length entered
+with_part_same p [] = refl
+with_part_same p (condition ∷ outer) = refl
+
+no_more : (entered : List OpenCondition) → length (without_first entered) ≤ length entered
+no_more [] = omega arith
+no_more (condition ∷ outer) = omega arith
+
+closed_fewer : (b : Bool) (entered : List OpenCondition) → length (if b then entered else without_first entered) ≤ length entered
+closed_fewer true entered = omega arith
+closed_fewer false entered = no_more entered
+
+module _ (stage : Stage) (kept : IsKept stage) where
+  -- other conditions, of which no more are entered
+  with_conditions : (conditions : OpenConditions) → length conditions.entered + conditions_open stage.left ≤ most_conditions
+      → conditions.nested ≡ stage.conditions.nested → IsKept (record stage { conditions = conditions })
+  with_conditions conditions few same =
+      let nested = kept.nested in
+      record {
+        lines = kept.lines;
+        macros = kept.macros;
+        bytes = kept.bytes;
+        expansions = kept.expansions;
+        conditions = few;
+        nested = omega (arith, nested, same);
+      }
+
+  kept_condition : (text : List ℕ) (asked : Asked) → has_room stage ≡ true → IsKept (condition_opened text asked stage).after
+  kept_condition text asked room =
+      let one_more = below (length stage.conditions.entered + conditions_open stage.left) most_conditions room in
+      with_conditions _ (omega (arith, one_more)) refl
+
+  kept_within : (change : OpenConditions → OpenConditions) (text : List ℕ) (place : ℕ)
+      → length (change stage.conditions).entered ≤ length stage.conditions.entered
+      → (change stage.conditions).nested ≡ stage.conditions.nested → IsKept (acted_within change text place stage).after
+  kept_within change text place fewer same =
+      let few = kept.conditions in
+      kept_if (has_none stage.conditions) (own (flagged letter_O text place) stage)
+      (own (flagged 0 text place) (record stage { conditions = change stage.conditions })) (λ _. kept)
+      (λ _. with_conditions (change stage.conditions) (omega (arith, few, fewer)) same)
+
+  kept_switch : (p : Part) (text : List ℕ) (place : ℕ) → IsKept (acted_within (switched p) text place stage).after
+  kept_switch p text place =
+      let alike = with_part_same p stage.conditions.entered in
+      kept_within (switched p) text place (omega (arith, alike)) refl
+
+  kept_opening : (purpose : Purpose) → IsKept (opens purpose stage)
+  kept_opening purpose =
+      let bytes = kept.bytes in
+      record {
+        lines = kept.lines;
+        macros = kept.macros;
+        bytes = omega (arith, bytes);
+        expansions = kept.expansions;
+        conditions = kept.conditions;
+        nested = kept.nested;
+      }
+
+  -- other lines before the same ends
+  with_left : (left : List Left) → marks left ≡ marks stage.left → IsKept (record stage { left = left })
+  with_left left same =
+      record {
+        lines = kept.lines;
+        macros = kept.macros;
+        bytes = rw same kept.bytes;
+        expansions = rw same kept.expansions;
+        conditions = rw same kept.conditions;
+        nested = rw same kept.nested;
+      }
+
+  kept_statement : (text : List ℕ) (holds : Bool) (begin : Option ℕ) → IsKept (with_statement text holds begin stage)
+  kept_statement text true (Some place) = with_left (Line (line_of (drop place text)) ∷ stage.left) refl
+  kept_statement text true None = kept
+  kept_statement text false begin = kept
+
+  kept_exit : (text : List ℕ) (place : ℕ) → IsKept (acted_exit text place stage).after
+  kept_exit text place =
+      kept_if (is_expanding stage.left) (own (flagged 0 text place) (record stage { left = after_mark stage.left }))
+      (own (flagged letter_O text place) stage) (λ _. with_left (after_mark stage.left) (same_ends stage.left)) (λ _. kept)
+
+  kept_created : (created : ℕ) → IsKept (record stage { created = created })
+  kept_created created = record {
+    lines = kept.lines;
+    macros = kept.macros;
+    bytes = kept.bytes;
+    expansions = kept.expansions;
+    conditions = kept.conditions;
+    nested = kept.nested;
+  }
+
+  kept_ended : IsKept (record stage { has_ended = true })
+  kept_ended = record {
+    lines = kept.lines;
+    macros = kept.macros;
+    bytes = kept.bytes;
+    expansions = kept.expansions;
+    conditions = kept.conditions;
+    nested = kept.nested;
+  }
+
+  kept_by : (known : Known) (text : List ℕ) (what : Operation) → fault_by stage what ≡ None
+      → IsKept (acted_by known text stage what).after
+  kept_by known text Foreign fits = kept
+  kept_by known text (Calls macro place) fits =
+      let so = not_so (nat_le most_expansions (depth stage.left)) _ None fits in
+      let given = actuals_from known text (length macro.formals) place in
+      let filling = filled macro.formals given.texts stage.created in
+      let bytes = kept.bytes in
+      opened_kept (Some (length given.texts)) 0 (map formal_name macro.formals) (filling.texts ∷ []) macro.body
+      (record stage { created = filling.created }) (kept_created filling.created)
+      (under most_expansions (depth stage.left) so.0) (omega (arith, bytes))
+  kept_by known text (Directs word.If place) fits =
+      kept_if (has_room stage) (condition_opened text (condition known text place) stage) _
+      (λ room. kept_condition text (condition known text place) room)
+      (λ _. with_conditions _ kept.conditions refl)
+  kept_by known text (Directs word.IfFalse place) fits = kept_switch part.False text place
+  kept_by known text (Directs word.IfTrue place) fits = kept_switch part.True text place
+  kept_by known text (Directs word.IfTrueFalse place) fits = kept_switch part.Both text place
+  kept_by known text (Directs word.EndCondition place) fits =
+      kept_within closed text place (closed_fewer stage.conditions.is_past stage.conditions.entered) refl
+  kept_by known text (Directs word.ImmediateIf place) fits =
+      kept_statement text (immediate.immediate known text place).holds (immediate.immediate known text place).statement
+  kept_by known text (Directs word.Macro place) fits = kept_opening (defining (header text place).named)
+  kept_by known text (Directs word.EndMacro place) fits = kept
+  kept_by known text (Directs word.Repeat place) fits = kept_opening _
+  kept_by known text (Directs word.EndRepeat place) fits = kept
+  kept_by known text (Directs word.IndefiniteRepeat place) fits =
+      kept_opening (repeating (indefinite_repeat known text place).rounds)
+  kept_by known text (Directs word.CharacterRepeat place) fits = kept_opening (repeating (character_repeat text place).rounds)
+  kept_by known text (Directs word.MacroExit place) fits = kept_exit text place
+  kept_by known text (Directs word.ArgumentCount place) fits = kept
+  kept_by known text (Directs word.CharacterCount place) fits = kept
+  kept_by known text (Directs word.End place) fits = kept_ended
+
+  -- what the operator of a line leaves
+  pub kept_acts : (known : Known) (text : List ℕ) → act_fault stage text ≡ None → IsKept (act known stage text).after
+  kept_acts known text fits = kept_by known text (operation stage.conditions stage.macros text) fits

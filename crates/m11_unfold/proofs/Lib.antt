@@ -1,0 +1,5 @@
+mod Counted
+mod Keeping
+mod KeptActing
+mod Noting
+mod Taken

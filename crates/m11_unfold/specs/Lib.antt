@@ -1,0 +1,6 @@
+pub mod Faults
+pub mod Kept
+pub mod Purposes
+pub mod Steps
+pub mod Unfolder
+pub mod Views

@@ -1,0 +1,23 @@
+-- What a body is taken for, as the code holds it. (This project's own.)
+use Rattle.std.specs.Prelude.{◌≤◌, length, Option, Some, None}
+use Rattle.m11_arguments.specs.Macros.{MacroNamed}
+use Rattle.m11_lines.specs.Line.{line_limit}
+use Rattle.m11_unfolding.specs.Stages as stages
+use Rattle.m11_unfold.specs.declared.opening.Purpose.{Purpose}
+use Rattle.m11_unfold.specs.declared.opening.Purpose.TheVariants.{Defines, Repeats, Drops}
+
+abbrev pub purpose_of : Purpose → stages.Purpose
+purpose_of (Defines name formals) = stages.Defines name formals.items
+purpose_of (Repeats formals rounds) = stages.Repeats formals.items rounds
+purpose_of Drops = stages.Drops
+
+-- a macro has no more formals than a line can have
+abbrev pub IsPurpose : Purpose → Type 0
+IsPurpose (Defines name formals) = length formals.items ≤ line_limit
+IsPurpose (Repeats formals rounds) = Unit {0}
+IsPurpose Drops = Unit {0}
+
+-- nor has a header
+abbrev pub IsFew : Option MacroNamed → Type 0
+IsFew None = Unit {0}
+IsFew (Some named) = length named.formals ≤ line_limit

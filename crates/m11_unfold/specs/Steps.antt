@@ -1,0 +1,58 @@
+-- What the calls below an unfolder's own do to a stage. (This project's own.)
+use Rattle.std.specs.Prelude.{◌≡◌, Bool, false, List, ◌∷◌, Option, Some, None, Result, Ok, Err}
+use Rattle.m11_base.specs.Devices.{Bytes}
+use Rattle.m11_expansions.specs.Bodies.{depth_after}
+use Rattle.m11_expansions.specs.Left.{Line}
+use Rattle.m11_lines.specs.Line.{SourceLine}
+use Rattle.m11_unfolding.specs.Limits.{body_fault, closing_fault, next_fault}
+use Rattle.m11_unfolding.specs.Stages.{Opening, Purpose, Stage}
+use Rattle.m11_unfolding.specs.Taking as taking
+use Rattle.m11_unfolding.specs.Taking.{Move, into_body, move, nesting, used}
+use Rattle.m11_unfolding.specs.declared.fault.UnfoldFault.{UnfoldFault}
+use Rattle.m11_unfolding.specs.declared.fault.UnfoldFault.TheVariants.{NoMemory}
+use Rattle.m11_unfold.specs.declared.taking.Moved.{Moved}
+use Rattle.m11_unfold.specs.declared.taking.Moved.TheVariants.{Rests, Passes, Gives}
+
+-- want of memory, or the fault of the limit that is passed
+abbrev pub Fails : Option UnfoldFault → UnfoldFault → Type 0
+Fails passed NoMemory = Unit {0}
+Fails passed fault = passed ≡ Some fault
+
+-- a stage in which a line stands before what is left
+abbrev pub with_line : SourceLine → Stage → Stage
+with_line line stage = record stage { left = Line line ∷ stage.left }
+
+-- a move that passes no limit leads to the stage after, or fails
+abbrev pub Results : Option UnfoldFault → Move → Stage → Result Moved UnfoldFault → Type 0
+Results passed move after (Ok Rests) = move ≡ taking.Rests
+Results passed move after (Ok Passes) = (passed ≡ None) × (move ≡ taking.Passes after)
+Results passed move after (Ok (Gives line is_expanded)) =
+    (passed ≡ None) × (move ≡ taking.Gives (record { line = line; is_expanded = is_expanded }) after)
+Results passed move after (Err fault) = Fails passed fault
+
+abbrev pub Moves : Stage → Stage → Result Moved UnfoldFault → Type 0
+Moves before after (Ok Rests) = (move before ≡ taking.Rests) × (after ≡ before)
+Moves before after (Ok Passes) = (next_fault before ≡ None) × (move before ≡ taking.Passes after)
+Moves before after (Ok (Gives line is_expanded)) =
+    (next_fault before ≡ None) × (move before ≡ taking.Gives (record { line = line; is_expanded = is_expanded }) after)
+Moves before after (Err fault) = Fails (next_fault before) fault
+
+-- after a live line no statement stands before what is left
+abbrev pub IsFree : Bool → Result Moved UnfoldFault → Type 0
+IsFree has_statement (Ok Rests) = Unit {0}
+IsFree has_statement (Ok Passes) = Unit {0}
+IsFree has_statement (Ok (Gives line is_expanded)) = has_statement ≡ false
+IsFree has_statement (Err fault) = Unit {0}
+
+-- a line comes into a body, or fails
+abbrev pub Enters : Stage → Opening → Bytes → Stage → Result (Unit {0}) UnfoldFault → Type 0
+Enters before opening text after (Ok _) =
+    (body_fault opening.purpose before text (depth_after (nesting text) opening.taken.depth) ≡ None)
+    × (after ≡ into_body opening.purpose opening.taken text (depth_after (nesting text) opening.taken.depth) before)
+Enters before opening text after (Err fault) =
+    Fails (body_fault opening.purpose before text (depth_after (nesting text) opening.taken.depth)) fault
+
+-- a body is used, or fails
+abbrev pub Closes : Purpose → List Bytes → Stage → Stage → Result (Unit {0}) UnfoldFault → Type 0
+Closes purpose body before after (Ok _) = (closing_fault purpose before ≡ None) × (after ≡ used purpose body before)
+Closes purpose body before after (Err fault) = Fails (closing_fault purpose before) fault

@@ -1,0 +1,84 @@
+-- What an unfolder's calls give, by the stages before and after them. (MACRO-11 Language Reference Manual, "Macro directives" and
+-- "Conditional assembly directives". The limits are this project's own.)
+use Rattle.std.specs.Prelude.{◌≡◌, Bool, true, false, [], Option, Some, None, Result, Ok, Err}
+use Rattle.m11_arguments.specs.Expressions.{Known}
+use Rattle.m11_base.specs.Devices.{Bytes}
+use Rattle.m11_expansions.specs.Left.{argument_count}
+use Rattle.m11_unfolding.specs.Acting.{act, act_fault}
+use Rattle.m11_unfolding.specs.Limits.{next_fault}
+use Rattle.m11_unfolding.specs.Stages.{Stage}
+use Rattle.m11_unfolding.specs.Taking as taking
+use Rattle.m11_unfolding.specs.Unfolding.{Leads}
+use Rattle.m11_unfolding.specs.declared.fault.UnfoldFault.{UnfoldFault}
+use Rattle.m11_unfolding.specs.declared.fault.UnfoldFault.TheVariants.{NoMemory}
+use Rattle.m11_unfold.specs.Kept.{IsKept}
+use Rattle.m11_unfold.specs.Steps.{Fails}
+use Rattle.m11_unfold.specs.declared.steps.Act.{Act}
+use Rattle.m11_unfold.specs.declared.steps.LiveLine.{LiveLine}
+use Rattle.m11_unfold.specs.declared.steps.Step.{Step}
+use Rattle.m11_unfold.specs.declared.steps.Step.TheVariants.{NeedLine, End, Line}
+
+-- a stage, whether the statement of an `.IIF` is next, and the fault that ended the unfolding, if one did
+pub record Unfolding : Type 0 where
+  pub stage : Stage
+  pub has_statement : Bool
+  pub fault : Option UnfoldFault
+
+-- until a fault comes, no limit is passed
+abbrev pub IsWithin : Option UnfoldFault → Stage → Type 0
+IsWithin None stage = IsKept stage
+IsWithin (Some fault) stage = Unit {0}
+
+abbrev pub live_of : LiveLine → taking.Live
+live_of live = record { line = live.line; is_expanded = live.is_expanded }
+
+-- a line becomes live, after moves that give none
+pub record Comes (before : Stage) (live : taking.Live) (after : Stage) : Type 0 where
+  pub middle : Stage
+  pub passing : Leads before [] middle
+  pub is_within : next_fault middle ≡ None
+  pub gives : taking.move middle ≡ taking.Gives live after
+
+-- a limit is passed, after moves that give no line
+pub record Passes (before : Stage) (fault : UnfoldFault) : Type 0 where
+  pub middle : Stage
+  pub passing : Leads before [] middle
+  pub passes : next_fault middle ≡ Some fault
+
+abbrev pub Stops : Stage → UnfoldFault → Type 0
+Stops before NoMemory = Unit {0}
+Stops before fault = Passes before fault
+
+-- from one live line to the next, or to the end of what is left
+abbrev pub Steps : Stage → Stage → Result Step UnfoldFault → Type 0
+Steps before after (Ok NeedLine) = Leads before [] after × (after.left ≡ []) × (after.has_ended ≡ false)
+Steps before after (Ok End) = Leads before [] after × (after.has_ended ≡ true)
+Steps before after (Ok (Line live)) = Comes before (live_of live) after
+Steps before after (Err fault) = Stops before fault
+
+-- after a live line no statement stands before what is left
+abbrev pub IsFree : Bool → Result Step UnfoldFault → Type 0
+IsFree has_statement (Ok NeedLine) = Unit {0}
+IsFree has_statement (Ok End) = Unit {0}
+IsFree has_statement (Ok (Line live)) = has_statement ≡ false
+IsFree has_statement (Err fault) = Unit {0}
+
+-- a line is needed only where nothing is left
+abbrev pub IsEmpty : Stage → Result Step UnfoldFault → Type 0
+IsEmpty after (Ok NeedLine) = after.left ≡ []
+IsEmpty after (Ok End) = Unit {0}
+IsEmpty after (Ok (Line live)) = Unit {0}
+IsEmpty after (Err fault) = Unit {0}
+
+-- what comes where nothing is taken any more
+abbrev pub rested : Bool → Step
+rested true = End
+rested false = NeedLine
+
+-- the operator of a line is done
+abbrev pub Acts : Known → Bytes → Stage → Stage → Result Act UnfoldFault → Type 0
+Acts known text before after (Ok acted) =
+    (act_fault before text ≡ None) × (after ≡ (act known before text).after)
+    × (acted.is_own ≡ (act known before text).is_own) × (acted.notes ≡ (act known before text).notes)
+    × (acted.arguments ≡ argument_count before.left)
+Acts known text before after (Err fault) = Fails (act_fault before text) fault

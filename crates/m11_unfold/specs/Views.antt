@@ -1,0 +1,15 @@
+-- The stage that the code's values stand for. (This project's own.)
+use Rattle.m11_unfolding.specs.Stages.{Stage}
+use Rattle.m11_unfold.specs.declared.state.State.{State}
+
+abbrev pub stage_of : State → Stage
+stage_of state = record {
+  left = state.left.left;
+  conditions = state.conditions;
+  opening = state.opening;
+  macros = state.macros.entries;
+  defined_bytes = state.defined_bytes;
+  created = state.created;
+  taken = state.taken;
+  has_ended = state.has_ended;
+}

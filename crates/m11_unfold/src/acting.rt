@@ -1,0 +1,272 @@
+//! What the operator of a live line does. (MACRO-11 Language Reference Manual, "Conditional assembly block directives", "Macro
+//! definition", "Repeat block directives", "Indefinite repeat block directives" and "Macro exit".)
+
+ghost use Rattle.std.specs.Prelude.{◌≡◌, ◌+◌, ◌<◌, ◌≤◌, false, length, IfOk};
+ghost use Rattle.m11_arguments.specs.Conditions.{condition as asked_condition};
+ghost use Rattle.m11_arguments.specs.Expressions.{known_by};
+ghost use Rattle.m11_arguments.specs.Indefinite.{rounds_seen};
+ghost use Rattle.m11_arguments.specs.Macros.{header, header_seen};
+ghost use Rattle.m11_arguments.specs.Notes.{joined};
+ghost use Rattle.m11_expansions.specs.Conditions.{closed, most_conditions, switched};
+ghost use Rattle.m11_expansions.specs.Left.{conditions_open};
+ghost use Rattle.m11_unfolding.specs.Acting as spec;
+ghost use Rattle.m11_unfold.specs.Purposes.{IsFew, IsPurpose, purpose_of};
+ghost use Rattle.m11_unfold.specs.Views.{stage_of};
+
+use crate::opening::{Opening, Purpose};
+use crate::rounds::round_of_each;
+use crate::state::State;
+use m11_arguments::{
+    Directive, Header, Notes, Rounds, character_repeat, condition, header_at, immediate_condition,
+    indefinite_repeat, left_over, repeat_count,
+};
+use m11_expansions::{CONDITION_LIMIT, Part};
+use m11_scan::{Letters, Line};
+use m11_values::Names;
+use std::alloc::{AllocError, Global};
+
+impl State {
+    // Does a directive, whose arguments stand in a line from a place on. The answer is whether the line is unfolding's own.
+    #[tactic(auto, using(crate::proofs::Noting::nothing_more))]
+    pub(crate) fn direct<N: Names>(
+        &mut self,
+        alloc: Global,
+        line: &Line,
+        directive: Directive,
+        place: usize,
+        names: &N,
+        notes: &mut Notes,
+    ) -> Result<bool, AllocError>
+        requires within { place ≤ length line.now.text }
+        requires room { length self.old.conditions.entered + conditions_open self.old.left.left ≤ most_conditions }
+        requires free { self.old.left.has_statement ≡ false }
+        ensures own { IfOk result (λ is_own. is_own ≡ (spec.acted_by
+            (known_by (N.base names.now) (N.stands_for names.now)) line.now.text (stage_of self.old)
+            (spec.Directs directive place)).is_own) }
+        ensures after { IfOk result (λ _. stage_of self.new ≡ (spec.acted_by
+            (known_by (N.base names.now) (N.stands_for names.now)) line.now.text (stage_of self.old)
+            (spec.Directs directive place)).after) }
+        ensures notes { IfOk result (λ _. notes.new ≡ joined notes.old (spec.acted_by
+            (known_by (N.base names.now) (N.stands_for names.now)) line.now.text (stage_of self.old)
+            (spec.Directs directive place)).notes) }
+    {
+        match directive {
+            Directive::If => self.act_if(line, place, names, notes)?,
+            Directive::IfFalse => self.act_switch(line, place, Part::False, notes),
+            Directive::IfTrue => self.act_switch(line, place, Part::True, notes),
+            Directive::IfTrueFalse => self.act_switch(line, place, Part::Both, notes),
+            Directive::EndCondition => self.act_close(line, place, notes),
+            Directive::ImmediateIf => self.act_immediate(line, place, names, notes)?,
+            Directive::Macro => self.act_header(alloc, line, place, notes)?,
+            Directive::EndMacro | Directive::EndRepeat => notes.add_letters(Letters::O),
+            Directive::Repeat => self.act_repeat(alloc, line, place, names, notes)?,
+            Directive::IndefiniteRepeat => {
+                let rounds = indefinite_repeat(alloc, line, place, names, notes)?;
+                self.act_repeated(alloc, rounds)?;
+            }
+            Directive::CharacterRepeat => {
+                let rounds = character_repeat(alloc, line, place, notes)?;
+                self.act_repeated(alloc, rounds)?;
+            }
+            Directive::MacroExit => self.act_exit(line, place, notes),
+            Directive::ArgumentCount | Directive::CharacterCount => {}
+            Directive::End => {
+                self.has_ended = true;
+                return Ok(false);
+            }
+        }
+        Ok(true)
+    }
+
+    // `.IF` opens a condition, if there is room for one more.
+    fn act_if<N: Names>(
+        &mut self,
+        line: &Line,
+        place: usize,
+        names: &N,
+        notes: &mut Notes,
+    ) -> Result<(), AllocError>
+        requires within { place ≤ length line.now.text }
+        requires room { length self.old.conditions.entered + conditions_open self.old.left.left ≤ most_conditions }
+        ensures after { IfOk result (λ _. stage_of self.new ≡ (spec.acted_if
+            (known_by (N.base names.now) (N.stands_for names.now)) line.now.text place (stage_of self.old)).after) }
+        ensures notes { IfOk result (λ _. notes.new ≡ joined notes.old (spec.acted_if
+            (known_by (N.base names.now) (N.stands_for names.now)) line.now.text place (stage_of self.old)).notes) }
+    {
+        if self.conditions.count() + self.left.conditions_open() < CONDITION_LIMIT {
+            self.open_condition(line, place, names, notes)?;
+        } else {
+            notes.add_letters(Letters::O);
+            self.conditions.enter_past();
+        }
+        Ok(())
+    }
+
+    // Opens a condition, for which there is room.
+    #[tactic(auto, using(crate::proofs::Noting::letters_after))]
+    fn open_condition<N: Names>(
+        &mut self,
+        line: &Line,
+        place: usize,
+        names: &N,
+        notes: &mut Notes,
+    ) -> Result<(), AllocError>
+        requires within { place ≤ length line.now.text }
+        requires room { length self.old.conditions.entered < most_conditions }
+        ensures after { IfOk result (λ _. stage_of self.new ≡ (spec.condition_opened line.now.text (asked_condition
+            (known_by (N.base names.now) (N.stands_for names.now)) line.now.text place) (stage_of self.old)).after) }
+        ensures notes { IfOk result (λ _. notes.new ≡ joined notes.old (spec.condition_opened line.now.text (asked_condition
+            (known_by (N.base names.now) (N.stands_for names.now)) line.now.text place) (stage_of self.old)).notes) }
+    {
+        let answer = condition(line, place, names, notes)?;
+        notes.add_letters(left_over(line, usize::from(answer.end)));
+        self.conditions.enter(answer.holds);
+        Ok(())
+    }
+
+    // `.IFF`, `.IFT` or `.IFTF`: it needs a condition of its own expansion.
+    fn act_switch(&mut self, line: &Line, place: usize, part: Part, notes: &mut Notes)
+        requires { place ≤ length line.now.text }
+        ensures after { stage_of self.new
+            ≡ (spec.acted_within (switched part) line.now.text place (stage_of self.old)).after }
+        ensures notes { notes.new
+            ≡ joined notes.old (spec.acted_within (switched part) line.now.text place (stage_of self.old)).notes }
+    {
+        let has_none = self.conditions.is_empty();
+        notes.add_letters(Letters::O.when(has_none).with(left_over(line, place)));
+        if !has_none {
+            self.conditions.switch(part);
+        }
+    }
+
+    // `.ENDC`: it needs a condition of its own expansion.
+    fn act_close(&mut self, line: &Line, place: usize, notes: &mut Notes)
+        requires { place ≤ length line.now.text }
+        ensures after { stage_of self.new
+            ≡ (spec.acted_within closed line.now.text place (stage_of self.old)).after }
+        ensures notes { notes.new
+            ≡ joined notes.old (spec.acted_within closed line.now.text place (stage_of self.old)).notes }
+    {
+        let has_none = self.conditions.is_empty();
+        notes.add_letters(Letters::O.when(has_none).with(left_over(line, place)));
+        if !has_none {
+            self.conditions.close();
+        }
+    }
+
+    // `.IIF`: where its condition holds, its statement is the next line.
+    fn act_immediate<N: Names>(
+        &mut self,
+        line: &Line,
+        place: usize,
+        names: &N,
+        notes: &mut Notes,
+    ) -> Result<(), AllocError>
+        requires within { place ≤ length line.now.text }
+        requires free { self.old.left.has_statement ≡ false }
+        ensures after { IfOk result (λ _. stage_of self.new ≡ (spec.acted_immediate
+            (known_by (N.base names.now) (N.stands_for names.now)) line.now.text place (stage_of self.old)).after) }
+        ensures notes { IfOk result (λ _. notes.new ≡ joined notes.old (spec.acted_immediate
+            (known_by (N.base names.now) (N.stands_for names.now)) line.now.text place (stage_of self.old)).notes) }
+    {
+        let immediate = immediate_condition(line, place, names, notes)?;
+        if immediate.holds
+            && let Some(begin) = immediate.statement
+        {
+            let statement = Line::from_bytes(&line.text()[usize::from(begin)..]);
+            self.left.put(statement);
+        }
+        Ok(())
+    }
+
+    // `.MACRO`: without a name its body is taken for nothing.
+    fn act_header(
+        &mut self,
+        alloc: Global,
+        line: &Line,
+        place: usize,
+        notes: &mut Notes,
+    ) -> Result<(), AllocError>
+        requires { place ≤ length line.now.text }
+        ensures after { IfOk result (λ _. stage_of self.new
+            ≡ (spec.acted_header (header line.now.text place) (stage_of self.old)).after) }
+        ensures notes { IfOk result (λ _. notes.new ≡ joined notes.old
+            (spec.acted_header (header line.now.text place) (stage_of self.old)).notes) }
+    {
+        let header = header_at(alloc, line, place, notes)?;
+        self.open(alloc, defining(header));
+        Ok(())
+    }
+
+    // `.REPT`: no formals in each round.
+    fn act_repeat<N: Names>(
+        &mut self,
+        alloc: Global,
+        line: &Line,
+        place: usize,
+        names: &N,
+        notes: &mut Notes,
+    ) -> Result<(), AllocError>
+        requires { place ≤ length line.now.text }
+        ensures after { IfOk result (λ _. stage_of self.new ≡ (spec.acted_repeat
+            (known_by (N.base names.now) (N.stands_for names.now)) line.now.text place (stage_of self.old)).after) }
+        ensures notes { IfOk result (λ _. notes.new ≡ joined notes.old (spec.acted_repeat
+            (known_by (N.base names.now) (N.stands_for names.now)) line.now.text place (stage_of self.old)).notes) }
+    {
+        let count = repeat_count(line, place, names, notes)?;
+        let rounds = m11_expansions::Rounds::plain(alloc, count);
+        self.open(alloc, Purpose::Repeats(Vec::new(alloc), rounds));
+        Ok(())
+    }
+
+    // `.IRP` or `.IRPC`: one formal, and one actual in each round; no round where an argument is bad or missing.
+    fn act_repeated(&mut self, alloc: Global, rounds: Option<Rounds>) -> Result<(), AllocError>
+        ensures { IfOk result (λ _. stage_of self.new
+            ≡ spec.opens (spec.repeating (rounds_seen rounds)) (stage_of self.old)) }
+    {
+        let mut formals = Vec::new(alloc);
+        let rounds = match rounds {
+            Some(rounds) => {
+                formals.push(rounds.formal)?;
+                round_of_each(alloc, rounds.texts.as_slice())?
+            }
+            None => m11_expansions::Rounds::plain(alloc, 0),
+        };
+        self.open(alloc, Purpose::Repeats(formals, rounds));
+        Ok(())
+    }
+
+    // What follows is to be taken as a body.
+    fn open(&mut self, alloc: Global, purpose: Purpose)
+        requires { IsPurpose purpose }
+        ensures { stage_of self.new ≡ spec.opens (purpose_of purpose) (stage_of self.old) }
+    {
+        self.opening = Some(Opening::new(alloc, purpose));
+    }
+
+    // `.MEXIT`: what is left up to the end of the innermost expansion isn't taken.
+    fn act_exit(&mut self, line: &Line, place: usize, notes: &mut Notes)
+        requires { place ≤ length line.now.text }
+        ensures after { stage_of self.new ≡ (spec.acted_exit line.now.text place (stage_of self.old)).after }
+        ensures notes { notes.new
+            ≡ joined notes.old (spec.acted_exit line.now.text place (stage_of self.old)).notes }
+    {
+        let is_expanding = self.left.is_expanding();
+        notes.add_letters(Letters::O.when(!is_expanding).with(left_over(line, place)));
+        if is_expanding {
+            self.left.leave();
+        }
+    }
+}
+
+// What the header of a macro opens a body for.
+fn defining(header: Option<Header>) -> Purpose
+    requires { IsFew (header_seen header) }
+    ensures few { IsPurpose result }
+    ensures purpose { purpose_of result ≡ spec.defining (header_seen header) }
+{
+    match header {
+        Some(header) => Purpose::Defines(header.name, header.formals),
+        None => Purpose::Drops,
+    }
+}

@@ -1,0 +1,118 @@
+//! What a line's operator is, and calls of macros. (MACRO-11 Language Reference Manual, "Macro calls" and "Arguments in macro
+//! definitions and macro calls".)
+
+ghost use Rattle.std.specs.Prelude.{◌≡◌, ◌+◌, ◌<◌, ◌≤◌, false, length, None, Some, IfOk, IfErr};
+ghost use Rattle.m11_arguments.specs.Actuals.{actuals_from};
+ghost use Rattle.m11_arguments.specs.Expressions.{known_by};
+ghost use Rattle.m11_arguments.specs.Notes.{joined};
+ghost use Rattle.m11_base.specs.Mnemonics.{six_of};
+ghost use Rattle.m11_base.specs.Rad50.{name_of};
+ghost use Rattle.m11_expansions.specs.Conditions.{most_conditions};
+ghost use Rattle.m11_expansions.specs.Left.{conditions_open, depth, most_expansions};
+ghost use Rattle.m11_unfolding.specs.Acting as spec;
+ghost use Rattle.m11_unfolding.specs.Macros.{macro_named};
+ghost use Rattle.m11_unfold.specs.Steps.{Fails};
+ghost use Rattle.m11_unfold.specs.Views.{stage_of};
+
+use crate::macros::Macro;
+use crate::rounds::one_round;
+use crate::state::State;
+use m11_arguments::{Notes, actuals_from, directive_named, fill, operator};
+use m11_base::Name;
+use m11_expansions::EXPANSION_LIMIT;
+use m11_scan::{Line, read_name};
+use m11_unfolding::UnfoldFault;
+use m11_values::Names;
+use std::alloc::{AllocError, Global};
+
+impl State {
+    // Does the operator of a live line. The answer is whether the line is unfolding's own.
+    #[tactic(auto, using(crate::proofs::Noting::nothing_more))]
+    pub(crate) fn act<N: Names>(
+        &mut self,
+        alloc: Global,
+        line: &Line,
+        names: &N,
+        notes: &mut Notes,
+    ) -> Result<bool, UnfoldFault>
+        requires room { length self.old.conditions.entered + conditions_open self.old.left.left ≤ most_conditions }
+        requires free { self.old.left.has_statement ≡ false }
+        ensures own { IfOk result (λ is_own. is_own ≡ (spec.act
+            (known_by (N.base names.now) (N.stands_for names.now)) (stage_of self.old) line.now.text).is_own) }
+        ensures after { IfOk result (λ _. stage_of self.new ≡ (spec.act
+            (known_by (N.base names.now) (N.stands_for names.now)) (stage_of self.old) line.now.text).after) }
+        ensures notes { IfOk result (λ _. notes.new ≡ joined notes.old (spec.act
+            (known_by (N.base names.now) (N.stands_for names.now)) (stage_of self.old) line.now.text).notes) }
+        ensures within { IfOk result (λ _. spec.act_fault (stage_of self.old) line.now.text ≡ None) }
+        ensures fails { IfErr result (λ fault. Fails (spec.act_fault (stage_of self.old) line.now.text) fault) }
+    {
+        let Some(name) = operator(line) else {
+            return Ok(false);
+        };
+        let place = usize::from(name.end);
+        if let Some(called) = self.macro_called(name.text(line))? {
+            if self.left.depth() >= EXPANSION_LIMIT {
+                return Err(UnfoldFault::TooDeep);
+            }
+            self.call(alloc, called, line, place, names, notes)?;
+            return Ok(true);
+        }
+        match directive_named(name.text(line)) {
+            Some(directive) => Ok(self.direct(alloc, line, directive, place, names, notes)?),
+            None => Ok(false),
+        }
+    }
+
+    // The macro of a word, if it is the name of one. A line that ends a skipped part is live by its directive.
+    fn macro_called(&self, word: &[u8]) -> Result<Option<Macro>, AllocError>
+        ensures { IfOk result (λ called. called
+            ≡ spec.macro_of self.now.conditions self.now.macros.entries (name_of (six_of word.now))) }
+    {
+        if self.conditions.is_skipping() {
+            return Ok(None);
+        }
+        match read_name(word) {
+            Some(name) => self.macro_named(name),
+            None => Ok(None),
+        }
+    }
+
+    // The macro of a name, if it is defined.
+    fn macro_named(&self, name: Name) -> Result<Option<Macro>, AllocError>
+        ensures { IfOk result (λ named. named ≡ macro_named self.now.macros.entries name) }
+    {
+        match self.macros.get(&name) {
+            Some(named) => Ok(Some(named.handle()?)),
+            None => Ok(None),
+        }
+    }
+
+    // A call puts the body in its place, each formal with its actual.
+    fn call<N: Names>(
+        &mut self,
+        alloc: Global,
+        called: Macro,
+        line: &Line,
+        place: usize,
+        names: &N,
+        notes: &mut Notes,
+    ) -> Result<(), AllocError>
+        requires within { place ≤ length line.now.text }
+        requires room { depth self.old.left.left < most_expansions }
+        requires free { self.old.left.has_statement ≡ false }
+        ensures after { IfOk result (λ _. stage_of self.new ≡ (spec.acted_call called (actuals_from
+            (known_by (N.base names.now) (N.stands_for names.now)) line.now.text (length called.formals) place)
+            (stage_of self.old)).after) }
+        ensures notes { IfOk result (λ _. notes.new ≡ joined notes.old (spec.acted_call called (actuals_from
+            (known_by (N.base names.now) (N.stands_for names.now)) line.now.text (length called.formals) place)
+            (stage_of self.old)).notes) }
+    {
+        let wanted = called.formals().len();
+        let actuals = actuals_from(alloc, line, place, wanted, names, notes)?;
+        let filled = fill(alloc, called.formals(), actuals.as_slice(), self.created)?;
+        let count = actuals.len() as u16;
+        let rounds = one_round(alloc, filled.texts.as_slice())?;
+        self.created = filled.created;
+        self.expand(called.into_template(), rounds, Some(count), 0)
+    }
+}

@@ -1,0 +1,18 @@
+//! Unfolding a source line by line: a reader of it that does conditions, repeats and macros, and gives the lines that become live. It
+//! keeps each body once, and of the source one line. (MACRO-11 Language Reference Manual, "Macro directives" and "Conditional assembly
+//! directives".)
+#![tactic(auto)]
+
+mod acting;
+mod calling;
+mod macros;
+mod opening;
+mod rounds;
+mod skipping;
+mod state;
+mod steps;
+mod taking;
+mod unfolder;
+
+pub use steps::{Act, LiveLine, Step};
+pub use unfolder::Unfolder;

@@ -1,0 +1,86 @@
+//! A macro that is defined. (MACRO-11 Language Reference Manual, "Macro definition".)
+
+ghost use Rattle.std.specs.Prelude.{◌≡◌, ◌≤◌, length, map, IfOk};
+ghost use Rattle.m11_lines.specs.Line.{line_limit};
+ghost use Rattle.m11_unfolding.specs.Acting.{formal_name};
+
+use m11_arguments::MacroFormal;
+use m11_base::Name;
+use m11_expansions::{Template, Texts};
+use std::alloc::{AllocError, Global};
+use std::marker::Model;
+use std::rc::Rc;
+
+// Handles of a macro's formals and of its body, each of which is kept once.
+#[derive(Drop)]
+pub(crate) struct Macro {
+    formals: Rc<Vec<MacroFormal>>,
+    template: Rc<Template>,
+}
+
+impl Model for Macro {
+    ghost use Rattle.std.specs.Prelude.{◌≡◌, ◌≤◌, length, map};
+    ghost use Rattle.m11_lines.specs.Line.{line_limit};
+    ghost use Rattle.m11_unfolding.specs.Acting.{formal_name};
+    ghost use Rattle.m11_unfolding.specs.Stages as stages;
+
+    ghost Value = { stages.Macro };
+
+    ghost view = { λ m. record { formals = m.formals.value.items; body = m.template.value.body } };
+
+    ghost invariant = { λ m. (m.template.value.formals ≡ map formal_name m.formals.value.items)
+        × (length m.formals.value.items ≤ line_limit) };
+}
+
+impl Macro {
+    // A macro with no more formals than a line can have.
+    pub(crate) fn new(
+        alloc: Global,
+        formals: Vec<MacroFormal>,
+        body: Texts,
+    ) -> Result<Macro, AllocError>
+        requires { length formals.items ≤ line_limit }
+        ensures { IfOk result (λ m. m ≡ record { formals = formals.items; body = body }) }
+    {
+        let names = names_of(alloc, formals.as_slice())?;
+        Ok(Macro {
+            formals: Rc::new(alloc, formals)?,
+            template: Rc::new(alloc, Template::new(names, body))?,
+        })
+    }
+
+    // A further handle of the same macro.
+    pub(crate) fn handle(&self) -> Result<Macro, AllocError>
+        ensures { IfOk result (λ m. m ≡ self.now) }
+    {
+        Ok(Macro {
+            formals: self.formals.clone()?,
+            template: self.template.clone()?,
+        })
+    }
+
+    pub(crate) fn formals(&self) -> &[MacroFormal]
+        ensures formals { result.now ≡ self.now.formals }
+        ensures few { length result.now ≤ line_limit }
+    {
+        self.formals.as_slice()
+    }
+
+    pub(crate) fn into_template(self) -> Rc<Template>
+        ensures formals { result.value.formals ≡ map formal_name self.formals }
+        ensures body { result.value.body ≡ self.body }
+    {
+        self.template
+    }
+}
+
+// The names of formals.
+fn names_of(alloc: Global, formals: &[MacroFormal]) -> Result<Vec<Name>, AllocError>
+    ensures { IfOk result (λ names. names.items ≡ map formal_name formals.now) }
+{
+    let mut names = Vec::new(alloc);
+    'formals: for formal in formals {
+        names.push(formal.name)?;
+    }
+    Ok(names)
+}

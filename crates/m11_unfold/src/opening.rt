@@ -1,0 +1,109 @@
+//! A body that is being taken. (MACRO-11 Language Reference Manual, ".MACRO directive" and ".REPT directive".)
+
+ghost use Rattle.std.specs.Prelude.{◌≡◌, ◌+◌, ◌≤◌, ◌<◌, true, false, length, Some, None, IfOk};
+ghost use Rattle.m11_expansions.specs.Bodies.{depth_after, depth_inside, nothing_taken, size_of, taken_with};
+ghost use Rattle.m11_unfold.specs.Purposes.{IsPurpose, purpose_of};
+
+use m11_arguments::MacroFormal;
+use m11_base::Name;
+use m11_expansions::{Nesting, OpenBody, Rounds, Texts};
+use std::alloc::{AllocError, Global};
+use std::marker::Model;
+
+// What a body is taken for.
+#[derive(Drop)]
+pub enum Purpose {
+    // A macro of a name, with its formals.
+    Defines(Name, Vec<MacroFormal>),
+    // A repeat: its formals, and its rounds.
+    Repeats(Vec<Name>, Rounds),
+    // Nothing, since the line that opened it is refused.
+    Drops,
+}
+
+// A body that is being taken, with the bytes of its lines.
+#[derive(Drop)]
+pub(crate) struct Opening {
+    purpose: Purpose,
+    taken: OpenBody,
+    bytes: u32,
+}
+
+impl Model for Opening {
+    ghost use Rattle.std.specs.Prelude.{◌≡◌};
+    ghost use Rattle.m11_expansions.specs.Bodies.{size_of};
+    ghost use Rattle.m11_unfolding.specs.Stages as stages;
+    ghost use Rattle.m11_unfold.specs.Purposes.{IsPurpose, purpose_of};
+
+    ghost Value = { stages.Opening };
+
+    ghost view = { λ o. record { purpose = purpose_of o.purpose; taken = o.taken } };
+
+    ghost invariant = { λ o. (size_of o.taken.body ≡ o.bytes) × IsPurpose o.purpose };
+}
+
+// A body that is closed.
+#[derive(Drop)]
+pub(crate) struct Closed {
+    pub purpose: Purpose,
+    pub body: Texts,
+    pub bytes: u32,
+}
+
+impl Opening {
+    // A body of which no line came.
+    pub(crate) fn new(alloc: Global, purpose: Purpose) -> Opening
+        requires { IsPurpose purpose }
+        ensures { result ≡ record { purpose = purpose_of purpose; taken = nothing_taken } }
+    {
+        Opening {
+            purpose,
+            taken: OpenBody::new(alloc),
+            bytes: 0,
+        }
+    }
+
+    // The bytes of its lines, where each line's end counts as one.
+    pub(crate) fn bytes(&self) -> u32
+        ensures { result ≡ size_of self.now.taken.body }
+    {
+        self.bytes
+    }
+
+    // Whether a line ends it.
+    pub(crate) fn is_closed_by(&self, nesting: Nesting) -> bool
+        ensures closes { result ≡ true → depth_after nesting self.now.taken.depth ≡ None }
+        ensures stays { result ≡ false
+            → depth_after nesting self.now.taken.depth ≡ Some (depth_inside nesting self.now.taken.depth) }
+    {
+        self.taken.is_closed_by(nesting)
+    }
+
+    // Takes a line that doesn't end it.
+    pub(crate) fn take(&mut self, text: &[u8], nesting: Nesting) -> Result<(), AllocError>
+        requires stays { depth_after nesting self.old.taken.depth
+            ≡ Some (depth_inside nesting self.old.taken.depth) }
+        requires room { size_of self.old.taken.body + (length text.now + 1) < 4294967296 }
+        ensures { IfOk result (λ _. self.new ≡ record {
+          purpose = self.old.purpose;
+          taken = taken_with self.old.taken text.now (depth_inside nesting self.old.taken.depth);
+        }) }
+    {
+        let _closes = self.taken.take(text, nesting)?;
+        self.bytes += text.len() as u32 + 1;
+        Ok(())
+    }
+
+    pub(crate) fn into_closed(self) -> Closed
+        ensures purpose { purpose_of result.purpose ≡ self.purpose }
+        ensures few { IsPurpose result.purpose }
+        ensures body { result.body ≡ self.taken.body }
+        ensures bytes { result.bytes ≡ size_of self.taken.body }
+    {
+        Closed {
+            purpose: self.purpose,
+            body: self.taken.into_body(),
+            bytes: self.bytes,
+        }
+    }
+}

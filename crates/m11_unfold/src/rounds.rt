@@ -1,0 +1,42 @@
+//! The rounds of an expansion, from texts that were taken from a line. (MACRO-11 Language Reference Manual, "Arguments in macro
+//! definitions and macro calls" and "Indefinite repeat block directives".)
+
+ghost use Rattle.std.specs.Prelude.{◌≡◌, ◌∷◌, [], map, IfOk};
+ghost use Rattle.m11_arguments.specs.Actuals.{texts_of};
+ghost use Rattle.m11_unfolding.specs.Acting.{alone};
+
+use m11_expansions::{Rounds, Texts};
+use std::alloc::{AllocError, Global};
+use std::collections::VecDeque;
+
+// One round with these actuals.
+pub(crate) fn one_round(alloc: Global, actuals: &[Vec<u8>]) -> Result<Rounds, AllocError>
+    ensures { IfOk result (λ rounds. rounds ≡ texts_of actuals.now ∷ []) }
+{
+    let mut rounds = VecDeque::new(alloc);
+    rounds.push_back(kept(alloc, actuals)?)?;
+    Ok(Rounds::listed(rounds))
+}
+
+// A round with each text as its one actual.
+pub(crate) fn round_of_each(alloc: Global, texts: &[Vec<u8>]) -> Result<Rounds, AllocError>
+    ensures { IfOk result (λ rounds. rounds ≡ map alone (texts_of texts.now)) }
+{
+    let mut rounds = VecDeque::new(alloc);
+    'texts: for text in texts {
+        let mut actuals = Texts::new(alloc);
+        actuals.push(text.as_slice())?;
+        rounds.push_back(actuals)?;
+    }
+    Ok(Rounds::listed(rounds))
+}
+
+fn kept(alloc: Global, texts: &[Vec<u8>]) -> Result<Texts, AllocError>
+    ensures { IfOk result (λ kept. kept ≡ texts_of texts.now) }
+{
+    let mut kept = Texts::new(alloc);
+    'texts: for text in texts {
+        kept.push(text.as_slice())?;
+    }
+    Ok(kept)
+}

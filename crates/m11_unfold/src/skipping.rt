@@ -1,0 +1,80 @@
+//! Lines that are skipped. (MACRO-11 Language Reference Manual, "Conditional assembly block directives" and "Subconditional assembly
+//! block directives".)
+
+ghost use Rattle.std.specs.Prelude.{◌≡◌, ◌<◌, true, false, Some, None};
+ghost use Rattle.m11_unfolding.specs.Taking as spec;
+
+use m11_arguments::{Directive, directive_of};
+use m11_expansions::{Conditions, Nesting};
+use m11_scan::Line;
+
+// Skips a line, unless it is live. The answer is whether it is skipped.
+pub(crate) fn skip(conditions: &mut Conditions, line: &Line) -> bool
+    requires { conditions.old.nested < 4294967295 }
+    ensures skipped { result ≡ true → spec.skipped conditions.old line.now.text ≡ Some conditions.new }
+    ensures live { result ≡ false → spec.skipped conditions.old line.now.text ≡ None }
+    ensures unchanged { result ≡ false → conditions.new ≡ conditions.old }
+{
+    if conditions.is_skipping() {
+        skip_by(conditions, directive_of(line))
+    } else {
+        false
+    }
+}
+
+// Skips a line by its word, where lines are skipped.
+fn skip_by(conditions: &mut Conditions, word: Option<Directive>) -> bool
+    requires { conditions.old.nested < 4294967295 }
+    ensures skipped { result ≡ true → spec.skipped_by conditions.old word ≡ Some conditions.new }
+    ensures live { result ≡ false → spec.skipped_by conditions.old word ≡ None }
+    ensures unchanged { result ≡ false → conditions.new ≡ conditions.old }
+{
+    match word {
+        Some(Directive::If) => {
+            conditions.nest();
+            true
+        }
+        Some(Directive::EndCondition) => skip_close(conditions),
+        Some(Directive::IfFalse | Directive::IfTrue | Directive::IfTrueFalse) => {
+            is_inner_switch(conditions)
+        }
+        _ => true,
+    }
+}
+
+// Skips an `.ENDC` of a condition that is skipped itself.
+fn skip_close(conditions: &mut Conditions) -> bool
+    ensures skipped { result ≡ true → spec.close_in conditions.old ≡ Some conditions.new }
+    ensures live { result ≡ false → spec.close_in conditions.old ≡ None }
+    ensures unchanged { result ≡ false → conditions.new ≡ conditions.old }
+{
+    if conditions.nested() == 0 {
+        return false;
+    }
+    conditions.unnest();
+    true
+}
+
+// Whether a switch belongs to a condition that is skipped itself, or to one past the last that may be open.
+fn is_inner_switch(conditions: &Conditions) -> bool
+    ensures skipped { result ≡ true → spec.switch_in conditions.now ≡ Some conditions.now }
+    ensures live { result ≡ false → spec.switch_in conditions.now ≡ None }
+{
+    conditions.is_past() || conditions.nested() != 0
+}
+
+// What a line does to the body that it stands in.
+pub(crate) fn nesting_of(line: &Line) -> Nesting
+    ensures { result ≡ spec.nesting line.now.text }
+{
+    match directive_of(line) {
+        Some(
+            Directive::Macro
+            | Directive::Repeat
+            | Directive::IndefiniteRepeat
+            | Directive::CharacterRepeat,
+        ) => Nesting::Opens,
+        Some(Directive::EndMacro | Directive::EndRepeat) => Nesting::Closes,
+        _ => Nesting::Neither,
+    }
+}

@@ -1,0 +1,35 @@
+//! What an unfolder's calls return.
+
+use m11_arguments::Notes;
+use m11_scan::Line;
+
+/// A line that became live.
+#[derive(Drop, Debug)]
+pub struct LiveLine {
+    /// The line, with actuals put in.
+    pub line: Line,
+    /// Whether an expansion gave it.
+    pub is_expanded: bool,
+}
+
+/// What comes next of a source.
+#[derive(Drop, Debug)]
+pub enum Step {
+    /// Nothing is left: the next line of the source is to be fed, or the source has ended.
+    NeedLine,
+    /// `.END` became live.
+    End,
+    /// A line became live.
+    Line(LiveLine),
+}
+
+/// What the operator of a live line gave.
+#[derive(Drop)]
+pub struct Act {
+    /// Whether the line is unfolding's own: a call, or a directive of conditions, repeats and macros. Such a line places nothing.
+    pub is_own: bool,
+    /// The letters of the operator and its arguments, and the symbols that they read, in order.
+    pub notes: Notes,
+    /// The number of actuals of the innermost call of a macro that is expanded around the line, if there is one.
+    pub arguments: Option<u16>,
+}

@@ -1,0 +1,235 @@
+//! What is taken next. (MACRO-11 Language Reference Manual, "Macro definition" and "Conditional assembly block directives".)
+
+ghost use Rattle.std.specs.Prelude.{◌≡◌, ◌+◌, ◌<◌, ◌≤◌, false, length, None, Some, Ok, IfOk};
+ghost use Rattle.m11_expansions.specs.Bodies.{size_of};
+ghost use Rattle.m11_expansions.specs.Left.{bytes_held, depth, is_expanding, most_expansions};
+ghost use Rattle.m11_lines.specs.Line.{line_limit};
+ghost use Rattle.m11_unfolding.specs.Limits.{bytes_of, line_fault, most_bytes};
+ghost use Rattle.m11_unfolding.specs.Stages as stages;
+ghost use Rattle.m11_unfolding.specs.Taking as spec;
+ghost use Rattle.m11_unfold.specs.Kept.{IsKept};
+ghost use Rattle.m11_unfold.specs.Steps.{Closes, Enters, IsFree, Moves, Results, with_line};
+ghost use Rattle.m11_unfold.specs.Views.{stage_of};
+ghost use Rattle.m11_unfold.specs.Purposes.{IsPurpose, purpose_of};
+
+use crate::macros::Macro;
+use crate::opening::{Closed, Opening, Purpose};
+use crate::skipping::{nesting_of, skip};
+use crate::state::State;
+use m11_arguments::MacroFormal;
+use m11_base::Name;
+use m11_expansions::{Conditions, EXPANSION_LIMIT, Mark, Rounds, Taken, Template, Texts};
+use m11_scan::Line;
+use m11_unfolding::UnfoldFault;
+use std::alloc::{AllocError, Global};
+use std::rc::Rc;
+
+// The most lines that are taken.
+const LINE_MOST: u32 = 200_000;
+
+// The most bytes of bodies.
+const BYTE_MOST: u64 = 65_536;
+
+// The most names of macros.
+const MACRO_MOST: usize = 256;
+
+// What one move gives.
+#[derive(Drop)]
+pub enum Moved {
+    // Nothing is taken any more.
+    Rests,
+    // Something was taken, and no line became live.
+    Passes,
+    // A line became live, and whether an expansion gave it.
+    Gives(Line, bool),
+}
+
+impl State {
+    // Makes one move.
+    pub(crate) fn advance(&mut self, alloc: Global) -> Result<Moved, UnfoldFault>
+        requires { IsKept (stage_of self.old) }
+        ensures moves { Moves (stage_of self.old) (stage_of self.new) result }
+        ensures free { IsFree self.new.left.has_statement result }
+    {
+        if self.has_ended {
+            return Ok(Moved::Rests);
+        }
+        match self.left.take() {
+            Some(Taken::Line(line, is_expanded)) => self.take_line(alloc, line, is_expanded),
+            Some(Taken::End(mark)) => {
+                self.opening = None;
+                self.conditions = mark.conditions;
+                Ok(Moved::Passes)
+            }
+            None => Ok(Moved::Rests),
+        }
+    }
+
+    // One line is taken, which stood before what is left.
+    fn take_line(
+        &mut self,
+        alloc: Global,
+        line: Line,
+        is_expanded: bool,
+    ) -> Result<Moved, UnfoldFault>
+        requires kept { IsKept (with_line line (stage_of self.old)) }
+        requires free { self.old.left.has_statement ≡ false }
+        requires expanded { is_expanded ≡ is_expanding self.old.left.left }
+        ensures moves { Results (line_fault (with_line line (stage_of self.old)) line.text)
+            (spec.line_taken self.old.opening line (spec.one_taken self.old.left.left (stage_of self.old)))
+            (stage_of self.new) result }
+        ensures free { self.new.left.has_statement ≡ false }
+    {
+        if self.taken >= LINE_MOST {
+            return Err(UnfoldFault::TooManyLines);
+        }
+        self.taken += 1;
+        match self.opening.take() {
+            Some(opening) => match self.take_into(alloc, opening, &line) {
+                Ok(()) => Ok(Moved::Passes),
+                Err(fault) => Err(fault),
+            },
+            None => Ok(self.skip_or_give(line, is_expanded)),
+        }
+    }
+
+    // A line that stands in no body is skipped, or becomes live.
+    fn skip_or_give(&mut self, line: Line, is_expanded: bool) -> Moved
+        requires room { self.old.conditions.nested < 4294967295 }
+        requires expanded { is_expanded ≡ is_expanding self.old.left.left }
+        ensures moves { Results None
+            (spec.live_or_skipped (spec.skipped self.old.conditions line.text) line (stage_of self.old))
+            (stage_of self.new) (Ok result) }
+        ensures left { self.new.left ≡ self.old.left }
+    {
+        if skip(&mut self.conditions, &line) {
+            Moved::Passes
+        } else {
+            Moved::Gives(line, is_expanded)
+        }
+    }
+
+    // A line is taken into a body, or closes it.
+    fn take_into(&mut self, alloc: Global, opening: Opening, line: &Line) -> Result<(), UnfoldFault>
+        requires bytes { bytes_of (record (stage_of self.old) { opening = Some opening }) ≤ most_bytes }
+        requires open { self.old.opening ≡ None }
+        requires free { self.old.left.has_statement ≡ false }
+        ensures takes { Enters (record (stage_of self.old) { opening = Some opening }) opening line.now.text
+            (stage_of self.new) result }
+        ensures free { self.new.left.has_statement ≡ false }
+    {
+        let mut opening = opening;
+        let nesting = nesting_of(line);
+        if opening.is_closed_by(nesting) {
+            return self.close(alloc, opening.into_closed());
+        }
+        if self.bytes_with(opening.bytes(), line) > BYTE_MOST {
+            return Err(UnfoldFault::TooMuchText);
+        }
+        opening.take(line.text(), nesting)?;
+        self.opening = Some(opening);
+        Ok(())
+    }
+
+    // The bytes of all bodies, with those of the one that is being taken and of a further line of it.
+    fn bytes_with(&self, taken: u32, line: &Line) -> u64
+        requires { self.now.defined_bytes + bytes_held self.now.left.left + taken ≤ most_bytes }
+        ensures { result ≡ self.now.defined_bytes + bytes_held self.now.left.left + taken + (length line.now.text + 1) }
+    {
+        u64::from(self.defined_bytes)
+            + self.left.bytes_held()
+            + u64::from(taken)
+            + line.text().len() as u64
+            + 1
+    }
+
+    // A body is closed: its macro is defined, or its repeat put before what is left.
+    fn close(&mut self, alloc: Global, closed: Closed) -> Result<(), UnfoldFault>
+        requires few { IsPurpose closed.purpose }
+        requires bytes { size_of closed.body ≡ closed.bytes }
+        requires room { self.old.defined_bytes + closed.bytes ≤ most_bytes }
+        requires free { self.old.left.has_statement ≡ false }
+        ensures closes { Closes (purpose_of closed.purpose) closed.body (stage_of self.old) (stage_of self.new) result }
+        ensures free { self.new.left.has_statement ≡ false }
+    {
+        let Closed {
+            purpose,
+            body,
+            bytes,
+        } = closed;
+        match purpose {
+            Purpose::Defines(name, formals) => self.define(alloc, name, formals, body, bytes),
+            Purpose::Repeats(formals, rounds) => self.repeat(alloc, formals, rounds, body, bytes),
+            Purpose::Drops => Ok(()),
+        }
+    }
+
+    // Defines a macro.
+    fn define(
+        &mut self,
+        alloc: Global,
+        name: Name,
+        formals: Vec<MacroFormal>,
+        body: Texts,
+        bytes: u32,
+    ) -> Result<(), UnfoldFault>
+        requires few { length formals.items ≤ line_limit }
+        requires bytes { size_of body ≡ bytes }
+        requires room { self.old.defined_bytes + bytes ≤ most_bytes }
+        ensures closes { Closes (stages.Defines name formals.items) body (stage_of self.old) (stage_of self.new) result }
+        ensures left { self.new.left ≡ self.old.left }
+    {
+        if self.macros.get(&name).is_none() && self.macros.len() >= MACRO_MOST {
+            return Err(UnfoldFault::TooManyMacros);
+        }
+        self.macros.insert(name, Macro::new(alloc, formals, body)?)?;
+        self.defined_bytes += bytes;
+        Ok(())
+    }
+
+    // Puts a repeat before what is left.
+    fn repeat(
+        &mut self,
+        alloc: Global,
+        formals: Vec<Name>,
+        rounds: Rounds,
+        body: Texts,
+        bytes: u32,
+    ) -> Result<(), UnfoldFault>
+        requires bytes { size_of body ≡ bytes }
+        requires free { self.old.left.has_statement ≡ false }
+        ensures closes { Closes (stages.Repeats formals.items rounds) body (stage_of self.old) (stage_of self.new)
+            result }
+        ensures free { self.new.left.has_statement ≡ false }
+    {
+        if self.left.depth() >= EXPANSION_LIMIT {
+            return Err(UnfoldFault::TooDeep);
+        }
+        let template = Rc::new(alloc, Template::new(formals, body))?;
+        self.expand(template, rounds, None, bytes)?;
+        Ok(())
+    }
+
+    // Puts an expansion before what is left. Conditions belong to it; its end carries those around it.
+    pub(crate) fn expand(
+        &mut self,
+        template: Rc<Template>,
+        rounds: Rounds,
+        arguments: Option<u16>,
+        bytes: u32,
+    ) -> Result<(), AllocError>
+        requires room { depth self.old.left.left < most_expansions }
+        requires free { self.old.left.has_statement ≡ false }
+        ensures opened { IfOk result (λ _. stage_of self.new ≡ spec.opened arguments bytes template.value.formals rounds
+            template.value.body (stage_of self.old)) }
+        ensures free { self.new.left.has_statement ≡ false }
+    {
+        let conditions = std::mem::replace(&mut self.conditions, Conditions::new());
+        let mark = Mark {
+            arguments,
+            bytes,
+            conditions,
+        };
+        self.left.expand(template, rounds, mark)
+    }
+}

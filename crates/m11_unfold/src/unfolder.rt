@@ -1,0 +1,155 @@
+//! The unfolder of a source. (MACRO-11 Language Reference Manual, "Macro directives" and "Conditional assembly directives".)
+
+ghost use Rattle.std.specs.Prelude.{◌≡◌, ◌∷◌, [], false, None, Some, Err, IfOk, IfErr};
+ghost use Rattle.m11_arguments.specs.Expressions.{known_by};
+ghost use Rattle.m11_expansions.specs.Left as lefts;
+ghost use Rattle.m11_unfolding.specs.Stages.{start};
+ghost use Rattle.m11_unfold.specs.Faults.{err_in};
+ghost use Rattle.m11_unfold.specs.Kept.{IsKept};
+ghost use Rattle.m11_unfold.specs.Unfolder as spec;
+ghost use Rattle.m11_unfold.specs.Views.{stage_of};
+
+use crate::state::State;
+use crate::steps::{Act, LiveLine, Step};
+use crate::taking::Moved;
+use m11_arguments::Notes;
+use m11_scan::Line;
+use m11_unfolding::UnfoldFault;
+use m11_values::Names;
+use std::alloc::Global;
+use std::marker::Model;
+
+/// Unfolds a source line by line: `next` gives each line that becomes live, and `act` does its operator. It keeps at most 16 open
+/// expansions, 256 macros, 65,536 bytes of bodies and 32 open conditions, and each body once. After a fault each call returns it
+/// again.
+#[derive(Drop)]
+pub struct Unfolder {
+    alloc: Global,
+    state: State,
+    fault: Option<UnfoldFault>,
+}
+
+impl Model for Unfolder {
+    ghost use Rattle.m11_unfold.specs.Unfolder as spec;
+    ghost use Rattle.m11_unfold.specs.Views.{stage_of};
+
+    ghost Value = { spec.Unfolding };
+
+    ghost view = { λ u. record {
+      stage = stage_of u.state;
+      has_statement = u.state.left.has_statement;
+      fault = u.fault;
+    } };
+
+    ghost invariant = { λ u. spec.IsWithin u.fault (stage_of u.state) };
+}
+
+impl Unfolder {
+    /// Before the first line of a source.
+    pub fn new(alloc: Global) -> Unfolder
+        ensures { result ≡ record { stage = start []; has_statement = false; fault = None } }
+    {
+        Unfolder {
+            alloc,
+            state: State::new(alloc),
+            fault: None,
+        }
+    }
+
+    /// The next line of the source, where nothing is left to take: at the start, and after `NeedLine`.
+    pub fn feed(&mut self, line: Line)
+        requires { self.old.stage.left ≡ [] }
+        ensures { self.new ≡ record {
+          stage = record self.old.stage { left = lefts.Line line ∷ [] };
+          has_statement = false;
+          fault = self.old.fault;
+        } }
+    {
+        self.state.left.feed(line);
+    }
+
+    /// What comes next. Its operator is to be done, by `act`, before the step after it.
+    ///
+    /// Errors: `TooManyLines` before the 200,001st line is taken, `TooMuchText` before bodies have more than 65,536 bytes,
+    /// `TooManyMacros` before the 257th name is defined, `TooDeep` before a repeat opens the 17th expansion, and `NoMemory`.
+    pub fn next(&mut self) -> Result<Step, UnfoldFault>
+        ensures steps { self.old.fault ≡ None → spec.Steps self.old.stage self.new.stage result }
+        ensures again { (fault : UnfoldFault) → self.old.fault ≡ Some fault → result ≡ Err fault }
+        ensures fault { self.new.fault ≡ err_in result }
+        ensures empty { spec.IsEmpty self.new.stage result }
+        ensures free { spec.IsFree self.new.has_statement result }
+        ensures kept { spec.IsWithin self.new.fault self.new.stage }
+    {
+        if let Some(fault) = self.fault {
+            return Err(fault);
+        }
+        match self.state.next_live(self.alloc) {
+            Ok(step) => Ok(step),
+            Err(fault) => {
+                self.fault = Some(fault);
+                Err(fault)
+            }
+        }
+    }
+
+    /// Does the operator of the line that became live last, by the step before, under what is known of names once its labels are defined.
+    ///
+    /// Errors: `TooDeep` where a call would open the 17th expansion, before an argument is read; and `NoMemory`.
+    pub fn act<N: Names>(&mut self, line: &Line, names: &N) -> Result<Act, UnfoldFault>
+        requires { self.old.has_statement ≡ false }
+        ensures acts { self.old.fault ≡ None → spec.Acts (known_by (N.base names.now) (N.stands_for names.now))
+            line.now.text self.old.stage self.new.stage result }
+        ensures again { (fault : UnfoldFault) → self.old.fault ≡ Some fault → result ≡ Err fault }
+        ensures fault { self.new.fault ≡ err_in result }
+        ensures kept { spec.IsWithin self.new.fault self.new.stage }
+    {
+        if let Some(fault) = self.fault {
+            return Err(fault);
+        }
+        let arguments = self.state.left.argument_count();
+        let mut notes = Notes::new(self.alloc);
+        match self.state.act(self.alloc, line, names, &mut notes) {
+            Ok(is_own) => Ok(Act {
+                is_own,
+                notes,
+                arguments,
+            }),
+            Err(fault) => {
+                self.fault = Some(fault);
+                Err(fault)
+            }
+        }
+    }
+}
+
+impl State {
+    // Moves on up to the next live line, or to the end of what is left.
+    pub(crate) fn next_live(&mut self, alloc: Global) -> Result<Step, UnfoldFault>
+        requires { IsKept (stage_of self.old) }
+        ensures steps { spec.Steps (stage_of self.old) (stage_of self.new) result }
+        ensures empty { spec.IsEmpty (stage_of self.new) result }
+        ensures kept { IfOk result (λ _. IsKept (stage_of self.new)) }
+        ensures free { spec.IsFree self.new.left.has_statement result }
+    {
+        'moves: loop {
+            match self.advance(alloc)? {
+                Moved::Passes => {}
+                Moved::Gives(line, is_expanded) => {
+                    return Ok(Step::Line(LiveLine { line, is_expanded }));
+                }
+                Moved::Rests => return Ok(self.rested()),
+            }
+        }
+    }
+
+    // What comes where nothing is taken any more.
+    fn rested(&self) -> Step
+        ensures { result ≡ spec.rested self.now.has_ended }
+    {
+        if self.has_ended {
+            Step::End
+        } else {
+            Step::NeedLine
+        }
+    }
+}
