@@ -1,1 +1,2 @@
 mod OtherLines
+mod Following

@@ -1,17 +1,23 @@
 //! Laws of unfolding. Each is the contract of a function that does nothing.
 
-ghost use Rattle.std.specs.Prelude.{◌≡◌, ◌+◌, ◌≤◌, List, length, map};
+ghost use Rattle.std.specs.Prelude.{◌≡◌, ◌+◌, ◌≤◌, ◌++◌, List, length, map};
 ghost use Rattle.m11_arguments.specs.Expressions.{Known};
 ghost use Rattle.m11_expansions.specs.Left.{Left};
 ghost use Rattle.m11_lines.specs.Line.{SourceLine};
 ghost use Rattle.m11_unfolding.specs.Laws.{AreForeign, IsLive, after_lines, before_lines, foreign_given};
 ghost use Rattle.m11_unfolding.specs.Limits.{most_lines};
 ghost use Rattle.m11_unfolding.specs.Stages.{Stage};
-ghost use Rattle.m11_unfolding.specs.Unfolding.{Leads};
+ghost use Rattle.m11_unfolding.specs.Unfolding.{Given, Leads};
 
 /// Lines whose operators are no macros and no directives of unfolding become live as they are, one after the other.
 pub fn other_lines_become_live()
     ensures { (known : Known) (stage : Stage) (lines : List SourceLine) (left : List Left) → IsLive stage
         → AreForeign stage lines → stage.taken + length lines ≤ most_lines
         → Leads (before_lines stage lines left) (map (foreign_given known left) lines) (after_lines stage lines left) }
+{}
+
+/// Where one unfolding leads to a stage, and another goes on from there, the two together are one, with the lines of both.
+pub fn unfoldings_follow_each_other()
+    ensures { (before middle after : Stage) (done later : List Given) → Leads before done middle → Leads middle later after
+        → Leads before (done ++ later) after }
 {}

@@ -6,4 +6,4 @@ mod fault;
 mod laws;
 
 pub use fault::UnfoldFault;
-pub use laws::other_lines_become_live;
+pub use laws::{other_lines_become_live, unfoldings_follow_each_other};
