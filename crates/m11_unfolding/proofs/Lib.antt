@@ -1,2 +1,3 @@
-mod OtherLines
+mod Ending
 mod Following
+mod OtherLines

@@ -1,11 +1,12 @@
--- What unfolding leaves alone. (MACRO-11 Language Reference Manual, "Source program format".)
-use Rattle.std.specs.Prelude.{◌≡◌, false, List, [], ◌∷◌, ◌++◌, ◌+◌, length, map, None, ⊤}
+-- What unfolding leaves alone, and where it ends. (MACRO-11 Language Reference Manual, "Source program format" and ".END directive".)
+use Rattle.std.specs.Prelude.{◌≡◌, ℕ, false, List, [], ◌∷◌, ◌++◌, ◌+◌, length, map, None, ⊤}
 use Rattle.m11_lines.specs.Line.{SourceLine}
 use Rattle.m11_arguments.specs.Expressions.{Known}
 use Rattle.m11_arguments.specs.Notes.{no_notes}
+use Rattle.m11_arguments.specs.declared.directives.Directive.{Directive}
 use Rattle.m11_expansions.specs.Conditions.{is_skipping}
 use Rattle.m11_expansions.specs.Left.{Left, argument_count, is_expanding}
-use Rattle.m11_unfolding.specs.Acting.{Foreign, operation}
+use Rattle.m11_unfolding.specs.Acting.{Directs, Foreign, operation}
 use Rattle.m11_unfolding.specs.Stages.{Stage, line_left}
 use Rattle.m11_unfolding.specs.Unfolding.{Given}
 
@@ -36,3 +37,7 @@ before_lines stage lines left = record stage { left = map line_left lines ++ lef
 
 abbrev pub after_lines : Stage → List SourceLine → List Left → Stage
 after_lines stage lines left = record stage { left = left; taken = stage.taken + length lines }
+
+-- a line's operator is a directive, whose arguments begin at a place
+abbrev pub IsDirective : Stage → SourceLine → Directive → ℕ → Type 0
+IsDirective stage line directive place = operation stage.conditions stage.macros line.text ≡ Directs directive place

@@ -1,12 +1,15 @@
 //! Laws of unfolding. Each is the contract of a function that does nothing.
 
-ghost use Rattle.std.specs.Prelude.{◌≡◌, ◌+◌, ◌≤◌, ◌++◌, List, length, map};
+ghost use Rattle.std.specs.Prelude.{◌≡◌, ◌+◌, ◌≤◌, ◌++◌, ℕ, List, [], length, map};
 ghost use Rattle.m11_arguments.specs.Expressions.{Known};
+ghost use Rattle.m11_arguments.specs.declared.directives.Directive.TheVariants.{End};
 ghost use Rattle.m11_expansions.specs.Left.{Left};
 ghost use Rattle.m11_lines.specs.Line.{SourceLine};
-ghost use Rattle.m11_unfolding.specs.Laws.{AreForeign, IsLive, after_lines, before_lines, foreign_given};
+ghost use Rattle.m11_unfolding.specs.Acting.{act};
+ghost use Rattle.m11_unfolding.specs.Laws.{AreForeign, IsDirective, IsLive, after_lines, before_lines, foreign_given};
 ghost use Rattle.m11_unfolding.specs.Limits.{most_lines};
 ghost use Rattle.m11_unfolding.specs.Stages.{Stage};
+ghost use Rattle.m11_unfolding.specs.Taking.{Rests, move};
 ghost use Rattle.m11_unfolding.specs.Unfolding.{Given, Leads};
 
 /// Lines whose operators are no macros and no directives of unfolding become live as they are, one after the other.
@@ -20,4 +23,13 @@ pub fn other_lines_become_live()
 pub fn unfoldings_follow_each_other()
     ensures { (before middle after : Stage) (done later : List Given) → Leads before done middle → Leads middle later after
         → Leads before (done ++ later) after }
+{}
+
+/// After a live `.END` nothing is taken any more: no line becomes live, and the stage stays.
+pub fn end_is_the_last_line()
+    ensures rests { (known : Known) (stage : Stage) (line : SourceLine) (place : ℕ) → IsDirective stage line End place
+        → move (act known stage line.text).after ≡ Rests }
+    ensures stays { (known : Known) (stage after : Stage) (line : SourceLine) (place : ℕ) (done : List Given)
+        → IsDirective stage line End place → Leads (act known stage line.text).after done after
+        → (done ≡ []) × (after ≡ (act known stage line.text).after) }
 {}
