@@ -1,3 +1,4 @@
+mod Constructs
 mod Ending
 mod Following
 mod OtherLines

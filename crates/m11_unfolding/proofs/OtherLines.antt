@@ -17,12 +17,12 @@ use Rattle.m11_unfolding.specs.Taking.{Gives, Live, move}
 use Rattle.m11_unfolding.specs.Unfolding.{Given, Leads, given}
 use Rattle.m11_unfolding.specs.Unfolding as steps
 
-same_marks : (lines : List SourceLine) (left : List Left) → marks (map line_left lines ++ left) ≡ marks left
+pub same_marks : (lines : List SourceLine) (left : List Left) → marks (map line_left lines ++ left) ≡ marks left
 same_marks [] left = refl
 same_marks (line ∷ lines) left = same_marks lines left
 
 -- nothing is skipped, and no body is open
-abbrev stage_at : OpenConditions → List (Name × Macro) → ℕ → ℕ → ℕ → List Left → Stage
+abbrev pub stage_at : OpenConditions → List (Name × Macro) → ℕ → ℕ → ℕ → List Left → Stage
 stage_at conditions macros bytes created taken left = record {
   left = left;
   conditions = conditions;
@@ -40,15 +40,15 @@ ForeignHere conditions macros [] = ⊤
 ForeignHere conditions macros (line ∷ lines) =
     (operation conditions macros line.text ≡ Foreign) × ForeignHere conditions macros lines
 
-has_lines_left : (taken more : ℕ) → taken + suc more ≤ most_lines → nat_le most_lines taken ≡ false
+pub has_lines_left : (taken more : ℕ) → taken + suc more ≤ most_lines → nat_le most_lines taken ≡ false
 has_lines_left taken more most = grind (arith, nat_tests)
 
-no_fault : (conditions : OpenConditions) (macros : List (Name × Macro)) (bytes created taken more : ℕ) (line : SourceLine)
+pub no_fault : (conditions : OpenConditions) (macros : List (Name × Macro)) (bytes created taken more : ℕ) (line : SourceLine)
     (left : List Left) → taken + suc more ≤ most_lines
     → next_fault (stage_at conditions macros bytes created taken (Line line ∷ left)) ≡ None
 no_fault conditions macros bytes created taken more line left most = rw (has_lines_left taken more most) refl
 
-becomes_live : (conditions : OpenConditions) (macros : List (Name × Macro)) (bytes created taken : ℕ) (line : SourceLine)
+pub becomes_live : (conditions : OpenConditions) (macros : List (Name × Macro)) (bytes created taken : ℕ) (line : SourceLine)
     (left : List Left) → is_skipping conditions ≡ false
     → move (stage_at conditions macros bytes created taken (Line line ∷ left))
     ≡ Gives (record { line = line; is_expanded = is_expanding left }) (stage_at conditions macros bytes created (taken + 1) left)

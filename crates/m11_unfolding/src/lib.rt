@@ -6,4 +6,7 @@ mod fault;
 mod laws;
 
 pub use fault::UnfoldFault;
-pub use laws::{end_is_the_last_line, other_lines_become_live, unfoldings_follow_each_other};
+pub use laws::{
+    end_is_the_last_line, exits_leave_what_stood_after_the_call, other_lines_become_live,
+    unfoldings_follow_each_other,
+};
