@@ -1,30 +1,21 @@
 -- Lines of unfolding's own, each as one run of steps.
-use Rattle.std.proofs.Common.{◌≡◌, ◌∙◌, ℕ, suc, ◌+◌, ◌<◌, ◌≤◌, true, false, List, [], ◌∷◌, ◌++◌, length, map, append_assoc, append-nil, Option, None, Some, refl, sym, ap, subst, arith}
-use Rattle.std.specs.Prelude.{Bool, nat_le, nat_lt, ⊤, if◌then◌else◌}
-use Rattle.std.proofs.lemmas.Bool.Decides.{nat_tests}
-use Rattle.std.proofs.lemmas.List.Sums.{sum_by-cons, sum_by_push}
-use Rattle.m11_base.specs.Devices.{Bytes}
+use Rattle.std.proofs.Common.{◌≡◌, ◌∙◌, ℕ, suc, ◌+◌, ◌≤◌, true, false, List, [], ◌∷◌, ◌++◌, map, None, refl, ap, subst, arith}
+use Rattle.std.specs.Prelude.{if◌then◌else◌}
 use Rattle.m11_base.specs.Rad50.{Name}
 use Rattle.m11_lines.specs.Line.{SourceLine}
 use Rattle.m11_arguments.specs.Expressions.{Known}
 use Rattle.m11_arguments.specs.declared.directives.Directive.TheVariants as word
-use Rattle.m11_expansions.specs.Bodies.{HalfTaken, depth_after, size_of, texts_of}
 use Rattle.m11_expansions.specs.Conditions.{OpenConditions, is_skipping}
-use Rattle.m11_expansions.specs.Left.{Left, Line, End, after_mark, count_in, has_mark, argument_count, bytes_held, bytes_in, depth, is_expanding, marks, most_expansions}
+use Rattle.m11_expansions.specs.Left.{Left, Line, End, after_mark, count_in, has_mark, argument_count, is_expanding, marks}
 use Rattle.m11_expansions.specs.declared.mark.Mark.{Mark}
-use Rattle.m11_expansions.specs.declared.open_body.Nesting.{Nesting}
-use Rattle.m11_expansions.specs.declared.open_body.Nesting.TheVariants.{Closes, Neither}
-use Rattle.m11_unfolding.specs.Acting.{Acted, Operation, act, act_fault, acted_by, fault_by, flagged, own}
+use Rattle.m11_unfolding.specs.Acting.{Acted, act, act_fault, acted_by, fault_by, flagged, own}
 use Rattle.m11_unfolding.specs.Laws.{IsDirective, IsLive, after_exit, before_exit, exit_given}
-use Rattle.m11_unfolding.specs.Limits.{body_fault, bytes_of, fault_if, most_bytes, most_lines, next_fault, taking_fault}
-use Rattle.m11_unfolding.specs.Stages.{Macro, Opening, Purpose, Repeats, Stage, line_left}
-use Rattle.m11_unfolding.specs.Taking.{Gives, Live, Move, Passes, ended, into_body, move, nesting, one_taken, used}
+use Rattle.m11_unfolding.specs.Limits.{most_lines}
+use Rattle.m11_unfolding.specs.Stages.{Macro, Stage, line_left}
+use Rattle.m11_unfolding.specs.Taking.{Live, ended}
 use Rattle.m11_unfolding.specs.Unfolding.{Given, Leads, given}
 use Rattle.m11_unfolding.specs.Unfolding as steps
-use Rattle.m11_unfolding.specs.declared.fault.UnfoldFault.{UnfoldFault}
-use Rattle.m11_unfolding.specs.declared.fault.UnfoldFault.TheVariants.{TooManyLines, TooMuchText}
-use Rattle.m11_unfolding.proofs.Following.{follows}
-use Rattle.m11_unfolding.proofs.OtherLines.{becomes_live, has_lines_left, no_fault, same_marks, stage_at}
+use Rattle.m11_unfolding.proofs.OtherLines.{becomes_live, no_fault, same_marks, stage_at}
 
 -- ---- a line that becomes live
 

@@ -7,7 +7,7 @@ use Rattle.m11_arguments.specs.declared.directives.Directive.TheVariants as word
 use Rattle.m11_unfolding.specs.Acting.{Operation, act, acted_by}
 use Rattle.m11_unfolding.specs.Laws.{IsDirective}
 use Rattle.m11_unfolding.specs.Stages.{Stage}
-use Rattle.m11_unfolding.specs.Taking.{Gives, Move, Passes, Rests, move, move_from}
+use Rattle.m11_unfolding.specs.Taking.{Gives, Passes, Rests, move, move_from}
 use Rattle.m11_unfolding.specs.Unfolding.{Given, Leads}
 use Rattle.m11_unfolding.specs.Unfolding as steps
 

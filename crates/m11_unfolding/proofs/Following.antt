@@ -1,10 +1,7 @@
 -- One unfolding after another.
-use Rattle.std.proofs.Common.{◌≡◌, List, [], ◌∷◌, ◌++◌, append_assoc, append-nil, None, sym, subst}
-use Rattle.m11_arguments.specs.Expressions.{Known}
-use Rattle.m11_unfolding.specs.Acting.{act, act_fault}
-use Rattle.m11_unfolding.specs.Limits.{next_fault}
+use Rattle.std.proofs.Common.{List, [], ◌∷◌, ◌++◌, append_assoc, append-nil, sym, subst}
+use Rattle.m11_unfolding.specs.Acting.{act}
 use Rattle.m11_unfolding.specs.Stages.{Stage}
-use Rattle.m11_unfolding.specs.Taking.{Live, Passes, Gives, move}
 use Rattle.m11_unfolding.specs.Unfolding.{Given, Leads, given}
 use Rattle.m11_unfolding.specs.Unfolding as steps
 

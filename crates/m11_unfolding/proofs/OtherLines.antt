@@ -1,6 +1,6 @@
 -- Lines that are none of unfolding's own become live one after the other.
-use Rattle.std.proofs.Common.{◌≡◌, ◌∙◌, ℕ, suc, ◌+◌, ◌<◌, ◌≤◌, false, List, [], ◌∷◌, ◌++◌, length, map, append_assoc, append-nil, None, Some, refl, sym, ap, subst, arith}
-use Rattle.std.specs.Prelude.{Bool, nat_le, ⊤}
+use Rattle.std.proofs.Common.{◌≡◌, ◌∙◌, ℕ, suc, ◌+◌, ◌≤◌, false, List, [], ◌∷◌, ◌++◌, length, map, append_assoc, append-nil, None, refl, sym, ap, subst, arith}
+use Rattle.std.specs.Prelude.{nat_le, ⊤}
 use Rattle.std.proofs.lemmas.Bool.Decides.{nat_tests}
 use Rattle.m11_base.specs.Rad50.{Name}
 use Rattle.m11_lines.specs.Line.{SourceLine}
@@ -9,7 +9,7 @@ use Rattle.m11_arguments.specs.Notes.{no_notes}
 use Rattle.m11_expansions.specs.Conditions.{OpenConditions, is_skipping}
 use Rattle.m11_expansions.specs.declared.mark.Mark.{Mark}
 use Rattle.m11_expansions.specs.Left.{Left, Line, argument_count, count_in, has_mark, is_expanding, marks}
-use Rattle.m11_unfolding.specs.Acting.{Acted, Foreign, Operation, act, act_fault, acted_by, fault_by, operation}
+use Rattle.m11_unfolding.specs.Acting.{Acted, Foreign, act, act_fault, acted_by, fault_by, operation}
 use Rattle.m11_unfolding.specs.Laws.{AreForeign, IsLive, after_lines, before_lines, foreign_given}
 use Rattle.m11_unfolding.specs.Limits.{most_lines, next_fault}
 use Rattle.m11_unfolding.specs.Stages.{Macro, Stage, line_left}
