@@ -1,0 +1,63 @@
+-- Where the lines of a section lie. (MACRO-11 Language Reference Manual, "Current location counter": each section has a counter of its
+-- own. That it counts modulo 65536 is this project's own.)
+use Rattle.std.specs.Prelude.{ℕ, ◌+◌, ◌%◌, ◌==◌, Bool, true, false, if◌then◌else◌, max, List, [], ◌∷◌, ◌++◌}
+use Rattle.std.specs.List.{list_any}
+
+-- what a line does to the counter of its section
+pub data Move : Type 0 where
+  -- it goes on by some bytes
+  Steps : ℕ → Move
+  -- it is set to a place
+  Goes : ℕ → Move
+
+abbrev pub is_set : Move → Bool
+is_set (Steps size) = false
+is_set (Goes place) = true
+
+abbrev pub has_set : List Move → Bool
+has_set moves = list_any is_set moves
+
+-- the last place set; before any it is 0
+abbrev pub last_set : List Move → ℕ
+last_set [] = 0
+last_set (Steps size ∷ moves) = last_set moves
+last_set (Goes place ∷ moves) = if has_set moves then last_set moves else place
+
+-- the sizes of the lines since then
+abbrev pub sizes_since : List Move → ℕ
+sizes_since [] = 0
+sizes_since (Steps size ∷ moves) = if has_set moves then sizes_since moves else size + sizes_since moves
+sizes_since (Goes place ∷ moves) = sizes_since moves
+
+-- the place after some lines of a section
+abbrev pub place_after : List Move → ℕ
+place_after moves = (last_set moves + sizes_since moves) % 65536
+
+-- ---- lines of all sections
+
+-- what a line of a section does to its counter
+pub record Moved : Type 0 where
+  pub section : ℕ
+  pub move : Move
+
+abbrev pub in_section : ℕ → Move → Moved
+in_section section move = record { section = section; move = move }
+
+-- what the lines of one section do
+abbrev pub moves_in : ℕ → List Moved → List Move
+moves_in section [] = []
+moves_in section (moved ∷ more) =
+    if moved.section == section then moved.move ∷ moves_in section more else moves_in section more
+
+-- where the counter of a section stands after lines of all sections
+abbrev pub place_in : ℕ → List Moved → ℕ
+place_in section moves = place_after (moves_in section moves)
+
+-- the greatest place that a counter has after one of some lines, before which others stand
+abbrev pub greatest_after : List Move → List Move → ℕ
+greatest_after before [] = 0
+greatest_after before (move ∷ moves) = max (place_after (before ++ move ∷ [])) (greatest_after (before ++ move ∷ []) moves)
+
+-- the size of a section
+abbrev pub size_in : ℕ → List Moved → ℕ
+size_in section moves = greatest_after [] (moves_in section moves)

@@ -1,0 +1,25 @@
+//! Laws of placing. Each is the contract of a function that does nothing.
+
+ghost use Rattle.std.specs.Prelude.{◌≡◌, ◌≢◌, ◌+◌, ◌%◌, ℕ, List, [], ◌∷◌, ◌++◌};
+ghost use Rattle.m11_placement.specs.Places.{Goes, Move, Moved, Steps, in_section, place_in};
+
+/// After a line that goes on, the counter of its section stands as many bytes further, modulo 65536.
+#[tactic(auto, using(crate::proofs::Counters::steps_on))]
+pub fn a_line_steps_the_counter()
+    ensures { (section size : ℕ) (moves : List Moved) → place_in section (moves ++ in_section section (Steps size) ∷ [])
+        ≡ (place_in section moves + size) % 65536 }
+{}
+
+/// After a line that sets the counter of its section, it stands at that place, whatever stood before.
+#[tactic(auto, using(crate::proofs::Counters::goes_there))]
+pub fn a_line_sets_the_counter()
+    ensures { (section place : ℕ) (moves : List Moved) → place_in section (moves ++ in_section section (Goes place) ∷ [])
+        ≡ place % 65536 }
+{}
+
+/// A line leaves the counters of other sections where they stand.
+#[tactic(auto, using(crate::proofs::Counters::stays_there))]
+pub fn other_sections_keep_their_counter()
+    ensures { (section other : ℕ) (move : Move) (moves : List Moved) → other ≢ section
+        → place_in section (moves ++ in_section other move ∷ []) ≡ place_in section moves }
+{}
