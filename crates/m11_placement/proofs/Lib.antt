@@ -1,1 +1,2 @@
 mod Counters
+mod FirmNames

@@ -1,7 +1,11 @@
 //! Laws of placing. Each is the contract of a function that does nothing.
 
 ghost use Rattle.std.specs.Prelude.{◌≡◌, ◌≢◌, ◌+◌, ◌%◌, ℕ, List, [], ◌∷◌, ◌++◌};
+ghost use Rattle.m11_arguments.specs.Expressions.{symbols_at, value_at};
+ghost use Rattle.m11_base.specs.Devices.{Bytes};
+ghost use Rattle.m11_placement.specs.Meanings.{AreFirm, Context, Map, firm_known, known_at};
 ghost use Rattle.m11_placement.specs.Places.{Goes, Move, Moved, Steps, in_section, place_in};
+ghost use Rattle.m11_placement.specs.Tables.{Table};
 
 /// After a line that goes on, the counter of its section stands as many bytes further, modulo 65536.
 #[tactic(auto, using(crate::proofs::Counters::steps_on))]
@@ -22,4 +26,12 @@ pub fn a_line_sets_the_counter()
 pub fn other_sections_keep_their_counter()
     ensures { (section other : ℕ) (move : Move) (moves : List Moved) → other ≢ section
         → place_in section (moves ++ in_section other move ∷ []) ≡ place_in section moves }
+{}
+
+/// An expression whose symbols are all firm has the same value under every map: the one that sizes and places are asked of. So no
+/// map, and nothing that stands later in the source, decides it.
+pub fn firm_values_are_those_of_every_map()
+    ensures { (map : Map) (context : Context) (table : Table) (place : ℕ) (line : Bytes) (start : ℕ)
+        → AreFirm table (symbols_at line start)
+        → value_at (known_at map context table place) line start ≡ value_at (firm_known table place) line start }
 {}

@@ -6,5 +6,6 @@
 mod laws;
 
 pub use laws::{
-    a_line_sets_the_counter, a_line_steps_the_counter, other_sections_keep_their_counter,
+    a_line_sets_the_counter, a_line_steps_the_counter, firm_values_are_those_of_every_map,
+    other_sections_keep_their_counter,
 };

@@ -1,0 +1,141 @@
+-- Firm names stand for the same under every map.
+use Rattle.std.proofs.Common.{◌≡◌, ◌∙◌, ℕ, Bool, true, false, List, [], ◌∷◌, map, Option, Some, None, refl, sym, ap, true≢false}
+use Rattle.m11_arguments.specs.Expressions as expressions
+use Rattle.m11_scan.specs.Cutting.{Lexeme, tokens_from}
+use Rattle.m11_scan.specs.Letters.{letter_A}
+use Rattle.m11_scan.specs.declared.radix.Radix.{Radix}
+use Rattle.m11_scan.specs.declared.sort.Sort.{Sort}
+use Rattle.m11_scan.specs.declared.sort.Sort.TheVariants.{Name, Number, DecimalNumber, LocalSymbol, Character, TwoCharacters, Packed, BinaryRadix, OctalRadix, DecimalRadix, Complement, Plus, Minus, Times, Over, And, Or, Less, Greater, Percent, NumberSign, At, Open, Close, Comma, Colon, TwoColons, Equals, TwoEquals}
+use Rattle.m11_values.specs.declared.names.Symbol.{Symbol}
+use Rattle.m11_values.specs.declared.names.Symbol.TheVariants.{Ordinary, Local, Counter}
+use Rattle.m11_values.specs.Quantities.{Quantity, absolute, missing}
+use Rattle.m11_values.specs.Symbols.{AgreeOn, with_symbol}
+use Rattle.m11_values.specs.Terms.{Atom, Fixed, Item, atom_of, item, meaning_or, symbol_in}
+use Rattle.m11_values.specs.Values.{value_of}
+use Rattle.m11_placement.specs.Definitions.{Definition, Key, Named, Numbered, firm_part, firm_parts, is_same, last_definition, later_or}
+use Rattle.m11_placement.specs.Meanings.{AreFirm, Context, Knows, Map, defined_or, empty_map, firm_known, is_firm, is_firm_in, known_at, stands_for, undefined}
+use Rattle.m11_placement.specs.Tables.{Table, firm_table}
+
+-- ---- symbols
+
+abbrev firm_option : Option Definition → Option Definition
+firm_option (Some definition) = Some (firm_part definition)
+firm_option None = None
+
+later_firm : (later : Option Definition) (is_this : Bool) (definition : Definition)
+    → later_or (firm_option later) is_this (firm_part definition) ≡ firm_option (later_or later is_this definition)
+later_firm (Some later) is_this definition = refl
+later_firm None true definition = refl
+later_firm None false definition = refl
+
+last_firm : (key : Key) (definitions : List Definition)
+    → last_definition key (firm_parts definitions) ≡ firm_option (last_definition key definitions)
+last_firm key [] = refl
+last_firm key (definition ∷ definitions) =
+    rw (last_firm key definitions)
+    (later_firm (last_definition key definitions) (is_same definition.key key) definition)
+
+firm_alike : (key : Key) (doubled : List Key) (one other : Quantity) (found : Option Definition) → is_firm_in found ≡ true
+    → defined_or key doubled one found ≡ defined_or key doubled other (firm_option found)
+firm_alike key doubled one other (Some definition) firm = rw firm refl
+firm_alike key doubled one other None firm = absurd (true≢false (sym firm))
+
+meaning_alike : (key : Key) (doubled : List Key) (definitions : List Definition) (one other : Quantity)
+    → is_firm_in (last_definition key definitions) ≡ true
+    → defined_or key doubled one (last_definition key definitions)
+    ≡ defined_or key doubled other (last_definition key (firm_parts definitions))
+meaning_alike key doubled definitions one other firm =
+    rw (last_firm key definitions) (firm_alike key doubled one other (last_definition key definitions) firm)
+
+pub symbol_alike : (map : Map) (context : Context) (table : Table) (place : ℕ) (symbol : Symbol) → is_firm table symbol ≡ true
+    → stands_for map context table place symbol ≡ stands_for empty_map Knows (firm_table table) place symbol
+symbol_alike map context table place (Ordinary name) firm =
+    meaning_alike (Named name) table.doubled table.definitions
+    (defined_or (Named name) map.doubled (undefined context (Ordinary name)) (last_definition (Named name) map.definitions))
+    (undefined Knows (Ordinary name)) firm
+symbol_alike map context table place (Local number) firm =
+    meaning_alike (Numbered table.settings.block number) table.doubled table.definitions
+    (defined_or (Numbered table.settings.block number) map.doubled (undefined context (Local number))
+    (last_definition (Numbered table.settings.block number) map.definitions))
+    (undefined Knows (Local number)) firm
+symbol_alike map context table place Counter firm = refl
+
+symbols_alike : (map : Map) (context : Context) (table : Table) (place : ℕ) (symbols : List Symbol) → AreFirm table symbols
+    → AgreeOn symbols (stands_for map context table place) (stands_for empty_map Knows (firm_table table) place)
+symbols_alike map context table place [] firm = tt
+symbols_alike map context table place (symbol ∷ symbols) firm =
+    (symbol_alike map context table place symbol firm.0, symbols_alike map context table place symbols firm.1)
+
+-- ---- expressions
+
+meaning_agrees : (first second : Symbol → Quantity) (other : Quantity) (symbol : Option Symbol)
+    → AgreeOn (with_symbol symbol []) first second → meaning_or first other symbol ≡ meaning_or second other symbol
+meaning_agrees first second other None agree = refl
+meaning_agrees first second other (Some symbol) agree = agree.0
+
+atom_agrees : (first second : Symbol → Quantity) (sort : Sort) (text : List ℕ)
+    → AgreeOn (with_symbol (symbol_in sort text) []) first second → atom_of first sort text ≡ atom_of second sort text
+atom_agrees first second Name text agree =
+    ap (λ (v : Quantity). Fixed v) (meaning_agrees first second missing (symbol_in Name text) agree)
+atom_agrees first second LocalSymbol text agree =
+    ap (λ (v : Quantity). Fixed v) (meaning_agrees first second (absolute 0 letter_A) (symbol_in LocalSymbol text) agree)
+atom_agrees first second Number text agree = refl
+atom_agrees first second DecimalNumber text agree = refl
+atom_agrees first second Character text agree = refl
+atom_agrees first second TwoCharacters text agree = refl
+atom_agrees first second Packed text agree = refl
+atom_agrees first second BinaryRadix text agree = refl
+atom_agrees first second OctalRadix text agree = refl
+atom_agrees first second DecimalRadix text agree = refl
+atom_agrees first second Complement text agree = refl
+atom_agrees first second Plus text agree = refl
+atom_agrees first second Minus text agree = refl
+atom_agrees first second Times text agree = refl
+atom_agrees first second Over text agree = refl
+atom_agrees first second And text agree = refl
+atom_agrees first second Or text agree = refl
+atom_agrees first second Less text agree = refl
+atom_agrees first second Greater text agree = refl
+atom_agrees first second Percent text agree = refl
+atom_agrees first second NumberSign text agree = refl
+atom_agrees first second At text agree = refl
+atom_agrees first second Open text agree = refl
+atom_agrees first second Close text agree = refl
+atom_agrees first second Comma text agree = refl
+atom_agrees first second Colon text agree = refl
+atom_agrees first second TwoColons text agree = refl
+atom_agrees first second Equals text agree = refl
+atom_agrees first second TwoEquals text agree = refl
+
+first_agrees : (first second : Symbol → Quantity) (symbol : Option Symbol) (symbols : List Symbol)
+    → AgreeOn (with_symbol symbol symbols) first second → AgreeOn (with_symbol symbol []) first second
+first_agrees first second (Some symbol) symbols agree = (agree.0, tt)
+first_agrees first second None symbols agree = tt
+
+others_agree : (first second : Symbol → Quantity) (symbol : Option Symbol) (symbols : List Symbol)
+    → AgreeOn (with_symbol symbol symbols) first second → AgreeOn symbols first second
+others_agree first second (Some symbol) symbols agree = agree.1
+others_agree first second None symbols agree = agree
+
+abbrev with_atom : Sort → Atom → List Item → List Item
+with_atom sort atom items = record { sort = sort; atom = atom } ∷ items
+
+items_agree : (first second : Symbol → Quantity) (tokens : List Lexeme) → AgreeOn (expressions.symbols_in tokens) first second
+    → map (item first) tokens ≡ map (item second) tokens
+items_agree first second [] agree = refl
+items_agree first second (token ∷ tokens) agree =
+    let read : Option Symbol = symbol_in token.sort token.text in
+    let here : atom_of first token.sort token.text ≡ atom_of second token.sort token.text =
+    atom_agrees first second token.sort token.text (first_agrees first second read (expressions.symbols_in tokens) agree) in
+    ap (λ (a : Atom). with_atom token.sort a (map (item first) tokens)) here
+    ∙ ap (λ (l : List Item). item second token ∷ l)
+    (items_agree first second tokens (others_agree first second read (expressions.symbols_in tokens) agree))
+
+pub value_alike : (map : Map) (context : Context) (table : Table) (place : ℕ) (line : List ℕ) (start : ℕ)
+    → AreFirm table (expressions.symbols_at line start)
+    → expressions.value_at (known_at map context table place) line start ≡ expressions.value_at (firm_known table place) line start
+value_alike map context table place line start firm =
+    ap (λ (l : List Item). value_of table.settings.radix l)
+    (items_agree (stands_for map context table place) (stands_for empty_map Knows (firm_table table) place)
+    (expressions.expression_in (tokens_from line start))
+    (symbols_alike map context table place (expressions.symbols_at line start) firm))

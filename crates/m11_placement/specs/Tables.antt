@@ -1,0 +1,73 @@
+-- What the lines done tell the next one. (MACRO-11 Language Reference Manual, "Symbols and expressions" and "General assembler
+-- directives".)
+use Rattle.std.specs.Prelude.{ℕ, Bool, false, List, [], ◌∷◌}
+use Rattle.m11_base.specs.Rad50.{Name}
+use Rattle.m11_scan.specs.declared.radix.Radix.{Radix}
+use Rattle.m11_scan.specs.declared.radix.Radix.TheVariants.{Octal}
+use Rattle.m11_values.specs.declared.kinds.Kind.{Kind}
+use Rattle.m11_placement.specs.Definitions.{Definition, Key, firm_parts, registers}
+use Rattle.m11_placement.specs.Places.{Moved, place_in}
+use Rattle.m11_placement.specs.Sections.{Section, first_number, first_sections, place_kind}
+
+-- what holds from a line on until another one changes it
+pub record Settings : Type 0 where
+  -- the number of the section
+  pub section : ℕ
+  -- the number of the block of local symbols
+  pub block : ℕ
+  pub radix : Radix
+  -- how many `.LIST` and `.NLIST` there were, and whether expansions are listed
+  pub listed : ℕ
+  pub unlisted : ℕ
+  pub shows_expansions : Bool
+
+abbrev pub first_settings : Settings
+first_settings = record {
+  section = first_number;
+  block = 0;
+  radix = Octal;
+  listed = 0;
+  unlisted = 0;
+  shows_expansions = false;
+}
+
+pub record Table : Type 0 where
+  -- definitions, and the keys that are doubled, in the order of the lines
+  pub definitions : List Definition
+  pub doubled : List Key
+  -- names that were made global
+  pub globals : List Name
+  -- sections by their numbers, and what lines did to their counters
+  pub sections : List Section
+  pub moves : List Moved
+  pub settings : Settings
+
+-- before the first line
+abbrev pub first_table : Table
+first_table = record {
+  definitions = registers;
+  doubled = [];
+  globals = [];
+  sections = first_sections;
+  moves = [];
+  settings = first_settings;
+}
+
+-- where the counter stands
+abbrev pub place : Table → ℕ
+place table = place_in table.settings.section table.moves
+
+-- what places of the section count from
+abbrev pub kind_here : Table → Kind
+kind_here table = place_kind table.settings.section table.sections
+
+-- a table as far as it is firm: sizes, places and conditions are asked of it
+abbrev pub firm_table : Table → Table
+firm_table table = record {
+  definitions = firm_parts table.definitions;
+  doubled = table.doubled;
+  globals = table.globals;
+  sections = table.sections;
+  moves = table.moves;
+  settings = table.settings;
+}
