@@ -1,2 +1,4 @@
 mod Counters
 mod FirmNames
+mod Forms
+mod LabelPlaces

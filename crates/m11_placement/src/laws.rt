@@ -1,11 +1,13 @@
 //! Laws of placing. Each is the contract of a function that does nothing.
 
-ghost use Rattle.std.specs.Prelude.{◌≡◌, ◌≢◌, ◌+◌, ◌%◌, ℕ, List, [], ◌∷◌, ◌++◌};
+ghost use Rattle.std.specs.Prelude.{◌≡◌, ◌≢◌, ◌+◌, ◌≤◌, ◌%◌, ℕ, List, [], ◌∷◌, ◌++◌};
 ghost use Rattle.m11_arguments.specs.Expressions.{symbols_at, value_at};
 ghost use Rattle.m11_base.specs.Devices.{Bytes};
+ghost use Rattle.m11_placement.specs.Labels.{labels_stand};
 ghost use Rattle.m11_placement.specs.Meanings.{AreFirm, Context, Map, firm_known, known_at};
+ghost use Rattle.m11_placement.specs.Operands.{Form, words_of};
 ghost use Rattle.m11_placement.specs.Places.{Goes, Move, Moved, Steps, in_section, place_in};
-ghost use Rattle.m11_placement.specs.Tables.{Table};
+ghost use Rattle.m11_placement.specs.Tables.{Table, place};
 
 /// After a line that goes on, the counter of its section stands as many bytes further, modulo 65536.
 #[tactic(auto, using(crate::proofs::Counters::steps_on))]
@@ -31,7 +33,17 @@ pub fn other_sections_keep_their_counter()
 /// An expression whose symbols are all firm has the same value under every map: the one that sizes and places are asked of. So no
 /// map, and nothing that stands later in the source, decides it.
 pub fn firm_values_are_those_of_every_map()
-    ensures { (map : Map) (context : Context) (table : Table) (place : ℕ) (line : Bytes) (start : ℕ)
+    ensures { (map : Map) (context : Context) (table : Table) (here : ℕ) (line : Bytes) (start : ℕ)
         → AreFirm table (symbols_at line start)
-        → value_at (known_at map context table place) line start ≡ value_at (firm_known table place) line start }
+        → value_at (known_at map context table here) line start ≡ value_at (firm_known table here) line start }
+{}
+
+/// All labels of a line stand at one place: they leave the counter where it stands.
+pub fn labels_keep_the_counter()
+    ensures { (table : Table) (line : Bytes) → place (labels_stand table line) ≡ place table }
+{}
+
+/// An operand has at most one word after its instruction.
+pub fn an_operand_has_at_most_one_word()
+    ensures { (form : Form) → words_of form ≤ 1 }
 {}

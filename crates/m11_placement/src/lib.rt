@@ -1,11 +1,10 @@
-//! What each line of a source defines and places: names, sections, counters, bytes and words with their relocation. Here stand the
-//! definitions and their laws. (MACRO-11 Language Reference Manual, "Symbols and expressions", "Relocation and linking" and "General
-//! assembler directives".)
+//! Where lines of a source lie, what their labels define, what symbols stand for there, and the forms of operands. Here stand
+//! definitions with their laws. (MACRO-11 Language Reference Manual, "Symbols and expressions" and "Addressing modes".)
 #![tactic(auto)]
 
 mod laws;
 
 pub use laws::{
-    a_line_sets_the_counter, a_line_steps_the_counter, firm_values_are_those_of_every_map,
-    other_sections_keep_their_counter,
+    a_line_sets_the_counter, a_line_steps_the_counter, an_operand_has_at_most_one_word,
+    firm_values_are_those_of_every_map, labels_keep_the_counter, other_sections_keep_their_counter,
 };
