@@ -18,7 +18,7 @@ use Rattle.m11_placement.specs.Tables.{Table, firm_table}
 
 -- ---- symbols
 
-abbrev firm_option : Option Definition → Option Definition
+abbrev pub firm_option : Option Definition → Option Definition
 firm_option (Some definition) = Some (firm_part definition)
 firm_option None = None
 
@@ -28,7 +28,7 @@ later_firm (Some later) is_this definition = refl
 later_firm None true definition = refl
 later_firm None false definition = refl
 
-last_firm : (key : Key) (definitions : List Definition)
+pub last_firm : (key : Key) (definitions : List Definition)
     → last_definition key (firm_parts definitions) ≡ firm_option (last_definition key definitions)
 last_firm key [] = refl
 last_firm key (definition ∷ definitions) =

@@ -1,4 +1,5 @@
 mod Counters
+mod FirmAssignments
 mod FirmNames
 mod Forms
 mod LabelPlaces

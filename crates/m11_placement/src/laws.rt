@@ -3,11 +3,13 @@
 ghost use Rattle.std.specs.Prelude.{◌≡◌, ◌≢◌, ◌+◌, ◌≤◌, ◌%◌, ℕ, List, [], ◌∷◌, ◌++◌};
 ghost use Rattle.m11_arguments.specs.Expressions.{symbols_at, value_at};
 ghost use Rattle.m11_base.specs.Devices.{Bytes};
+ghost use Rattle.m11_placement.specs.Assignments.{assigned};
+ghost use Rattle.m11_placement.specs.Definitions.{Key, firm_part};
 ghost use Rattle.m11_placement.specs.Labels.{labels_stand};
 ghost use Rattle.m11_placement.specs.Meanings.{AreFirm, Context, Map, firm_known, known_at};
 ghost use Rattle.m11_placement.specs.Operands.{Form, words_of};
 ghost use Rattle.m11_placement.specs.Places.{Goes, Move, Moved, Steps, in_section, place_in};
-ghost use Rattle.m11_placement.specs.Tables.{Table, place};
+ghost use Rattle.m11_placement.specs.Tables.{Table, firm_table, place};
 
 /// After a line that goes on, the counter of its section stands as many bytes further, modulo 65536.
 #[tactic(auto, using(crate::proofs::Counters::steps_on))]
@@ -46,4 +48,11 @@ pub fn labels_keep_the_counter()
 /// An operand has at most one word after its instruction.
 pub fn an_operand_has_at_most_one_word()
     ensures { (form : Form) → words_of form ≤ 1 }
+{}
+
+/// Where two tables are the same as far as they are firm, an assignment leaves the same firm part in both, whatever maps there are.
+pub fn firm_assignments_are_those_of_every_map()
+    ensures { (one other : Map) (first second : Table) (key : Key) (line : Bytes) (start : ℕ)
+        → firm_table first ≡ firm_table second
+        → firm_part (assigned one first key line start) ≡ firm_part (assigned other second key line start) }
 {}

@@ -6,5 +6,6 @@ mod laws;
 
 pub use laws::{
     a_line_sets_the_counter, a_line_steps_the_counter, an_operand_has_at_most_one_word,
-    firm_values_are_those_of_every_map, labels_keep_the_counter, other_sections_keep_their_counter,
+    firm_assignments_are_those_of_every_map, firm_values_are_those_of_every_map,
+    labels_keep_the_counter, other_sections_keep_their_counter,
 };
