@@ -1,14 +1,16 @@
 //! What the operator of a live line does. (MACRO-11 Language Reference Manual, "Conditional assembly block directives", "Macro
 //! definition", "Repeat block directives", "Indefinite repeat block directives" and "Macro exit".)
 
-ghost use Rattle.std.specs.Prelude.{◌≡◌, ◌+◌, ◌<◌, ◌≤◌, false, length, IfOk};
+ghost use Rattle.std.specs.Prelude.{◌≡◌, ◌+◌, ◌<◌, ◌≤◌, false, if◌then◌else◌, length, bit_or, IfOk};
 ghost use Rattle.m11_arguments.specs.Conditions.{condition as asked_condition};
 ghost use Rattle.m11_arguments.specs.Expressions.{known_by};
 ghost use Rattle.m11_arguments.specs.Indefinite.{rounds_seen};
+ghost use Rattle.m11_arguments.specs.LeftOvers.{left_over as line_left_over};
 ghost use Rattle.m11_arguments.specs.Macros.{header, header_seen};
 ghost use Rattle.m11_arguments.specs.Notes.{joined};
 ghost use Rattle.m11_expansions.specs.Conditions.{closed, most_conditions, switched};
 ghost use Rattle.m11_expansions.specs.Left.{conditions_open};
+ghost use Rattle.m11_scan.specs.Views.{bits_of};
 ghost use Rattle.m11_unfolding.specs.Acting as spec;
 ghost use Rattle.m11_unfold.specs.Purposes.{IsFew, IsPurpose, purpose_of};
 ghost use Rattle.m11_unfold.specs.Views.{stage_of};
@@ -133,7 +135,7 @@ impl State {
             ≡ joined notes.old (spec.acted_within (switched part) line.now.text place (stage_of self.old)).notes }
     {
         let has_none = self.conditions.is_empty();
-        notes.add_letters(Letters::O.when(has_none).with(left_over(line, place)));
+        notes.add_letters(letters_within(line, place, has_none));
         if !has_none {
             self.conditions.switch(part);
         }
@@ -148,7 +150,7 @@ impl State {
             ≡ joined notes.old (spec.acted_within closed line.now.text place (stage_of self.old)).notes }
     {
         let has_none = self.conditions.is_empty();
-        notes.add_letters(Letters::O.when(has_none).with(left_over(line, place)));
+        notes.add_letters(letters_within(line, place, has_none));
         if !has_none {
             self.conditions.close();
         }
@@ -269,4 +271,13 @@ fn defining(header: Option<Header>) -> Purpose
         Some(header) => Purpose::Defines(header.name, header.formals),
         None => Purpose::Drops,
     }
+}
+
+// The letters of a directive that needs a condition of its own expansion, where there may be none.
+fn letters_within(line: &Line, place: usize, has_none: bool) -> Letters
+    requires { place ≤ length line.now.text }
+    ensures { bits_of result
+        ≡ bit_or (if has_none then spec.letter_O else 0) (line_left_over line.now.text place) }
+{
+    Letters::O.when(has_none).with(left_over(line, place))
 }
