@@ -1,3 +1,3 @@
 mod Pieces
 pub mod Stacks
-mod Whole
+pub mod Whole

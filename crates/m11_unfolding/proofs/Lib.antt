@@ -1,4 +1,11 @@
+mod Calls
 mod Constructs
 mod Ending
-mod Following
+mod Expanding
+pub mod Following
+pub mod MoreLines
+mod OneUnfolding
+mod OpenConditions
+mod Operators
 mod OtherLines
+mod Repeats

@@ -35,7 +35,7 @@ stage_at conditions macros bytes created taken left = record {
 }
 
 -- the same of lines, by what their operators are looked up in
-abbrev ForeignHere : OpenConditions → List (Name × Macro) → List SourceLine → Type 0
+abbrev pub ForeignHere : OpenConditions → List (Name × Macro) → List SourceLine → Type 0
 ForeignHere conditions macros [] = ⊤
 ForeignHere conditions macros (line ∷ lines) =
     (operation conditions macros line.text ≡ Foreign) × ForeignHere conditions macros lines
@@ -76,7 +76,7 @@ given_alike known left lines line here stands acts =
     ap told acts ∙ ap (λ (l : List Left). marked (marks l)) stands ∙ ap marked (same_marks lines left)
 
 -- the lines after others, one by one
-onwards : (before : Stage) (known : Known) (conditions : OpenConditions) (macros : List (Name × Macro)) (bytes created : ℕ)
+pub onwards : (before : Stage) (known : Known) (conditions : OpenConditions) (macros : List (Name × Macro)) (bytes created : ℕ)
     (left : List Left) → is_skipping conditions ≡ false → (lines : List SourceLine) (taken : ℕ) (done : List Given)
     → ForeignHere conditions macros lines → taken + length lines ≤ most_lines
     → Leads before done (stage_at conditions macros bytes created taken (map line_left lines ++ left))
@@ -112,7 +112,7 @@ onwards before known conditions macros bytes created left live (line ∷ lines) 
     let sum : taken + 1 + length lines ≡ taken + suc (length lines) = omega arith in
     subst T sum joined
 
-looked_up : (stage : Stage) (lines : List SourceLine) → AreForeign stage lines → ForeignHere stage.conditions stage.macros lines
+pub looked_up : (stage : Stage) (lines : List SourceLine) → AreForeign stage lines → ForeignHere stage.conditions stage.macros lines
 looked_up stage [] foreign = foreign
 looked_up stage (line ∷ lines) foreign = (foreign.0, looked_up stage lines foreign.1)
 

@@ -18,7 +18,7 @@ use Rattle.m11_arguments.specs.Immediate as immediate
 use Rattle.m11_arguments.specs.Indefinite.{Repeated, Repetition, character_repeat, indefinite_repeat}
 use Rattle.m11_arguments.specs.Macros.{MacroNamed, Told, header}
 use Rattle.m11_arguments.specs.LeftOvers.{left_over}
-use Rattle.m11_arguments.specs.Notes.{Notes, no_notes, noting, joined, with_letters}
+use Rattle.m11_arguments.specs.Notes.{Notes, no_notes, noting, with_letters}
 use Rattle.m11_arguments.specs.Repeats as repeats
 use Rattle.m11_arguments.specs.declared.directives.Directive.{Directive}
 use Rattle.m11_arguments.specs.declared.directives.Directive.TheVariants as word

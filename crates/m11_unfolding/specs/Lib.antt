@@ -1,5 +1,7 @@
 pub mod Acting
+pub mod Constructs
 pub mod Fault
+pub mod Histories
 pub mod Laws
 pub mod Limits
 pub mod Macros
