@@ -2,4 +2,5 @@ mod Counted
 mod Keeping
 mod KeptActing
 mod Noting
+mod Sources
 mod Taken

@@ -1,6 +1,7 @@
 pub mod Faults
 pub mod Kept
 pub mod Purposes
+pub mod Sources
 pub mod Steps
 pub mod Unfolder
 pub mod Views

@@ -5,6 +5,7 @@
 
 mod acting;
 mod calling;
+mod laws;
 mod macros;
 mod opening;
 mod rounds;
@@ -14,5 +15,6 @@ mod steps;
 mod taking;
 mod unfolder;
 
+pub use laws::the_calls_unfold_the_source;
 pub use steps::{Act, LiveLine, Step};
 pub use unfolder::Unfolder;

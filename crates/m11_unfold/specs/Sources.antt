@@ -1,0 +1,31 @@
+-- What an unfolder has given of a source, whatever lines of it are still to be fed. (This project's own.)
+use Rattle.std.specs.Prelude.{◌≡◌, List, [], ◌∷◌, ◌++◌, Option, Some, None, Result, Ok, Err}
+use Rattle.m11_arguments.specs.Expressions.{Known}
+use Rattle.m11_lines.specs.Line.{SourceLine}
+use Rattle.m11_unfolding.specs.Acting.{act, act_fault}
+use Rattle.m11_unfolding.specs.Limits.{next_fault}
+use Rattle.m11_unfolding.specs.Stages.{Stage}
+use Rattle.m11_unfolding.specs.Unfolding.{Given, Unfolds, given}
+use Rattle.m11_unfolding.specs.declared.fault.UnfoldFault.{UnfoldFault}
+use Rattle.m11_unfolding.specs.declared.fault.UnfoldFault.TheVariants.{NoMemory}
+use Rattle.m11_unfold.specs.Unfolder.{live_of}
+use Rattle.m11_unfold.specs.declared.steps.Step.{Step}
+use Rattle.m11_unfold.specs.declared.steps.Step.TheVariants.{NeedLine, End, Line}
+
+-- the unfolding passes a limit after these lines, and before a further one
+pub record Exceeds (source : List SourceLine) (done : List Given) (fault : UnfoldFault) : Type 0 where
+  pub stage : Stage
+  pub unfolds : Unfolds source done stage
+  pub passes : next_fault stage ≡ Some fault
+
+abbrev pub Refuses : List SourceLine → List Given → UnfoldFault → Type 0
+Refuses source done NoMemory = Unit {0}
+Refuses source done fault = Exceeds source done fault
+
+-- after a step: the lines so far are those of the unfolding, and a line that became live is the next one of it, once its operator is done
+abbrev pub Reaches : List SourceLine → List Given → Stage → Result Step UnfoldFault → Type 0
+Reaches source done after (Ok NeedLine) = Unfolds source done after
+Reaches source done after (Ok End) = Unfolds source done after
+Reaches source done after (Ok (Line live)) = (known : Known) → act_fault after live.line.text ≡ None
+    → Unfolds source (done ++ given known (live_of live) after ∷ []) (act known after live.line.text).after
+Reaches source done after (Err fault) = Refuses source done fault

@@ -1,0 +1,25 @@
+//! That an unfolder's calls together give the unfolding of a source. It is the contract of a function that does nothing.
+
+ghost use Rattle.std.specs.Prelude.{◌≡◌, ◌++◌, ◌∷◌, List, [], Result};
+ghost use Rattle.m11_expansions.specs.Left.{Line};
+ghost use Rattle.m11_lines.specs.Line.{SourceLine};
+ghost use Rattle.m11_unfolding.specs.Histories.{with_more};
+ghost use Rattle.m11_unfolding.specs.Stages.{Stage, start};
+ghost use Rattle.m11_unfolding.specs.Unfolding.{Given, Unfolds};
+ghost use Rattle.m11_unfolding.specs.declared.fault.UnfoldFault.{UnfoldFault};
+ghost use Rattle.m11_unfold.specs.Sources.{Reaches};
+ghost use Rattle.m11_unfold.specs.Unfolder.{Steps};
+ghost use Rattle.m11_unfold.specs.declared.steps.Step.{Step};
+
+/// The stage of a new unfolder stands for no line of a source; `feed` keeps what stands, for a source of one line more; and after `next`
+/// the lines so far, and the one that it gives once its operator is done, are those of the source, or its unfolding passes the limit of
+/// the fault there. Whatever lines follow in a longer source, the same lines became live.
+pub fn the_calls_unfold_the_source()
+    ensures begins { Unfolds [] [] (start []) }
+    ensures feeds { (source : List SourceLine) (line : SourceLine) (done : List Given) (stage : Stage) → Unfolds source done stage
+        → stage.left ≡ [] → Unfolds (source ++ line ∷ []) done (record stage { left = Line line ∷ [] }) }
+    ensures steps { (source : List SourceLine) (done : List Given) (before after : Stage) (result : Result Step UnfoldFault)
+        → Unfolds source done before → Steps before after result → Reaches source done after result }
+    ensures longer { (source more : List SourceLine) (done : List Given) (stage : Stage) → Unfolds source done stage
+        → Unfolds (source ++ more) done (with_more more stage) }
+{}
