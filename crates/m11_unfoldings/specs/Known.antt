@@ -1,8 +1,20 @@
--- What names stand for in the tests of unfolding: none is known.
+-- What names stand for in the tests of unfolding.
+use Rattle.std.specs.Prelude.{◌==◌, if◌then◌else◌}
+use Rattle.m11_base.specs.Rad50.{Name}
 use Rattle.m11_values.specs.declared.kinds.Kind.TheVariants.{Absolute}
 use Rattle.m11_values.specs.declared.names.Symbol.{Symbol}
+use Rattle.m11_values.specs.declared.names.Symbol.TheVariants.{Ordinary, Local, Counter}
 use Rattle.m11_values.specs.Quantities.{Quantity}
 
 -- 0, with the letter U
-abbrev pub unknown : Symbol → Quantity
-unknown symbol = record { number = 0; kind = Absolute; letters = 8192 }
+abbrev pub unknown : Quantity
+unknown = record { number = 0; kind = Absolute; letters = 8192 }
+
+abbrev pub of_name : Name → Quantity
+of_name name = if name.0 == 38400 then record { number = 10; kind = Absolute; letters = 0 } else unknown
+
+-- X is 10, and no other name is known
+abbrev pub known : Symbol → Quantity
+known (Ordinary name) = of_name name
+known (Local number) = unknown
+known Counter = unknown

@@ -1,0 +1,158 @@
+//! The letters and symbols of lines that are unfolding's own, and the count of actuals around them.
+
+use super::{Keeps, Lines, unfold};
+use m11_scan::Line;
+use m11_unfold::Act;
+use m11_unfolding::UnfoldFault;
+use std::alloc::{AllocError, Global};
+use std::process::Abort;
+
+// Of each line that is unfolding's own: its letters, how many symbols its arguments read, and how many actuals the innermost call has,
+// each ended by `,` or, where there is no call, `-`.
+#[derive(Drop)]
+struct OwnLines(Vec<u8>);
+
+impl Keeps for OwnLines {
+    fn keep(&mut self, _line: &Line, act: &Act) -> Result<(), AllocError> {
+        if !act.is_own {
+            return Ok(());
+        }
+        self.0.extend_from_slice(&act.notes.letters().text())?;
+        self.0.push(digit(act.notes.symbols().len()))?;
+        match act.arguments {
+            Some(count) => {
+                self.0.push(b'/')?;
+                self.0.push(digit(usize::from(count)))?;
+            }
+            None => {}
+        }
+        self.0.push(b' ')?;
+        Ok(())
+    }
+}
+
+fn digit(number: usize) -> u8 {
+    match u8::try_from(number) {
+        Ok(number) if number < 10 => b'0' + number,
+        _ => b'+',
+    }
+}
+
+fn noted(alloc: Global, source: &[Lines]) -> Result<Vec<u8>, UnfoldFault> {
+    let mut lines = OwnLines(Vec::new(alloc));
+    unfold(alloc, source, &mut lines)?;
+    Ok(lines.0)
+}
+
+// A source, and what its lines of unfolding's own note.
+type Row = (&'static [Lines], &'static str);
+
+static OUTSIDE: [Row; 7] = [
+    (&[(".ENDC", 1), (".IFF", 1)], "O0 O0 "),
+    (&[(".IFT", 1), (".IFTF", 1)], "O0 O0 "),
+    (&[(".ENDM", 1), (".ENDR", 1)], "O0 O0 "),
+    (&[(".MEXIT", 1)], "O0 "),
+    (&[(".ENDM M", 1)], "O0 "),
+    (&[(".ENDC X", 1)], "OQ0 "),
+    (&[(".NARG N", 1), (".NCHR N,A", 1)], "0 0 "),
+];
+
+static CONDITIONS: [Row; 12] = [
+    (&[(".IF EQ 0", 1), (".ENDC", 1)], "0 0 "),
+    (&[(".IF EQ 0 1", 1)], "Q0 "),
+    (&[(".IF EQ", 1)], "A0 "),
+    (&[(".IF ZZ 5?", 1)], "A0 "),
+    (&[(".IF", 1)], "A0 "),
+    (&[(".IF EQ A", 1)], "U1 "),
+    (&[(".IF EQ X-A", 1)], "U2 "),
+    (&[(".IF DF A&X", 1)], "2 "),
+    (&[(".IF DF A!5", 1)], "A1 "),
+    (&[(".IF NDF", 1)], "A0 "),
+    (&[(".IF EQ<0>", 1)], "0 "),
+    (&[(".IIF EQ X,A", 1), (".IIF NE X A", 1)], "1 AQ1 "),
+];
+
+static BODIES: [Row; 10] = [
+    (&[(".REPT", 1)], "A0 "),
+    (&[(".REPT X 5", 1)], "Q1 "),
+    (&[(".REPT A", 1)], "U1 "),
+    (&[(".REPT 200000", 1)], "T0 "),
+    (&[(".REPT 18", 1)], "N0 "),
+    (&[(".MACRO", 1)], "A0 "),
+    (&[(".MACRO 5", 1)], "A0 "),
+    (&[(".IRP 5,<A>", 1)], "A0 "),
+    (&[(".IRP A", 1)], "A0 "),
+    (&[(".IRP A,\\X", 1)], "1 "),
+];
+
+static CALLS: [Row; 5] = [
+    (
+        &[
+            (".MACRO M A", 1),
+            (".NARG N", 1),
+            (".ENDM", 1),
+            ("M", 1),
+            ("M 1", 1),
+            ("M 1,2", 1),
+            ("M \\X", 1),
+        ],
+        "0 0 0/0 0 0/1 Q0 0/1 1 0/1 ",
+    ),
+    // a repeat in a call keeps the count of the call
+    (
+        &[
+            (".MACRO M A", 1),
+            (".REPT 1", 1),
+            (".NARG N", 1),
+            (".ENDR", 1),
+            (".ENDM", 1),
+            ("M 5", 1),
+        ],
+        "0 0 0/1 0/1 ",
+    ),
+    (
+        &[
+            (".MACRO M", 1),
+            (".ENDC", 1),
+            (".ENDM", 1),
+            (".IF EQ 0", 1),
+            ("M", 1),
+            (".ENDC", 1),
+        ],
+        "0 0 0 O0/0 0 ",
+    ),
+    (
+        &[(".MACRO M", 1), (".MEXIT A", 1), (".ENDM", 1), ("M", 1)],
+        "0 0 Q0/0 ",
+    ),
+    (&[(".MACRO M", 1), (".ENDM", 1), ("M A", 1)], "0 Q0 "),
+];
+
+fn check_rows(rt: &impl Abort, alloc: Global, rows: &[Row]) {
+    for (source, wanted) in rows {
+        match noted(alloc, source) {
+            Ok(found) => assert_eq!(rt; found.as_slice(), wanted.as_bytes(), "{wanted}"),
+            Err(fault) => assert_eq!(rt; fault.name(), "", "{wanted}"),
+        }
+    }
+}
+
+#[test]
+fn a_directive_outside_its_block_has_the_letter_o(rt: HostRuntime) {
+    check_rows(&rt, rt.alloc(), &OUTSIDE);
+}
+
+#[test]
+fn conditions_note_the_letters_and_symbols_of_their_arguments(rt: HostRuntime) {
+    check_rows(&rt, rt.alloc(), &CONDITIONS);
+}
+
+#[test]
+fn bodies_note_the_letters_and_symbols_of_their_arguments(rt: HostRuntime) {
+    check_rows(&rt, rt.alloc(), &BODIES);
+}
+
+#[test]
+fn calls_note_their_letters_and_count_their_actuals(rt: HostRuntime) {
+    check_rows(&rt, rt.alloc(), &CALLS);
+}
