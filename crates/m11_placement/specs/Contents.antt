@@ -1,0 +1,99 @@
+-- What a line puts at its places, one after the other, with its letters. (MACRO-11 Language Reference Manual, "Expressions" and
+-- "Diagnostic error message summary", R and T.)
+use Rattle.std.specs.Prelude.{ℕ, ◌+◌, ◌/◌, ◌%◌, ◌==◌, ◌||◌, not, Bool, false, if◌then◌else◌, List, [], ◌∷◌, ◌++◌, length}
+use Rattle.std.specs.Int.RustNames.{bit_or}
+use Rattle.m11_arguments.specs.Expressions.{Known, expression_in, value_at}
+use Rattle.m11_arguments.specs.LeftOvers.{has_token}
+use Rattle.m11_base.specs.Devices.{Bytes}
+use Rattle.m11_base.specs.Rad50.{Name}
+use Rattle.m11_object_text.specs.declared.pieces.Piece.{Piece}
+use Rattle.m11_object_text.specs.declared.pieces.PieceContent.{PieceContent}
+use Rattle.m11_object_text.specs.declared.pieces.PieceContent.TheVariants.{Byte, Word}
+use Rattle.m11_object_text.specs.Pieces.{content_bytes}
+use Rattle.m11_scan.specs.Cutting.{tokens_from}
+use Rattle.m11_scan.specs.Letters.{letter_T}
+use Rattle.m11_statements.specs.Statements.{letter_if}
+use Rattle.m11_values.specs.declared.kinds.Kind.{Kind}
+use Rattle.m11_values.specs.Kinds.{is_register, letter_R}
+use Rattle.m11_values.specs.Quantities.{Quantity, absolute}
+use Rattle.m11_placement.specs.Relocations.{fixed, stored}
+use Rattle.m11_placement.specs.Tables.{Table}
+
+-- what is put, and letters
+pub record Put : Type 0 where
+  pub contents : List PieceContent
+  pub letters : ℕ
+
+abbrev pub put : List PieceContent → ℕ → Put
+put contents letters = record { contents = contents; letters = letters }
+
+-- nothing, with letters
+abbrev pub nothing : ℕ → Put
+nothing letters = put [] letters
+
+-- one thing put after another
+abbrev pub followed_by : Put → Put → Put
+followed_by first next = put (first.contents ++ next.contents) (bit_or first.letters next.letters)
+
+abbrev pub with_letters : ℕ → Put → Put
+with_letters letters what = put what.contents (bit_or letters what.letters)
+
+-- ---- sizes and places
+
+abbrev pub content_size : PieceContent → ℕ
+content_size content = length (content_bytes content)
+
+abbrev pub contents_size : List PieceContent → ℕ
+contents_size [] = 0
+contents_size (content ∷ contents) = content_size content + contents_size contents
+
+-- the place so many bytes after another
+abbrev pub further : ℕ → ℕ → ℕ
+further place size = (place + size) % 65536
+
+abbrev pub piece : Name → ℕ → PieceContent → Piece
+piece section place content = record { section = section; place = place; content = content }
+
+-- what is put from a place of a section on: each piece stands after the one before it
+abbrev pub pieces_from : Name → ℕ → List PieceContent → List Piece
+pieces_from section place [] = []
+pieces_from section place (content ∷ contents) =
+    piece section place content ∷ pieces_from section (further place (content_size content)) contents
+
+-- ---- values
+
+-- some expression stands at a place
+abbrev pub has_expression : Bytes → ℕ → Bool
+has_expression line place = has_token (expression_in (tokens_from line place))
+
+-- an empty element counts as 0
+abbrev pub element_value : Known → Bytes → ℕ → Quantity
+element_value known line place = if has_expression line place then value_at known line place else absolute 0 0
+
+-- R for a register where none may be
+abbrev pub register_letters : Kind → ℕ
+register_letters kind = letter_if (is_register kind) letter_R
+
+-- T for a byte whose high byte is neither 000 nor 377
+abbrev pub is_byte_high : ℕ → Bool
+is_byte_high number = number == 0 || number == 255
+
+abbrev pub byte_letters : ℕ → ℕ
+byte_letters number = letter_if (not (is_byte_high (number / 256))) letter_T
+
+-- a value as a word, relative to the place after it or not
+abbrev pub word : Table → Bool → ℕ → Quantity → Put
+word table is_relative place value =
+    put (Word (stored table is_relative place value) ∷ []) (bit_or value.letters (register_letters value.kind))
+
+-- a value as a byte: its number is asked, whatever it counts from
+abbrev pub byte : Table → ℕ → Quantity → Put
+byte table place value =
+    put (Byte (stored table false place value) ∷ [])
+    (bit_or (bit_or value.letters (register_letters value.kind)) (byte_letters value.number))
+
+abbrev pub fixed_word : ℕ → PieceContent
+fixed_word number = Word (fixed number)
+
+abbrev pub fixed_byte : ℕ → PieceContent
+fixed_byte number = Byte (fixed number)
