@@ -8,8 +8,10 @@ ghost use Rattle.m11_placement.specs.Definitions.{Key, firm_part};
 ghost use Rattle.m11_placement.specs.Labels.{labels_stand};
 ghost use Rattle.m11_placement.specs.Meanings.{AreFirm, Context, Map, firm_known, known_at};
 ghost use Rattle.m11_placement.specs.Operands.{Form, words_of};
+ghost use Rattle.m11_placement.specs.Placements.{table_after};
 ghost use Rattle.m11_placement.specs.Places.{Goes, Move, Moved, Steps, in_section, place_in};
 ghost use Rattle.m11_placement.specs.Tables.{Table, firm_table, place};
+ghost use Rattle.m11_unfolding.specs.Unfolding.{Given};
 
 /// After a line that goes on, the counter of its section stands as many bytes further, modulo 65536.
 #[tactic(auto, using(crate::proofs::Counters::steps_on))]
@@ -55,4 +57,11 @@ pub fn firm_assignments_are_those_of_every_map()
     ensures { (one other : Map) (first second : Table) (key : Key) (line : Bytes) (start : ℕ)
         → firm_table first ≡ firm_table second
         → firm_part (assigned one first key line start) ≡ firm_part (assigned other second key line start) }
+{}
+
+/// Any two maps place live lines alike: after them the tables are the same as far as they are firm, so sections, the places of their
+/// counters, sizes, labels and firm values are the same. The lines are any, so this holds after each line of a source.
+pub fn placements_are_the_same_under_every_map()
+    ensures { (one other : Map) (lines : List Given)
+        → firm_table (table_after one lines) ≡ firm_table (table_after other lines) }
 {}

@@ -1,5 +1,6 @@
-//! Where lines of a source lie, what their labels define, what symbols stand for there, and the forms of operands. Here stand
-//! definitions with their laws. (MACRO-11 Language Reference Manual, "Symbols and expressions" and "Addressing modes".)
+//! Where lines of a source lie, what they define, what symbols stand for there, and what each instruction and directive puts at its
+//! places. Here stand definitions with their laws. (MACRO-11 Language Reference Manual, "Symbols and expressions", "Addressing modes" and
+//! "General assembler directives".)
 #![tactic(auto)]
 
 mod laws;
@@ -8,4 +9,5 @@ pub use laws::{
     a_line_sets_the_counter, a_line_steps_the_counter, an_operand_has_at_most_one_word,
     firm_assignments_are_those_of_every_map, firm_values_are_those_of_every_map,
     labels_keep_the_counter, other_sections_keep_their_counter,
+    placements_are_the_same_under_every_map,
 };
