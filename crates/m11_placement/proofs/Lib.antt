@@ -1,4 +1,5 @@
 mod Counters
+mod FilledSizes
 mod FirmAssignments
 mod FirmChanges
 mod FirmLabels
@@ -6,3 +7,4 @@ mod FirmLines
 mod FirmNames
 mod Forms
 mod LabelPlaces
+mod LinesFill

@@ -5,7 +5,9 @@ ghost use Rattle.m11_arguments.specs.Expressions.{symbols_at, value_at};
 ghost use Rattle.m11_base.specs.Devices.{Bytes};
 ghost use Rattle.m11_placement.specs.Assignments.{assigned};
 ghost use Rattle.m11_placement.specs.Definitions.{Key, firm_part};
+ghost use Rattle.m11_placement.specs.Filling.{Fills, gap_before};
 ghost use Rattle.m11_placement.specs.Labels.{labels_stand};
+ghost use Rattle.m11_placement.specs.Lines.{deed, line_change, line_put};
 ghost use Rattle.m11_placement.specs.Meanings.{AreFirm, Context, Map, firm_known, known_at};
 ghost use Rattle.m11_placement.specs.Operands.{Form, words_of};
 ghost use Rattle.m11_placement.specs.Placements.{table_after};
@@ -64,4 +66,12 @@ pub fn firm_assignments_are_those_of_every_map()
 pub fn placements_are_the_same_under_every_map()
     ensures { (one other : Map) (lines : List Given)
         → firm_table (table_after one lines) ≡ firm_table (table_after other lines) }
+{}
+
+/// What a line puts has as many bytes as its counter goes on by, but for those that are passed over before it; a line that leaves room
+/// puts nothing.
+pub fn a_line_fills_what_it_steps_by()
+    ensures { (map : Map) (table : Table) (given : Given)
+        → Fills (gap_before table (deed given.is_own given.live.line.text)) (line_put map table given).contents
+        (line_change (firm_table table) given) }
 {}
