@@ -1,4 +1,5 @@
 mod Counters
+mod Equations
 mod FilledSizes
 mod FirmAssignments
 mod FirmChanges

@@ -5,12 +5,13 @@ ghost use Rattle.m11_arguments.specs.Expressions.{symbols_at, value_at};
 ghost use Rattle.m11_base.specs.Devices.{Bytes};
 ghost use Rattle.m11_placement.specs.Assignments.{assigned};
 ghost use Rattle.m11_placement.specs.Definitions.{Key, firm_part};
+ghost use Rattle.m11_placement.specs.Equation.{AreAlike, Solves};
 ghost use Rattle.m11_placement.specs.Filling.{Fills, gap_before};
 ghost use Rattle.m11_placement.specs.Labels.{labels_stand};
 ghost use Rattle.m11_placement.specs.Lines.{deed, line_change, line_put};
 ghost use Rattle.m11_placement.specs.Meanings.{AreFirm, Context, Map, firm_known, known_at};
 ghost use Rattle.m11_placement.specs.Operands.{Form, words_of};
-ghost use Rattle.m11_placement.specs.Placements.{table_after};
+ghost use Rattle.m11_placement.specs.Placements.{program_map, table_after};
 ghost use Rattle.m11_placement.specs.Places.{Goes, Move, Moved, Steps, in_section, place_in};
 ghost use Rattle.m11_placement.specs.Tables.{Table, firm_table, place};
 ghost use Rattle.m11_unfolding.specs.Unfolding.{Given};
@@ -74,4 +75,14 @@ pub fn a_line_fills_what_it_steps_by()
     ensures { (map : Map) (table : Table) (given : Given)
         → Fills (gap_before table (deed given.is_own given.live.line.text)) (line_put map table given).contents
         (line_change (firm_table table) given) }
+{}
+
+/// The map of a source solves its equation: the placement under it gives each label and each firm name what the map has of it.
+pub fn the_map_of_a_source_solves_it()
+    ensures { (lines : List Given) → Solves (program_map lines) lines }
+{}
+
+/// Every map that solves a source has the labels and the firm values of the source's own map.
+pub fn solutions_are_alike()
+    ensures { (map : Map) (lines : List Given) → Solves map lines → AreAlike map (program_map lines) }
 {}
