@@ -1,0 +1,4 @@
+pub mod Worked
+pub mod InstructionRows
+pub mod DirectiveRows
+pub mod RelocationRows

@@ -1,0 +1,70 @@
+-- Sources of a few lines, with what they put at their places. (MACRO-11 Language Reference Manual, "Source program format".)
+use Rattle.std.specs.Prelude.{ℕ, false, List, map, None}
+use Rattle.std.specs.List.{flat_map}
+use Rattle.m11_arguments.specs.Notes.{no_notes}
+use Rattle.m11_base.specs.Devices.{Bytes}
+use Rattle.m11_lines.specs.Line.{line_of}
+use Rattle.m11_object_text.specs.declared.pieces.Piece.{Piece}
+use Rattle.m11_object_text.specs.declared.pieces.PieceContent.TheVariants.{Byte, Word}
+use Rattle.m11_object_text.specs.declared.pieces.RelocationKind.{RelocationKind}
+use Rattle.m11_placement.specs.Contents.{fixed_byte, fixed_word, piece}
+use Rattle.m11_placement.specs.Meanings.{firm_known}
+use Rattle.m11_placement.specs.Placements.{Placed, placement, program_map}
+use Rattle.m11_placement.specs.Sections.{blank_name}
+use Rattle.m11_placement.specs.Tables.{first_table}
+use Rattle.m11_scan.specs.Letters.{letters_text}
+use Rattle.m11_unfolding.specs.Unfolding.{Given}
+
+-- a line of the source itself that unfolding leaves alone
+abbrev pub plain : Bytes → Given
+plain text = record {
+  live = record { line = line_of text; is_expanded = false };
+  known = firm_known first_table 0;
+  is_own = false;
+  notes = no_notes;
+  arguments = None;
+}
+
+-- the letters of each line, and the pieces of all
+pub record Shown : Type 0 where
+  pub letters : List Bytes
+  pub pieces : List Piece
+
+abbrev pub line_letters : Placed → Bytes
+line_letters line = letters_text line.letters
+
+abbrev pub shown : List Placed → Shown
+shown lines = record { letters = map line_letters lines; pieces = flat_map (λ line. line.pieces) lines }
+
+-- what the second reading of a source gives, under the map of the first
+abbrev pub assembled : List Given → Shown
+assembled lines = shown (placement (program_map lines) lines)
+
+-- a source, and what it gives
+pub record Row : Type 0 where
+  pub source : List Bytes
+  pub letters : List Bytes
+  pub pieces : List Piece
+
+abbrev pub row : List Bytes → List Bytes → List Piece → Row
+row source letters pieces = record { source = source; letters = letters; pieces = pieces }
+
+abbrev pub found : Row → Shown
+found row = assembled (map plain row.source)
+
+abbrev pub told : Row → Shown
+told row = record { letters = row.letters; pieces = row.pieces }
+
+-- ---- pieces of the blank section
+
+abbrev pub word : ℕ → ℕ → Piece
+word place number = piece blank_name place (fixed_word number)
+
+abbrev pub byte : ℕ → ℕ → Piece
+byte place number = piece blank_name place (fixed_byte number)
+
+abbrev pub moved_word : ℕ → RelocationKind → ℕ → Piece
+moved_word place kind constant = piece blank_name place (Word (record { constant = constant; kind = kind }))
+
+abbrev pub moved_byte : ℕ → RelocationKind → ℕ → Piece
+moved_byte place kind constant = piece blank_name place (Byte (record { constant = constant; kind = kind }))

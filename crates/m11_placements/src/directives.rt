@@ -1,0 +1,25 @@
+//! Directives as they were worked by hand. (MACRO-11 Language Reference Manual, "General assembler directives".)
+
+ghost use Rattle.std.specs.Prelude.{◌≡◌, map};
+ghost use Rattle.m11_placements.specs.DirectiveRows.{place_rows, setting_rows, text_rows, word_rows};
+ghost use Rattle.m11_placements.specs.Worked.{found, told};
+
+/// Lists of words and bytes, and lines without an operator.
+pub fn words_are_as_worked()
+    ensures { map found word_rows ≡ map told word_rows }
+{}
+
+/// Even and odd places, room that is left, and the counter.
+pub fn places_are_as_worked()
+    ensures { map found place_rows ≡ map told place_rows }
+{}
+
+/// Texts, and what stands in brackets in them.
+pub fn texts_are_as_worked()
+    ensures { map found text_rows ≡ map told text_rows }
+{}
+
+/// The radix, labels, assignments, and directives that place nothing.
+pub fn settings_are_as_worked()
+    ensures { map found setting_rows ≡ map told setting_rows }
+{}

@@ -1,0 +1,16 @@
+//! Lines of sources with what they put at their places, worked by hand: each row is a source, the letters of its lines and its pieces,
+//! and the definitions of placing give just that. Each law is the contract of a function that does nothing; no other crate names them.
+#![tactic(auto)]
+
+mod directives;
+mod instructions;
+mod relocations;
+
+pub use directives::{
+    places_are_as_worked, settings_are_as_worked, texts_are_as_worked, words_are_as_worked,
+};
+pub use instructions::{
+    branches_are_as_worked, missing_operands_are_as_worked, operands_are_as_worked,
+    registers_are_as_worked, relative_operands_are_as_worked,
+};
+pub use relocations::{names_are_as_worked, sections_are_as_worked};

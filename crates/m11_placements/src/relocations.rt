@@ -1,0 +1,15 @@
+//! Relocations and sections as they were worked by hand. (RT-11 Volume and File Formats Manual, "Object file format", RLD block.)
+
+ghost use Rattle.std.specs.Prelude.{◌≡◌, map};
+ghost use Rattle.m11_placements.specs.RelocationRows.{name_rows, section_rows};
+ghost use Rattle.m11_placements.specs.Worked.{found, told};
+
+/// Names of other objects, labels, and the limits of a program.
+pub fn names_are_as_worked()
+    ensures { map found name_rows ≡ map told name_rows }
+{}
+
+/// Sections, their attributes, and values that move with them.
+pub fn sections_are_as_worked()
+    ensures { map found section_rows ≡ map told section_rows }
+{}
