@@ -71,7 +71,7 @@ impl State {
                 self.act_repeated(alloc, rounds)?;
             }
             Directive::MacroExit => self.act_exit(line, place, notes),
-            Directive::ArgumentCount | Directive::CharacterCount => {}
+            Directive::ArgumentCount | Directive::CharacterCount => return Ok(false),
             Directive::End => {
                 self.has_ended = true;
                 return Ok(false);

@@ -185,8 +185,8 @@ acted_by known text stage (Directs word.EndRepeat place) = own (noting letter_O 
 acted_by known text stage (Directs word.IndefiniteRepeat place) = acted_repeated (indefinite_repeat known text place) stage
 acted_by known text stage (Directs word.CharacterRepeat place) = acted_repeated (character_repeat text place) stage
 acted_by known text stage (Directs word.MacroExit place) = acted_exit text place stage
-acted_by known text stage (Directs word.ArgumentCount place) = own no_notes stage
-acted_by known text stage (Directs word.CharacterCount place) = own no_notes stage
+acted_by known text stage (Directs word.ArgumentCount place) = foreign stage
+acted_by known text stage (Directs word.CharacterCount place) = foreign stage
 acted_by known text stage (Directs word.End place) = foreign (record stage { has_ended = true })
 
 -- what the operator of a line does at a stage, under what names tell
