@@ -93,7 +93,7 @@ identification_letters_of line start None = bit_or letter_A (rest_letters line s
 abbrev pub identification_letters : Bytes → ℕ → ℕ
 identification_letters line start = identification_letters_of line start (next_part line start true)
 
--- ---- .END e: the address where the program begins
+-- ---- .END e: the address where the program begins. Its value and the letters of that are asked of the first reading, for the whole source
 
 abbrev pub transfer : Map → Table → Bytes → ℕ → Option Quantity
 transfer map table line start =
@@ -103,7 +103,7 @@ abbrev pub transfer_letters : Option Quantity → ℕ
 transfer_letters (Some value) = bit_or value.letters (register_letters value.kind)
 transfer_letters None = 0
 
-abbrev pub end_letters : Map → Table → Bytes → ℕ → ℕ
-end_letters map table line start =
-    bit_or (transfer_letters (transfer map table line start))
-    (bit_or (skip_letters line start (expression_end line start)) (left_over line (expression_end line start)))
+-- what is skipped, and what is left over
+abbrev pub end_letters : Bytes → ℕ → ℕ
+end_letters line start =
+    bit_or (skip_letters line start (expression_end line start)) (left_over line (expression_end line start))

@@ -58,6 +58,7 @@ setting_rows =
     ∷ row (codes "A: NOP" ∷ codes "1$: NOP" ∷ codes "A: BR 1$" ∷ []) (codes "" ∷ codes "" ∷ codes "M" ∷ [])
     (word 0 0o240 ∷ word 2 0o240 ∷ word 4 0o776 ∷ [])
     ∷ row (codes "X=5" ∷ codes "X=Y" ∷ codes ".GLOBL X" ∷ codes "Y=1" ∷ []) (codes "U" ∷ codes "U" ∷ codes "" ∷ codes "" ∷ []) []
+    ∷ row (codes "X=Y" ∷ codes "Y=4" ∷ codes ".END X" ∷ []) (codes "" ∷ codes "" ∷ codes "U" ∷ []) []
     ∷ row (codes ".TITLE X ?" ∷ codes ".SBTTL ?" ∷ codes ".TITLE 5A" ∷ codes ".ENABL LC,GBL" ∷ codes ".DSABL LC" ∷ [])
     (codes "" ∷ codes "" ∷ codes "A" ∷ codes "" ∷ codes "A" ∷ []) []
     ∷ row (codes ".GLOBL 5+1,A,,B" ∷ codes ".GLOBL C D" ∷ codes ".IDENT" ∷ codes ".ENABL" ∷ codes ".PAGE 5" ∷ [])

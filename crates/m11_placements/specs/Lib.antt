@@ -2,3 +2,4 @@ pub mod Worked
 pub mod InstructionRows
 pub mod DirectiveRows
 pub mod RelocationRows
+pub mod SourceRows

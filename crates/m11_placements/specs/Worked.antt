@@ -11,6 +11,7 @@ use Rattle.m11_placement.specs.Contents.{fixed_byte, fixed_word, piece}
 use Rattle.m11_placement.specs.Meanings.{firm_known}
 use Rattle.m11_placement.specs.Placements.{Placed, placement, program_map}
 use Rattle.m11_placement.specs.Sections.{blank_name}
+use Rattle.m11_placement.specs.Sources.{reported}
 use Rattle.m11_placement.specs.Tables.{first_table}
 use Rattle.m11_scan.specs.Letters.{letters_text}
 use Rattle.m11_unfolding.specs.Unfolding.{Given}
@@ -30,15 +31,15 @@ pub record Shown : Type 0 where
   pub letters : List Bytes
   pub pieces : List Piece
 
-abbrev pub line_letters : Placed → Bytes
-line_letters line = letters_text line.letters
-
-abbrev pub shown : List Placed → Shown
-shown lines = record { letters = map line_letters lines; pieces = flat_map (λ line. line.pieces) lines }
+abbrev pub pieces_of : List Placed → List Piece
+pieces_of lines = flat_map (λ line. line.pieces) lines
 
 -- what the second reading of a source gives, under the map of the first
 abbrev pub assembled : List Given → Shown
-assembled lines = shown (placement (program_map lines) lines)
+assembled lines = record {
+  letters = map letters_text (reported lines);
+  pieces = pieces_of (placement (program_map lines) lines);
+}
 
 -- a source, and what it gives
 pub record Row : Type 0 where

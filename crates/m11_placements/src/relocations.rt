@@ -2,6 +2,7 @@
 
 ghost use Rattle.std.specs.Prelude.{◌≡◌, map};
 ghost use Rattle.m11_placements.specs.RelocationRows.{name_rows, section_rows};
+ghost use Rattle.m11_placements.specs.SourceRows.{given_by, source_rows, told_by};
 ghost use Rattle.m11_placements.specs.Worked.{found, told};
 
 /// Names of other objects, labels, and the limits of a program.
@@ -12,4 +13,9 @@ pub fn names_are_as_worked()
 /// Sections, their attributes, and values that move with them.
 pub fn sections_are_as_worked()
     ensures { map found section_rows ≡ map told section_rows }
+{}
+
+/// Titles, identifications, weak names, addresses, and the names that lines mention.
+pub fn sources_are_as_worked()
+    ensures { map given_by source_rows ≡ map told_by source_rows }
 {}
