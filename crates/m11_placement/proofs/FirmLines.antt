@@ -10,7 +10,7 @@ use Rattle.m11_placement.specs.Meanings.{Map}
 use Rattle.m11_placement.specs.Placements.{after_lines, table_after}
 use Rattle.m11_placement.specs.Tables.{Table, first_table, firm_table}
 
-stands_alike : (given : Given) (first second : Table) → firm_table first ≡ firm_table second
+pub stands_alike : (given : Given) (first second : Table) → firm_table first ≡ firm_table second
     → firm_table (stands first given) ≡ firm_table (stands second given)
 stands_alike given first second same =
     labels_firm first given.live.line.text

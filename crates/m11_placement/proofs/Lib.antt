@@ -9,3 +9,4 @@ mod FirmNames
 mod Forms
 mod LabelPlaces
 mod LinesFill
+mod SameLines

@@ -3,6 +3,7 @@
 ghost use Rattle.std.specs.Prelude.{◌≡◌, ◌≢◌, ◌+◌, ◌≤◌, ◌%◌, ℕ, List, [], ◌∷◌, ◌++◌};
 ghost use Rattle.m11_arguments.specs.Expressions.{symbols_at, value_at};
 ghost use Rattle.m11_base.specs.Devices.{Bytes};
+ghost use Rattle.m11_lines.specs.Line.{SourceLine};
 ghost use Rattle.m11_placement.specs.Assignments.{assigned};
 ghost use Rattle.m11_placement.specs.Definitions.{Key, firm_part};
 ghost use Rattle.m11_placement.specs.Equation.{AreAlike, Solves};
@@ -14,6 +15,8 @@ ghost use Rattle.m11_placement.specs.Operands.{Form, words_of};
 ghost use Rattle.m11_placement.specs.Placements.{program_map, table_after};
 ghost use Rattle.m11_placement.specs.Places.{Goes, Move, Moved, Steps, in_section, place_in};
 ghost use Rattle.m11_placement.specs.Tables.{Table, firm_table, place};
+ghost use Rattle.m11_placement.specs.Unfolded.{AreLines};
+ghost use Rattle.m11_unfolding.specs.Stages.{Stage};
 ghost use Rattle.m11_unfolding.specs.Unfolding.{Given};
 
 /// After a line that goes on, the counter of its section stands as many bytes further, modulo 65536.
@@ -85,4 +88,10 @@ pub fn the_map_of_a_source_solves_it()
 /// Every map that solves a source has the labels and the firm values of the source's own map.
 pub fn solutions_are_alike()
     ensures { (map : Map) (lines : List Given) → Solves map lines → AreAlike map (program_map lines) }
+{}
+
+/// A source has the same live lines under every map: no condition, no repeat and no macro asks what stands later in the source.
+pub fn sources_have_the_same_lines_under_every_map()
+    ensures { (one other : Map) (source : List SourceLine) (lines : List Given) (stage : Stage)
+        → AreLines one source lines stage → AreLines other source lines stage }
 {}

@@ -1,0 +1,24 @@
+-- The lines of a source under a map: unfolding gives them, and each operator is done by what the lines before it tell. (MACRO-11 Language
+-- Reference Manual, "Macro directives", "Conditional assembly directives" and "Symbols and expressions". That conditions and repeats ask
+-- firm names alone is this project's own.)
+use Rattle.std.specs.Prelude.{◌≡◌, List, [], ◌∷◌, ⊤}
+use Rattle.m11_arguments.specs.Expressions.{Known}
+use Rattle.m11_lines.specs.Line.{SourceLine}
+use Rattle.m11_unfolding.specs.Stages.{Stage}
+use Rattle.m11_unfolding.specs.Unfolding.{Given, Unfolds}
+use Rattle.m11_placement.specs.Lines.{after_line, stands}
+use Rattle.m11_placement.specs.Meanings.{Map, firm_known}
+use Rattle.m11_placement.specs.Tables.{Table, first_table, place}
+
+-- what conditions, repeats and macros are told once the labels of their line stand
+abbrev pub told : Table → Known
+told stood = firm_known stood (place stood)
+
+-- each line was told what the lines before it say
+abbrev pub AreTold : Map → Table → List Given → Type 0
+AreTold map table [] = ⊤
+AreTold map table (given ∷ lines) = (given.known ≡ told (stands table given)) × AreTold map (after_line map table given) lines
+
+-- the live lines of a source, up to a stage of its unfolding, placed under a map
+abbrev pub AreLines : Map → List SourceLine → List Given → Stage → Type 0
+AreLines map source lines stage = Unfolds source lines stage × AreTold map first_table lines
