@@ -9,4 +9,5 @@ mod FirmNames
 mod Forms
 mod LabelPlaces
 mod LinesFill
+mod PiecesInOrder
 mod SameLines

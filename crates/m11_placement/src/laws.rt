@@ -1,6 +1,6 @@
 //! Laws of placing. Each is the contract of a function that does nothing.
 
-ghost use Rattle.std.specs.Prelude.{◌≡◌, ◌≢◌, ◌+◌, ◌≤◌, ◌%◌, ℕ, List, [], ◌∷◌, ◌++◌};
+ghost use Rattle.std.specs.Prelude.{◌≡◌, ◌≢◌, ◌+◌, ◌≤◌, ◌%◌, ℕ, false, List, [], ◌∷◌, ◌++◌};
 ghost use Rattle.m11_arguments.specs.Expressions.{symbols_at, value_at};
 ghost use Rattle.m11_base.specs.Devices.{Bytes};
 ghost use Rattle.m11_lines.specs.Line.{SourceLine};
@@ -12,9 +12,10 @@ ghost use Rattle.m11_placement.specs.Labels.{labels_stand};
 ghost use Rattle.m11_placement.specs.Lines.{deed, line_change, line_put};
 ghost use Rattle.m11_placement.specs.Meanings.{AreFirm, Context, Map, firm_known, known_at};
 ghost use Rattle.m11_placement.specs.Operands.{Form, words_of};
+ghost use Rattle.m11_placement.specs.Order.{LieFrom, pieces_in};
 ghost use Rattle.m11_placement.specs.Placements.{program_map, table_after};
-ghost use Rattle.m11_placement.specs.Places.{Goes, Move, Moved, Steps, in_section, place_in};
-ghost use Rattle.m11_placement.specs.Tables.{Table, firm_table, place};
+ghost use Rattle.m11_placement.specs.Places.{Goes, Move, Moved, Steps, has_set, in_section, moves_in, place_in, sizes_since};
+ghost use Rattle.m11_placement.specs.Tables.{Table, firm_table, first_table, place};
 ghost use Rattle.m11_placement.specs.Unfolded.{AreLines};
 ghost use Rattle.m11_unfolding.specs.Stages.{Stage};
 ghost use Rattle.m11_unfolding.specs.Unfolding.{Given};
@@ -94,4 +95,13 @@ pub fn solutions_are_alike()
 pub fn sources_have_the_same_lines_under_every_map()
     ensures { (one other : Map) (source : List SourceLine) (lines : List Given) (stage : Stage)
         → AreLines one source lines stage → AreLines other source lines stage }
+{}
+
+/// In a section where no place is set, and whose sizes don't pass the end of the addresses, pieces lie in the order of the lines, and none
+/// begins before the one before it ends.
+pub fn pieces_lie_in_the_order_of_lines()
+    ensures { (map : Map) (lines : List Given) (section : ℕ)
+        → has_set (moves_in section (table_after map lines).moves) ≡ false
+        → sizes_since (moves_in section (table_after map lines).moves) ≤ 65535
+        → LieFrom 0 (pieces_in section map first_table lines) }
 {}
