@@ -1,4 +1,4 @@
-//! The letters and symbols of lines that are unfolding's own, and the count of actuals around them.
+//! The letters and symbols of lines that are unfolding's own, and the count of actuals around lines of calls.
 
 use super::{Keeps, Lines, unfold};
 use m11_scan::Line;
@@ -7,14 +7,14 @@ use m11_unfolding::UnfoldFault;
 use std::alloc::{AllocError, Global};
 use std::process::Abort;
 
-// Of each line that is unfolding's own: its letters, how many symbols its arguments read, and how many actuals the innermost call has,
-// each ended by `,` or, where there is no call, `-`.
+// Of each line that is unfolding's own or stands in a call: its letters, how many symbols its arguments read, and, after `/`, how many
+// actuals the call has.
 #[derive(Drop)]
 struct OwnLines(Vec<u8>);
 
 impl Keeps for OwnLines {
     fn keep(&mut self, _line: &Line, act: &Act) -> Result<(), AllocError> {
-        if !act.is_own {
+        if !act.is_own && act.arguments.is_none() {
             return Ok(());
         }
         self.0.extend_from_slice(&act.notes.letters().text())?;
@@ -54,7 +54,8 @@ static OUTSIDE: [Row; 7] = [
     (&[(".MEXIT", 1)], "O0 "),
     (&[(".ENDM M", 1)], "O0 "),
     (&[(".ENDC X", 1)], "OQ0 "),
-    (&[(".NARG N", 1), (".NCHR N,A", 1)], "0 0 "),
+    // these place nothing, and yet are none of unfolding's own: they assign
+    (&[(".NARG N", 1), (".NCHR N,A", 1)], ""),
 ];
 
 static CONDITIONS: [Row; 12] = [
