@@ -13,4 +13,6 @@ pub use instructions::{
     branches_are_as_worked, missing_operands_are_as_worked, operands_are_as_worked,
     registers_are_as_worked, relative_operands_are_as_worked,
 };
-pub use relocations::{names_are_as_worked, sections_are_as_worked, sources_are_as_worked};
+pub use relocations::{
+    limits_are_as_worked, names_are_as_worked, sections_are_as_worked, sources_are_as_worked,
+};

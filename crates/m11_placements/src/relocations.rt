@@ -1,6 +1,7 @@
 //! Relocations and sections as they were worked by hand. (RT-11 Volume and File Formats Manual, "Object file format", RLD block.)
 
 ghost use Rattle.std.specs.Prelude.{◌≡◌, map};
+ghost use Rattle.m11_placements.specs.LimitRows.{faults, told_faults};
 ghost use Rattle.m11_placements.specs.RelocationRows.{name_rows, section_rows};
 ghost use Rattle.m11_placements.specs.SourceRows.{given_by, source_rows, told_by};
 ghost use Rattle.m11_placements.specs.Worked.{found, told};
@@ -18,4 +19,9 @@ pub fn sections_are_as_worked()
 /// Titles, identifications, weak names, addresses, and the names that lines mention.
 pub fn sources_are_as_worked()
     ensures { map given_by source_rows ≡ map told_by source_rows }
+{}
+
+/// As many sections as a source may have, and one more.
+pub fn limits_are_as_worked()
+    ensures { faults ≡ told_faults }
 {}

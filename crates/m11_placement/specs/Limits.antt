@@ -1,0 +1,87 @@
+-- How many names, local symbols and sections a source may have. (MACRO-11 Language Reference Manual, "Symbols", "Local symbols" and
+-- "Program section directives". The numbers, and that names which are only read count too, are this project's own.)
+use Rattle.std.specs.Prelude.{ℕ, ◌||◌, Bool, true, false, nat_lt, if◌then◌else◌, List, [], ◌∷◌, ◌++◌, length, count_by, Option, Some, None}
+use Rattle.std.specs.List.{list_any}
+use Rattle.m11_base.specs.Rad50.{Name}
+use Rattle.m11_unfolding.specs.Unfolding.{Given}
+use Rattle.m11_values.specs.declared.names.Symbol.{Symbol}
+use Rattle.m11_values.specs.declared.names.Symbol.TheVariants.{Ordinary, Local, Counter}
+use Rattle.m11_placement.specs.Definitions.{Definition, Key, Named, Numbered, is_defined, registers}
+use Rattle.m11_placement.specs.Lines.{after_line}
+use Rattle.m11_placement.specs.Meanings.{Map, empty_map}
+use Rattle.m11_placement.specs.Mentions.{Mention, mentions}
+use Rattle.m11_placement.specs.Placements.{program_map}
+use Rattle.m11_placement.specs.Sections.{is_same}
+use Rattle.m11_placement.specs.Tables.{Table, first_table}
+
+-- the names of the registers don't count
+abbrev pub most_names : ℕ
+most_names = 4096
+
+abbrev pub most_local_symbols : ℕ
+most_local_symbols = 16384
+
+-- with the two that each assembly has
+abbrev pub most_sections : ℕ
+most_sections = 64
+
+pub data LimitFault : Type 0 where
+  TooManySymbols : LimitFault
+  TooManySections : LimitFault
+
+-- ---- names: those that lines mention, each once, in the order in which they appear
+
+abbrev pub is_counted : Name → List Name → Bool
+is_counted name names = is_defined (Named name) registers || list_any (λ other. is_same other name) names
+
+abbrev pub with_symbol : Symbol → List Name → List Name
+with_symbol (Ordinary name) names = if is_counted name names then names else names ++ name ∷ []
+with_symbol (Local number) names = names
+with_symbol Counter names = names
+
+abbrev pub with_mentions : List Mention → List Name → List Name
+with_mentions [] names = names
+with_mentions (mention ∷ mentions) names = with_mentions mentions (with_symbol mention.symbol names)
+
+abbrev pub names_after : Map → Table → List Given → List Name → List Name
+names_after map table [] names = names
+names_after map table (given ∷ lines) names =
+    names_after map (after_line map table given) lines (with_mentions (mentions table given) names)
+
+-- ---- local symbols: those that labels define
+
+abbrev pub is_local : Key → Bool
+is_local (Named name) = false
+is_local (Numbered block number) = true
+
+abbrev pub is_local_definition : Definition → Bool
+is_local_definition definition = is_local definition.key
+
+abbrev pub local_count : Table → ℕ
+local_count table = count_by is_local_definition table.definitions
+
+-- ---- faults: within a line names come before sections, since no line has a section after a name but its labels
+
+abbrev pub limit_fault : List Name → Table → Option LimitFault
+limit_fault names table =
+    if nat_lt most_names (length names) || nat_lt most_local_symbols (local_count table) then Some TooManySymbols
+    else (if nat_lt most_sections (length table.sections) then Some TooManySections else None)
+
+abbrev pub first_fault : Option LimitFault → Option LimitFault → Option LimitFault
+first_fault (Some fault) later = Some fault
+first_fault None later = later
+
+abbrev pub fault_from : Map → Table → List Given → List Name → Option LimitFault
+fault_from map table [] names = None
+fault_from map table (given ∷ lines) names =
+    first_fault (limit_fault (with_mentions (mentions table given) names) (after_line map table given))
+    (fault_from map (after_line map table given) lines (with_mentions (mentions table given) names))
+
+-- the first line past a limit, in the first reading
+abbrev pub first_reading_fault : List Given → Option LimitFault
+first_reading_fault lines = fault_from empty_map first_table lines []
+
+-- names of both readings count together, and sections for each alone
+abbrev pub second_reading_fault : List Given → Option LimitFault
+second_reading_fault lines =
+    fault_from (program_map lines) first_table lines (names_after empty_map first_table lines [])
