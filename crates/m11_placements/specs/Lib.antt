@@ -1,5 +1,6 @@
 pub mod Worked
 pub mod InstructionRows
+pub mod ItemRows
 pub mod LimitRows
 pub mod DirectiveRows
 pub mod RelocationRows

@@ -2,6 +2,7 @@
 
 ghost use Rattle.std.specs.Prelude.{◌≡◌, map};
 ghost use Rattle.m11_placements.specs.DirectiveRows.{place_rows, setting_rows, text_rows, word_rows};
+ghost use Rattle.m11_placements.specs.ItemRows.{found_items, told_items};
 ghost use Rattle.m11_placements.specs.Worked.{found, told};
 
 /// Lists of words and bytes, and lines without an operator.
@@ -22,4 +23,9 @@ pub fn texts_are_as_worked()
 /// The radix, labels, assignments, and directives that place nothing.
 pub fn settings_are_as_worked()
     ensures { map found setting_rows ≡ map told setting_rows }
+{}
+
+/// What a listing shows of assignments, of what is put, and of lines that show nothing.
+pub fn items_are_as_worked()
+    ensures { found_items ≡ told_items }
 {}

@@ -1,0 +1,80 @@
+-- The items that a listing shows of a line: what it puts, or what it assigns. (MACRO-11 Language Reference Manual, "Listing control
+-- directives". Which mark an item has is this project's own.)
+use Rattle.std.specs.Prelude.{ℕ, ◌%◌, List, [], ◌∷◌, if◌then◌else◌}
+use Rattle.std.specs.List.{flat_map}
+use Rattle.m11_arguments.specs.Definedness.{is_defined}
+use Rattle.m11_arguments.specs.Expressions.{value_at}
+use Rattle.m11_base.specs.Devices.{Bytes}
+use Rattle.m11_object_text.specs.declared.pieces.PieceContent.{PieceContent}
+use Rattle.m11_object_text.specs.declared.pieces.PieceContent.TheVariants.{Byte, Word, Limits}
+use Rattle.m11_object_text.specs.declared.pieces.RelocationKind.{RelocationKind}
+use Rattle.m11_object_text.specs.declared.pieces.RelocationKind.TheVariants as relocation
+use Rattle.m11_unfolding.specs.Unfolding.{Given}
+use Rattle.m11_values.specs.declared.kinds.Kind.{Kind}
+use Rattle.m11_values.specs.declared.kinds.Kind.TheVariants as kind
+use Rattle.m11_values.specs.Quantities.{Quantity}
+use Rattle.m11_placement.specs.Changes.{Change, Numbers}
+use Rattle.m11_placement.specs.Lines.{Assigning, Deed, Operating, Rests, Setting, deed, line_change, line_put, stands}
+use Rattle.m11_placement.specs.Meanings.{Knows, Map, known_at}
+use Rattle.m11_placement.specs.Tables.{Table, firm_table, place}
+
+-- what a number is marked by: nothing, `'`, `G` or `%`
+pub data Mark : Type 0 where
+  Unmarked : Mark
+  OfSection : Mark
+  OfObject : Mark
+  OfRegister : Mark
+
+pub data Item : Type 0 where
+  -- a byte, with three octal digits
+  InByte : ℕ → Mark → Item
+  -- a word, with six
+  InWord : ℕ → Mark → Item
+
+-- ---- what is put: the constant, by what the place is relocated by
+
+abbrev pub mark_of : RelocationKind → Mark
+mark_of relocation.Fixed = Unmarked
+mark_of relocation.Internal = OfSection
+mark_of relocation.InternalDisplaced = Unmarked
+mark_of (relocation.Global name) = OfObject
+mark_of (relocation.GlobalDisplaced name) = OfObject
+mark_of (relocation.Section name) = OfSection
+mark_of (relocation.SectionDisplaced name) = OfSection
+
+-- limits are two words that a linker fills
+abbrev pub content_items : PieceContent → List Item
+content_items (Byte stored) = InByte (stored.constant % 256) (mark_of stored.kind) ∷ []
+content_items (Word stored) = InWord stored.constant (mark_of stored.kind) ∷ []
+content_items Limits = InWord 0 Unmarked ∷ InWord 0 Unmarked ∷ []
+
+-- ---- what is assigned: the value, by what it counts from
+
+abbrev pub mark_by : Kind → Mark
+mark_by kind.Absolute = Unmarked
+mark_by (kind.Section number) = OfSection
+mark_by kind.Register = OfRegister
+mark_by (kind.Reference name) = OfObject
+
+-- a value that isn't known isn't shown
+abbrev pub value_items : Quantity → List Item
+value_items value = if is_defined value then InWord value.number (mark_by value.kind) ∷ [] else []
+
+abbrev pub number_items : Change → List Item
+number_items (Numbers name number) = InWord number Unmarked ∷ []
+number_items other = []
+
+-- ---- a line: what it puts, or what it assigns, whether its name takes it or not; `.=` is no assignment
+
+abbrev pub deed_items : Map → Table → Bytes → Change → List PieceContent → Deed → List Item
+deed_items map table line change contents Rests = []
+deed_items map table line change contents (Assigning name is_global start) =
+    value_items (value_at (known_at map Knows table (place table)) line start)
+deed_items map table line change contents (Setting start) = []
+deed_items map table line change [] (Operating operator start) = number_items change
+deed_items map table line change (content ∷ contents) (Operating operator start) = flat_map content_items (content ∷ contents)
+
+abbrev pub items : Map → Table → Given → List Item
+items map table given =
+    deed_items map (stands table given) given.live.line.text (line_change (firm_table (stands table given)) given)
+    (line_put map (stands table given) given).contents (deed given.is_own given.live.line.text)
