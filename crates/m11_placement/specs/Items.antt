@@ -1,6 +1,6 @@
--- The items that a listing shows of a line: what it puts, or what it assigns. (MACRO-11 Language Reference Manual, "Listing control
--- directives". Which mark an item has is this project's own.)
-use Rattle.std.specs.Prelude.{ℕ, ◌%◌, List, [], ◌∷◌, if◌then◌else◌}
+-- What a listing shows of a line, and which lines it has: the items are what a line puts, or what it assigns. (MACRO-11 Language Reference
+-- Manual, "Listing control directives". Which mark an item has, and that flagged lines always stand in it, is this project's own.)
+use Rattle.std.specs.Prelude.{ℕ, ◌%◌, ◌==◌, ◌&&◌, ◌||◌, not, nat_le, Bool, if◌then◌else◌, List, [], ◌∷◌}
 use Rattle.std.specs.List.{flat_map}
 use Rattle.m11_arguments.specs.Definedness.{is_defined}
 use Rattle.m11_arguments.specs.Expressions.{value_at}
@@ -16,7 +16,7 @@ use Rattle.m11_values.specs.Quantities.{Quantity}
 use Rattle.m11_placement.specs.Changes.{Change, Numbers}
 use Rattle.m11_placement.specs.Lines.{Assigning, Deed, Operating, Rests, Setting, deed, line_change, line_put, stands}
 use Rattle.m11_placement.specs.Meanings.{Knows, Map, known_at}
-use Rattle.m11_placement.specs.Tables.{Table, firm_table, place}
+use Rattle.m11_placement.specs.Tables.{Settings, Table, firm_table, place}
 
 -- what a number is marked by: nothing, `'`, `G` or `%`
 pub data Mark : Type 0 where
@@ -78,3 +78,12 @@ abbrev pub items : Map → Table → Given → List Item
 items map table given =
     deed_items map (stands table given) given.live.line.text (line_change (firm_table (stands table given)) given)
     (line_put map (stands table given) given).contents (deed given.is_own given.live.line.text)
+
+-- ---- which lines stand in a listing: flagged ones; others where the level after them isn't below 0, and those of expansions by `.LIST ME`
+
+abbrev pub is_shown : Settings → Bool → Bool
+is_shown settings is_expanded =
+    nat_le settings.unlisted settings.listed && (not is_expanded || settings.shows_expansions)
+
+abbrev pub is_listed : Table → Given → ℕ → Bool
+is_listed after given letters = not (letters == 0) || is_shown after.settings given.live.is_expanded

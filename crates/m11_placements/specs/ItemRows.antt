@@ -1,10 +1,12 @@
 -- What a listing shows of lines, worked by hand. (MACRO-11 Language Reference Manual, "Listing control directives".)
-use Rattle.std.specs.Prelude.{List, [], ◌∷◌, codes, map}
+use Rattle.std.specs.Prelude.{ℕ, Bool, true, false, List, [], ◌∷◌, codes, map}
 use Rattle.m11_base.specs.Devices.{Bytes}
-use Rattle.m11_placement.specs.Items.{InByte, InWord, Item, OfObject, OfRegister, OfSection, Unmarked, items}
+use Rattle.m11_placement.specs.Items.{InByte, InWord, Item, OfObject, OfRegister, OfSection, Unmarked, is_listed, items}
+use Rattle.m11_lines.specs.Line.{line_of}
 use Rattle.m11_placement.specs.Lines.{after_line}
 use Rattle.m11_placement.specs.Meanings.{Map}
 use Rattle.m11_placement.specs.Placements.{program_map}
+use Rattle.m11_placement.specs.Sources.{reported}
 use Rattle.m11_placement.specs.Tables.{Table, first_table}
 use Rattle.m11_placements.specs.Worked.{plain}
 use Rattle.m11_unfolding.specs.Unfolding.{Given}
@@ -38,4 +40,32 @@ told_items =
     ∷ (InByte 0o377 Unmarked ∷ InByte 0o11 OfSection ∷ [])
     ∷ (InWord 0o005067 Unmarked ∷ InWord 0 OfObject ∷ [])
     ∷ (InWord 0 Unmarked ∷ InWord 0 Unmarked ∷ [])
+    ∷ []
+
+-- ---- which lines stand in a listing
+
+abbrev pub expanded : Bytes → Given
+expanded text = record (plain text) { live = record { line = line_of text; is_expanded = true } }
+
+abbrev pub listed_from : Map → Table → List Given → List ℕ → List Bool
+listed_from known table [] letters = []
+listed_from known table (given ∷ lines) [] = []
+listed_from known table (given ∷ lines) (letters ∷ others) =
+    is_listed (after_line known table given) given letters ∷ listed_from known (after_line known table given) lines others
+
+abbrev pub listed_of : List Given → List Bool
+listed_of lines = listed_from (program_map lines) first_table lines (reported lines)
+
+abbrev pub found_listed : List (List Bool)
+found_listed =
+    listed_of (plain (codes ".NLIST") ∷ plain (codes ".WORD 1") ∷ plain (codes ".LIST") ∷ plain (codes ".WORD 18") ∷ [])
+    ∷ listed_of (plain (codes ".NLIST") ∷ plain (codes ".WORD 18") ∷ [])
+    ∷ listed_of (expanded (codes "NOP") ∷ expanded (codes ".LIST ME") ∷ expanded (codes "NOP") ∷ expanded (codes ".NLIST ME,BIN") ∷ [])
+    ∷ []
+
+abbrev pub told_listed : List (List Bool)
+told_listed =
+    (false ∷ false ∷ true ∷ true ∷ [])
+    ∷ (false ∷ true ∷ [])
+    ∷ (false ∷ true ∷ true ∷ false ∷ [])
     ∷ []

@@ -7,8 +7,8 @@ mod instructions;
 mod relocations;
 
 pub use directives::{
-    items_are_as_worked, places_are_as_worked, settings_are_as_worked, texts_are_as_worked,
-    words_are_as_worked,
+    items_are_as_worked, listings_are_as_worked, places_are_as_worked, settings_are_as_worked,
+    texts_are_as_worked, words_are_as_worked,
 };
 pub use instructions::{
     branches_are_as_worked, missing_operands_are_as_worked, operands_are_as_worked,
