@@ -9,5 +9,6 @@ mod FirmNames
 mod Forms
 mod LabelPlaces
 mod LinesFill
+mod PieceSizes
 mod PiecesInOrder
 mod SameLines

@@ -1,6 +1,6 @@
 //! Laws of placing. Each is the contract of a function that does nothing.
 
-ghost use Rattle.std.specs.Prelude.{◌≡◌, ◌≢◌, ◌+◌, ◌≤◌, ◌%◌, ℕ, false, List, [], ◌∷◌, ◌++◌};
+ghost use Rattle.std.specs.Prelude.{◌≡◌, ◌≢◌, ◌+◌, ◌≤◌, ◌%◌, ℕ, false, List, [], ◌∷◌, ◌++◌, map};
 ghost use Rattle.m11_arguments.specs.Expressions.{symbols_at, value_at};
 ghost use Rattle.m11_base.specs.Devices.{Bytes};
 ghost use Rattle.m11_lines.specs.Line.{SourceLine};
@@ -13,8 +13,9 @@ ghost use Rattle.m11_placement.specs.Lines.{deed, line_change, line_put};
 ghost use Rattle.m11_placement.specs.Meanings.{AreFirm, Context, Map, firm_known, known_at};
 ghost use Rattle.m11_placement.specs.Operands.{Form, words_of};
 ghost use Rattle.m11_placement.specs.Order.{LieFrom, pieces_in};
-ghost use Rattle.m11_placement.specs.Placements.{program_map, table_after};
+ghost use Rattle.m11_placement.specs.Placements.{placement, program_map, table_after};
 ghost use Rattle.m11_placement.specs.Places.{Goes, Move, Moved, Steps, has_set, in_section, moves_in, place_in, sizes_since};
+ghost use Rattle.m11_placement.specs.Shapes.{shapes_in};
 ghost use Rattle.m11_placement.specs.Tables.{Table, firm_table, first_table, place};
 ghost use Rattle.m11_placement.specs.Unfolded.{AreLines};
 ghost use Rattle.m11_unfolding.specs.Stages.{Stage};
@@ -104,4 +105,10 @@ pub fn pieces_lie_in_the_order_of_lines()
         → has_set (moves_in section (table_after map lines).moves) ≡ false
         → sizes_since (moves_in section (table_after map lines).moves) ≤ 65535
         → LieFrom 0 (pieces_in section map first_table lines) }
+{}
+
+/// The pieces of each line lie in the same sections, at the same places and with the same sizes under every map: a map tells only what
+/// they hold.
+pub fn pieces_lie_alike_under_every_map()
+    ensures { (one other : Map) (lines : List Given) → map shapes_in (placement one lines) ≡ map shapes_in (placement other lines) }
 {}
