@@ -6,7 +6,3 @@ use Rattle.m11_base.specs.Rad50.{name_of, code_of, alphabet}
 pub main_words : name_of (codes ".MAIN.") ≡ Some (45321, 14988)
 unfolding code_of alphabet
 main_words = refl
-
-pub blank_words : name_of (codes "      ") ≡ Some (0, 0)
-unfolding code_of alphabet
-blank_words = refl

@@ -4,12 +4,12 @@
 use Rattle.std.specs.Prelude.{ℕ, ◌+◌, ◌*◌, Bool, true, false, zero, suc, ◌==◌, ◌&&◌, nat_le, if◌then◌else◌, List, [], ◌∷◌, ◌++◌, length, take, drop, map, codes}
 use Rattle.std.specs.List.{flat_map}
 use Rattle.m11_base.specs.Rad50.{Name}
+use Rattle.m11_base.specs.Names.{absolute_name, blank_name, name_in_words}
 use Rattle.m11_obj.specs.declared.gsd.GsdEntry.{GsdEntry}
 use Rattle.m11_obj.specs.declared.gsd.GsdKind.TheVariants.{ModuleName, ProgramSection, TransferAddress}
 use Rattle.m11_obj.specs.declared.relocations.Relocation.{Relocation}
 use Rattle.m11_obj.specs.declared.relocations.Target.TheVariants.{LocationCounterDefinition}
 use Rattle.m11_blocks.specs.Frames.{word_bytes, block}
-use Rattle.m11_obj.specs.Names.{absolute_name, name_in_words}
 use Rattle.m11_obj.specs.Records.{Content, Gsd, EndOfGsd, Text, Relocations, EndOfModule, record_data}
 use Rattle.m11_lines.specs.Lines.{RawLine}
 use Rattle.m11_asm.specs.Outputs.{Write, to_object}
@@ -17,12 +17,9 @@ use Rattle.m11_asm.specs.Placement.{Piece, pieces_of, section_size}
 
 -- ---- the directory
 
--- the name of a module without a title, and that of the section in which assembly begins
+-- the name of a module without a title
 abbrev pub main_name : Name
 main_name = name_in_words (codes ".MAIN.")
-
-abbrev pub blank_name : Name
-blank_name = name_in_words (codes "      ")
 
 -- octal 104: GBL and OVR, and ABS by its clear bit; octal 40: REL, and LCL and CON by their clear bits
 abbrev pub directory : ℕ → List GsdEntry

@@ -2,7 +2,7 @@
 
 ghost use Rattle.std.specs.Prelude.{◌≡◌, ◌≤◌, ◌+◌, ◌++◌, ◌%◌, ◌<◌, ◌==◌, ◌&&◌, nat_le, [], ◌∷◌, map, length, IfOk, IfSome, MatchOption};
 ghost use Rattle.arrayvec.specs.ArrayVec.{array_vec_len};
-ghost use Rattle.m11_asm.specs.Object.{main_name, blank_name, directory, head, content_write, content_writes, text_contents, text_content, place_content, place_relocation, texts_of, without_last, last_alone, has_none};
+ghost use Rattle.m11_asm.specs.Object.{main_name, directory, head, content_write, content_writes, text_contents, text_content, place_content, place_relocation, texts_of, without_last, last_alone, has_none};
 ghost use Rattle.m11_asm.specs.Placement.{pieces_at};
 ghost use Rattle.m11_asm.specs.OpenText.{placed_of, AddsWord, PutsTexts, PutsFront, last_contents};
 ghost use Rattle.m11_asm.specs.Outputs.{Writes, outputs};
@@ -15,8 +15,8 @@ use crate::outputs::put_record;
 use arrayvec::ArrayVec;
 use bitflags::Flags;
 use byteorder::{ByteOrder, LittleEndian};
-use m11_base::{Name, Sink};
-use m11_obj::{GsdEntry, GsdKind, Record, Relocation, SectionFlags, Target, absolute_section};
+use m11_base::{Name, Sink, absolute_section, blank_name};
+use m11_obj::{GsdEntry, GsdKind, Record, Relocation, SectionFlags, Target};
 use std::alloc::Global;
 
 /// The most bytes of one text record.
@@ -75,16 +75,6 @@ fn main_name() -> Name
     ensures { result ≡ main_name }
 {
     match Name::pack(b".MAIN.") {
-        Some(name) => name,
-        None => unreachable!(),
-    }
-}
-
-// The name of the section in which assembly begins.
-fn blank_name() -> Name
-    ensures { result ≡ blank_name }
-{
-    match Name::pack(b"      ") {
         Some(name) => name,
         None => unreachable!(),
     }

@@ -10,3 +10,5 @@ pub mod EachWord
 pub mod OneRow
 pub mod Words
 pub mod Codes
+pub mod NameWords
+pub mod SameNames

@@ -6,6 +6,7 @@ pub mod Feed
 pub mod Fuse
 pub mod Instructions
 pub mod Mnemonics
+pub mod Names
 pub mod Octal
 pub mod Operand
 pub mod Rad50

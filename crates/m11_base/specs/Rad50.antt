@@ -1,7 +1,7 @@
 -- RADIX-50: three characters in one word, six in a name. (MACRO-11 Language Reference Manual,
 -- appendix on the RADIX-50 character set.) That the code 29, which the manual leaves unused, is shown
 -- as `%` and that no character gives it, is this project's own.
-use Rattle.std.specs.Prelude.{◌≢◌, ℕ, ◌+◌, ◌*◌, ◌/◌, ◌%◌, ◌<◌, List, [], ◌∷◌, ◌++◌, codes, slice_index, position, All, Option, Some, None, nat_lt, ◌==◌, if◌then◌else◌}
+use Rattle.std.specs.Prelude.{◌≢◌, ℕ, ◌+◌, ◌*◌, ◌/◌, ◌%◌, ◌<◌, List, [], ◌∷◌, ◌++◌, codes, slice_index, position, All, Option, Some, None, nat_lt, Bool, ◌==◌, ◌&&◌, if◌then◌else◌}
 
 -- the characters, each at the place of its code
 unfoldable pub alphabet : List ℕ
@@ -47,6 +47,10 @@ HasNoPercent text = All (λ character. character ≢ 37) text
 -- a name, by the words of its first and its last three characters
 abbrev pub Name : Type 0
 Name = ℕ × ℕ
+
+-- two names are one where both of their words are
+abbrev pub is_same_name : Name → Name → Bool
+is_same_name one other = (one.0 == other.0) && (one.1 == other.1)
 
 -- both words have characters
 abbrev pub IsName : Name → Type 0

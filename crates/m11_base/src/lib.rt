@@ -13,6 +13,7 @@ mod instruction_list;
 mod interrupted;
 mod memory;
 mod mnemonics;
+mod names;
 mod octal;
 mod operand;
 mod operation_tables;
@@ -33,6 +34,7 @@ pub use instruction::{
 pub use instruction_list::{Row, other_names, rows};
 pub use memory::{MemoryFeed, MemorySink};
 pub use mnemonics::mnemonic;
+pub use names::{absolute_section, blank_name};
 pub use octal::{octal6, read_octal};
 pub use operand::{Mode, Operand, Register, Size};
 pub use rad50::{Name, Rad50};

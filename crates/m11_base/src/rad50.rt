@@ -2,7 +2,7 @@
 //! (MACRO-11 Language Reference Manual, appendix on the RADIX-50 character set.)
 
 ghost use Rattle.std.specs.Prelude.{◌≡◌, ◌<◌, ◌==◌, ℕ, Some, IfSome, SomeIff, position};
-ghost use Rattle.m11_base.specs.Rad50.{code_of, character_of, packed_at, unpacked, word_limit, characters_of, HasNoPercent, IsName, name_of, name_text};
+ghost use Rattle.m11_base.specs.Rad50.{code_of, character_of, packed_at, unpacked, word_limit, characters_of, HasNoPercent, IsName, is_same_name, name_of, name_text};
 
 use std::marker::Model;
 
@@ -128,6 +128,13 @@ impl Name {
         ensures below { IsName self.now }
     {
         (self.first, self.second)
+    }
+
+    /// Whether another name is this one.
+    pub fn is_same(&self, other: Name) -> bool
+        ensures { result ≡ is_same_name self.now other }
+    {
+        self.first == other.first && self.second == other.second
     }
 
     /// The name's six characters, with the blanks after it.

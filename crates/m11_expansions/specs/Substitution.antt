@@ -4,7 +4,7 @@
 use Rattle.std.specs.Prelude.{ℕ, Bool, true, false, ◌||◌, ◌&&◌, ◌==◌, if◌then◌else◌, List, [], ◌∷◌, ◌++◌, Option, Some, None}
 use Rattle.m11_base.specs.Devices.{Bytes}
 use Rattle.m11_base.specs.Mnemonics.{is_name_character, six_of}
-use Rattle.m11_base.specs.Rad50.{Name, name_of}
+use Rattle.m11_base.specs.Rad50.{Name, is_same_name, name_of}
 use Rattle.m11_lines.specs.Line.{SourceLine, line_of}
 
 -- a piece of a body's line: a longest run of name characters, or another character
@@ -28,15 +28,12 @@ abbrev pub piece_of : Bytes → Piece
 piece_of [] = Run []
 piece_of (byte ∷ text) = if is_name_character byte then Run (byte ∷ text) else Other byte
 
-abbrev pub is_same : Name → Name → Bool
-is_same formal name = (formal.0 == name.0) && (formal.1 == name.1)
-
 -- the actual of the first formal with a name
 abbrev pub actual_named : List Name → List Bytes → Name → Option Bytes
 actual_named [] actuals name = None
 actual_named (formal ∷ formals) [] name = None
 actual_named (formal ∷ formals) (actual ∷ actuals) name =
-    if is_same formal name then Some actual else actual_named formals actuals name
+    if is_same_name formal name then Some actual else actual_named formals actuals name
 
 abbrev pub actual_of : List Name → List Bytes → Option Name → Option Bytes
 actual_of formals actuals None = None

@@ -114,21 +114,13 @@ fn actual_named<'a>(formals: &[Name], actuals: &'a [Text], name: Name) -> Option
     let mut texts = actuals;
     'formals: while let Some((formal, more)) = names.split_first() {
         let (actual, others) = texts.split_first()?;
-        if is_same(formal, name) {
+        if formal.is_same(name) {
             return Some(actual.bytes());
         }
         names = more;
         texts = others;
     }
     None
-}
-
-fn is_same(formal: &Name, name: Name) -> bool
-    ensures { result ≡ spec.is_same formal.now name }
-{
-    let (first, second) = formal.words();
-    let (other_first, other_second) = name.words();
-    first == other_first && second == other_second
 }
 
 // Whether a text begins with a formal.

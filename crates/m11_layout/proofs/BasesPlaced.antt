@@ -6,14 +6,15 @@ use Rattle.std.proofs.lemmas.Bool.Decides.{nat_tests}
 use Rattle.std.proofs.lemmas.List.{map-append}
 use Rattle.std.proofs.lemmas.List.Sums.{sum_by_push}
 use Rattle.indexmap.specs.IndexMap.{insert_entry}
-use Rattle.m11_modules.specs.Names.{is_name}
+use Rattle.m11_base.specs.Rad50.{is_same_name}
+use Rattle.m11_base.proofs.SameNames.{same_name_itself, same_name_equal}
 use Rattle.m11_modules.specs.Parts.{Part}
 use Rattle.m11_modules.specs.Places.{section_names}
 use Rattle.m11_layout.specs.Tables.{size_cap}
 use Rattle.m11_layout.specs.Plan.{Bases, bases_onto}
 use Rattle.m11_layout.specs.Sections.{first_attributes, flags_of, is_relocatable, is_too_large, names_before, section_base, section_size, top}
 use Rattle.m11_layout.specs.declared.definition.Total.{Total}
-use Rattle.m11_layout.proofs.Finding.{neither, Apart, is_name_itself, is_name_same, turned}
+use Rattle.m11_layout.proofs.Finding.{neither, Apart, turned}
 use Rattle.m11_layout.proofs.ModulesOfParts.{add_zero}
 use Rattle.m11_layout.proofs.Sizing.{totals_in}
 
@@ -27,40 +28,40 @@ none_of true c e f = search
 none_of false c e f = f
 
 -- none of the names before one is that one
-pub apart_before : (done : List (ℕ × ℕ)) (name : ℕ × ℕ) (rest : List (ℕ × ℕ)) → Apart is_name (done ++ name ∷ rest)
-    → list_any (is_name name) done ≡ false
+pub apart_before : (done : List (ℕ × ℕ)) (name : ℕ × ℕ) (rest : List (ℕ × ℕ)) → Apart is_same_name (done ++ name ∷ rest)
+    → list_any (is_same_name name) done ≡ false
 apart_before [] name rest d = refl
 apart_before (first ∷ done) name rest d =
-    none_of (is_name name first) (list_any (is_name name) done)
-    (turned is_name is_name_same is_name_itself name first (is_name name first) refl
+    none_of (is_same_name name first) (list_any (is_same_name name) done)
+    (turned is_same_name same_name_equal same_name_itself name first (is_same_name name first) refl
     (apart_later first done name rest d.0))
     (apart_before done name rest d.1)
   where
     apart_later : (first : Name) (done : List Name) (name : Name) (rest : List Name)
-        → list_any (is_name first) (done ++ name ∷ rest) ≡ false → is_name first name ≡ false
-    apart_later first [] name rest e = (neither (is_name first name) (list_any (is_name first) rest) e).0
+        → list_any (is_same_name first) (done ++ name ∷ rest) ≡ false → is_same_name first name ≡ false
+    apart_later first [] name rest e = (neither (is_same_name first name) (list_any (is_same_name first) rest) e).0
     apart_later first (other ∷ done) name rest e =
-        apart_later first done name rest (neither (is_name first other)
-        (list_any (is_name first) (done ++ name ∷ rest)) e).1
+        apart_later first done name rest (neither (is_same_name first other)
+        (list_any (is_same_name first) (done ++ name ∷ rest)) e).1
 
-pub before_it : (done : List (ℕ × ℕ)) (name : ℕ × ℕ) (rest : List (ℕ × ℕ)) → list_any (is_name name) done ≡ false
+pub before_it : (done : List (ℕ × ℕ)) (name : ℕ × ℕ) (rest : List (ℕ × ℕ)) → list_any (is_same_name name) done ≡ false
     → names_before name (done ++ name ∷ rest) ≡ done
 before_it [] name rest e =
     let P : Bool → Type 0 = λ b. (if b then [] else name ∷ names_before name rest) ≡ [] in
-    subst P (sym (is_name_itself name)) refl
+    subst P (sym (same_name_itself name)) refl
 before_it (first ∷ done) name rest e =
-    let n = neither (is_name name first) (list_any (is_name name) done) e in
+    let n = neither (is_same_name name first) (list_any (is_same_name name) done) e in
     let P : Bool → Type 0 = λ b. (if b then [] else first ∷ names_before name (done ++ name ∷ rest)) ≡ first ∷ done in
     subst P (sym n.0) (ap (λ names. first ∷ names) (before_it done name rest n.1))
 
-inserted_last : (f : Name → ℕ) (done : List Name) (name : Name) (value : ℕ) → list_any (is_name name) done ≡ false
-    → insert_entry is_name (map (λ n. (n, f n)) done) name value ≡ map (λ n. (n, f n)) done ++ (name, value) ∷ []
+inserted_last : (f : Name → ℕ) (done : List Name) (name : Name) (value : ℕ) → list_any (is_same_name name) done ≡ false
+    → insert_entry is_same_name (map (λ n. (n, f n)) done) name value ≡ map (λ n. (n, f n)) done ++ (name, value) ∷ []
 inserted_last f [] name value e = refl
 inserted_last f (first ∷ done) name value e =
-    let n = neither (is_name name first) (list_any (is_name name) done) e in
+    let n = neither (is_same_name name first) (list_any (is_same_name name) done) e in
     let these = map (λ n. (n, f n)) done in
     let P : Bool → Type 0 =
-    λ b. (if b then (first, value) ∷ these else (first, f first) ∷ insert_entry is_name these name value)
+    λ b. (if b then (first, value) ∷ these else (first, f first) ∷ insert_entry is_same_name these name value)
     ≡ (first, f first) ∷ (these ++ (name, value) ∷ []) in
     subst P (sym n.0) (ap (λ entries. (first, f first) ∷ entries) (inserted_last f done name value n.1))
 
@@ -79,12 +80,12 @@ uncapped next size e = grind (arith, nat_tests)
 -- one section more, where the others lead to this result
 module _ (onto : List (Name × ℕ) → ℕ → Option Bases) (bases : List (Name × ℕ)) (name : Name) (next size : ℕ)
     (more : Bool) (answer : Bases)
-    (last : (value : ℕ) → insert_entry is_name bases name value ≡ bases ++ (name, value) ∷ []) where
+    (last : (value : ℕ) → insert_entry is_same_name bases name value ≡ bases ++ (name, value) ∷ []) where
   lower : (high : Bool) → (high ≡ false → min 65536 size ≡ size)
       → onto (bases ++ (name, next) ∷ []) (next + size) ≡ (if more then None else Some answer)
       → option_and_then (λ (following : Bases). onto following.bases following.top)
       (if high then None else Some
-      (record { bases = insert_entry is_name bases name next; top = next + min 65536 size }))
+      (record { bases = insert_entry is_same_name bases name next; top = next + min 65536 size }))
       ≡ (if high || more then None else Some answer)
   lower true u h = refl
   lower false u h =
@@ -99,16 +100,16 @@ module _ (onto : List (Name × ℕ) → ℕ → Option Bases) (bases : List (Nam
       → option_and_then (λ (following : Bases). onto following.bases following.top)
       (if relocatable
       then (if nat_lt 57344 (next + min 65536 size) then None
-      else Some (record { bases = insert_entry is_name bases name next; top = next + min 65536 size }))
-      else Some (record { bases = insert_entry is_name bases name 0; top = next }))
+      else Some (record { bases = insert_entry is_same_name bases name next; top = next + min 65536 size }))
+      else Some (record { bases = insert_entry is_same_name bases name 0; top = next }))
       ≡ (if (relocatable && nat_lt 57344 ((if relocatable then base else 0) + size)) || more then None else Some answer)
   one_placed true base e h =
       let P : Bool → Type 0 = λ b. option_and_then (λ (following : Bases). onto following.bases following.top)
-      (if b then None else Some (record { bases = insert_entry is_name bases name next; top = next + min 65536 size }))
+      (if b then None else Some (record { bases = insert_entry is_same_name bases name next; top = next + min 65536 size }))
       ≡ (if nat_lt 57344 (base + size) || more then None else Some answer) in
       let Q : ℕ → Type 0 = λ n. option_and_then (λ (following : Bases). onto following.bases following.top)
       (if nat_lt 57344 (next + size) then None else Some
-      (record { bases = insert_entry is_name bases name next; top = next + min 65536 size }))
+      (record { bases = insert_entry is_same_name bases name next; top = next + min 65536 size }))
       ≡ (if nat_lt 57344 (n + size) || more then None else Some answer) in
       let R : ℕ → Type 0 = λ n. onto (bases ++ (name, n) ∷ []) (next + size) ≡ (if more then None else Some answer) in
       subst P (sym (capped_test next size)) (subst Q (sym e)
@@ -138,15 +139,15 @@ module _ (attributes size : Name → ℕ) (bottom : ℕ) (all : List Name) where
   Onto done rest = bases_onto (based done) (bottom + sum_by room done) (map (λ name. (name, total_at name)) rest)
       ≡ (if list_any too_high rest then None else Some (record { bases = based all; top = bottom + sum_by room all }))
 
-  bases_walked : (done rest : List Name) → done ++ rest ≡ all → Apart is_name all → Onto done rest
+  bases_walked : (done rest : List Name) → done ++ rest ≡ all → Apart is_same_name all → Onto done rest
   bases_walked done [] e d =
       let P : List Name → Type 0 = λ names. ◌≡◌ {A = Option Bases}
       (Some (record { bases = based done; top = bottom + sum_by room done }))
       (Some (record { bases = based names; top = bottom + sum_by room names })) in
       subst P (sym (append-nil done) ∙ e) refl
   bases_walked done (name ∷ rest) e d =
-      let A : List Name → Type 0 = λ names. Apart is_name names in
-      let a : list_any (is_name name) done ≡ false = apart_before done name rest (subst A (sym e) d) in
+      let A : List Name → Type 0 = λ names. Apart is_same_name names in
+      let a : list_any (is_same_name name) done ≡ false = apart_before done name rest (subst A (sym e) d) in
       let B : List Name → Type 0 = λ names. names_before name names ≡ done in
       let b : names_before name all ≡ done = subst B e (before_it done name rest a) in
       let answer : Bases = record { bases = based all; top = bottom + sum_by room all } in
@@ -165,7 +166,7 @@ module _ (attributes size : Name → ℕ) (bottom : ℕ) (all : List Name) where
       (subst P (map-append (λ n. (n, base n)) done (name ∷ [])) more))
 
 -- the bases of the sections of some parts
-pub bases_placed : (bottom : ℕ) (parts : List Part) → Apart is_name (section_names parts)
+pub bases_placed : (bottom : ℕ) (parts : List Part) → Apart is_same_name (section_names parts)
     → bases_onto [] bottom (totals_in parts) ≡ (if is_too_large bottom parts then None
     else Some (record {
       bases = map (λ name. (name, section_base bottom parts name))

@@ -5,11 +5,11 @@ use Rattle.std.specs.List.{cons_option, filter_map}
 use Rattle.std.specs.Map.{lookup}
 use Rattle.std.specs.Option.{is_some}
 use Rattle.indexmap.specs.IndexMap.{insert_entry}
+use Rattle.m11_base.specs.Rad50.{is_same_name}
 use Rattle.m11_obj.specs.declared.gsd.GsdEntry.{GsdEntry}
 use Rattle.m11_obj.specs.declared.gsd.GsdKind.{GsdKind}
 use Rattle.m11_obj.specs.declared.gsd.GsdKind.TheVariants.{ModuleName, ControlSection, InternalSymbol, TransferAddress, GlobalSymbol, ProgramSection, Identification}
 use Rattle.m11_modules.specs.declared.fault.ModuleFault.TheVariants.{BadOrder, TooManySections}
-use Rattle.m11_modules.specs.Names.{is_name}
 use Rattle.m11_modules.specs.Parts.{Part, Directory, Entry, EndOfDirectory, Text, Relocations, Relocated, EndOfModule, EndOfFile}
 use Rattle.m11_modules.specs.Places.{global_of, known_of, modules_in, section_by, section_in, sections_in, this_module}
 use Rattle.m11_modules.specs.Rules.{entry_fault, fault_known, fault_of, first_there, is_past, most_sections}
@@ -42,15 +42,15 @@ kept before part old new e a s c =
 
 entered : (before : List Part) (part : Part) (g : Gathered) (new : Contributions) (name : ℕ × ℕ) (attributes size : ℕ)
     → new ≡ insert_entry is_contribution g.contributions (length g.names, name)
-    (next_offset (lookup (is_name name) g.sections))
+    (next_offset (lookup (is_same_name name) g.sections))
     → filter_map attributes_in (part ∷ []) ≡ (name, attributes) ∷ []
     → filter_map section_in (part ∷ []) ≡ (name, size) ∷ []
-    → lookup (is_name name) (sections_in (this_module before)) ≡ None → length g.names ≡ modules_in before
+    → lookup (is_same_name name) (sections_in (this_module before)) ≡ None → length g.names ≡ modules_in before
     → SectionsOf before g.sections
     → ContributionsOf before g.contributions → ContributionsOf (before ++ part ∷ []) new
 entered before part g new name attributes size e a s n l sections c =
     let P : Contributions → Type 0 = λ contributions. ContributionsOf (before ++ part ∷ []) contributions in
-    let offset = next_offset (lookup (is_name name) g.sections) in
+    let offset = next_offset (lookup (is_same_name name) g.sections) in
     subst P (sym e) (λ index other.
     lookup_inserted is_contribution is_contribution_same is_contribution_itself (index, other)
     (length g.names, name) offset g.contributions
@@ -76,11 +76,11 @@ entry_step : (bottom : ℕ) (before : List Part) (g : Gathered) (kind : GsdKind)
     (with_entry bottom kind entry g).contributions
 entry_step bottom before g ControlSection entry a s n l t c =
     entered before (Entry entry) g _ entry.name (control_attributes entry.name) entry.value refl a s
-    (none_there (lookup (is_name entry.name) (sections_in (this_module before)))
+    (none_there (lookup (is_same_name entry.name) (sections_in (this_module before)))
     (is_past most_sections (known_of before).sections entry.name) n) l t c
 entry_step bottom before g ProgramSection entry a s n l t c =
     entered before (Entry entry) g _ entry.name (bit_and entry.flags attribute_bits) entry.value refl a s
-    (none_there (lookup (is_name entry.name) (sections_in (this_module before)))
+    (none_there (lookup (is_same_name entry.name) (sections_in (this_module before)))
     (is_past most_sections (known_of before).sections entry.name) n) l t c
 entry_step bottom before g ModuleName entry a s n l t c = kept before (Entry entry) g.contributions _ refl a s c
 entry_step bottom before g InternalSymbol entry a s n l t c = kept before (Entry entry) g.contributions _ refl a s c

@@ -2,6 +2,8 @@
 use Rattle.std.proofs.Common.{◌≡◌, ℕ, Bool, true, false, cond, is_some, true≢false, if◌then◌else◌, List, [], ◌∷◌, ◌++◌, length, append-nil, Option, Some, None, refl, sym, ap, ◌∙◌, subst}
 use Rattle.std.specs.List.{cons_option}
 use Rattle.std.specs.Map.{keys_of, lookup}
+use Rattle.m11_base.specs.Rad50.{is_same_name}
+use Rattle.m11_base.proofs.SameNames.{same_name_itself, same_name_equal}
 use Rattle.m11_obj.specs.declared.gsd.GsdEntry.{GsdEntry}
 use Rattle.m11_obj.specs.declared.gsd.GsdKind.{GsdKind}
 use Rattle.m11_obj.specs.declared.gsd.GsdKind.TheVariants.{ModuleName, ControlSection, InternalSymbol, TransferAddress, GlobalSymbol, ProgramSection, Identification}
@@ -16,8 +18,7 @@ use Rattle.std.proofs.lemmas.Map.Made.{is_some-lookup}
 use Rattle.indexmap.specs.IndexMap.{insert_entry}
 use Rattle.indexmap.specs.IndexSet.{insert_key}
 use Rattle.indexmap.proofs.SetLemmas.{keys_insert_entry}
-use Rattle.m11_modules.specs.Names.{is_name}
-use Rattle.m11_layout.proofs.Finding.{is_name_itself, is_name_same, lookup_append, lookup_inserted}
+use Rattle.m11_layout.proofs.Finding.{lookup_append, lookup_inserted}
 use Rattle.m11_layout.proofs.Sizing.{or_none}
 use Rattle.m11_layout.proofs.Reporting.{names_more, reported_more}
 
@@ -27,7 +28,7 @@ Definitions = List ((ℕ × ℕ) × Definition)
 -- these definitions are the first ones of the parts
 pub record DefinitionsOf (before : List Part) (table : List ((ℕ × ℕ) × Definition)) : Type 0 where
   pub names : keys_of table ≡ distinct (keys_of (definitions_of before))
-  pub found : (name : ℕ × ℕ) → lookup (is_name name) table ≡ first_definition before name
+  pub found : (name : ℕ × ℕ) → lookup (is_same_name name) table ≡ first_definition before name
 
 definitions_more : (before : List Part) (part : Part)
     → definitions_of (before ++ part ∷ []) ≡ definitions_of before ++ cons_option (definition_in before part) []
@@ -36,13 +37,13 @@ definitions_more before part = reported_more definition_in before part
 
 -- a pair more, which counts where it is the first of its name
 first_keys : (b : Bool) (table : Definitions) (pair : (ℕ × ℕ) × Definition)
-    → is_some (lookup (is_name pair.0) table) ≡ b
-    → keys_of (if b then table else insert_entry is_name table pair.0 pair.1)
-    ≡ insert_key is_name (keys_of table) pair.0
+    → is_some (lookup (is_same_name pair.0) table) ≡ b
+    → keys_of (if b then table else insert_entry is_same_name table pair.0 pair.1)
+    ≡ insert_key is_same_name (keys_of table) pair.0
 first_keys true table pair e =
     ap (λ b. if b then keys_of table else keys_of table ++ pair.0 ∷ [])
-    (sym (sym (is_some-lookup (is_name pair.0) table) ∙ e))
-first_keys false table pair e = keys_insert_entry is_name table pair.0 pair.1
+    (sym (sym (is_some-lookup (is_same_name pair.0) table) ∙ e))
+first_keys false table pair e = keys_insert_entry is_same_name table pair.0 pair.1
 
 found_first : (b c : Bool) (found : Option Definition) (value : Definition)
     → (b ≡ true → c ≡ true → is_some found ≡ true) → (b ≡ false → c ≡ true → found ≡ None)
@@ -60,37 +61,37 @@ not_some None e = refl
 not_some (Some x) e = absurd (true≢false e)
 
 first_found : (b : Bool) (table : Definitions) (pair : (ℕ × ℕ) × Definition) (name : ℕ × ℕ)
-    → is_some (lookup (is_name pair.0) table) ≡ b
-    → lookup (is_name name) (if b then table else insert_entry is_name table pair.0 pair.1)
-    ≡ option_or (lookup (is_name name) table) (cond (is_name name pair.0) (Some pair.1) None)
+    → is_some (lookup (is_same_name pair.0) table) ≡ b
+    → lookup (is_same_name name) (if b then table else insert_entry is_same_name table pair.0 pair.1)
+    ≡ option_or (lookup (is_same_name name) table) (cond (is_same_name name pair.0) (Some pair.1) None)
 first_found b table pair name e =
-    either b ∙ found_first b (is_name name pair.0) (lookup (is_name name) table) pair.1
-    (λ t c. ap (λ n. is_some (lookup (is_name n) table)) (is_name_same name pair.0 c) ∙ e ∙ t)
-    (λ f c. ap (λ n. lookup (is_name n) table) (is_name_same name pair.0 c)
-    ∙ not_some (lookup (is_name pair.0) table) (e ∙ f))
+    either b ∙ found_first b (is_same_name name pair.0) (lookup (is_same_name name) table) pair.1
+    (λ t c. ap (λ n. is_some (lookup (is_same_name n) table)) (same_name_equal name pair.0 c) ∙ e ∙ t)
+    (λ f c. ap (λ n. lookup (is_same_name n) table) (same_name_equal name pair.0 c)
+    ∙ not_some (lookup (is_same_name pair.0) table) (e ∙ f))
   where
-    either : (b : Bool) → lookup (is_name name) (if b then table else insert_entry is_name table pair.0 pair.1)
-        ≡ (if b then lookup (is_name name) table else cond (is_name name pair.0) (Some pair.1)
-        (lookup (is_name name) table))
+    either : (b : Bool) → lookup (is_same_name name) (if b then table else insert_entry is_same_name table pair.0 pair.1)
+        ≡ (if b then lookup (is_same_name name) table else cond (is_same_name name pair.0) (Some pair.1)
+        (lookup (is_same_name name) table))
     either true = refl
-    either false = lookup_inserted is_name is_name_same is_name_itself name pair.0 pair.1 table
+    either false = lookup_inserted is_same_name same_name_equal same_name_itself name pair.0 pair.1 table
 
 pair_more : (pairs table : Definitions) (reported : Option ((ℕ × ℕ) × Definition))
     → keys_of table ≡ distinct (keys_of pairs)
     → keys_of (with_first table reported) ≡ distinct (keys_of (pairs ++ cons_option reported []))
 pair_more pairs table None e = e ∙ ap (λ these. distinct (keys_of these)) (sym (append-nil pairs))
 pair_more pairs table (Some pair) e =
-    first_keys (is_some (lookup (is_name pair.0) table)) table pair refl
-    ∙ ap (λ names. insert_key is_name names pair.0) e ∙ sym (names_more pairs pair)
+    first_keys (is_some (lookup (is_same_name pair.0) table)) table pair refl
+    ∙ ap (λ names. insert_key is_same_name names pair.0) e ∙ sym (names_more pairs pair)
 
 pair_found : (pairs table : Definitions) (reported : Option ((ℕ × ℕ) × Definition)) (name : ℕ × ℕ)
-    → lookup (is_name name) table ≡ lookup (is_name name) pairs
-    → lookup (is_name name) (with_first table reported) ≡ lookup (is_name name) (pairs ++ cons_option reported [])
-pair_found pairs table None name e = e ∙ ap (λ these. lookup (is_name name) these) (sym (append-nil pairs))
+    → lookup (is_same_name name) table ≡ lookup (is_same_name name) pairs
+    → lookup (is_same_name name) (with_first table reported) ≡ lookup (is_same_name name) (pairs ++ cons_option reported [])
+pair_found pairs table None name e = e ∙ ap (λ these. lookup (is_same_name name) these) (sym (append-nil pairs))
 pair_found pairs table (Some pair) name e =
-    first_found (is_some (lookup (is_name pair.0) table)) table pair name refl
-    ∙ ap (λ found. option_or found (cond (is_name name pair.0) (Some pair.1) None)) e
-    ∙ sym (lookup_append (is_name name) pairs (pair ∷ []))
+    first_found (is_some (lookup (is_same_name pair.0) table)) table pair name refl
+    ∙ ap (λ found. option_or found (cond (is_same_name name pair.0) (Some pair.1) None)) e
+    ∙ sym (lookup_append (is_same_name name) pairs (pair ∷ []))
 
 symbol_definitions : (b c : Bool) (entry : GsdEntry) (g : Gathered)
     → (if b then with_definition entry g else if c then with_weak entry.name g else with_reference entry.name true
@@ -143,9 +144,9 @@ definitions_step bottom before g part l s d =
       names = ap (λ table. keys_of table) reported ∙ pair_more (definitions_of before) g.definitions
           (definition_in before part) d.names
           ∙ ap (λ pairs. distinct (keys_of pairs)) (sym more);
-      found = λ name. ap (λ table. lookup (is_name name) table) reported
+      found = λ name. ap (λ table. lookup (is_same_name name) table) reported
           ∙ pair_found (definitions_of before) g.definitions (definition_in before part) name (d.found name)
-          ∙ ap (λ pairs. lookup (is_name name) pairs) (sym more);
+          ∙ ap (λ pairs. lookup (is_same_name name) pairs) (sym more);
     }
 
 pub definitions_none : DefinitionsOf [] nothing_gathered.definitions

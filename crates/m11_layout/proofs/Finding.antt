@@ -7,7 +7,8 @@ use Rattle.std.proofs.lemmas.Bool.Decides.{nat_tests}
 use Rattle.std.proofs.lemmas.List.Folds.{list_any-append}
 use Rattle.indexmap.specs.IndexMap.{insert_entry}
 use Rattle.indexmap.specs.IndexSet.{insert_key}
-use Rattle.m11_modules.specs.Names.{is_name}
+use Rattle.m11_base.specs.Rad50.{is_same_name}
+use Rattle.m11_base.proofs.SameNames.{same_name_equal, same_name_itself}
 use Rattle.m11_modules.specs.Places.{distinct, distinct_after}
 use Rattle.m11_layout.specs.Tables.{is_contribution}
 
@@ -26,21 +27,13 @@ number_itself a = grind (arith, nat_tests)
 joined_pair : {A B : Type 0} (a c : A) (b d : B) → a ≡ c → b ≡ d → ◌≡◌ {A = A × B} (a, b) (c, d)
 joined_pair a c b d e f = cc
 
-pub is_name_same : (one other : ℕ × ℕ) → is_name one other ≡ true → one ≡ other
-is_name_same (a, b) (c, d) e =
-    let h = both (a == c) (b == d) e in joined_pair a c b d (same_number a c h.0) (same_number b d h.1)
-
-pub is_name_itself : (one : ℕ × ℕ) → is_name one one ≡ true
-is_name_itself (a, b) =
-    let P : Bool → Type 0 = λ t. (t && (b == b)) ≡ true in subst P (sym (number_itself a)) (number_itself b)
-
 pub is_contribution_same : (one other : ℕ × (ℕ × ℕ)) → is_contribution one other ≡ true → one ≡ other
 is_contribution_same (i, a) (j, b) e =
-    let h = both (i == j) (is_name a b) e in joined_pair i j a b (same_number i j h.0) (is_name_same a b h.1)
+    let h = both (i == j) (is_same_name a b) e in joined_pair i j a b (same_number i j h.0) (same_name_equal a b h.1)
 
 pub is_contribution_itself : (one : ℕ × (ℕ × ℕ)) → is_contribution one one ≡ true
 is_contribution_itself (i, a) =
-    let P : Bool → Type 0 = λ t. (t && is_name a a) ≡ true in subst P (sym (number_itself i)) (is_name_itself a)
+    let P : Bool → Type 0 = λ t. (t && is_same_name a a) ≡ true in subst P (sym (number_itself i)) (same_name_itself a)
 
 -- ---- look-ups
 
@@ -180,11 +173,11 @@ module _ {K : Type 0} (eq : K → K → Bool) (same : (x y : K) → eq x y ≡ t
       λ j. cons_option (option_map (report e.0) (first j)) (rest j)
 
 -- names that are reported in order of first appearance stand once
-apart_after : (seen names : List (ℕ × ℕ)) → Apart is_name seen → Apart is_name (distinct_after seen names)
+apart_after : (seen names : List (ℕ × ℕ)) → Apart is_same_name seen → Apart is_same_name (distinct_after seen names)
 apart_after seen [] d = d
 apart_after seen (name ∷ names) d =
-    apart_after (insert_key is_name seen name) names (apart_inserted is_name is_name_same is_name_itself seen name d)
+    apart_after (insert_key is_same_name seen name) names (apart_inserted is_same_name same_name_equal same_name_itself seen name d)
 
-pub apart_distinct : (names : List (ℕ × ℕ)) → Apart is_name (distinct names)
+pub apart_distinct : (names : List (ℕ × ℕ)) → Apart is_same_name (distinct names)
 unfolding distinct
 apart_distinct names = apart_after [] names tt

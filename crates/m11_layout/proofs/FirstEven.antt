@@ -2,8 +2,8 @@
 use Rattle.std.proofs.Common.{◌≡◌, ℕ, ◌+◌, nat_eq, nat_lt, Bool, true, false, cond, ◌&&◌, ◌||◌, if◌then◌else◌, List, [], ◌∷◌, ◌++◌, is_some, Option, Some, refl, sym, ap, ◌∙◌, subst, true≢false, arith}
 use Rattle.std.specs.List.{cons_option, find}
 use Rattle.std.proofs.lemmas.Bool.Decides.{nat_tests}
-use Rattle.m11_obj.specs.Names.{absolute_name}
-use Rattle.m11_modules.specs.Names.{is_name}
+use Rattle.m11_base.specs.Rad50.{is_same_name}
+use Rattle.m11_base.specs.Names.{absolute_name}
 use Rattle.m11_modules.specs.Parts.{Part, EndOfModule}
 use Rattle.m11_modules.specs.Places.{modules_in}
 use Rattle.m11_layout.specs.Tables.{transfer_after}
@@ -67,16 +67,16 @@ known_by : (before : List Part) (part : Part) (transfer : Transfer) (b : Bool)
     → (nat_lt transfer.module_index (modules_in before)
     || (nat_eq transfer.module_index (modules_in before)
     && (is_some (entered_at (before ++ part ∷ []) transfer.module_index transfer.section)
-    || is_name transfer.section absolute_name))) ≡ true
+    || is_same_name transfer.section absolute_name))) ≡ true
 known_by before part transfer true e k =
     let P : Option ℕ → Type 0 = λ entered. (nat_lt transfer.module_index (modules_in before)
     || (nat_eq transfer.module_index (modules_in before)
-    && (is_some entered || is_name transfer.section absolute_name))) ≡ true in
+    && (is_some entered || is_same_name transfer.section absolute_name))) ≡ true in
     subst P (sym (entered_stays before part transfer.module_index transfer.section e)) k
 known_by before part transfer false e k =
     let l = nat_lt transfer.module_index (modules_in before) in
     let n = nat_eq transfer.module_index (modules_in before) in
-    let a = is_name transfer.section absolute_name in
+    let a = is_same_name transfer.section absolute_name in
     let P : Bool → Type 0 = λ b. (l || (n && (b || a))) ≡ true in
     more_known l n a (is_some (entered_at (before ++ part ∷ []) transfer.module_index transfer.section)) (subst P e k)
 
@@ -87,7 +87,7 @@ known_goes_on before part transfer m k =
     let P : ℕ → Type 0 = λ n. (nat_lt transfer.module_index n
     || (nat_eq transfer.module_index n
     && (is_some (entered_at (before ++ part ∷ []) transfer.module_index transfer.section)
-    || is_name transfer.section absolute_name))) ≡ true in
+    || is_same_name transfer.section absolute_name))) ≡ true in
     subst P (sym m) (known_by before part transfer
     (is_some (entered_at before transfer.module_index transfer.section)) refl k)
 
@@ -112,7 +112,7 @@ pub known_ended : (before : List Part) (transfer : Transfer) → known_at before
 known_ended before transfer k =
     ap (λ b. b || (nat_eq transfer.module_index (modules_in (before ++ EndOfModule ∷ []))
     && (is_some (entered_at (before ++ EndOfModule ∷ []) transfer.module_index transfer.section)
-    || is_name transfer.section absolute_name)))
+    || is_same_name transfer.section absolute_name)))
     (known_below before transfer k)
 
 -- ---- relocated after one more part
@@ -130,6 +130,6 @@ pub under_goes_on : (before : List Part) (part : Part) (assumed : Bool) (transfe
     → known_at before transfer ≡ true → relocated_under (before ++ part ∷ []) assumed transfer
     ≡ relocated_under before assumed transfer
 under_goes_on before part assumed transfer m k =
-    ap (λ n. if nat_eq transfer.module_index n && is_name transfer.section absolute_name then assumed
+    ap (λ n. if nat_eq transfer.module_index n && is_same_name transfer.section absolute_name then assumed
     else relocated_at (before ++ part ∷ []) transfer.module_index transfer.section) m
     ∙ under_by before part assumed transfer (is_absolute_here before transfer) refl k

@@ -5,6 +5,8 @@ use Rattle.std.proofs.lemmas.Bool.Decides.{nat_tests}
 use Rattle.std.proofs.lemmas.List.{length_push}
 use Rattle.indexmap.specs.IndexSet.{insert_key}
 use Rattle.indexmap.proofs.SetLemmas.{keys_insert_entry}
+use Rattle.m11_base.specs.Rad50.{is_same_name}
+use Rattle.m11_base.proofs.SameNames.{same_name_itself, same_name_equal}
 use Rattle.m11_obj.specs.declared.gsd.GsdEntry.{GsdEntry}
 use Rattle.m11_obj.specs.declared.gsd.GsdKind.{GsdKind}
 use Rattle.m11_obj.specs.declared.gsd.GsdKind.TheVariants.{ModuleName, ControlSection, InternalSymbol, TransferAddress, GlobalSymbol, ProgramSection, Identification}
@@ -15,12 +17,12 @@ use Rattle.m11_modules.specs.declared.fault.ModuleFault.{ModuleFault}
 use Rattle.m11_modules.specs.declared.fault.ModuleFault.TheVariants.{BadOrder, TooManyGlobals, TooManyModules, TooManySections}
 use Rattle.m11_modules.specs.declared.stage.Stage.{Stage}
 use Rattle.m11_modules.specs.declared.stage.Stage.TheVariants.{Between, InDirectory, InBody}
-use Rattle.m11_modules.specs.Names.{is_among, is_name}
+use Rattle.m11_modules.specs.Names.{is_among}
 use Rattle.m11_modules.specs.Parts.{Part, Directory, Entry, EndOfDirectory, Text, Relocations, Relocated, EndOfModule, EndOfFile}
 use Rattle.m11_modules.specs.Places.{Known}
 use Rattle.m11_modules.specs.Rules.{InLimits, begin_fault, entering_fault, entry_fault, fault_known, first_there, global_fault, is_past, may_stand, most_globals, most_modules, most_sections, place_fault, relocation_by}
 use Rattle.m11_modules.specs.Steps.{known_after, with_entry, with_global, with_section, with_target}
-use Rattle.m11_layout.proofs.Finding.{Apart, apart_inserted, is_name_itself, is_name_same}
+use Rattle.m11_layout.proofs.Finding.{Apart, apart_inserted}
 use Rattle.m11_layout.proofs.Walking.{rest_none}
 use Rattle.m11_layout.proofs.ReferenceSteps.{among_inserted}
 use Rattle.m11_layout.proofs.FewerNames.{Within}
@@ -31,7 +33,7 @@ pub record BoundsOf (stage : Stage) (count : ℕ) (names symbols : List (ℕ × 
   pub modules : InLimits stage count
   pub sections : length names ≤ most_sections
   pub globals : length symbols ≤ most_globals
-  pub apart : Apart is_name (keys_of entered)
+  pub apart : Apart is_same_name (keys_of entered)
   pub within : Within (keys_of entered) names
 
 abbrev pub Bounded : Known → Type 0
@@ -45,7 +47,7 @@ first_none true fault faults e = search
 first_none false fault faults e = (refl, e)
 
 room_for : (most : ℕ) (names : List (ℕ × ℕ)) (name : ℕ × ℕ) → is_past most names name ≡ false → length names ≤ most
-    → length (insert_key is_name names name) ≤ most
+    → length (insert_key is_same_name names name) ≤ most
 room_for most names name e h = by (is_among names name) e
   where
     below : nat_le most (length names) ≡ false → length names + 1 ≤ most
@@ -65,27 +67,27 @@ or_within false true c h e = refl
 or_within false false c h e = e
 
 inserted_within : (names others : List (ℕ × ℕ)) (name : ℕ × ℕ) → Within names others
-    → Within (insert_key is_name names name) (insert_key is_name others name)
+    → Within (insert_key is_same_name names name) (insert_key is_same_name others name)
 inserted_within names others name w other a =
     among_inserted others name other
-    ∙ or_within (is_among names other) (is_among others other) (is_name other name || false) (w other)
+    ∙ or_within (is_among names other) (is_among others other) (is_same_name other name || false) (w other)
     (sym (among_inserted names name other) ∙ a)
 
 section_bounded : (entry : GsdEntry) (known : Known) → entering_fault known.entered known.sections entry.name ≡ None
     → Bounded known → Bounded (with_section entry known)
 section_bounded entry known e b =
-    let once = first_none (is_some (lookup (is_name entry.name) known.entered)) BadOrder
+    let once = first_none (is_some (lookup (is_same_name entry.name) known.entered)) BadOrder
     ((is_past most_sections known.sections entry.name, TooManySections) ∷ []) e in
     let room = first_none (is_past most_sections known.sections entry.name) TooManySections [] once.1 in
-    let keys = keys_insert_entry is_name known.entered entry.name entry.value in
-    let P : List (ℕ × ℕ) → Type 0 = λ names. Apart is_name names in
-    let Q : List (ℕ × ℕ) → Type 0 = λ names. Within names (insert_key is_name known.sections entry.name) in
+    let keys = keys_insert_entry is_same_name known.entered entry.name entry.value in
+    let P : List (ℕ × ℕ) → Type 0 = λ names. Apart is_same_name names in
+    let Q : List (ℕ × ℕ) → Type 0 = λ names. Within names (insert_key is_same_name known.sections entry.name) in
     record {
       modules = b.modules;
       sections = room_for most_sections known.sections entry.name room.0 b.sections;
       globals = b.globals;
       apart = subst P (sym keys)
-          (apart_inserted is_name is_name_same is_name_itself (keys_of known.entered) entry.name b.apart);
+          (apart_inserted is_same_name same_name_equal same_name_itself (keys_of known.entered) entry.name b.apart);
       within = subst Q (sym keys) (inserted_within (keys_of known.entered) known.sections entry.name b.within);
     }
 

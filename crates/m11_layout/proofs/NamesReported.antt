@@ -2,10 +2,11 @@
 use Rattle.std.proofs.Common.{◌≡◌, ℕ, Bool, true, false, ◌&&◌, ◌||◌, not, if◌then◌else◌, List, [], ◌∷◌, ◌++◌, Option, Some, None, refl, sym, ap, subst}
 use Rattle.std.specs.List.{cons_option, filter_map, list_any}
 use Rattle.std.specs.Map.{keys_of}
+use Rattle.m11_base.specs.Rad50.{is_same_name}
 use Rattle.m11_obj.specs.declared.gsd.GsdEntry.{GsdEntry}
 use Rattle.m11_obj.specs.declared.gsd.GsdKind.{GsdKind}
 use Rattle.m11_obj.specs.declared.gsd.GsdKind.TheVariants.{ModuleName, ControlSection, InternalSymbol, TransferAddress, GlobalSymbol, ProgramSection, Identification}
-use Rattle.m11_modules.specs.Names.{is_among, is_name}
+use Rattle.m11_modules.specs.Names.{is_among}
 use Rattle.m11_modules.specs.Parts.{Part, Directory, Entry, EndOfDirectory, Text, Relocations, Relocated, EndOfModule, EndOfFile}
 use Rattle.m11_modules.specs.Places.{ends_module, global_by, global_in, global_of, modules_in, this_module}
 use Rattle.m11_modules.specs.Rules.{defines, has_bits}
@@ -37,10 +38,10 @@ module _ {X : Type 0} (report : List Part → Part → Option (Name × X))
       → (is_among (keys_of pairs) name ≡ true → is_among names name ≡ true)
       → is_among (keys_of (cons_option reported pairs)) name ≡ true → is_among (cons_option global names) name ≡ true
   one_reported None None pairs names name h k a = k a
-  one_reported None (Some global) pairs names name h k a = or_true (is_name name global) (is_among names name) (k a)
+  one_reported None (Some global) pairs names name h k a = or_true (is_same_name name global) (is_among names name) (k a)
   one_reported (Some pair) global pairs names name h k a =
       let P : Option Name → Type 0 = λ o. is_among (cons_option o names) name ≡ true in
-      subst P (sym (h pair refl)) (or_either (is_name name pair.0) (is_among (keys_of pairs) name) (is_among names name)
+      subst P (sym (h pair refl)) (or_either (is_same_name name pair.0) (is_among (keys_of pairs) name) (is_among names name)
       k a)
 
   pub reported_within : (before parts : List Part) → Within (keys_of (reported_after report before parts)) (Named parts)
@@ -134,10 +135,10 @@ one_weak : (reported global : Option Name) (weak names : List Name) (name : Name
     → (is_among weak name ≡ true → is_among names name ≡ true)
     → is_among (cons_option reported weak) name ≡ true → is_among (cons_option global names) name ≡ true
 one_weak None None weak names name h k a = k a
-one_weak None (Some global) weak names name h k a = or_true (is_name name global) (is_among names name) (k a)
+one_weak None (Some global) weak names name h k a = or_true (is_same_name name global) (is_among names name) (k a)
 one_weak (Some noted) global weak names name h k a =
     let P : Option Name → Type 0 = λ o. is_among (cons_option o names) name ≡ true in
-    subst P (sym (h noted refl)) (or_either (is_name name noted) (is_among weak name) (is_among names name) k a)
+    subst P (sym (h noted refl)) (or_either (is_same_name name noted) (is_among weak name) (is_among names name) k a)
 
 weak_if : (b : Bool) (name noted : Name) → (if b then Some name else None) ≡ Some noted → Some name ≡ Some noted
 weak_if true name noted e = e
@@ -172,7 +173,7 @@ all_weak (part ∷ parts) name a =
 one_named : (global : Option Name) (names : List Name) (name : Name) → is_among names name ≡ true
     → is_among (cons_option global names) name ≡ true
 one_named None names name a = a
-one_named (Some global) names name a = or_true (is_name name global) (is_among names name) a
+one_named (Some global) names name a = or_true (is_same_name name global) (is_among names name) a
 
 -- the weak names of the last module alone
 pub weak_within : (parts : List Part) → Within (weak_names (this_module parts)) (filter_map global_in parts)

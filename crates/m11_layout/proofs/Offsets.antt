@@ -5,10 +5,10 @@ use Rattle.std.specs.List.{cons_option, filter_map}
 use Rattle.std.specs.Map.{lookup}
 use Rattle.std.specs.Option.{option_or, unwrap_or}
 use Rattle.std.proofs.lemmas.List.Elements.{filter_map-append}
+use Rattle.m11_base.specs.Rad50.{is_same_name}
 use Rattle.m11_obj.specs.declared.gsd.GsdEntry.{GsdEntry}
 use Rattle.m11_obj.specs.declared.gsd.GsdKind.{GsdKind}
 use Rattle.m11_obj.specs.declared.gsd.GsdKind.TheVariants.{ModuleName, ControlSection, InternalSymbol, TransferAddress, GlobalSymbol, ProgramSection, Identification}
-use Rattle.m11_modules.specs.Names.{is_name}
 use Rattle.m11_modules.specs.Parts.{Part, Directory, Entry, EndOfDirectory, Text, Relocations, Relocated, EndOfModule, EndOfFile}
 use Rattle.m11_modules.specs.Places.{modules_in, section_by, section_in, sections_in, this_module}
 use Rattle.m11_layout.specs.Tables.{is_concatenated, next_offset, size_cap}
@@ -50,7 +50,7 @@ reports EndOfFile = ReportsNone refl refl
 -- ---- what a module enters
 
 abbrev pub entered_at : List Part → ℕ → ℕ × ℕ → Option ℕ
-entered_at parts index name = lookup (is_name name) (sections_in (module_at parts index))
+entered_at parts index name = lookup (is_same_name name) (sections_in (module_at parts index))
 
 abbrev pub reported_where : Bool → Part → List ((ℕ × ℕ) × ℕ)
 reported_where b part = if b then filter_map section_in (part ∷ []) else []
@@ -62,16 +62,16 @@ sections_where false part = refl
 
 pub entered_more : (before : List Part) (part : Part) (index : ℕ) (name : ℕ × ℕ)
     → entered_at (before ++ part ∷ []) index name
-    ≡ option_or (entered_at before index name) (lookup (is_name name)
+    ≡ option_or (entered_at before index name) (lookup (is_same_name name)
     (reported_where (nat_eq (modules_in before) index) part))
 unfolding sections_in
 entered_more before part index name =
-    ap (λ parts. lookup (is_name name) (sections_in parts)) (module_more before part index)
-    ∙ ap (λ reported. lookup (is_name name) reported) (filter_map-append section_in (module_at before index)
+    ap (λ parts. lookup (is_same_name name) (sections_in parts)) (module_more before part index)
+    ∙ ap (λ reported. lookup (is_same_name name) reported) (filter_map-append section_in (module_at before index)
     (where_true (nat_eq (modules_in before) index) part))
-    ∙ lookup_append (is_name name) (sections_in (module_at before index))
+    ∙ lookup_append (is_same_name name) (sections_in (module_at before index))
     (sections_in (where_true (nat_eq (modules_in before) index) part))
-    ∙ ap (λ reported. option_or (entered_at before index name) (lookup (is_name name) reported))
+    ∙ ap (λ reported. option_or (entered_at before index name) (lookup (is_same_name name) reported))
     (sections_where (nat_eq (modules_in before) index) part)
 
 pub earlier_sizes_more : (before : List Part) (part : Part) (index : ℕ) (name : ℕ × ℕ)
@@ -99,20 +99,20 @@ one_found true size attributes e = search
 one_found false size attributes e = refl
 
 neither_found : (b : Bool) (part : Part) (name : ℕ × ℕ) → Reports part
-    → lookup (is_name name) (filter_map attributes_in (part ∷ [])) ≡ None
-    → lookup (is_name name) (reported_where b part) ≡ None
+    → lookup (is_same_name name) (filter_map attributes_in (part ∷ [])) ≡ None
+    → lookup (is_same_name name) (reported_where b part) ≡ None
 neither_found false part name t e = refl
-neither_found true part name (ReportsNone a s) e = ap (λ reported. lookup (is_name name) reported) s
+neither_found true part name (ReportsNone a s) e = ap (λ reported. lookup (is_same_name name) reported) s
 neither_found true part name (ReportsOne entered attributes size a s) e =
-    let P : List ((ℕ × ℕ) × ℕ) → Type 0 = λ reported. lookup (is_name name) reported ≡ None in
-    subst P (sym s) (one_found (is_name name entered) size attributes (subst P a e))
+    let P : List ((ℕ × ℕ) × ℕ) → Type 0 = λ reported. lookup (is_same_name name) reported ≡ None in
+    subst P (sym s) (one_found (is_same_name name entered) size attributes (subst P a e))
 
 abbrev EntersReported : List Part → Type 0
 EntersReported parts = (index : ℕ) (name : ℕ × ℕ) → attributes_found parts name ≡ None → entered_at parts index name ≡ None
 
 enters_more : (before : List Part) (part : Part) → EntersReported before → EntersReported (before ++ part ∷ [])
 enters_more before part h index name e =
-    let n = both_none (attributes_found before name) (lookup (is_name name) (filter_map attributes_in (part ∷ [])))
+    let n = both_none (attributes_found before name) (lookup (is_same_name name) (filter_map attributes_in (part ∷ [])))
     (sym (attributes_more before part name) ∙ e) in
     entered_more before part index name
     ∙ (λ j. option_or (h index name n.0 j) (neither_found (nat_eq (modules_in before) index) part name
@@ -127,11 +127,11 @@ pub enters_reported : (parts : List Part) (index : ℕ) (name : ℕ × ℕ) → 
 enters_reported parts = grown EntersReported enters_more parts enters_none
 
 -- a module that hasn't entered a section has no size of it
-no_size : (name : ℕ × ℕ) (reported : List ((ℕ × ℕ) × ℕ)) → lookup (is_name name) reported ≡ None
+no_size : (name : ℕ × ℕ) (reported : List ((ℕ × ℕ) × ℕ)) → lookup (is_same_name name) reported ≡ None
     → filter_map (size_under name) reported ≡ []
 no_size name [] e = refl
 no_size name (first ∷ reported) e =
-    by (is_name name first.0) first.1 (lookup (is_name name) reported) (filter_map (size_under name) reported)
+    by (is_same_name name first.0) first.1 (lookup (is_same_name name) reported) (filter_map (size_under name) reported)
     (no_size name reported) e
   where
     by : (b : Bool) (size : ℕ) (found : Option ℕ) (sizes : List ℕ) → (found ≡ None → sizes ≡ [])
@@ -142,7 +142,7 @@ no_size name (first ∷ reported) e =
 
 -- so all its sizes are those of earlier modules
 pub earlier_sizes : (before : List Part) (name : ℕ × ℕ)
-    → lookup (is_name name) (sections_in (this_module before)) ≡ None
+    → lookup (is_same_name name) (sections_in (this_module before)) ≡ None
     → sizes_of (modules_before before (modules_in before)) name ≡ sizes_of before name
 unfolding sizes_of sections_in
 earlier_sizes before name e =

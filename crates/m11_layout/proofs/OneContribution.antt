@@ -4,13 +4,13 @@ use Rattle.std.specs.List.{cons_option, filter_map}
 use Rattle.std.specs.Map.{lookup}
 use Rattle.std.specs.Option.{option_or, unwrap_or}
 use Rattle.std.proofs.lemmas.Bool.Decides.{nat_tests}
-use Rattle.m11_modules.specs.Names.{is_name}
+use Rattle.m11_base.specs.Rad50.{is_same_name}
+use Rattle.m11_base.proofs.SameNames.{same_name_equal}
 use Rattle.m11_modules.specs.Parts.{Part}
 use Rattle.m11_modules.specs.Places.{modules_in, section_in, sections_in, this_module}
 use Rattle.m11_layout.specs.Tables.{is_contribution, next_offset, size_cap}
 use Rattle.m11_layout.specs.Modules.{modules_before}
 use Rattle.m11_layout.specs.Sections.{attributes_in, first_attributes, offset_after, size_under, sizes_of}
-use Rattle.m11_layout.proofs.Finding.{is_name_same}
 use Rattle.m11_layout.proofs.ModulesOfParts.{modules_are}
 use Rattle.m11_layout.proofs.Offsets.{contribution_of, earlier_sizes, earlier_sizes_more, entered_at, entered_more, enters_reported, next_is, offset_from, reported_where}
 use Rattle.m11_layout.proofs.Sizing.{attributes_found, attributes_more, no_sizes, or_none, total_of}
@@ -26,15 +26,15 @@ contribution_more : (before : List Part) (part : Part) (index : ℕ) (name : ℕ
     → reported_where (nat_lt (modules_in before) index) part ≡ sizes
     → filter_map attributes_in (part ∷ []) ≡ attributes
     → contribution_of (before ++ part ∷ []) index name
-    ≡ contribution_from (option_or (entered_at before index name) (lookup (is_name name) reported))
-    (option_or (attributes_found before name) (lookup (is_name name) attributes))
+    ≡ contribution_from (option_or (entered_at before index name) (lookup (is_same_name name) reported))
+    (option_or (attributes_found before name) (lookup (is_same_name name) attributes))
     (sizes_of (modules_before before index) name ++ filter_map (size_under name) sizes)
 unfolding first_attributes
 contribution_more before part index name reported sizes attributes t s a =
     let e = entered_more before part index name
-    ∙ ap (λ these. option_or (entered_at before index name) (lookup (is_name name) these)) t in
+    ∙ ap (λ these. option_or (entered_at before index name) (lookup (is_same_name name) these)) t in
     let f = attributes_more before part name
-    ∙ ap (λ these. option_or (attributes_found before name) (lookup (is_name name) these)) a in
+    ∙ ap (λ these. option_or (attributes_found before name) (lookup (is_same_name name) these)) a in
     let g = earlier_sizes_more before part index name
     ∙ ap (λ these. sizes_of (modules_before before index) name ++ filter_map (size_under name) these) s in
     λ j. contribution_from (e j) (f j) (g j)
@@ -116,14 +116,14 @@ one_more false false true entered found sizes offset attributes size h f l o =
 one_more false false false entered found sizes offset attributes size h f l o = same_more entered found sizes
 
 reported_is : (here : Bool) (name entered : ℕ × ℕ) (size : ℕ)
-    → lookup (is_name name) (if here then (entered, size) ∷ [] else []) ≡ reported_if here (is_name name entered) size
+    → lookup (is_same_name name) (if here then (entered, size) ∷ [] else []) ≡ reported_if here (is_same_name name entered) size
 unfolding reported_if
 reported_is true name entered size = refl
 reported_is false name entered size = refl
 
 sizes_are : (here : Bool) (name entered : ℕ × ℕ) (size : ℕ)
     → filter_map (size_under name) (if here then (entered, size) ∷ [] else [])
-    ≡ sizes_if here (is_name name entered) size
+    ≡ sizes_if here (is_same_name name entered) size
 unfolding sizes_if
 sizes_are true name entered size = refl
 sizes_are false name entered size = refl
@@ -142,14 +142,14 @@ turned_test n index = grind (arith, nat_tests)
 
 -- what this module enters first lies after what earlier ones entered
 this_offset : (before : List Part) (name : ℕ × ℕ) (attributes offset : ℕ)
-    → lookup (is_name name) (sections_in (this_module before)) ≡ None
+    → lookup (is_same_name name) (sections_in (this_module before)) ≡ None
     → offset ≡ next_offset (total_of before name)
     → (entered_at before (modules_in before) name ≡ None)
     × (offset ≡ min size_cap
     (offset_after (unwrap_or (option_or (attributes_found before name) (Some attributes)) 0)
     (sizes_of (modules_before before (modules_in before)) name)))
 this_offset before name attributes offset n o = (
-  ap (λ parts. lookup (is_name name) (sections_in parts)) (modules_are before).this ∙ n,
+  ap (λ parts. lookup (is_same_name name) (sections_in parts)) (modules_are before).this ∙ n,
   o ∙ next_is (attributes_found before name) (sizes_of before name) attributes (no_sizes before name)
       ∙ ap (λ sizes. min size_cap
       (offset_after (unwrap_or (option_or (attributes_found before name) (Some attributes)) 0) sizes))
@@ -160,14 +160,14 @@ beyond_none : (before : List Part) (index : ℕ) (name : ℕ × ℕ) → nat_lt 
     → entered_at before index name ≡ None
 unfolding sections_in
 beyond_none before index name l =
-    ap (λ parts. lookup (is_name name) (sections_in parts))
+    ap (λ parts. lookup (is_same_name name) (sections_in parts))
     ((modules_are before).none index (later_than (modules_in before) index l))
 
 pub contribution_entered : (before : List Part) (part : Part) (index : ℕ) (name entered : ℕ × ℕ)
     (attributes size offset : ℕ)
     → filter_map attributes_in (part ∷ []) ≡ (entered, attributes) ∷ []
     → filter_map section_in (part ∷ []) ≡ (entered, size) ∷ []
-    → lookup (is_name entered) (sections_in (this_module before)) ≡ None
+    → lookup (is_same_name entered) (sections_in (this_module before)) ≡ None
     → offset ≡ next_offset (total_of before entered)
     → cond (is_contribution (index, name) (modules_in before, entered)) (Some offset)
     (contribution_of before index name)
@@ -177,21 +177,21 @@ contribution_entered before part index name entered attributes size offset a s n
     let m = modules_in before in
     let here = nat_eq m index in
     let later = nat_lt m index in
-    let this : (here ≡ true → is_name name entered ≡ true → (entered_at before index name ≡ None)
+    let this : (here ≡ true → is_same_name name entered ≡ true → (entered_at before index name ≡ None)
     × (offset ≡ min size_cap
     (offset_after (unwrap_or (option_or (attributes_found before name) (Some attributes)) 0)
     (sizes_of (modules_before before index) name)))) =
     λ h t. let P : ℕ → ℕ × ℕ → Type 0 = λ i k. (entered_at before i k ≡ None)
     × (offset ≡ min size_cap (offset_after (unwrap_or (option_or (attributes_found before k) (Some attributes)) 0)
     (sizes_of (modules_before before i) k))) in
-    subst (λ i. P i name) (here_is m index h) (subst (λ k. P m k) (sym (is_name_same name entered t))
+    subst (λ i. P i name) (here_is m index h) (subst (λ k. P m k) (sym (same_name_equal name entered t))
     (this_offset before entered attributes offset n o)) in
-    ap (λ b. cond (b && is_name name entered) (Some offset) (contribution_of before index name)) (turned_test m index)
-    ∙ one_more here later (is_name name entered) (entered_at before index name) (attributes_found before name)
+    ap (λ b. cond (b && is_same_name name entered) (Some offset) (contribution_of before index name)) (turned_test m index)
+    ∙ one_more here later (is_same_name name entered) (entered_at before index name) (attributes_found before name)
     (sizes_of (modules_before before index) name)
     offset attributes size (here_once m index) (enters_reported before index name) (beyond_none before index name) this
     ∙ (λ j. contribution_from (option_or (entered_at before index name) (sym (reported_is here name entered size) j))
-    (option_or (attributes_found before name) (cond (is_name name entered) (Some attributes) None))
+    (option_or (attributes_found before name) (cond (is_same_name name entered) (Some attributes) None))
     (sizes_of (modules_before before index) name ++ sym (sizes_are later name entered size) j))
     ∙ sym (contribution_more before part index name _ _ _ (reported_one here part ((entered, size) ∷ []) s)
     (reported_one later part ((entered, size) ∷ []) s) a)

@@ -7,7 +7,8 @@ use Rattle.std.proofs.lemmas.Bool.Decides.{nat_tests}
 use Rattle.std.proofs.lemmas.List.{map-append}
 use Rattle.std.proofs.lemmas.List.Sums.{sum_by-append}
 use Rattle.std.proofs.lemmas.Map.Made.{is_some-lookup}
-use Rattle.m11_modules.specs.Names.{is_name}
+use Rattle.m11_base.specs.Rad50.{is_same_name}
+use Rattle.m11_base.proofs.SameNames.{same_name_equal}
 use Rattle.m11_modules.specs.Parts.{Part}
 use Rattle.m11_modules.specs.Places.{known_of, modules_in, section_in, section_names}
 use Rattle.m11_layout.specs.Tables.{size_cap}
@@ -16,7 +17,6 @@ use Rattle.m11_layout.specs.Plan.{Planned, after_offset, planned_base}
 use Rattle.m11_layout.specs.Sections.{base_entered, contribution_base, ends_too_high, first_attributes, greatest, is_overlaid, is_relocatable, is_too_large, module_base, offset_after, rounded, section_base, section_size, size_under, sizes_of}
 use Rattle.m11_layout.specs.declared.definition.Total.{Total}
 use Rattle.m11_layout.proofs.ContributionsGathered.{ContributionsOf}
-use Rattle.m11_layout.proofs.Finding.{is_name_same}
 use Rattle.m11_layout.proofs.Offsets.{earlier_sizes_more, enters_reported, entered_at, offset_from, offset_in, reported_where}
 use Rattle.m11_layout.proofs.SectionsGathered.{SectionsOf}
 use Rattle.m11_layout.proofs.Sizing.{attributes_found, sizes_more, total_from}
@@ -32,37 +32,37 @@ found_somewhere (Some attributes) sizes entered size e h = refl
 
 pub is_section : (parts : List Part) (sections : List ((ℕ × ℕ) × Total)) (index : ℕ) (name : ℕ × ℕ) (size : ℕ)
     → SectionsOf parts sections
-    → entered_at parts index name ≡ Some size → list_any (is_name name) (section_names parts) ≡ true
+    → entered_at parts index name ≡ Some size → list_any (is_same_name name) (section_names parts) ≡ true
 unfolding known_of
 is_section parts sections index name size s e =
-    ap (λ names. list_any (is_name name) names) (sym s.names) ∙ sym (is_some-lookup (is_name name) sections)
+    ap (λ names. list_any (is_same_name name) names) (sym s.names) ∙ sym (is_some-lookup (is_same_name name) sections)
     ∙ ap is_some (s.totals name)
     ∙ found_somewhere (attributes_found parts name) (sizes_of parts name) (entered_at parts index name) size e
     (enters_reported parts index name)
 
 -- what is true of no name of a list is true of none in it
 pub none_high : (test : ℕ × ℕ → Bool) (names : List (ℕ × ℕ)) (name : ℕ × ℕ) → list_any test names ≡ false
-    → list_any (is_name name) names ≡ true → test name ≡ false
+    → list_any (is_same_name name) names ≡ true → test name ≡ false
 none_high test [] name n t = absurd (true≢false (sym t))
-none_high test (first ∷ names) name n t = by (test first) (is_name name first) refl refl n t (none_high test names name)
+none_high test (first ∷ names) name n t = by (test first) (is_same_name name first) refl refl n t (none_high test names name)
   where
-    by : (b c : Bool) → test first ≡ b → is_name name first ≡ c → (b || list_any test names) ≡ false
-        → (c || list_any (is_name name) names) ≡ true
-        → (list_any test names ≡ false → list_any (is_name name) names ≡ true → test name ≡ false) → test name ≡ false
+    by : (b c : Bool) → test first ≡ b → is_same_name name first ≡ c → (b || list_any test names) ≡ false
+        → (c || list_any (is_same_name name) names) ≡ true
+        → (list_any test names ≡ false → list_any (is_same_name name) names ≡ true → test name ≡ false) → test name ≡ false
     by true c e f n t h = absurd (true≢false n)
-    by false true e f n t h = ap test (is_name_same name first f) ∙ e
+    by false true e f n t h = ap test (same_name_equal name first f) ∙ e
     by false false e f n t h = h n t
 
-pub found_mapped : (value : ℕ × ℕ → ℕ) (names : List (ℕ × ℕ)) (name : ℕ × ℕ) → list_any (is_name name) names ≡ true
-    → lookup (is_name name) (map (λ n. (n, value n)) names) ≡ Some (value name)
+pub found_mapped : (value : ℕ × ℕ → ℕ) (names : List (ℕ × ℕ)) (name : ℕ × ℕ) → list_any (is_same_name name) names ≡ true
+    → lookup (is_same_name name) (map (λ n. (n, value n)) names) ≡ Some (value name)
 found_mapped value [] name t = absurd (true≢false (sym t))
-found_mapped value (first ∷ names) name t = by (is_name name first) refl t (found_mapped value names name)
+found_mapped value (first ∷ names) name t = by (is_same_name name first) refl t (found_mapped value names name)
   where
-    by : (c : Bool) → is_name name first ≡ c → (c || list_any (is_name name) names) ≡ true
-        → (list_any (is_name name) names ≡ true → lookup (is_name name) (map (λ n. (n, value n)) names)
+    by : (c : Bool) → is_same_name name first ≡ c → (c || list_any (is_same_name name) names) ≡ true
+        → (list_any (is_same_name name) names ≡ true → lookup (is_same_name name) (map (λ n. (n, value n)) names)
         ≡ Some (value name))
-        → cond c (Some (value first)) (lookup (is_name name) (map (λ n. (n, value n)) names)) ≡ Some (value name)
-    by true f t h = ap (λ n. Some (value n)) (sym (is_name_same name first f))
+        → cond c (Some (value first)) (lookup (is_same_name name) (map (λ n. (n, value n)) names)) ≡ Some (value name)
+    by true f t h = ap (λ n. Some (value n)) (sym (same_name_equal name first f))
     by false f t h = h t
 
 -- ---- offsets within the limit
@@ -123,7 +123,7 @@ within_limit false overlaid base earlier sizes h n = refl
 
 -- where nothing is too large no offset is capped
 offset_uncapped : (bottom : ℕ) (parts : List Part) (index : ℕ) (name : ℕ × ℕ) → is_too_large bottom parts ≡ false
-    → list_any (is_name name) (section_names parts) ≡ true
+    → list_any (is_same_name name) (section_names parts) ≡ true
     → offset_in parts index name ≡ offset_after (first_attributes parts name)
     (sizes_of (modules_before parts index) name)
 unfolding is_too_large section_size
@@ -143,7 +143,7 @@ base_reported : (bottom : ℕ) (parts : List Part) (sections : List ((ℕ × ℕ
     (entered : Option ℕ) → SectionsOf parts sections
     → is_too_large bottom parts ≡ false → entered_at parts index name ≡ entered
     → after_offset (offset_from entered (offset_in parts index name))
-    (unwrap_or (lookup (is_name name) (bases_of bottom parts)) 0)
+    (unwrap_or (lookup (is_same_name name) (bases_of bottom parts)) 0)
     ≡ base_entered entered (section_base bottom parts name + offset_after (first_attributes parts name)
     (sizes_of (modules_before parts index) name)) % 0o200000
 base_reported bottom parts sections index name None s n e = refl
@@ -160,5 +160,5 @@ pub base_planned : (bottom : ℕ) (parts : List Part) (plan : Planned) (index : 
     → planned_base plan index name ≡ module_base bottom parts index name
 unfolding module_base contribution_base
 base_planned bottom parts plan index name s c b n =
-    (λ j. after_offset (c index name j) (unwrap_or (lookup (is_name name) (b j)) 0))
+    (λ j. after_offset (c index name j) (unwrap_or (lookup (is_same_name name) (b j)) 0))
     ∙ base_reported bottom parts plan.gathered.sections index name (entered_at parts index name) s n refl

@@ -5,7 +5,8 @@ use Rattle.std.specs.Map.{lookup}
 use Rattle.std.specs.Option.{unwrap_or}
 use Rattle.std.proofs.lemmas.List.{length-map}
 use Rattle.std.proofs.lemmas.Option.{slice_get-map}
-use Rattle.m11_modules.specs.Names.{is_name}
+use Rattle.m11_base.specs.Rad50.{is_same_name}
+use Rattle.m11_base.proofs.SameNames.{same_name_itself, same_name_equal}
 use Rattle.m11_modules.specs.Parts.{Part}
 use Rattle.m11_modules.specs.Places.{section_names}
 use Rattle.m11_layout.specs.Tables.{size_cap}
@@ -19,7 +20,7 @@ use Rattle.m11_layout.specs.declared.definition.Total.{Total}
 use Rattle.m11_layout.specs.declared.planned.PlannedGlobal.{PlannedGlobal}
 use Rattle.m11_layout.specs.declared.planned.PlannedSection.{PlannedSection}
 use Rattle.m11_layout.proofs.DefinitionsGathered.{DefinitionsOf}
-use Rattle.m11_layout.proofs.Finding.{apart_distinct, Apart, each_reported, is_name_itself, is_name_same, or_true}
+use Rattle.m11_layout.proofs.Finding.{apart_distinct, Apart, each_reported, or_true}
 use Rattle.m11_layout.proofs.PlannedBases.{bases_of, found_mapped}
 use Rattle.m11_layout.proofs.SectionsGathered.{SectionsOf, sections_are}
 use Rattle.m11_layout.proofs.Sizing.{attributes_found, total_from, total_in}
@@ -58,17 +59,17 @@ reported_so name base size attributes =
     record { name = name; base = base; size = size; attributes = flags_of attributes }
 
 sections_reported : (bottom : ℕ) (parts : List Part) (plan : Planned) (names : List (ℕ × ℕ))
-    → ((name : ℕ × ℕ) → list_any (is_name name) names ≡ true
+    → ((name : ℕ × ℕ) → list_any (is_same_name name) names ≡ true
     → planned_section_base plan name ≡ section_base bottom parts name)
     → map (section_planned plan) (map (λ name. (name, total_in parts name)) names)
     ≡ map (section_reported bottom parts) names
 sections_reported bottom parts plan [] h = refl
 sections_reported bottom parts plan (name ∷ names) h =
-    let P : Bool → Type 0 = λ b. (b || list_any (is_name name) names) ≡ true in
-    let base = h name (subst P (sym (is_name_itself name)) refl) in
+    let P : Bool → Type 0 = λ b. (b || list_any (is_same_name name) names) ≡ true in
+    let base = h name (subst P (sym (same_name_itself name)) refl) in
     let size = capped (section_size parts name) in
     let rest = sections_reported bottom parts plan names
-    (λ other t. h other (or_true (is_name other name) (list_any (is_name other) names) t)) in
+    (λ other t. h other (or_true (is_same_name other name) (list_any (is_same_name other) names) t)) in
     λ j. reported_so name (base j) (size j) (first_attributes parts name) ∷ rest j
 
 pub sections_listed : (bottom : ℕ) (parts : List Part) (plan : Planned) → SectionsOf parts plan.gathered.sections
@@ -77,7 +78,7 @@ unfolding planned_sections sections_of
 sections_listed bottom parts plan s b =
     ap (λ sections. map (section_planned plan) sections) (sections_are parts plan.gathered.sections s)
     ∙ sections_reported bottom parts plan (section_names parts) (λ name t.
-    ap (λ bases. unwrap_or (lookup (is_name name) bases) 0) b
+    ap (λ bases. unwrap_or (lookup (is_same_name name) bases) 0) b
     ∙ ap (λ found. unwrap_or found 0) (found_mapped (section_base bottom parts) (section_names parts) name t))
 
 attributes_from : (found : Option ℕ) (sizes : List ℕ) → attributes_reported (total_from found sizes) ≡ found
@@ -105,10 +106,10 @@ pub globals_listed : (bottom : ℕ) (parts : List Part) (plan : Planned) → Def
     → ((index : ℕ) → planned_module plan index ≡ name_at parts index) → planned_globals plan ≡ globals_of bottom parts
 unfolding planned_globals globals_of
 globals_listed bottom parts plan d values names =
-    let P : List (ℕ × ℕ) → Type 0 = λ these. Apart is_name these in
+    let P : List (ℕ × ℕ) → Type 0 = λ these. Apart is_same_name these in
     let apart = subst P (sym d.names) (apart_distinct _) in
     let alike = mapped_alike (global_planned plan) (λ e. global_reported bottom parts e.0 e.1)
     (λ e j. global_as e.0 (values e.1.module_index e.1.place j) (names e.1.module_index j)) plan.gathered.definitions in
-    let reported = each_reported is_name is_name_same is_name_itself (global_reported bottom parts) (first_definition parts)
+    let reported = each_reported is_same_name same_name_equal same_name_itself (global_reported bottom parts) (first_definition parts)
     plan.gathered.definitions apart (λ name t. sym (d.found name)) in
     alike ∙ sym reported ∙ ap (λ these. filter_map (global_defined bottom parts) these) d.names

@@ -1,7 +1,7 @@
 -- The tables of a plan grow with the names of its parts, and no further than the limits of a link.
 use Rattle.std.proofs.Common.{◌≡◌, ℕ, suc, ◌+◌, ◌*◌, ◌≤◌, mul-le-mul, nat_lt, Bool, true, false, option_and_then, if◌then◌else◌, List, [], ◌∷◌, length, Option, Some, None, refl, sym, ◌∙◌, subst, arith}
 use Rattle.indexmap.specs.IndexMap.{insert_entry}
-use Rattle.m11_modules.specs.Names.{is_name}
+use Rattle.m11_base.specs.Rad50.{is_same_name}
 use Rattle.m11_modules.specs.Parts.{Part}
 use Rattle.m11_modules.specs.Places.{global_names, known_of, modules_in, section_names, sections_in, stage_after, this_module}
 use Rattle.m11_modules.specs.Rules.{first_fault, most_globals, most_modules, most_sections}
@@ -25,15 +25,15 @@ same_found these found e = cc
 
 -- what is placed is one entry more at most
 one_placed : (bases : Entries) (name : ℕ × ℕ) (next top : ℕ) (found : Bases)
-    → Some (record { bases = insert_entry is_name bases name next; top = top }) ≡ Some found
+    → Some (record { bases = insert_entry is_same_name bases name next; top = top }) ≡ Some found
     → length found.bases ≤ length bases + 1
 one_placed bases name next top found e =
     let P : Bases → Type 0 = λ these. length these.bases ≤ length bases + 1 in
-    subst P (same_found _ found e) (one_entry is_name bases name next)
+    subst P (same_found _ found e) (one_entry is_same_name bases name next)
 
 placed_by : (b c : Bool) (bases : Entries) (name : ℕ × ℕ) (next top : ℕ) (found : Bases)
-    → (if b then (if c then None else Some (record { bases = insert_entry is_name bases name next; top = top }))
-    else Some (record { bases = insert_entry is_name bases name 0; top = next })) ≡ Some found
+    → (if b then (if c then None else Some (record { bases = insert_entry is_same_name bases name next; top = top }))
+    else Some (record { bases = insert_entry is_same_name bases name 0; top = next })) ≡ Some found
     → length found.bases ≤ length bases + 1
 placed_by true true bases name next top found e = absurd (none_found found e)
 placed_by true false bases name next top found e = one_placed bases name next top found e

@@ -1,7 +1,7 @@
 -- What is gathered of all parts is what the definitions say of them, and so is what a plan reports.
 use Rattle.std.proofs.Common.{◌≡◌, ℕ, ◌+◌, ◌%◌, Bool, true, false, if◌then◌else◌, List, [], ◌∷◌, ◌++◌, Option, Some, None, refl, sym, ap, ◌∙◌, subst}
 use Rattle.std.specs.Option.{option_map}
-use Rattle.m11_modules.specs.Names.{is_name}
+use Rattle.m11_base.specs.Rad50.{is_same_name}
 use Rattle.m11_modules.specs.Parts.{Part}
 use Rattle.m11_modules.specs.Places.{known_of, section_names, this_module}
 use Rattle.m11_modules.specs.Rules.{fault_of, first_fault}
@@ -70,9 +70,9 @@ gathered_means bottom parts n =
 -- ---- bases
 
 apart_names : (parts : List Part) (sections : List ((ℕ × ℕ) × Total)) → SectionsOf parts sections
-    → Apart is_name (section_names parts)
+    → Apart is_same_name (section_names parts)
 unfolding known_of
-apart_names parts sections s = let P : List (ℕ × ℕ) → Type 0 = λ names. Apart is_name names in subst P s.names s.apart
+apart_names parts sections s = let P : List (ℕ × ℕ) → Type 0 = λ names. Apart is_same_name names in subst P s.names s.apart
 
 abbrev bases_reported : ℕ → List Part → Bases
 bases_reported bottom parts = record { bases = bases_of bottom parts; top = top bottom parts }

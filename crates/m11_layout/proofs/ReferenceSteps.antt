@@ -7,17 +7,18 @@ use Rattle.std.proofs.lemmas.List.Elements.{filter_map-append}
 use Rattle.std.proofs.lemmas.List.Folds.{list_any-append}
 use Rattle.indexmap.specs.IndexMap.{insert_entry}
 use Rattle.indexmap.specs.IndexSet.{insert_key}
+use Rattle.m11_base.specs.Rad50.{is_same_name}
+use Rattle.m11_base.proofs.SameNames.{same_name_equal}
 use Rattle.m11_obj.specs.declared.gsd.GsdEntry.{GsdEntry}
 use Rattle.m11_obj.specs.declared.gsd.GsdKind.{GsdKind}
 use Rattle.m11_obj.specs.declared.gsd.GsdKind.TheVariants.{ModuleName, ControlSection, InternalSymbol, TransferAddress, GlobalSymbol, ProgramSection, Identification}
-use Rattle.m11_modules.specs.Names.{is_among, is_name}
+use Rattle.m11_modules.specs.Names.{is_among}
 use Rattle.m11_modules.specs.Parts.{Part, Directory, Entry, EndOfDirectory, Text, Relocations, Relocated, EndOfModule, EndOfFile}
 use Rattle.m11_modules.specs.Places.{ends_module, global_of, this_module}
 use Rattle.m11_modules.specs.Rules.{defines, has_bits}
 use Rattle.m11_modules.proofs.KnownAfter.{this_module_ended, this_module_goes_on}
 use Rattle.m11_layout.specs.Tables.{Gathered, gathered_after, nothing_gathered, with_definition, with_entry, with_reference, with_relocated, with_weak}
 use Rattle.m11_layout.specs.Globals.{reference_by, reference_in, references_of, referred, relocated_reference, weak_by, weak_in, weak_names}
-use Rattle.m11_layout.proofs.Finding.{is_name_same}
 use Rattle.m11_layout.proofs.ReferencesGathered.{TableOf, none_referred, one_referred, references_more, table_is}
 
 -- ---- weak names
@@ -32,26 +33,26 @@ weak_more : (own : List Part) (part : Part) (name : ℕ × ℕ)
 unfolding weak_names
 weak_more own part name =
     ap (λ names. is_among names name) (filter_map-append weak_in own (part ∷ []))
-    ∙ list_any-append (is_name name) (filter_map weak_in own) (filter_map weak_in (part ∷ []))
+    ∙ list_any-append (is_same_name name) (filter_map weak_in own) (filter_map weak_in (part ∷ []))
 
 or_false : (b : Bool) → (b || false) ≡ b
 or_false true = refl
 or_false false = refl
 
 inserted_by : (b : Bool) (names : List (ℕ × ℕ)) (name other : ℕ × ℕ) → is_among names name ≡ b
-    → is_among (if b then names else names ++ name ∷ []) other ≡ (is_among names other || (is_name other name || false))
-inserted_by false names name other e = list_any-append (is_name other) names (name ∷ [])
-inserted_by true names name other e = by (is_name other name) refl
+    → is_among (if b then names else names ++ name ∷ []) other ≡ (is_among names other || (is_same_name other name || false))
+inserted_by false names name other e = list_any-append (is_same_name other) names (name ∷ [])
+inserted_by true names name other e = by (is_same_name other name) refl
   where
-    by : (c : Bool) → is_name other name ≡ c → is_among names other ≡ (is_among names other || (c || false))
+    by : (c : Bool) → is_same_name other name ≡ c → is_among names other ≡ (is_among names other || (c || false))
     by false f = sym (or_false (is_among names other))
     by true f =
         let P : ℕ × ℕ → Type 0 = λ n. is_among names n ≡ true in
-        let t = subst P (sym (is_name_same other name f)) e in
+        let t = subst P (sym (same_name_equal other name f)) e in
         t ∙ ap (λ b. b || true) (sym t)
 
 pub among_inserted : (names : List (ℕ × ℕ)) (name other : ℕ × ℕ)
-    → is_among (insert_key is_name names name) other ≡ (is_among names other || (is_name other name || false))
+    → is_among (insert_key is_same_name names name) other ≡ (is_among names other || (is_same_name other name || false))
 among_inserted names name other = inserted_by (is_among names name) names name other refl
 
 weak_kept : (before : List Part) (part : Part) (weak : List (ℕ × ℕ)) (reported : Option (ℕ × ℕ)) → ends_module part ≡ false
@@ -67,10 +68,10 @@ weak_kept before part weak reported e t n w name =
 weak_noted : (before : List Part) (part : Part) (weak : List (ℕ × ℕ)) (reported : Option (ℕ × ℕ)) (noted : ℕ × ℕ)
     → ends_module part ≡ false
     → filter_map weak_in (part ∷ []) ≡ cons_option reported [] → reported ≡ Some noted → WeakOf before weak
-    → WeakOf (before ++ part ∷ []) (insert_key is_name weak noted)
+    → WeakOf (before ++ part ∷ []) (insert_key is_same_name weak noted)
 weak_noted before part weak reported noted e t n w name =
     among_inserted weak noted name
-    ∙ ap (λ b. b || (is_name name noted || false)) (w name)
+    ∙ ap (λ b. b || (is_same_name name noted || false)) (w name)
     ∙ ap (λ names. is_among (weak_names (this_module before)) name || is_among names name)
     (sym (t ∙ ap (λ o. cons_option o []) n))
     ∙ sym (weak_more (this_module before) part name)
@@ -100,10 +101,10 @@ table_kept before part table n t =
 table_noted : (before : List Part) (part : Part) (table : List ((ℕ × ℕ) × Bool)) (name : ℕ × ℕ) (strong : Bool)
     → reference_in before part ≡ Some (name, strong) → TableOf (references_of before) table
     → TableOf (references_of (before ++ part ∷ []))
-    (insert_entry is_name table name (unwrap_or (lookup (is_name name) table) false || strong))
+    (insert_entry is_same_name table name (unwrap_or (lookup (is_same_name name) table) false || strong))
 table_noted before part table name strong n t =
     let P : List ((ℕ × ℕ) × Bool) → Type 0 = λ references.
-    TableOf references (insert_entry is_name table name (unwrap_or (lookup (is_name name) table) false || strong)) in
+    TableOf references (insert_entry is_same_name table name (unwrap_or (lookup (is_same_name name) table) false || strong)) in
     subst P (sym (references_more before part ∙ ap (λ o. references_of before ++ cons_option o []) n))
     (one_referred (references_of before) table name strong t)
 

@@ -5,7 +5,7 @@ use Rattle.std.specs.Map.{keys_of}
 use Rattle.std.proofs.Math.Seq.{append_snoc}
 use Rattle.std.proofs.lemmas.List.{map-append}
 use Rattle.indexmap.specs.IndexSet.{insert_key}
-use Rattle.m11_modules.specs.Names.{is_name}
+use Rattle.m11_base.specs.Rad50.{is_same_name}
 use Rattle.m11_modules.specs.Parts.{Part}
 use Rattle.m11_modules.specs.Places.{distinct, distinct_after}
 use Rattle.m11_layout.specs.Modules.{reported_after}
@@ -33,12 +33,12 @@ module _ {X : Type 0} (report : List Part → Part → Option X) where
 
 -- names of pairs, each once
 distinct_more : (seen names : List (ℕ × ℕ)) (name : ℕ × ℕ)
-    → distinct_after seen (names ++ name ∷ []) ≡ insert_key is_name (distinct_after seen names) name
+    → distinct_after seen (names ++ name ∷ []) ≡ insert_key is_same_name (distinct_after seen names) name
 distinct_more seen [] name = refl
-distinct_more seen (first ∷ names) name = distinct_more (insert_key is_name seen first) names name
+distinct_more seen (first ∷ names) name = distinct_more (insert_key is_same_name seen first) names name
 
 pub names_more : {X : Type 0} (pairs : List ((ℕ × ℕ) × X)) (pair : (ℕ × ℕ) × X)
-    → distinct (keys_of (pairs ++ pair ∷ [])) ≡ insert_key is_name (distinct (keys_of pairs)) pair.0
+    → distinct (keys_of (pairs ++ pair ∷ [])) ≡ insert_key is_same_name (distinct (keys_of pairs)) pair.0
 unfolding distinct
 names_more pairs pair =
     ap (λ names. distinct_after [] names) (map-append (λ e. e.0) pairs (pair ∷ []))

@@ -8,10 +8,11 @@ use Rattle.std.proofs.lemmas.Map.Made.{is_some-lookup}
 use Rattle.indexmap.specs.IndexMap.{insert_entry}
 use Rattle.indexmap.specs.IndexSet.{insert_key}
 use Rattle.indexmap.proofs.SetLemmas.{keys_insert_entry}
+use Rattle.m11_base.specs.Rad50.{is_same_name}
+use Rattle.m11_base.proofs.SameNames.{same_name_itself, same_name_equal}
 use Rattle.m11_obj.specs.declared.gsd.GsdEntry.{GsdEntry}
 use Rattle.m11_obj.specs.declared.gsd.GsdKind.{GsdKind}
 use Rattle.m11_obj.specs.declared.gsd.GsdKind.TheVariants.{ModuleName, ControlSection, InternalSymbol, TransferAddress, GlobalSymbol, ProgramSection, Identification}
-use Rattle.m11_modules.specs.Names.{is_name}
 use Rattle.m11_modules.specs.Parts.{Part, Directory, Entry, EndOfDirectory, Text, Relocations, Relocated, EndOfModule, EndOfFile}
 use Rattle.m11_modules.specs.Places.{Known, distinct, global_of, known_of, section_by, section_in, section_names, sections_in}
 use Rattle.m11_modules.specs.Rules.{fault_of, first_fault}
@@ -21,7 +22,7 @@ use Rattle.m11_modules.proofs.KnownAfter.{known_after_part}
 use Rattle.m11_layout.specs.Tables.{Gathered, gathered_after, gathered_after_all, nothing_gathered, size_cap, total_after, with_entry}
 use Rattle.m11_layout.specs.Sections.{attribute_bits, attributes_by, attributes_in, control_attributes, first_attributes, flags_of, section_size, sizes_of, total}
 use Rattle.m11_layout.specs.declared.definition.Total.{Total}
-use Rattle.m11_layout.proofs.Finding.{Apart, apart_inserted, is_name_itself, is_name_same, lookup_inserted, pairs_found}
+use Rattle.m11_layout.proofs.Finding.{Apart, apart_inserted, lookup_inserted, pairs_found}
 use Rattle.m11_layout.proofs.Keeping.{relocated_keeps, symbol_keeps}
 use Rattle.m11_layout.proofs.Sizing.{attributes_found, total_entered, total_from, total_in, total_kept, total_of, totals_in}
 use Rattle.m11_layout.proofs.Walking.{walked}
@@ -29,8 +30,8 @@ use Rattle.m11_layout.proofs.Walking.{walked}
 -- these sections, whose names stand once, are those of the parts
 pub record SectionsOf (before : List Part) (sections : List ((ℕ × ℕ) × Total)) : Type 0 where
   pub names : keys_of sections ≡ (known_of before).sections
-  pub apart : Apart is_name (keys_of sections)
-  pub totals : (name : ℕ × ℕ) → lookup (is_name name) sections ≡ total_of before name
+  pub apart : Apart is_same_name (keys_of sections)
+  pub totals : (name : ℕ × ℕ) → lookup (is_same_name name) sections ≡ total_of before name
 
 abbrev Sections : Type 0
 Sections = List ((ℕ × ℕ) × Total)
@@ -48,22 +49,22 @@ kept before part old new e k a f n s =
     })
 
 entered : (before : List Part) (part : Part) (old new : Sections) (name : ℕ × ℕ) (attributes size : ℕ)
-    → new ≡ insert_entry is_name old name (total_after (lookup (is_name name) old) attributes size)
-    → (known_after (known_of before) part).sections ≡ insert_key is_name (known_of before).sections name
+    → new ≡ insert_entry is_same_name old name (total_after (lookup (is_same_name name) old) attributes size)
+    → (known_after (known_of before) part).sections ≡ insert_key is_same_name (known_of before).sections name
     → filter_map attributes_in (part ∷ []) ≡ (name, attributes) ∷ []
     → filter_map section_in (part ∷ []) ≡ (name, size) ∷ []
     → fault_of before part ≡ None → SectionsOf before old → SectionsOf (before ++ part ∷ []) new
 entered before part old new name attributes size e k a f n s =
     let P : Sections → Type 0 = λ sections. SectionsOf (before ++ part ∷ []) sections in
-    let total = total_after (lookup (is_name name) old) attributes size in
-    let keys = keys_insert_entry is_name old name total in
-    let Q : List (ℕ × ℕ) → Type 0 = λ names. Apart is_name names in
+    let total = total_after (lookup (is_same_name name) old) attributes size in
+    let keys = keys_insert_entry is_same_name old name total in
+    let Q : List (ℕ × ℕ) → Type 0 = λ names. Apart is_same_name names in
     subst P (sym e) (record {
-      names = keys ∙ ap (λ names. insert_key is_name names name) s.names ∙ sym k
+      names = keys ∙ ap (λ names. insert_key is_same_name names name) s.names ∙ sym k
           ∙ sym (ap (λ known. known.sections) (known_after_part before part n));
-      apart = subst Q (sym keys) (apart_inserted is_name is_name_same is_name_itself (keys_of old) name s.apart);
-      totals = λ other. lookup_inserted is_name is_name_same is_name_itself other name total old
-          ∙ (λ j. cond (is_name other name) (Some (total_after (s.totals name j) attributes size)) (s.totals other j))
+      apart = subst Q (sym keys) (apart_inserted is_same_name same_name_equal same_name_itself (keys_of old) name s.apart);
+      totals = λ other. lookup_inserted is_same_name same_name_equal same_name_itself other name total old
+          ∙ (λ j. cond (is_same_name other name) (Some (total_after (s.totals name j) attributes size)) (s.totals other j))
           ∙ sym (total_entered before part other name attributes size a f);
     })
 
@@ -130,16 +131,16 @@ there parts name (Some attributes) e t =
     subst P (sym e) refl
 
 is_there : (parts : List Part) (sections : Sections) (name : ℕ × ℕ) → SectionsOf parts sections
-    → list_any (is_name name) (keys_of sections) ≡ true
-    → lookup (is_name name) sections ≡ Some (total_in parts name)
+    → list_any (is_same_name name) (keys_of sections) ≡ true
+    → lookup (is_same_name name) sections ≡ Some (total_in parts name)
 is_there parts sections name s t =
     s.totals name ∙ there parts name (attributes_found parts name) refl
-    (sym (ap is_some (s.totals name)) ∙ is_some-lookup (is_name name) sections ∙ t)
+    (sym (ap is_some (s.totals name)) ∙ is_some-lookup (is_same_name name) sections ∙ t)
 
 pub sections_are : (parts : List Part) (sections : Sections) → SectionsOf parts sections → sections ≡ totals_in parts
 unfolding known_of
 sections_are parts sections s =
-    pairs_found is_name is_name_same is_name_itself (total_in parts) sections s.apart
+    pairs_found is_same_name same_name_equal same_name_itself (total_in parts) sections s.apart
     (λ name t. is_there parts sections name s t)
     ∙ ap (λ names. map (λ name. (name, total_in parts name)) names) s.names
 

@@ -7,16 +7,17 @@ use Rattle.std.specs.Option.{option_or}
 use Rattle.std.proofs.lemmas.List.{map-append}
 use Rattle.std.proofs.lemmas.List.Elements.{filter_map-append}
 use Rattle.std.proofs.lemmas.List.Sums.{sum_by_push}
+use Rattle.m11_base.specs.Rad50.{is_same_name}
+use Rattle.m11_base.proofs.SameNames.{same_name_equal}
 use Rattle.m11_obj.specs.declared.gsd.GsdEntry.{GsdEntry}
 use Rattle.m11_obj.specs.declared.gsd.GsdKind.{GsdKind}
 use Rattle.m11_obj.specs.declared.gsd.GsdKind.TheVariants.{ModuleName, ControlSection, InternalSymbol, TransferAddress, GlobalSymbol, ProgramSection, Identification}
-use Rattle.m11_modules.specs.Names.{is_name}
 use Rattle.m11_modules.specs.Parts.{Part, Directory, Entry, EndOfDirectory, Text, Relocations, Relocated, EndOfModule, EndOfFile}
 use Rattle.m11_modules.specs.Places.{section_by, section_in, section_names, sections_in}
 use Rattle.m11_layout.specs.Tables.{size_cap, total_after}
 use Rattle.m11_layout.specs.Sections.{attributes_by, attributes_in, first_attributes, flags_of, greatest, is_overlaid, is_relocatable, attribute_bits, control_attributes, rounded, section_size, size_under, sizes_of, total}
 use Rattle.m11_layout.specs.declared.definition.Total.{Total}
-use Rattle.m11_layout.proofs.Finding.{is_name_same, lookup_append}
+use Rattle.m11_layout.proofs.Finding.{lookup_append}
 
 -- ---- one more size
 
@@ -85,7 +86,7 @@ total_from (Some attributes) sizes =
 
 -- the attributes of a section's first entry, if it has one
 abbrev pub attributes_found : List Part → ℕ × ℕ → Option ℕ
-attributes_found parts name = lookup (is_name name) (filter_map attributes_in parts)
+attributes_found parts name = lookup (is_same_name name) (filter_map attributes_in parts)
 
 abbrev pub total_of : List Part → ℕ × ℕ → Option Total
 total_of parts name = total_from (attributes_found parts name) (sizes_of parts name)
@@ -122,15 +123,15 @@ none_sized true attributes size reported sizes h e = search
 none_sized false attributes size reported sizes h e = h e
 
 entry_no_sizes : (kind : GsdKind) (entry : GsdEntry) (name : ℕ × ℕ) (reported sizes : List ((ℕ × ℕ) × ℕ))
-    → (lookup (is_name name) reported ≡ None → filter_map (size_under name) sizes ≡ [])
-    → lookup (is_name name) (cons_option (attributes_by kind entry) reported) ≡ None
+    → (lookup (is_same_name name) reported ≡ None → filter_map (size_under name) sizes ≡ [])
+    → lookup (is_same_name name) (cons_option (attributes_by kind entry) reported) ≡ None
     → filter_map (size_under name) (cons_option (section_by kind entry) sizes) ≡ []
 entry_no_sizes ControlSection entry name reported sizes h e =
-    none_sized (is_name name entry.name) (control_attributes entry.name) entry.value (lookup (is_name name) reported)
+    none_sized (is_same_name name entry.name) (control_attributes entry.name) entry.value (lookup (is_same_name name) reported)
     (filter_map (size_under name) sizes) h e
 entry_no_sizes ProgramSection entry name reported sizes h e =
-    none_sized (is_name name entry.name) (bit_and entry.flags attribute_bits) entry.value
-    (lookup (is_name name) reported) (filter_map (size_under name) sizes) h e
+    none_sized (is_same_name name entry.name) (bit_and entry.flags attribute_bits) entry.value
+    (lookup (is_same_name name) reported) (filter_map (size_under name) sizes) h e
 entry_no_sizes ModuleName entry name reported sizes h e = h e
 entry_no_sizes InternalSymbol entry name reported sizes h e = h e
 entry_no_sizes TransferAddress entry name reported sizes h e = h e
@@ -155,10 +156,10 @@ no_sizes (EndOfFile ∷ parts) name e = no_sizes parts name e
 
 pub attributes_more : (before : List Part) (part : Part) (name : ℕ × ℕ)
     → attributes_found (before ++ part ∷ []) name ≡ option_or (attributes_found before name)
-    (lookup (is_name name) (filter_map attributes_in (part ∷ [])))
+    (lookup (is_same_name name) (filter_map attributes_in (part ∷ [])))
 attributes_more before part name =
-    ap (λ reported. lookup (is_name name) reported) (filter_map-append attributes_in before (part ∷ []))
-    ∙ lookup_append (is_name name) (filter_map attributes_in before) (filter_map attributes_in (part ∷ []))
+    ap (λ reported. lookup (is_same_name name) reported) (filter_map-append attributes_in before (part ∷ []))
+    ∙ lookup_append (is_same_name name) (filter_map attributes_in before) (filter_map attributes_in (part ∷ []))
 
 pub sizes_more : (before : List Part) (part : Part) (name : ℕ × ℕ)
     → sizes_of (before ++ part ∷ []) name ≡ sizes_of before name ++ filter_map (size_under name)
@@ -182,13 +183,13 @@ pub total_kept : (before : List Part) (part : Part) (name : ℕ × ℕ) → filt
 total_kept before part name e f =
     both_more _ _ _ _
     (attributes_more before part name
-    ∙ ap (λ reported. option_or (attributes_found before name) (lookup (is_name name) reported)) e
+    ∙ ap (λ reported. option_or (attributes_found before name) (lookup (is_same_name name) reported)) e
     ∙ or_none (attributes_found before name))
     (sizes_more before part name ∙ ap (λ entered. sizes_of before name ++ filter_map (size_under name) entered) f
     ∙ append-nil (sizes_of before name))
 
 -- a part that enters one
-entered_by : (b : Bool) (before : List Part) (name entered : ℕ × ℕ) (attributes size : ℕ) → is_name name entered ≡ b
+entered_by : (b : Bool) (before : List Part) (name entered : ℕ × ℕ) (attributes size : ℕ) → is_same_name name entered ≡ b
     → total_from (option_or (attributes_found before name) (cond b (Some attributes) None))
     (sizes_of before name ++ cons_option (if b then Some size else None) [])
     ≡ cond b (Some (total_after (total_of before entered) attributes size)) (total_of before name)
@@ -196,7 +197,7 @@ entered_by true before name entered attributes size e =
     let P : ℕ × ℕ → Type 0 = λ k. total_from (option_or (attributes_found before name) (Some attributes))
     (sizes_of before name ++ size ∷ [])
     ≡ Some (total_after (total_of before k) attributes size) in
-    subst P (is_name_same name entered e) (total_joined (attributes_found before name)
+    subst P (same_name_equal name entered e) (total_joined (attributes_found before name)
     (sizes_of before name) attributes size (no_sizes before name))
 entered_by false before name entered attributes size e =
     both_more _ _ _ _ (or_none (attributes_found before name)) (append-nil (sizes_of before name))
@@ -205,10 +206,10 @@ pub total_entered : (before : List Part) (part : Part) (name entered : ℕ × �
     → filter_map attributes_in (part ∷ []) ≡ (entered, attributes) ∷ []
     → filter_map section_in (part ∷ []) ≡ (entered, size) ∷ []
     → total_of (before ++ part ∷ []) name
-    ≡ cond (is_name name entered) (Some (total_after (total_of before entered) attributes size)) (total_of before name)
+    ≡ cond (is_same_name name entered) (Some (total_after (total_of before entered) attributes size)) (total_of before name)
 total_entered before part name entered attributes size e f =
     both_more _ _ _ _
     (attributes_more before part name
-    ∙ ap (λ reported. option_or (attributes_found before name) (lookup (is_name name) reported)) e)
+    ∙ ap (λ reported. option_or (attributes_found before name) (lookup (is_same_name name) reported)) e)
     (sizes_more before part name ∙ ap (λ these. sizes_of before name ++ filter_map (size_under name) these) f)
-    ∙ entered_by (is_name name entered) before name entered attributes size refl
+    ∙ entered_by (is_same_name name entered) before name entered attributes size refl

@@ -6,17 +6,19 @@ use Rattle.std.proofs.lemmas.List.{length-map, map-append}
 use Rattle.std.proofs.lemmas.List.Elements.{filter_map-append}
 use Rattle.std.proofs.lemmas.List.Folds.{list_any-append}
 use Rattle.indexmap.specs.IndexMap.{insert_entry}
+use Rattle.m11_base.specs.Rad50.{is_same_name}
+use Rattle.m11_base.proofs.SameNames.{same_name_itself, same_name_equal}
 use Rattle.m11_obj.specs.declared.gsd.GsdEntry.{GsdEntry}
 use Rattle.m11_obj.specs.declared.gsd.GsdKind.{GsdKind}
 use Rattle.m11_obj.specs.declared.gsd.GsdKind.TheVariants.{ModuleName, ControlSection, InternalSymbol, TransferAddress, GlobalSymbol, ProgramSection, Identification}
-use Rattle.m11_modules.specs.Names.{is_among, is_name}
+use Rattle.m11_modules.specs.Names.{is_among}
 use Rattle.m11_modules.specs.Parts.{Part, Directory, Entry, EndOfDirectory, Text, Relocations, Relocated, EndOfModule, EndOfFile}
 use Rattle.m11_modules.specs.Places.{Known, distinct, ends_module, global_in, global_names, global_of, known_of, modules_in, section_by, section_in, section_names, sections_in, stage_after, this_module}
 use Rattle.m11_modules.specs.Rules.{defines, fault_of, first_fault, has_bits, most_modules, most_sections}
 use Rattle.m11_modules.proofs.KnownAfter.{known_after_part, this_module_goes_on}
 use Rattle.m11_layout.specs.Tables.{Gathered, gathered_after, gathered_after_all, is_contribution, nothing_gathered, with_definition, with_entry, with_reference, with_relocated, with_weak}
 use Rattle.m11_layout.specs.Globals.{definitions_of, references_of}
-use Rattle.m11_layout.proofs.Finding.{Apart, apart_inserted, is_name_itself, is_name_same}
+use Rattle.m11_layout.proofs.Finding.{Apart, apart_inserted}
 use Rattle.m11_layout.proofs.Keeping.{relocated_keeps, symbol_keeps}
 use Rattle.m11_layout.proofs.ModulesOfParts.{modules_more, one_ended}
 use Rattle.m11_layout.proofs.PlansOfParts.{gathered_means}
@@ -104,7 +106,7 @@ names_grow before part =
     (λ name a. ap (λ entered. is_among (keys_of entered) name) (entered_more before part)
     ∙ ap (λ names. is_among names name)
     (map-append (λ e. e.0) (sections_in before) (filter_map section_in (part ∷ [])))
-    ∙ list_any-append (is_name name) (keys_of (sections_in before)) (keys_of (filter_map section_in (part ∷ [])))
+    ∙ list_any-append (is_same_name name) (keys_of (sections_in before)) (keys_of (filter_map section_in (part ∷ [])))
     ∙ true_first (is_among (keys_of (sections_in before)) name)
     (is_among (keys_of (filter_map section_in (part ∷ []))) name) a)
 
@@ -192,13 +194,13 @@ few_step before EndOfFile b h = few_on before EndOfFile refl h
 -- ---- weak names stand once
 
 abbrev Once : Gathered → Type 0
-Once g = Apart is_name g.weak
+Once g = Apart is_same_name g.weak
 
 symbol_once : (b c : Bool) (entry : GsdEntry) (g : Gathered) → Once g
     → Once (if b then with_definition entry g else if c then with_weak entry.name g else with_reference entry.name
     true g)
 symbol_once true c entry g d = d
-symbol_once false true entry g d = apart_inserted is_name is_name_same is_name_itself g.weak entry.name d
+symbol_once false true entry g d = apart_inserted is_same_name same_name_equal same_name_itself g.weak entry.name d
 symbol_once false false entry g d = d
 
 entry_once : (bottom : ℕ) (kind : GsdKind) (entry : GsdEntry) (g : Gathered) → Once g
@@ -230,7 +232,7 @@ once_step bottom g EndOfFile d = d
 
 pub record Tables (before : List Part) (g : Gathered) : Type 0 where
   pub known : Bounded (known_of before)
-  pub weak : Apart is_name g.weak
+  pub weak : Apart is_same_name g.weak
   pub contributions : length g.contributions ≤ length (sections_in before)
   pub entered : EntersFew before
 
@@ -306,7 +308,7 @@ few_pairs parts es names e w =
     let P : ℕ → Type 0 = λ n. n ≤ length (global_names parts) in
     subst P (sym (keys_counted es (distinct names) e)) (few_globals parts names w)
 
-pub few_weak : (parts : List Part) (weak : List (ℕ × ℕ)) → Apart is_name weak → Within weak (filter_map global_in parts)
+pub few_weak : (parts : List Part) (weak : List (ℕ × ℕ)) → Apart is_same_name weak → Within weak (filter_map global_in parts)
     → length weak ≤ length (global_names parts)
 unfolding global_names
 few_weak parts weak d w =

@@ -3,12 +3,12 @@ use Rattle.std.proofs.Common.{◌≡◌, ℕ, ◌+◌, ◌%◌, Bool, true, fals
 use Rattle.std.specs.List.{find}
 use Rattle.std.specs.Map.{lookup}
 use Rattle.std.specs.Option.{is_none, option_map, option_or, unwrap_or}
+use Rattle.m11_base.specs.Rad50.{is_same_name}
+use Rattle.m11_base.specs.Names.{absolute_name}
 use Rattle.m11_obj.specs.declared.gsd.GsdEntry.{GsdEntry}
 use Rattle.m11_obj.specs.declared.gsd.GsdKind.{GsdKind}
 use Rattle.m11_obj.specs.declared.gsd.GsdKind.TheVariants.{ModuleName, ControlSection, InternalSymbol, TransferAddress, GlobalSymbol, ProgramSection, Identification}
 use Rattle.m11_modules.specs.declared.fault.ModuleFault.TheVariants.{UnknownSection}
-use Rattle.m11_obj.specs.Names.{absolute_name}
-use Rattle.m11_modules.specs.Names.{is_name}
 use Rattle.m11_modules.specs.Parts.{Part, Directory, Entry, EndOfDirectory, Text, Relocations, Relocated, EndOfModule, EndOfFile}
 use Rattle.m11_modules.specs.Places.{global_of, known_of, modules_in, sections_in, this_module}
 use Rattle.m11_modules.specs.Rules.{entry_fault, fault_of, first_there}
@@ -57,15 +57,15 @@ known_from None false e = search
 
 section_known : (before : List Part) (name : ℕ × ℕ)
     → first_there ((
-      is_none (option_or (lookup (is_name name) (sections_in (this_module before)))
-          (if is_name name absolute_name then Some 0 else None)),
+      is_none (option_or (lookup (is_same_name name) (sections_in (this_module before)))
+          (if is_same_name name absolute_name then Some 0 else None)),
       UnknownSection,
     ) ∷ []) ≡ None
-    → (is_some (entered_at before (modules_in before) name) || is_name name absolute_name) ≡ true
+    → (is_some (entered_at before (modules_in before) name) || is_same_name name absolute_name) ≡ true
 section_known before name e =
-    ap (λ parts. is_some (lookup (is_name name) (sections_in parts)) || is_name name absolute_name)
+    ap (λ parts. is_some (lookup (is_same_name name) (sections_in parts)) || is_same_name name absolute_name)
     (modules_are before).this
-    ∙ known_from (lookup (is_name name) (sections_in (this_module before))) (is_name name absolute_name) e
+    ∙ known_from (lookup (is_same_name name) (sections_in (this_module before))) (is_same_name name absolute_name) e
 
 entry_step : (bottom : ℕ) (before : List Part) (g : Gathered) (kind : GsdKind) (entry : GsdEntry)
     → modules_in (Entry entry ∷ []) ≡ 0

@@ -2,9 +2,10 @@
 use Rattle.std.proofs.Common.{◌≡◌, ℕ, nat_eq, nat_lt, Bool, true, false, ◌&&◌, ◌||◌, if◌then◌else◌, List, [], ◌∷◌, ◌++◌, length, is_some, Option, Some, refl, sym, ap, ◌∙◌, subst, arith}
 use Rattle.std.specs.List.{cons_option, find}
 use Rattle.std.proofs.lemmas.Bool.Decides.{nat_tests}
+use Rattle.m11_base.specs.Rad50.{is_same_name}
+use Rattle.m11_base.proofs.SameNames.{same_name_equal}
+use Rattle.m11_base.specs.Names.{absolute_name}
 use Rattle.m11_obj.specs.declared.gsd.GsdEntry.{GsdEntry}
-use Rattle.m11_obj.specs.Names.{absolute_name}
-use Rattle.m11_modules.specs.Names.{is_name}
 use Rattle.m11_modules.specs.Parts.{Part, EndOfModule}
 use Rattle.m11_modules.specs.Places.{modules_in}
 use Rattle.m11_layout.specs.Tables.{Gathered, entered_total, is_even_after, is_relocated, settled, transfer_after, with_transfer}
@@ -13,7 +14,6 @@ use Rattle.m11_layout.specs.Transfers.{transfer_in, transfers_of}
 use Rattle.m11_layout.specs.declared.definition.Transfer.{Transfer}
 use Rattle.m11_layout.proofs.ContributionsGathered.{ContributionsOf}
 use Rattle.m11_layout.proofs.Evenness.{relocated_at}
-use Rattle.m11_layout.proofs.Finding.{is_name_same}
 use Rattle.m11_layout.proofs.FirstEven.{all_known, find_more, find_same, known_below, known_ended, known_goes_on, one_known, transfers_more}
 use Rattle.m11_layout.proofs.Offsets.{entered_at}
 use Rattle.m11_layout.proofs.SectionsGathered.{SectionsOf}
@@ -37,7 +37,7 @@ pub transfer_entered : (bottom : ℕ) (before : List Part) (g : Gathered) (entry
     → modules_in (before ++ part ∷ []) ≡ modules_in before
     → transfer_in before part
     ≡ Some (record { module_index = modules_in before; section = entry.name; value = entry.value })
-    → (is_some (entered_at before (modules_in before) entry.name) || is_name entry.name absolute_name) ≡ true
+    → (is_some (entered_at before (modules_in before) entry.name) || is_same_name entry.name absolute_name) ≡ true
     → length g.names ≡ modules_in before → SectionsOf before g.sections → ContributionsOf before g.contributions
     → ((assumed : Bool) → Possible (before ++ part ∷ []) assumed → Possible before assumed)
     → TransfersOf bottom before g.transfer g.moved
@@ -90,14 +90,14 @@ under_settled : (before : List Part) (assumed : Bool) (one : Transfer)
     → assumed ≡ relocated_at before (modules_in before) absolute_name
     → relocated_under before assumed one ≡ relocated_at before one.module_index one.section
 under_settled before assumed one a =
-    by (nat_eq one.module_index (modules_in before)) (is_name one.section absolute_name) refl refl
+    by (nat_eq one.module_index (modules_in before)) (is_same_name one.section absolute_name) refl refl
   where
-    by : (n b : Bool) → nat_eq one.module_index (modules_in before) ≡ n → is_name one.section absolute_name ≡ b
+    by : (n b : Bool) → nat_eq one.module_index (modules_in before) ≡ n → is_same_name one.section absolute_name ≡ b
         → (if n && b then assumed else relocated_at before one.module_index one.section)
         ≡ relocated_at before one.module_index one.section
     by true true e f =
         let index = same_number one.module_index (modules_in before) e in
-        let name = is_name_same one.section absolute_name f in
+        let name = same_name_equal one.section absolute_name f in
         a ∙ (λ j. relocated_at before (sym index j) (sym name j))
     by true false e f = refl
     by false b e f = refl
@@ -124,7 +124,7 @@ not_equal index modules e = grind (arith, nat_tests)
 under_ended : (before : List Part) (assumed : Bool) (one : Transfer) → known_at before one ≡ true
     → relocated_under (before ++ EndOfModule ∷ []) assumed one ≡ relocated_at before one.module_index one.section
 under_ended before assumed one k =
-    ap (λ b. if b && is_name one.section absolute_name then assumed else relocated_at
+    ap (λ b. if b && is_same_name one.section absolute_name then assumed else relocated_at
     (before ++ EndOfModule ∷ []) one.module_index one.section)
     (not_equal one.module_index (modules_in (before ++ EndOfModule ∷ [])) (known_below before one k))
     ∙ ended_relocated before one.module_index one.section

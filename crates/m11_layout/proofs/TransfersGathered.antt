@@ -3,8 +3,9 @@ use Rattle.std.proofs.Common.{◌≡◌, ℕ, nat_eq, Bool, true, false, ◌&&�
 use Rattle.std.specs.List.{cons_option, find}
 use Rattle.std.specs.Map.{lookup}
 use Rattle.std.specs.Option.{unwrap_or}
-use Rattle.m11_obj.specs.Names.{absolute_name}
-use Rattle.m11_modules.specs.Names.{is_name}
+use Rattle.m11_base.specs.Rad50.{is_same_name}
+use Rattle.m11_base.proofs.SameNames.{same_name_equal}
+use Rattle.m11_base.specs.Names.{absolute_name}
 use Rattle.m11_modules.specs.Parts.{Part}
 use Rattle.m11_modules.specs.Places.{modules_in}
 use Rattle.m11_layout.specs.Tables.{Gathered, entered_total, is_contribution, is_even_after, is_relocated}
@@ -13,7 +14,6 @@ use Rattle.m11_layout.specs.Transfers.{transfer_in, transfers_of}
 use Rattle.m11_layout.specs.declared.definition.Transfer.{Transfer}
 use Rattle.m11_layout.proofs.ContributionsGathered.{ContributionsOf}
 use Rattle.m11_layout.proofs.Evenness.{relocated_at}
-use Rattle.m11_layout.proofs.Finding.{is_name_same}
 use Rattle.m11_layout.proofs.FirstEven.{all_known, find_same, known_goes_on, transfers_more, under_goes_on}
 use Rattle.m11_layout.proofs.Offsets.{entered_at, enters_reported, offset_from, offset_in}
 use Rattle.m11_layout.proofs.SectionsGathered.{SectionsOf}
@@ -99,7 +99,7 @@ pub relocated_is : (before : List Part) (g : Gathered) (name : ℕ × ℕ) (assu
 unfolding first_attributes
 relocated_is before g name assumed l s c =
     (λ j. is_relocated (if is_some (lookup (is_contribution (l j, name)) g.contributions) then lookup
-    (is_name name) g.sections else None) assumed)
+    (is_same_name name) g.sections else None) assumed)
     ∙ (λ j. is_relocated (if is_some (c (modules_in before) name j) then s.totals name j else None) assumed)
     ∙ entered_by (entered_at before (modules_in before) name) (attributes_found before name) (sizes_of before name)
     (offset_in before (modules_in before) name) assumed (enters_reported before (modules_in before) name)
@@ -118,7 +118,7 @@ by_known false false relocatable assumed later k l a = absurd (true≢false (sym
 -- whether a transfer entry of this module is relocated is what is known of the section
 pub this_under : (before : List Part) (part : Part) (name : ℕ × ℕ) (value : ℕ) (assumed : Bool)
     → modules_in (before ++ part ∷ []) ≡ modules_in before
-    → (is_some (entered_at before (modules_in before) name) || is_name name absolute_name) ≡ true
+    → (is_some (entered_at before (modules_in before) name) || is_same_name name absolute_name) ≡ true
     → Possible before assumed
     → (if is_some (entered_at before (modules_in before) name) then is_relocatable
     (first_attributes before name) else assumed)
@@ -127,14 +127,14 @@ pub this_under : (before : List Part) (part : Part) (name : ℕ × ℕ) (value :
 this_under before part name value assumed m k p =
     let index = modules_in before in
     let entered = is_some (entered_at before index name) in
-    let absolute = is_name name absolute_name in
+    let absolute = is_same_name name absolute_name in
     let later : (entered ≡ true → relocated_at (before ++ part ∷ []) index name
     ≡ is_relocatable (first_attributes before name)) = λ e.
     both_stay before part index name e ∙ ap (λ b. b && is_relocatable (first_attributes before name)) e in
     let here : (absolute ≡ true → entered ≡ true → assumed ≡ is_relocatable (first_attributes before name)) = λ a e.
     let P : ℕ × ℕ → Type 0 = λ n. is_some (entered_at before index n) ≡ true
     → assumed ≡ is_relocatable (first_attributes before n) in
-    subst P (sym (is_name_same name absolute_name a)) p e in
+    subst P (sym (same_name_equal name absolute_name a)) p e in
     by_known entered absolute (is_relocatable (first_attributes before name)) assumed
     (relocated_at (before ++ part ∷ []) index name) k later here
     ∙ ap (λ b. if b && absolute then assumed else relocated_at (before ++ part ∷ []) index name)

@@ -4,8 +4,8 @@ use Rattle.std.specs.List.{filter_map}
 use Rattle.std.specs.Map.{lookup}
 use Rattle.std.specs.Option.{option_or, unwrap_or}
 use Rattle.std.proofs.lemmas.Bool.Decides.{nat_tests}
-use Rattle.m11_obj.specs.Names.{absolute_name}
-use Rattle.m11_modules.specs.Names.{is_name}
+use Rattle.m11_base.specs.Rad50.{is_same_name}
+use Rattle.m11_base.specs.Names.{absolute_name}
 use Rattle.m11_modules.specs.Parts.{Part, EndOfModule}
 use Rattle.m11_modules.specs.Places.{modules_in}
 use Rattle.m11_layout.specs.Sections.{attributes_in, first_attributes, is_relocatable}
@@ -30,7 +30,7 @@ pub entered_stays : (before : List Part) (part : Part) (index : ℕ) (name : ℕ
     → entered_at (before ++ part ∷ []) index name ≡ entered_at before index name
 entered_stays before part index name e =
     entered_more before part index name
-    ∙ some_or (entered_at before index name) (lookup (is_name name)
+    ∙ some_or (entered_at before index name) (lookup (is_same_name name)
     (reported_where (nat_eq (modules_in before) index) part)) e
 
 pub attributes_stay : (before : List Part) (part : Part) (index : ℕ) (name : ℕ × ℕ)
@@ -40,7 +40,7 @@ unfolding first_attributes
 attributes_stay before part index name e =
     ap (λ found. unwrap_or found 0)
     (attributes_more before part name
-    ∙ some_or (attributes_found before name) (lookup (is_name name) (filter_map attributes_in (part ∷ [])))
+    ∙ some_or (attributes_found before name) (lookup (is_same_name name) (filter_map attributes_in (part ∷ [])))
     (found_where (entered_at before index name) (attributes_found before name) e (enters_reported before index name)))
 
 pub both_stay : (before : List Part) (part : Part) (index : ℕ) (name : ℕ × ℕ)
@@ -59,7 +59,7 @@ none_comes before part index name true e t = both_stay before part index name e
 none_comes before part index name false e t =
     let same : entered_at (before ++ part ∷ []) index name ≡ entered_at before index name =
     entered_more before part index name
-    ∙ ap (λ reported. option_or (entered_at before index name) (lookup (is_name name) reported)) t
+    ∙ ap (λ reported. option_or (entered_at before index name) (lookup (is_same_name name) reported)) t
     ∙ or_none (entered_at before index name) in
     ap (λ b. b && is_relocatable (first_attributes (before ++ part ∷ []) name)) (ap is_some same ∙ e)
     ∙ ap (λ b. b && is_relocatable (first_attributes before name)) (sym e)
@@ -84,7 +84,7 @@ other_relocated before part index name e = none_comes before part index name _ r
 abbrev pub known_at : List Part → Transfer → Bool
 known_at before transfer = nat_lt transfer.module_index (modules_in before)
     || (nat_eq transfer.module_index (modules_in before)
-    && (is_some (entered_at before transfer.module_index transfer.section) || is_name transfer.section absolute_name))
+    && (is_some (entered_at before transfer.module_index transfer.section) || is_same_name transfer.section absolute_name))
 
 abbrev pub AllKnown : List Part → List Transfer → Type 0
 AllKnown before [] = Unit {0}
@@ -92,7 +92,7 @@ AllKnown before (transfer ∷ transfers) = (known_at before transfer ≡ true) �
 
 abbrev pub is_absolute_here : List Part → Transfer → Bool
 is_absolute_here before transfer =
-    nat_eq transfer.module_index (modules_in before) && is_name transfer.section absolute_name
+    nat_eq transfer.module_index (modules_in before) && is_same_name transfer.section absolute_name
 
 -- whether a transfer address is relocated, where `. ABS.` of this module is as assumed
 abbrev pub relocated_under : List Part → Bool → Transfer → Bool
@@ -107,7 +107,7 @@ known_stays : (before : List Part) (part : Part) (transfer : Transfer) (earlier 
     → nat_lt transfer.module_index (modules_in before) ≡ earlier
     → nat_eq transfer.module_index (modules_in before) ≡ now
     → is_some (entered_at before transfer.module_index transfer.section) ≡ entered
-    → is_name transfer.section absolute_name ≡ absolute
+    → is_same_name transfer.section absolute_name ≡ absolute
     → (earlier || (now && (entered || absolute))) ≡ true → (now && absolute) ≡ false
     → relocated_at (before ++ part ∷ []) transfer.module_index transfer.section
     ≡ relocated_at before transfer.module_index transfer.section

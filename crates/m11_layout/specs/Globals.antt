@@ -3,11 +3,11 @@
 use Rattle.std.specs.Prelude.{ℕ, ◌+◌, ◌%◌, map, option_map, Bool, ◌&&◌, not, List, [], ◌∷◌, Option, Some, None, if◌then◌else◌}
 use Rattle.std.specs.List.{filter_map, list_any}
 use Rattle.std.specs.Map.{keys_of, lookup}
-use Rattle.m11_base.specs.Rad50.{Name}
+use Rattle.m11_base.specs.Rad50.{Name, is_same_name}
 use Rattle.m11_obj.specs.declared.gsd.GsdEntry.{GsdEntry}
 use Rattle.m11_obj.specs.declared.gsd.GsdKind.{GsdKind}
 use Rattle.m11_obj.specs.declared.gsd.GsdKind.TheVariants.{GlobalSymbol}
-use Rattle.m11_modules.specs.Names.{is_name, is_among}
+use Rattle.m11_modules.specs.Names.{is_among}
 use Rattle.m11_modules.specs.Parts.{Part, Entry, Relocated}
 use Rattle.m11_modules.specs.Places.{distinct, this_module, modules_in, sections_in, global_of}
 use Rattle.m11_modules.specs.Rules.{has_bits, defines}
@@ -64,7 +64,7 @@ definition_value bottom parts definition = place_value bottom parts definition.m
 
 -- the first definition of a global
 abbrev pub first_definition : List Part → Name → Option Definition
-first_definition parts name = lookup (is_name name) (definitions_of parts)
+first_definition parts name = lookup (is_same_name name) (definitions_of parts)
 
 -- its value, where it is defined
 unfoldable pub global_value : ℕ → List Part → Name → Option ℕ
@@ -120,7 +120,7 @@ unfoldable pub references_of : List Part → List (Name × Bool)
 references_of parts = reported_after reference_in [] parts
 
 abbrev pub is_strong_to : Name → Name × Bool → Bool
-is_strong_to name reference = is_name name reference.0 && reference.1
+is_strong_to name reference = is_same_name name reference.0 && reference.1
 
 -- the names that are referred to, in order of first reference, each with whether some reference is strong
 unfoldable pub referred : List Part → List (Name × Bool)

@@ -3,6 +3,7 @@
 use Rattle.std.specs.Prelude.{ℕ, ◌+◌, nat_eq, nat_lt, List, [], ◌∷◌, ◌++◌, Option, Some, None, if◌then◌else◌}
 use Rattle.std.specs.List.{cons_option, filter_map}
 use Rattle.std.specs.Option.{unwrap_or}
+use Rattle.m11_base.specs.Names.{blank_name}
 use Rattle.m11_base.specs.Rad50.{Name}
 use Rattle.m11_obj.specs.declared.gsd.GsdEntry.{GsdEntry}
 use Rattle.m11_obj.specs.declared.gsd.GsdKind.{GsdKind}
@@ -53,8 +54,8 @@ unfoldable pub name_reported : List Part → Option Name
 name_reported parts = first_of (filter_map name_in parts)
 
 abbrev pub module_name : List Part → Name
-module_name parts = unwrap_or (name_reported parts) (0, 0)
+module_name parts = unwrap_or (name_reported parts) blank_name
 
 -- the name of the module of an index; past the last module that ended it is blank
 abbrev pub name_at : List Part → ℕ → Name
-name_at parts index = if nat_lt index (modules_in parts) then module_name (module_at parts index) else (0, 0)
+name_at parts index = if nat_lt index (modules_in parts) then module_name (module_at parts index) else blank_name

@@ -4,8 +4,8 @@ use Rattle.std.specs.Prelude.{◌≡◌, get_or, map, min, option_and_then, true
 use Rattle.std.specs.Map.{keys_of, lookup}
 use Rattle.std.specs.Option.{unwrap_or}
 use Rattle.indexmap.specs.IndexMap.{insert_entry}
-use Rattle.m11_base.specs.Rad50.{Name}
-use Rattle.m11_modules.specs.Names.{is_name}
+use Rattle.m11_base.specs.Names.{blank_name}
+use Rattle.m11_base.specs.Rad50.{Name, is_same_name}
 use Rattle.m11_layout.specs.Tables.{Gathered, gathered_after_all, is_contribution, nothing_gathered, settled}
 use Rattle.m11_layout.specs.Globals.{definitions_of, first_definition, global_value, globals_of, referred}
 use Rattle.m11_layout.specs.Modules.{name_at}
@@ -41,8 +41,8 @@ abbrev pub placed : List (Name × ℕ) → ℕ → Name × Total → Option Base
 placed bases next section =
     if is_relocatable section.1.attributes.0
     then (if nat_lt address_limit (next + section.1.size) then None
-    else Some (record { bases = insert_entry is_name bases section.0 next; top = next + section.1.size }))
-    else Some (record { bases = insert_entry is_name bases section.0 0; top = next })
+    else Some (record { bases = insert_entry is_same_name bases section.0 next; top = next + section.1.size }))
+    else Some (record { bases = insert_entry is_same_name bases section.0 0; top = next })
 
 -- sections one after another
 abbrev pub bases_onto : List (Name × ℕ) → ℕ → List (Name × Total) → Option Bases
@@ -67,7 +67,7 @@ pub record Planned : Type 0 where
 
 -- the base of a section; 0 where there is none of that name
 abbrev pub planned_section_base : Planned → Name → ℕ
-planned_section_base plan name = unwrap_or (lookup (is_name name) plan.bases) 0
+planned_section_base plan name = unwrap_or (lookup (is_same_name name) plan.bases) 0
 
 abbrev pub after_offset : Option ℕ → ℕ → ℕ
 after_offset None base = 0
@@ -89,7 +89,7 @@ defined_value plan (Some definition) = Some (value_at plan definition.module_ind
 
 -- the value of a global, where it is defined
 abbrev pub planned_value : Planned → Name → Option ℕ
-planned_value plan name = defined_value plan (lookup (is_name name) plan.gathered.definitions)
+planned_value plan name = defined_value plan (lookup (is_same_name name) plan.gathered.definitions)
 
 -- without an even transfer address it is 1, which starts nothing
 abbrev pub transfer_at : Planned → Option Transfer → ℕ
@@ -102,7 +102,7 @@ planned_transfer plan = transfer_at plan (settled plan.gathered)
 
 -- the name of the module of an index, blank past the last
 abbrev pub planned_module : Planned → ℕ → Name
-planned_module plan module_index = get_or plan.gathered.names module_index (0, 0)
+planned_module plan module_index = get_or plan.gathered.names module_index blank_name
 
 abbrev pub attributes_reported : Option Total → Option ℕ
 attributes_reported None = None
@@ -110,7 +110,7 @@ attributes_reported (Some total) = Some total.attributes.0
 
 -- the attributes of a section, where there is one of that name
 abbrev pub planned_attributes : Planned → Name → Option ℕ
-planned_attributes plan name = attributes_reported (lookup (is_name name) plan.gathered.sections)
+planned_attributes plan name = attributes_reported (lookup (is_same_name name) plan.gathered.sections)
 
 abbrev pub section_planned : Planned → Name × Total → PlannedSection
 section_planned plan section = record {
@@ -173,7 +173,7 @@ pub record IsPlanOf (bottom : ℕ) (parts : List Part) (plan : Planned) : Type 0
   pub sections : planned_sections plan ≡ sections_of bottom parts
   pub globals : planned_globals plan ≡ globals_of bottom parts
   pub attributes : (name : Name) → planned_attributes plan name ≡ entered_attributes parts name
-  pub definitions : (name : Name) → lookup (is_name name) plan.gathered.definitions ≡ first_definition parts name
+  pub definitions : (name : Name) → lookup (is_same_name name) plan.gathered.definitions ≡ first_definition parts name
   pub defined : keys_of plan.gathered.definitions ≡ distinct (keys_of (definitions_of parts))
   pub references : plan.gathered.references ≡ referred parts
   pub names : (module_index : ℕ) → planned_module plan module_index ≡ name_at parts module_index

@@ -6,13 +6,12 @@ use Rattle.std.specs.Int.RustNames.{bit_and}
 use Rattle.std.specs.List.{filter_map, list_any}
 use Rattle.std.specs.Map.{lookup}
 use Rattle.std.specs.Option.{unwrap_or}
-use Rattle.m11_base.specs.Rad50.{Name}
+use Rattle.m11_base.specs.Rad50.{Name, is_same_name}
+use Rattle.m11_base.specs.Names.{absolute_name, blank_name}
 use Rattle.m11_obj.specs.declared.flags.SectionFlags.{SectionFlags}
 use Rattle.m11_obj.specs.declared.gsd.GsdEntry.{GsdEntry}
 use Rattle.m11_obj.specs.declared.gsd.GsdKind.{GsdKind}
 use Rattle.m11_obj.specs.declared.gsd.GsdKind.TheVariants.{ControlSection, ProgramSection}
-use Rattle.m11_obj.specs.Names.{absolute_name}
-use Rattle.m11_modules.specs.Names.{is_name}
 use Rattle.m11_modules.specs.Parts.{Part, Entry}
 use Rattle.m11_modules.specs.Places.{sections_in, section_names}
 use Rattle.m11_modules.specs.Rules.{has_bits}
@@ -32,7 +31,7 @@ flags_of attributes = record { 0 = attributes }
 -- name, octal 144 for one with a name
 abbrev pub control_attributes : Name → ℕ
 control_attributes name =
-    if is_name name absolute_name then 0o104 else if is_name name (0, 0) then 0o40 else 0o144
+    if is_same_name name absolute_name then 0o104 else if is_same_name name blank_name then 0o40 else 0o144
 
 abbrev pub attributes_by : GsdKind → GsdEntry → Option (Name × ℕ)
 attributes_by ControlSection entry = Some (entry.name, control_attributes entry.name)
@@ -45,11 +44,11 @@ attributes_in part = None
 
 -- the attributes of a section's first entry, where there is one
 unfoldable pub entered_attributes : List Part → Name → Option ℕ
-entered_attributes parts name = lookup (is_name name) (filter_map attributes_in parts)
+entered_attributes parts name = lookup (is_same_name name) (filter_map attributes_in parts)
 
 -- a section has the attributes of its first entry
 unfoldable pub first_attributes : List Part → Name → ℕ
-first_attributes parts name = unwrap_or (lookup (is_name name) (filter_map attributes_in parts)) 0
+first_attributes parts name = unwrap_or (lookup (is_same_name name) (filter_map attributes_in parts)) 0
 
 -- octal 40 and octal 4
 abbrev pub is_relocatable : ℕ → Bool
@@ -62,7 +61,7 @@ is_overlaid attributes = has_bits 4 attributes
 
 -- the sizes of a section in the modules that enter it, in their order
 abbrev pub size_under : Name → Name × ℕ → Option ℕ
-size_under name entered = if is_name name entered.0 then Some entered.1 else None
+size_under name entered = if is_same_name name entered.0 then Some entered.1 else None
 
 unfoldable pub sizes_of : List Part → Name → List ℕ
 sizes_of parts name = filter_map (size_under name) (sections_in parts)
@@ -92,7 +91,7 @@ room_of parts name = if is_relocatable (first_attributes parts name) then sectio
 
 abbrev pub names_before : Name → List Name → List Name
 names_before name [] = []
-names_before name (other ∷ others) = if is_name name other then [] else other ∷ names_before name others
+names_before name (other ∷ others) = if is_same_name name other then [] else other ∷ names_before name others
 
 -- relocatable sections lie from the bottom on, in the order of their first entries; absolute ones at 0
 unfoldable pub section_base : ℕ → List Part → Name → ℕ
@@ -145,7 +144,7 @@ base_entered None base = 0
 base_entered (Some size) base = base
 
 unfoldable pub contribution_base : ℕ → List Part → List Part → List Part → Name → ℕ
-contribution_base bottom parts earlier own name = base_entered (lookup (is_name name) (sections_in own))
+contribution_base bottom parts earlier own name = base_entered (lookup (is_same_name name) (sections_in own))
     (section_base bottom parts name + offset_after (first_attributes parts name) (sizes_of earlier name))
 
 -- the same for the module of an index, as an address: octal 200000 is after the last one

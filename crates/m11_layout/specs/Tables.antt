@@ -6,12 +6,12 @@ use Rattle.std.specs.Map.{lookup}
 use Rattle.std.specs.Option.{is_some, option_or, unwrap_or}
 use Rattle.indexmap.specs.IndexMap.{insert_entry}
 use Rattle.indexmap.specs.IndexSet.{insert_key}
-use Rattle.m11_base.specs.Rad50.{Name}
+use Rattle.m11_base.specs.Rad50.{Name, is_same_name}
+use Rattle.m11_base.specs.Names.{absolute_name, blank_name}
 use Rattle.m11_obj.specs.declared.gsd.GsdEntry.{GsdEntry}
 use Rattle.m11_obj.specs.declared.gsd.GsdKind.{GsdKind}
 use Rattle.m11_obj.specs.declared.gsd.GsdKind.TheVariants.{ModuleName, ControlSection, TransferAddress, GlobalSymbol, ProgramSection}
-use Rattle.m11_obj.specs.Names.{absolute_name}
-use Rattle.m11_modules.specs.Names.{is_name, is_among}
+use Rattle.m11_modules.specs.Names.{is_among}
 use Rattle.m11_modules.specs.Parts.{Part, Entry, Relocated, EndOfModule}
 use Rattle.m11_modules.specs.Places.{global_of}
 use Rattle.m11_modules.specs.Rules.{has_bits, defines}
@@ -73,10 +73,10 @@ next_offset None = 0
 next_offset (Some total) = if is_concatenated total.attributes.0 then total.size else 0
 
 abbrev pub is_contribution : ℕ × Name → ℕ × Name → Bool
-is_contribution one other = (one.0 == other.0) && is_name one.1 other.1
+is_contribution one other = (one.0 == other.0) && is_same_name one.1 other.1
 
 abbrev pub with_total : Name → Total → Gathered → Gathered
-with_total name total g = record g { sections = insert_entry is_name g.sections name total }
+with_total name total g = record g { sections = insert_entry is_same_name g.sections name total }
 
 abbrev pub with_contribution : Name → ℕ → Gathered → Gathered
 with_contribution name offset g = record g {
@@ -89,21 +89,21 @@ with_section_after found entry attributes g = with_contribution entry.name (next
     (with_total entry.name (total_after found attributes entry.value) g)
 
 abbrev pub with_section : GsdEntry → ℕ → Gathered → Gathered
-with_section entry attributes g = with_section_after (lookup (is_name entry.name) g.sections) entry attributes g
+with_section entry attributes g = with_section_after (lookup (is_same_name entry.name) g.sections) entry attributes g
 
 -- ---- globals
 
 abbrev pub with_reference : Name → Bool → Gathered → Gathered
 with_reference name is_strong g = record g {
-  references = insert_entry is_name g.references name
-      (unwrap_or (lookup (is_name name) g.references) false || is_strong);
+  references = insert_entry is_same_name g.references name
+      (unwrap_or (lookup (is_same_name name) g.references) false || is_strong);
 }
 
 -- a pair counts where it is the first of its name
 abbrev pub with_first : {X : Type 0} → List (Name × X) → Option (Name × X) → List (Name × X)
 with_first found None = found
 with_first found (Some pair) =
-    if is_some (lookup (is_name pair.0) found) then found else insert_entry is_name found pair.0 pair.1
+    if is_some (lookup (is_same_name pair.0) found) then found else insert_entry is_same_name found pair.0 pair.1
 
 abbrev pub with_definition : GsdEntry → Gathered → Gathered
 with_definition entry g = record g {
@@ -112,7 +112,7 @@ with_definition entry g = record g {
 }
 
 abbrev pub with_weak : Name → Gathered → Gathered
-with_weak name g = record (with_reference name false g) { weak = insert_key is_name g.weak name }
+with_weak name g = record (with_reference name false g) { weak = insert_key is_same_name g.weak name }
 
 abbrev pub with_symbol : GsdEntry → Gathered → Gathered
 with_symbol entry g =
@@ -139,7 +139,7 @@ is_relocated (Some total) assumed = is_relocatable total.attributes.0
 abbrev pub entered_total : Gathered → Name → Option Total
 entered_total g name =
     if is_some (lookup (is_contribution (length g.names, name)) g.contributions)
-    then lookup (is_name name) g.sections else None
+    then lookup (is_same_name name) g.sections else None
 
 abbrev pub transfer_after : Option Transfer → Bool → Transfer → Option Transfer
 transfer_after (Some transfer) is_even other = Some transfer
@@ -177,7 +177,7 @@ with_entry bottom kind entry g = g
 
 abbrev pub with_end : Gathered → Gathered
 with_end g = record g {
-  names = g.names ++ unwrap_or g.name (0, 0) ∷ [];
+  names = g.names ++ unwrap_or g.name blank_name ∷ [];
   name = None;
   section = None;
   weak = [];

@@ -6,8 +6,8 @@ ghost use Rattle.std.specs.Int.RustNames.{bit_and};
 ghost use Rattle.m11_layout.specs.Sections.{attributes_by, control_attributes};
 
 use bitflags::Flags;
-use m11_base::Name;
-use m11_obj::{GsdEntry, GsdKind, SectionFlags, absolute_section};
+use m11_base::{Name, absolute_section, blank_name};
+use m11_obj::{GsdEntry, GsdKind, SectionFlags};
 
 // The bits of a flags byte that are attributes.
 const ATTRIBUTES: u8 = 0o365;
@@ -18,7 +18,7 @@ pub(crate) fn control_attributes(name: Name) -> SectionFlags
 {
     if name == absolute_section() {
         SectionFlags::GLOBAL.union(SectionFlags::OVERLAID)
-    } else if name.words() == (0, 0) {
+    } else if name == blank_name() {
         SectionFlags::RELOCATABLE
     } else {
         SectionFlags::GLOBAL

@@ -6,7 +6,8 @@ ghost use Rattle.m11_modules.specs.Parts.{Entry};
 ghost use Rattle.m11_modules.specs.Parts.{record_parts};
 ghost use Rattle.std.specs.Int.RustNames.{bit_and};
 ghost use Rattle.std.specs.Map.{lookup};
-ghost use Rattle.m11_modules.specs.Names as names;
+ghost use Rattle.m11_base.specs.Names.{blank_name};
+ghost use Rattle.m11_base.specs.Rad50.{is_same_name};
 ghost use Rattle.m11_modules.specs.Places.{global_of};
 ghost use Rattle.m11_layout.specs.Tables.{TablesKeep, is_contribution, contributed, gathered_after_all, nothing_gathered, entered_total, is_concatenated, is_even_after, is_relocated, joined, next_offset, settled, total_after, with_definition, with_end, with_entry, with_name, with_reference, with_relocated, with_contribution, with_section, with_settled, with_symbol, with_total, with_transfer, with_weak};
 ghost use Rattle.m11_layout.specs.Globals.{place_of};
@@ -16,10 +17,8 @@ use crate::attributes::{attributes_in, control_attributes};
 use crate::definition::{Definition, GlobalPlace, Total, Transfer};
 use bitflags::Flags;
 use indexmap::{IndexMap, IndexSet};
-use m11_base::Name;
-use m11_obj::{
-    GsdEntry, GsdKind, Record, RecordKind, SectionFlags, SymbolFlags, Target, absolute_section,
-};
+use m11_base::{Name, absolute_section, blank_name};
+use m11_obj::{GsdEntry, GsdKind, Record, RecordKind, SectionFlags, SymbolFlags, Target};
 use std::alloc::{AllocError, Global};
 use std::marker::Model;
 
@@ -199,7 +198,7 @@ impl Tables {
 
     /// A section.
     pub(crate) fn total(&self, name: Name) -> Option<Total>
-        ensures { result ≡ lookup (names.is_name name) self.now.sections }
+        ensures { result ≡ lookup (is_same_name name) self.now.sections }
     {
         self.sections.get(&name).copied()
     }
@@ -213,7 +212,7 @@ impl Tables {
 
     /// The first definition of a global.
     pub(crate) fn definition(&self, name: Name) -> Option<Definition>
-        ensures { result ≡ lookup (names.is_name name) self.now.definitions }
+        ensures { result ≡ lookup (is_same_name name) self.now.definitions }
     {
         self.definitions.get(&name).copied()
     }
@@ -256,7 +255,7 @@ impl Tables {
 
     /// The name of a module that ended, by its index; blank past the last.
     pub(crate) fn module_name(&self, module_index: usize) -> Name
-        ensures { result ≡ get_or self.now.names module_index (0, 0) }
+        ensures { result ≡ get_or self.now.names module_index blank_name }
     {
         match self.names.get(module_index) {
             Some(name) => *name,
@@ -490,15 +489,5 @@ impl Tables {
         self.section = None;
         self.weak.clear();
         Ok(())
-    }
-}
-
-// The name of a module that gives none.
-fn blank_name() -> Name
-    ensures { result ≡ (0, 0) }
-{
-    match Name::from_words(0, 0) {
-        Some(name) => name,
-        None => unreachable!(),
     }
 }

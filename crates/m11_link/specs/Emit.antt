@@ -3,7 +3,7 @@
 use Rattle.std.specs.Prelude.{◌≡◌, ◌⊎◌, ℕ, Bool, true, false, List, [], ◌∷◌, ◌++◌, map, ⊤, Option, Some, None, Result, Ok, Err, if◌then◌else◌}
 use Rattle.indexmap.specs.IndexSet.{insert_key}
 use Rattle.m11_base.specs.Devices.{Bytes}
-use Rattle.m11_base.specs.Rad50.{Name}
+use Rattle.m11_base.specs.Rad50.{Name, is_same_name}
 use Rattle.m11_obj.specs.Reading.{IsRecord, content_of, record_entries, record_kind, record_relocations, record_text}
 use Rattle.m11_obj.specs.declared.records.RecordKind.{RecordKind}
 use Rattle.m11_obj.specs.declared.records.RecordKind.TheVariants as kind
@@ -12,7 +12,6 @@ use Rattle.m11_obj.specs.declared.gsd.GsdEntry.{GsdEntry}
 use Rattle.m11_obj.specs.declared.gsd.GsdKind.{GsdKind}
 use Rattle.m11_obj.specs.declared.gsd.GsdKind.TheVariants.{GlobalSymbol}
 use Rattle.m11_obj.specs.declared.relocations.Relocation.{Relocation}
-use Rattle.m11_modules.specs.Names.{is_name}
 use Rattle.m11_modules.specs.Parts.{Part, EndOfFile, Text, Relocations, Relocated, record_parts}
 use Rattle.m11_modules.specs.Places.{Known, known_of, current_section, modules_in, this_module}
 use Rattle.m11_modules.specs.Rules.{defines, fault_of, first_fault}
@@ -76,7 +75,7 @@ held_text found parts = held_after found [] None parts
 -- ---- entries
 
 abbrev pub defined_if : Bool → List Name → Name → List Name
-defined_if defines defined name = if defines then insert_key is_name defined name else defined
+defined_if defines defined name = if defines then insert_key is_same_name defined name else defined
 
 abbrev pub defined_by : GsdKind → List Name → GsdEntry → List Name
 defined_by GlobalSymbol defined entry = defined_if (defines entry) defined entry.name
@@ -101,7 +100,7 @@ with_symbol module_index entry t = record t {
 }
 
 abbrev pub with_name : Name → Reporting → Reporting
-with_name name t = record t { defined = insert_key is_name t.defined name }
+with_name name t = record t { defined = insert_key is_same_name t.defined name }
 
 abbrev pub with_entry : ℕ → GsdEntry → Reporting → Reporting
 with_entry module_index entry t = record t {

@@ -10,13 +10,14 @@ use Rattle.std.proofs.lemmas.List.Folds.{list_any-append}
 use Rattle.std.proofs.lemmas.List.Sums.{sum_by-append}
 use Rattle.std.proofs.lemmas.Map.Made.{is_some-lookup}
 use Rattle.indexmap.specs.IndexSet.{insert_key}
-use Rattle.m11_modules.specs.Names.{is_name}
+use Rattle.m11_base.specs.Rad50.{is_same_name}
+use Rattle.m11_base.proofs.SameNames.{same_name_equal}
 use Rattle.m11_modules.specs.Parts.{Part}
 use Rattle.m11_modules.specs.Places.{distinct, distinct_after, modules_in, section_in, section_names, sections_in}
 use Rattle.m11_layout.specs.Modules.{module_at, modules_before}
 use Rattle.m11_layout.specs.Sections.{base_entered, contribution_base, ends_too_high, first_attributes, greatest, is_overlaid, is_relocatable, is_too_large, module_base, offset_after, rounded, section_base, section_size, size_under, sizes_of}
 use Rattle.m11_layout.proofs.PlannedBases.{none_high}
-use Rattle.m11_layout.proofs.Finding.{is_name_same, lookup_append, or_true}
+use Rattle.m11_layout.proofs.Finding.{lookup_append, or_true}
 use Rattle.m11_layout.proofs.ModulesOfParts.{modules_are}
 use Rattle.m11_layout.proofs.Offsets.{earlier_sizes_more, entered_at, entered_more, reported_where}
 use Rattle.m11_layout.proofs.Sizing.{sizes_more}
@@ -50,13 +51,13 @@ same_some : (a b : ℕ) → Some a ≡ Some b → a ≡ b
 same_some a b e = cc
 
 -- a size that is found is part of the sum
-sizes_found : (name : Name) (reported : List (Name × ℕ)) (size : ℕ) → lookup (is_name name) reported ≡ Some size
+sizes_found : (name : Name) (reported : List (Name × ℕ)) (size : ℕ) → lookup (is_same_name name) reported ≡ Some size
     → size ≤ rounded_sum (filter_map (size_under name) reported)
 sizes_found name [] size e = absurd cc
-sizes_found name (first ∷ reported) size e = by (is_name name first.0) e (sizes_found name reported size)
+sizes_found name (first ∷ reported) size e = by (is_same_name name first.0) e (sizes_found name reported size)
   where
-    by : (b : Bool) → cond b (Some first.1) (lookup (is_name name) reported) ≡ Some size
-        → (lookup (is_name name) reported ≡ Some size → size ≤ rounded_sum (filter_map (size_under name) reported))
+    by : (b : Bool) → cond b (Some first.1) (lookup (is_same_name name) reported) ≡ Some size
+        → (lookup (is_same_name name) reported ≡ Some size → size ≤ rounded_sum (filter_map (size_under name) reported))
         → size ≤ rounded_sum (cons_option (if b then Some first.1 else None) (filter_map (size_under name) reported))
     by true e h =
         let rest = filter_map (size_under name) reported in
@@ -66,16 +67,16 @@ sizes_found name (first ∷ reported) size e = by (is_name name first.0) e (size
     by false e h = h e
 
 -- and no greater than the greatest
-greatest_found : (name : Name) (reported : List (Name × ℕ)) (size : ℕ) → lookup (is_name name) reported ≡ Some size
+greatest_found : (name : Name) (reported : List (Name × ℕ)) (size : ℕ) → lookup (is_same_name name) reported ≡ Some size
     → size ≤ greatest (map rounded (filter_map (size_under name) reported))
 greatest_found name [] size e = absurd cc
-greatest_found name (first ∷ reported) size e = by (is_name name first.0) e (greatest_found name reported size)
+greatest_found name (first ∷ reported) size e = by (is_same_name name first.0) e (greatest_found name reported size)
   where
     larger : (a b : ℕ) → a ≤ max (a + a % 2) b
     larger a b = omega arith
 
-    by : (b : Bool) → cond b (Some first.1) (lookup (is_name name) reported) ≡ Some size
-        → (lookup (is_name name) reported ≡ Some size → size ≤ greatest (map rounded (filter_map (size_under name) reported)))
+    by : (b : Bool) → cond b (Some first.1) (lookup (is_same_name name) reported) ≡ Some size
+        → (lookup (is_same_name name) reported ≡ Some size → size ≤ greatest (map rounded (filter_map (size_under name) reported)))
         → size ≤ greatest (map rounded
         (cons_option (if b then Some first.1 else None) (filter_map (size_under name) reported)))
     by true e h =
@@ -140,7 +141,7 @@ added_new a b c d a' b' size h k e f = omega arith
 
 -- a section that this part enters
 entered_here : (here sooner later : Bool) (part : Part) (name : Name) (size : ℕ) → (here ≡ true → sooner ≡ false)
-    → (here ≡ true → later ≡ true) → lookup (is_name name) (reported_where here part) ≡ Some size
+    → (here ≡ true → later ≡ true) → lookup (is_same_name name) (reported_where here part) ≡ Some size
     → rounded_sum (reported_by sooner part name) + size ≤ rounded_sum (reported_by later part name)
 entered_here false sooner later part name size h k e = absurd cc
 entered_here true true later part name size h k e = absurd (true≢false (h refl))
@@ -155,7 +156,7 @@ entered_here true false true part name size h k e =
 -- one that it entered before, or that this part enters
 entered_by : (before : List Part) (part : Part) (sooner later : ℕ) (name : Name) (size : ℕ) (found : Option ℕ)
     → Follow before → sooner < later → entered_at before sooner name ≡ found
-    → option_or found (lookup (is_name name) (reported_where (nat_eq (modules_in before) sooner) part)) ≡ Some size
+    → option_or found (lookup (is_same_name name) (reported_where (nat_eq (modules_in before) sooner) part)) ≡ Some size
     → earlier_sum (before ++ part ∷ []) sooner name + size ≤ earlier_sum (before ++ part ∷ []) later name
 entered_by before part sooner later name size (Some first) h l f e =
     let m = modules_in before in
@@ -191,7 +192,7 @@ follow parts = grown Follow follow_more parts follow_none
 abbrev Within : List Part → Type 0
 Within parts = (index : ℕ) (name : Name) (size : ℕ) → entered_at parts index name ≡ Some size
     → (size ≤ greatest (map rounded (sizes_of parts name)))
-    × (is_some (lookup (is_name name) (sections_in parts)) ≡ true)
+    × (is_some (lookup (is_same_name name) (sections_in parts)) ≡ true)
 
 some_left : (one other : Option ℕ) → is_some one ≡ true → is_some (option_or one other) ≡ true
 some_left None other e = absurd cc
@@ -202,24 +203,24 @@ some_right None other e = e
 some_right (Some x) other e = refl
 
 sections_more : (before : List Part) (part : Part) (name : Name)
-    → lookup (is_name name) (sections_in (before ++ part ∷ []))
-    ≡ option_or (lookup (is_name name) (sections_in before)) (lookup (is_name name) (filter_map section_in (part ∷ [])))
+    → lookup (is_same_name name) (sections_in (before ++ part ∷ []))
+    ≡ option_or (lookup (is_same_name name) (sections_in before)) (lookup (is_same_name name) (filter_map section_in (part ∷ [])))
 unfolding sections_in
 sections_more before part name =
-    ap (λ reported. lookup (is_name name) reported) (filter_map-append section_in before (part ∷ []))
-    ∙ lookup_append (is_name name) (filter_map section_in before) (filter_map section_in (part ∷ []))
+    ap (λ reported. lookup (is_same_name name) reported) (filter_map-append section_in before (part ∷ []))
+    ∙ lookup_append (is_same_name name) (filter_map section_in before) (filter_map section_in (part ∷ []))
 
 reported_here : (here : Bool) (part : Part) (name : Name) (size : ℕ)
-    → lookup (is_name name) (reported_where here part) ≡ Some size
-    → lookup (is_name name) (filter_map section_in (part ∷ [])) ≡ Some size
+    → lookup (is_same_name name) (reported_where here part) ≡ Some size
+    → lookup (is_same_name name) (filter_map section_in (part ∷ [])) ≡ Some size
 reported_here false part name size e = absurd cc
 reported_here true part name size e = e
 
 within_by : (before : List Part) (part : Part) (index : ℕ) (name : Name) (size : ℕ) (found : Option ℕ)
     → Within before → entered_at before index name ≡ found
-    → option_or found (lookup (is_name name) (reported_where (nat_eq (modules_in before) index) part)) ≡ Some size
+    → option_or found (lookup (is_same_name name) (reported_where (nat_eq (modules_in before) index) part)) ≡ Some size
     → (size ≤ greatest (map rounded (sizes_of (before ++ part ∷ []) name)))
-    × (is_some (lookup (is_name name) (sections_in (before ++ part ∷ []))) ≡ true)
+    × (is_some (lookup (is_same_name name) (sections_in (before ++ part ∷ []))) ≡ true)
 within_by before part index name size (Some first) h f e =
     let w = h index name size (f ∙ e) in
     let old = sizes_of before name in
@@ -236,7 +237,7 @@ within_by before part index name size None h f e =
       subst P (sym (sizes_more before part name))
           (greatest_right old (filter_map (size_under name) reported) size (greatest_found name reported size t)),
       ap is_some (sections_more before part name)
-          ∙ some_right (lookup (is_name name) (sections_in before)) (lookup (is_name name) reported) (ap is_some t),
+          ∙ some_right (lookup (is_same_name name) (sections_in before)) (lookup (is_same_name name) reported) (ap is_some t),
     )
 
 within_more : (before : List Part) (part : Part) → Within before → Within (before ++ part ∷ [])
@@ -257,51 +258,51 @@ or_either : (b c : Bool) → b ≡ true → (b || c) ≡ true
 or_either true c e = refl
 or_either false c e = absurd (true≢false (sym e))
 
-key_kept : (name : Name) (seen : List Name) (other : Name) → list_any (is_name name) seen ≡ true
-    → list_any (is_name name) (insert_key is_name seen other) ≡ true
-key_kept name seen other e = by (list_any (is_name other) seen)
+key_kept : (name : Name) (seen : List Name) (other : Name) → list_any (is_same_name name) seen ≡ true
+    → list_any (is_same_name name) (insert_key is_same_name seen other) ≡ true
+key_kept name seen other e = by (list_any (is_same_name other) seen)
   where
-    by : (b : Bool) → list_any (is_name name) (if b then seen else seen ++ other ∷ []) ≡ true
+    by : (b : Bool) → list_any (is_same_name name) (if b then seen else seen ++ other ∷ []) ≡ true
     by true = e
-    by false = list_any-append (is_name name) seen (other ∷ [])
-        ∙ or_either (list_any (is_name name) seen) (list_any (is_name name) (other ∷ [])) e
+    by false = list_any-append (is_same_name name) seen (other ∷ [])
+        ∙ or_either (list_any (is_same_name name) seen) (list_any (is_same_name name) (other ∷ [])) e
 
-key_new : (name : Name) (seen : List Name) (other : Name) → is_name name other ≡ true
-    → list_any (is_name name) (insert_key is_name seen other) ≡ true
-key_new name seen other e = by (list_any (is_name other) seen) refl
+key_new : (name : Name) (seen : List Name) (other : Name) → is_same_name name other ≡ true
+    → list_any (is_same_name name) (insert_key is_same_name seen other) ≡ true
+key_new name seen other e = by (list_any (is_same_name other) seen) refl
   where
-    by : (b : Bool) → list_any (is_name other) seen ≡ b
-        → list_any (is_name name) (if b then seen else seen ++ other ∷ []) ≡ true
-    by true f = let P : Name → Type 0 = λ n. list_any (is_name n) seen ≡ true in
-        subst P (sym (is_name_same name other e)) f
-    by false f = list_any-append (is_name name) seen (other ∷ [])
-        ∙ or_true (list_any (is_name name) seen) (is_name name other || false)
-        (or_either (is_name name other) false e)
+    by : (b : Bool) → list_any (is_same_name other) seen ≡ b
+        → list_any (is_same_name name) (if b then seen else seen ++ other ∷ []) ≡ true
+    by true f = let P : Name → Type 0 = λ n. list_any (is_same_name n) seen ≡ true in
+        subst P (sym (same_name_equal name other e)) f
+    by false f = list_any-append (is_same_name name) seen (other ∷ [])
+        ∙ or_true (list_any (is_same_name name) seen) (is_same_name name other || false)
+        (or_either (is_same_name name other) false e)
 
-distinct_kept : (name : Name) (seen names : List Name) → list_any (is_name name) seen ≡ true
-    → list_any (is_name name) (distinct_after seen names) ≡ true
+distinct_kept : (name : Name) (seen names : List Name) → list_any (is_same_name name) seen ≡ true
+    → list_any (is_same_name name) (distinct_after seen names) ≡ true
 distinct_kept name seen [] e = e
 distinct_kept name seen (other ∷ names) e =
-    distinct_kept name (insert_key is_name seen other) names (key_kept name seen other e)
+    distinct_kept name (insert_key is_same_name seen other) names (key_kept name seen other e)
 
-distinct_found : (name : Name) (seen names : List Name) → list_any (is_name name) names ≡ true
-    → list_any (is_name name) (distinct_after seen names) ≡ true
+distinct_found : (name : Name) (seen names : List Name) → list_any (is_same_name name) names ≡ true
+    → list_any (is_same_name name) (distinct_after seen names) ≡ true
 distinct_found name seen [] e = absurd (true≢false (sym e))
 distinct_found name seen (other ∷ names) e =
-    by (is_name name other) refl e (distinct_found name (insert_key is_name seen other) names)
+    by (is_same_name name other) refl e (distinct_found name (insert_key is_same_name seen other) names)
   where
-    by : (b : Bool) → is_name name other ≡ b → (b || list_any (is_name name) names) ≡ true
-        → (list_any (is_name name) names ≡ true
-        → list_any (is_name name) (distinct_after (insert_key is_name seen other) names) ≡ true)
-        → list_any (is_name name) (distinct_after (insert_key is_name seen other) names) ≡ true
-    by true f e h = distinct_kept name (insert_key is_name seen other) names (key_new name seen other f)
+    by : (b : Bool) → is_same_name name other ≡ b → (b || list_any (is_same_name name) names) ≡ true
+        → (list_any (is_same_name name) names ≡ true
+        → list_any (is_same_name name) (distinct_after (insert_key is_same_name seen other) names) ≡ true)
+        → list_any (is_same_name name) (distinct_after (insert_key is_same_name seen other) names) ≡ true
+    by true f e h = distinct_kept name (insert_key is_same_name seen other) names (key_new name seen other f)
     by false f e h = h e
 
 is_section : (parts : List Part) (index : ℕ) (name : Name) (size : ℕ) → entered_at parts index name ≡ Some size
-    → list_any (is_name name) (section_names parts) ≡ true
+    → list_any (is_same_name name) (section_names parts) ≡ true
 unfolding section_names distinct
 is_section parts index name size e = distinct_found name [] (keys_of (sections_in parts))
-    (sym (is_some-lookup (is_name name) (sections_in parts)) ∙ (within parts index name size e).1)
+    (sym (is_some-lookup (is_same_name name) (sections_in parts)) ∙ (within parts index name size e).1)
 
 -- ---- bases, where nothing is too large
 
@@ -329,7 +330,7 @@ below base size e = grind (arith, nat_tests)
 
 -- a relocatable section ends by octal 160000
 ends_low : (bottom : ℕ) (parts : List Part) (name : Name) → is_too_large bottom parts ≡ false
-    → is_relocatable (first_attributes parts name) ≡ true → list_any (is_name name) (section_names parts) ≡ true
+    → is_relocatable (first_attributes parts name) ≡ true → list_any (is_same_name name) (section_names parts) ≡ true
     → section_base bottom parts name + section_size parts name ≤ 57344
 unfolding is_too_large
 ends_low bottom parts name n r t = below (section_base bottom parts name) (section_size parts name)

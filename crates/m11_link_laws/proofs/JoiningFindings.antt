@@ -4,7 +4,7 @@ use Rattle.std.specs.List.{cons_option, filter_map, find, list_any}
 use Rattle.std.specs.Map.{keys_of, lookup}
 use Rattle.std.specs.Option.{unwrap_or}
 use Rattle.std.proofs.Math.Path.{fun_ext}
-use Rattle.m11_modules.specs.Names.{is_name}
+use Rattle.m11_base.specs.Rad50.{is_same_name}
 use Rattle.m11_modules.specs.Parts.{Part, Entry, Relocated, EndOfModule, EndOfFile}
 use Rattle.m11_modules.specs.Places.{distinct, global_of, this_module}
 use Rattle.m11_layout.specs.Globals.{definition_by, definition_in, definition_value, definitions_of, global_reported, global_value, globals_of, is_strong_to, last_of, last_section, place_value, reference_in, references_of, referred, relocated_reference, weak_in, weak_names}
@@ -147,7 +147,7 @@ attributes_same : (parts : List Part) (name : ℕ × ℕ)
     → first_attributes (without_ends parts) name ≡ first_attributes parts name
 unfolding first_attributes
 attributes_same parts name =
-    ap (λ found. unwrap_or (lookup (is_name name) found) 0) (reported_same attributes_in refl parts)
+    ap (λ found. unwrap_or (lookup (is_same_name name) found) 0) (reported_same attributes_in refl parts)
 
 sizes_same : (parts : List Part) (name : ℕ × ℕ) → sizes_of (without_ends parts) name ≡ sizes_of parts name
 unfolding sizes_of
@@ -229,12 +229,12 @@ value_same : (bottom : ℕ) (parts : List Part) (name : ℕ × ℕ)
     → global_value bottom (without_ends parts) name ≡ global_value bottom parts name
 unfolding global_value
 value_same bottom parts name = λ j.
-    option_map (values_same bottom parts j) (lookup (is_name name) (definitions_same parts j))
+    option_map (values_same bottom parts j) (lookup (is_same_name name) (definitions_same parts j))
 
 globals_same : (bottom : ℕ) (parts : List Part) → globals_of bottom (without_ends parts) ≡ globals_of bottom parts
 unfolding globals_of
 globals_same bottom parts = λ j.
-    filter_map (λ name. option_map (reported j name) (lookup (is_name name) (definitions_same parts j)))
+    filter_map (λ name. option_map (reported j name) (lookup (is_same_name name) (definitions_same parts j)))
     (distinct (keys_of (definitions_same parts j)))
   where
     reported : global_reported bottom (without_ends parts) ≡ global_reported bottom parts
@@ -264,7 +264,7 @@ transfer_same bottom parts =
 first_entered_same : (parts : List Part) (name : ℕ × ℕ)
     → entered_attributes (without_ends parts) name ≡ entered_attributes parts name
 unfolding entered_attributes
-first_entered_same parts name = ap (λ found. lookup (is_name name) found) (reported_same attributes_in refl parts)
+first_entered_same parts name = ap (λ found. lookup (is_same_name name) found) (reported_same attributes_in refl parts)
 
 pub findings_same : (bottom : ℕ) (parts : List Part)
     → findings_of bottom (without_ends parts) ≡ findings_of bottom parts

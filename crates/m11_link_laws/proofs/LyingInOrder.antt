@@ -3,7 +3,7 @@ use Rattle.std.proofs.Common.{◌≡◌, ℕ, ◌+◌, ◌≤◌, sum_by, Bool, 
 use Rattle.std.specs.List.{filter, list_any}
 use Rattle.std.proofs.Math.Seq.{append_snoc}
 use Rattle.std.proofs.lemmas.List.Sums.{sum_by_push}
-use Rattle.m11_modules.specs.Names.{is_name}
+use Rattle.m11_base.specs.Rad50.{is_same_name}
 use Rattle.m11_modules.specs.Parts.{Part}
 use Rattle.m11_modules.specs.Places.{section_names}
 use Rattle.m11_layout.specs.Sections.{names_before, section_base, section_size, top}
@@ -50,14 +50,14 @@ module _ (lies : Name → Bool) (size : Name → ℕ) (bottom : ℕ) (all : List
   mapped true name names = refl
   mapped false name names = refl
 
-  lie_after : (done rest : List Name) → done ++ rest ≡ all → Apart is_name all
+  lie_after : (done rest : List Name) → done ++ rest ≡ all → Apart is_same_name all
       → LieInOrder (end done) (map span (filter lies rest)) (end all)
   lie_after done [] e d =
       let P : List Name → Type 0 = λ names. LieInOrder (end done) [] (end names) in
       subst P (sym (append-nil done) ∙ e) Nothing
   lie_after done (name ∷ rest) e d =
-      let A : List Name → Type 0 = λ names. Apart is_name names in
-      let a : list_any (is_name name) done ≡ false = apart_before done name rest (subst A (sym e) d) in
+      let A : List Name → Type 0 = λ names. Apart is_same_name names in
+      let a : list_any (is_same_name name) done ≡ false = apart_before done name rest (subst A (sym e) d) in
       let B : List Name → Type 0 = λ names. names_before name names ≡ done in
       let b : names_before name all ≡ done = subst B e (before_it done name rest a) in
       let more = lie_after (done ++ name ∷ []) rest (append_snoc done name rest ∙ e) d in

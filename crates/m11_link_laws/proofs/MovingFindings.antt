@@ -3,7 +3,7 @@ use Rattle.std.proofs.Common.{◌≡◌, ℕ, ◌+◌, ◌%◌, sum_by, nat_eq, 
 use Rattle.std.specs.List.{cons_option, filter_map, find}
 use Rattle.std.specs.Map.{keys_of, lookup}
 use Rattle.std.specs.Option.{option_map, unwrap_or}
-use Rattle.m11_modules.specs.Names.{is_name}
+use Rattle.m11_base.specs.Rad50.{is_same_name}
 use Rattle.m11_modules.specs.Parts.{Part}
 use Rattle.m11_modules.specs.Places.{distinct, section_names, sections_in}
 use Rattle.m11_layout.specs.Globals.{definition_value, definitions_of, first_definition, global_defined, global_reported, global_value, globals_of, place_value}
@@ -73,7 +73,7 @@ pub base_is : (bottom distance : ℕ) (parts : List Part) (index : ℕ) (name : 
     ≡ moved distance (moves parts index name) (module_base bottom parts index name)
 unfolding module_base contribution_base
 base_is bottom distance parts index name =
-    let entered = lookup (is_name name) (sections_in (module_at parts index)) in
+    let entered = lookup (is_same_name name) (sections_in (module_at parts index)) in
     let offset = offset_after (first_attributes parts name) (sizes_of (modules_before parts index) name) in
     ap (λ base. base_entered entered (base + offset) % 65536) (section_is bottom distance parts name)
     ∙ entered_by entered (section_moves parts name) distance (section_base bottom parts name) offset

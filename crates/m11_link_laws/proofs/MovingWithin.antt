@@ -10,13 +10,14 @@ use Rattle.std.proofs.lemmas.List.Folds.{list_any-append}
 use Rattle.std.proofs.lemmas.List.Sums.{sum_by-append}
 use Rattle.std.proofs.lemmas.Map.Made.{is_some-lookup}
 use Rattle.indexmap.specs.IndexSet.{insert_key}
-use Rattle.m11_modules.specs.Names.{is_name}
+use Rattle.m11_base.specs.Rad50.{is_same_name}
+use Rattle.m11_base.proofs.SameNames.{same_name_equal}
 use Rattle.m11_modules.specs.Parts.{Part}
 use Rattle.m11_modules.specs.Places.{distinct, distinct_after, modules_in, section_in, section_names, sections_in}
 use Rattle.m11_layout.specs.Modules.{module_at, modules_before}
 use Rattle.m11_layout.specs.Sections.{base_entered, contribution_base, ends_too_high, first_attributes, greatest, is_overlaid, is_relocatable, is_too_large, module_base, rounded, section_base, section_size, size_under, sizes_of}
 use Rattle.m11_layout.proofs.PlannedBases.{none_high}
-use Rattle.m11_layout.proofs.Finding.{is_name_same, lookup_append}
+use Rattle.m11_layout.proofs.Finding.{lookup_append}
 use Rattle.m11_layout.proofs.Offsets.{earlier_sizes_more, entered_at, entered_more, reported_where}
 use Rattle.m11_layout.proofs.Sizing.{sizes_more}
 use Rattle.m11_layout.proofs.Walking.{grown}
@@ -36,45 +37,45 @@ or_right : (b c : Bool) → c ≡ true → (b || c) ≡ true
 or_right true c e = refl
 or_right false c e = e
 
-inserted_keeps : (name : Name) (seen : List Name) (other : Name) → list_any (is_name name) seen ≡ true
-    → list_any (is_name name) (insert_key is_name seen other) ≡ true
-inserted_keeps name seen other e = by (list_any (is_name other) seen)
+inserted_keeps : (name : Name) (seen : List Name) (other : Name) → list_any (is_same_name name) seen ≡ true
+    → list_any (is_same_name name) (insert_key is_same_name seen other) ≡ true
+inserted_keeps name seen other e = by (list_any (is_same_name other) seen)
   where
-    by : (b : Bool) → list_any (is_name name) (if b then seen else seen ++ other ∷ []) ≡ true
+    by : (b : Bool) → list_any (is_same_name name) (if b then seen else seen ++ other ∷ []) ≡ true
     by true = e
     by false =
-        list_any-append (is_name name) seen (other ∷ [])
-        ∙ or_left (list_any (is_name name) seen) (list_any (is_name name) (other ∷ [])) e
+        list_any-append (is_same_name name) seen (other ∷ [])
+        ∙ or_left (list_any (is_same_name name) seen) (list_any (is_same_name name) (other ∷ [])) e
 
-inserted_comes : (name : Name) (seen : List Name) (other : Name) → is_name name other ≡ true
-    → list_any (is_name name) (insert_key is_name seen other) ≡ true
-inserted_comes name seen other e = by (list_any (is_name other) seen) refl
+inserted_comes : (name : Name) (seen : List Name) (other : Name) → is_same_name name other ≡ true
+    → list_any (is_same_name name) (insert_key is_same_name seen other) ≡ true
+inserted_comes name seen other e = by (list_any (is_same_name other) seen) refl
   where
-    by : (b : Bool) → list_any (is_name other) seen ≡ b
-        → list_any (is_name name) (if b then seen else seen ++ other ∷ []) ≡ true
-    by true f = ap (λ one. list_any (is_name one) seen) (is_name_same name other e) ∙ f
+    by : (b : Bool) → list_any (is_same_name other) seen ≡ b
+        → list_any (is_same_name name) (if b then seen else seen ++ other ∷ []) ≡ true
+    by true f = ap (λ one. list_any (is_same_name one) seen) (same_name_equal name other e) ∙ f
     by false f =
-        list_any-append (is_name name) seen (other ∷ [])
-        ∙ or_right (list_any (is_name name) seen) (list_any (is_name name) (other ∷ []))
-        (or_left (is_name name other) false e)
+        list_any-append (is_same_name name) seen (other ∷ [])
+        ∙ or_right (list_any (is_same_name name) seen) (list_any (is_same_name name) (other ∷ []))
+        (or_left (is_same_name name other) false e)
 
-distinct_keeps : (name : Name) (seen names : List Name) → list_any (is_name name) seen ≡ true
-    → list_any (is_name name) (distinct_after seen names) ≡ true
+distinct_keeps : (name : Name) (seen names : List Name) → list_any (is_same_name name) seen ≡ true
+    → list_any (is_same_name name) (distinct_after seen names) ≡ true
 distinct_keeps name seen [] e = e
 distinct_keeps name seen (other ∷ names) e =
-    distinct_keeps name (insert_key is_name seen other) names (inserted_keeps name seen other e)
+    distinct_keeps name (insert_key is_same_name seen other) names (inserted_keeps name seen other e)
 
-distinct_comes : (name : Name) (seen names : List Name) → list_any (is_name name) names ≡ true
-    → list_any (is_name name) (distinct_after seen names) ≡ true
+distinct_comes : (name : Name) (seen names : List Name) → list_any (is_same_name name) names ≡ true
+    → list_any (is_same_name name) (distinct_after seen names) ≡ true
 distinct_comes name seen [] e = absurd (true≢false (sym e))
 distinct_comes name seen (other ∷ names) e =
-    by (is_name name other) refl e (λ h. distinct_comes name (insert_key is_name seen other) names h)
+    by (is_same_name name other) refl e (λ h. distinct_comes name (insert_key is_same_name seen other) names h)
   where
-    by : (b : Bool) → is_name name other ≡ b → (b || list_any (is_name name) names) ≡ true
-        → (list_any (is_name name) names ≡ true
-        → list_any (is_name name) (distinct_after (insert_key is_name seen other) names) ≡ true)
-        → list_any (is_name name) (distinct_after (insert_key is_name seen other) names) ≡ true
-    by true f e rest = distinct_keeps name (insert_key is_name seen other) names (inserted_comes name seen other f)
+    by : (b : Bool) → is_same_name name other ≡ b → (b || list_any (is_same_name name) names) ≡ true
+        → (list_any (is_same_name name) names ≡ true
+        → list_any (is_same_name name) (distinct_after (insert_key is_same_name seen other) names) ≡ true)
+        → list_any (is_same_name name) (distinct_after (insert_key is_same_name seen other) names) ≡ true
+    by true f e rest = distinct_keeps name (insert_key is_same_name seen other) names (inserted_comes name seen other f)
     by false f e rest = rest e
 
 -- what no part enters no module enters
@@ -86,23 +87,23 @@ none_right : (first rest : Option ℕ) → option_or first rest ≡ None → res
 none_right None rest e = e
 none_right (Some x) rest e = search
 
-reported_none : (b : Bool) (part : Part) (name : Name) → lookup (is_name name) (filter_map section_in (part ∷ [])) ≡ None
-    → lookup (is_name name) (reported_where b part) ≡ None
+reported_none : (b : Bool) (part : Part) (name : Name) → lookup (is_same_name name) (filter_map section_in (part ∷ [])) ≡ None
+    → lookup (is_same_name name) (reported_where b part) ≡ None
 reported_none true part name e = e
 reported_none false part name e = refl
 
 abbrev Unentered : List Part → Type 0
-Unentered parts = (index : ℕ) (name : Name) → lookup (is_name name) (filter_map section_in parts) ≡ None
+Unentered parts = (index : ℕ) (name : Name) → lookup (is_same_name name) (filter_map section_in parts) ≡ None
     → entered_at parts index name ≡ None
 
 unentered_more : (before : List Part) (part : Part) → Unentered before → Unentered (before ++ part ∷ [])
 unentered_more before part h index name e =
-    let both = sym (lookup_append (is_name name) (filter_map section_in before) (filter_map section_in (part ∷ [])))
-    ∙ ap (λ reported. lookup (is_name name) reported) (sym (filter_map-append section_in before (part ∷ []))) ∙ e in
-    let first = none_left (lookup (is_name name) (filter_map section_in before))
-    (lookup (is_name name) (filter_map section_in (part ∷ []))) both in
-    let last = none_right (lookup (is_name name) (filter_map section_in before))
-    (lookup (is_name name) (filter_map section_in (part ∷ []))) both in
+    let both = sym (lookup_append (is_same_name name) (filter_map section_in before) (filter_map section_in (part ∷ [])))
+    ∙ ap (λ reported. lookup (is_same_name name) reported) (sym (filter_map-append section_in before (part ∷ []))) ∙ e in
+    let first = none_left (lookup (is_same_name name) (filter_map section_in before))
+    (lookup (is_same_name name) (filter_map section_in (part ∷ []))) both in
+    let last = none_right (lookup (is_same_name name) (filter_map section_in before))
+    (lookup (is_same_name name) (filter_map section_in (part ∷ []))) both in
     entered_more before part index name
     ∙ ap₂ (λ one other. option_or one other) (h index name first)
     (reported_none (nat_eq (modules_in before) index) part name last)
@@ -120,12 +121,12 @@ entered_somewhere None entered h e = absurd (true≢false (sym e ∙ ap is_some 
 entered_somewhere (Some x) entered h e = refl
 
 is_section : (parts : List Part) (index : ℕ) (name : Name) → is_some (entered_at parts index name) ≡ true
-    → list_any (is_name name) (section_names parts) ≡ true
+    → list_any (is_same_name name) (section_names parts) ≡ true
 unfolding section_names distinct sections_in
 is_section parts index name e =
     distinct_comes name [] (keys_of (filter_map section_in parts))
-    (sym (is_some-lookup (is_name name) (filter_map section_in parts))
-    ∙ entered_somewhere (lookup (is_name name) (filter_map section_in parts)) (entered_at parts index name)
+    (sym (is_some-lookup (is_same_name name) (filter_map section_in parts))
+    ∙ entered_somewhere (lookup (is_same_name name) (filter_map section_in parts)) (entered_at parts index name)
     (unentered parts index name) e)
 
 -- ---- a contribution begins within its section

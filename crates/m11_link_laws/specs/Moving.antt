@@ -5,12 +5,11 @@
 use Rattle.std.specs.Prelude.{◌≡◌, ℕ, ◌+◌, ◌-◌, ◌%◌, Bool, true, false, ◌&&◌, ◌||◌, not, nat_le, nat_lt, List, [], ◌∷◌, ◌++◌, length, map, option_map, is_some, Option, Some, None, if◌then◌else◌}
 use Rattle.std.specs.List.{find, list_all}
 use Rattle.std.specs.Map.{lookup}
-use Rattle.m11_base.specs.Rad50.{Name}
+use Rattle.m11_base.specs.Rad50.{Name, is_same_name}
 use Rattle.m11_blocks.specs.Frames.{word_bytes}
 use Rattle.m11_obj.specs.declared.relocations.Relocation.{Relocation}
 use Rattle.m11_obj.specs.declared.relocations.Target.{Target}
 use Rattle.m11_obj.specs.declared.relocations.Target.TheVariants as target
-use Rattle.m11_modules.specs.Names.{is_name}
 use Rattle.m11_modules.specs.Parts.{Part, Text}
 use Rattle.m11_modules.specs.Places.{current_section, modules_in, sections_in, this_module}
 use Rattle.m11_modules.specs.Rules.{lies_within, width_of}
@@ -39,7 +38,7 @@ section_moves parts name = is_relocatable (first_attributes parts name)
 -- the contribution of the module of an index, where the module enters the section; where it doesn't, it stands at 0
 abbrev pub moves : List Part → ℕ → Name → Bool
 moves parts index name =
-    is_some (lookup (is_name name) (sections_in (module_at parts index))) && section_moves parts name
+    is_some (lookup (is_same_name name) (sections_in (module_at parts index))) && section_moves parts name
 
 -- a global, with the contribution that its first definition stands after
 abbrev pub place_moves : List Part → ℕ → GlobalPlace → Bool

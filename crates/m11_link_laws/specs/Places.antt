@@ -3,8 +3,7 @@
 use Rattle.std.specs.Prelude.{ℕ, ◌+◌, Bool, List, [], ◌∷◌, Option}
 use Rattle.std.specs.List.{filter}
 use Rattle.std.specs.Map.{lookup}
-use Rattle.m11_base.specs.Rad50.{Name}
-use Rattle.m11_modules.specs.Names.{is_name}
+use Rattle.m11_base.specs.Rad50.{Name, is_same_name}
 use Rattle.m11_modules.specs.Parts.{Part}
 use Rattle.m11_modules.specs.Places.{section_names, sections_in}
 use Rattle.m11_layout.specs.Modules.{module_at}
@@ -34,4 +33,4 @@ span_of bottom parts name = record { base = section_base bottom parts name; size
 
 -- the size of a section in the module of an index, if that module enters it
 abbrev pub size_entered : List Part → ℕ → Name → Option ℕ
-size_entered parts index name = lookup (is_name name) (sections_in (module_at parts index))
+size_entered parts index name = lookup (is_same_name name) (sections_in (module_at parts index))

@@ -9,10 +9,10 @@ use Rattle.std.proofs.lemmas.List.Elements.{filter_map-append}
 use Rattle.indexmap.specs.IndexMap.{insert_entry}
 use Rattle.indexmap.specs.IndexSet.{insert_key}
 use Rattle.indexmap.proofs.MapLemmas.{insert_entry-absent, absent_from_lookup}
+use Rattle.m11_base.specs.Rad50.{is_same_name}
+use Rattle.m11_base.specs.Names.{absolute_name}
 use Rattle.m11_modules.specs.declared.stage.Stage.{Stage}
 use Rattle.m11_modules.specs.declared.stage.Stage.TheVariants.{Between, InDirectory, InBody}
-use Rattle.m11_obj.specs.Names.{absolute_name}
-use Rattle.m11_modules.specs.Names.{is_name}
 use Rattle.m11_modules.specs.Parts.{Part, Directory, Entry, EndOfDirectory, Text, Relocations, Relocated, EndOfModule, EndOfFile}
 use Rattle.m11_obj.specs.declared.gsd.GsdEntry.{GsdEntry}
 use Rattle.m11_obj.specs.declared.gsd.GsdKind.{GsdKind}
@@ -123,7 +123,7 @@ length_append before (EndOfFile ∷ parts) part = length_append before parts par
 
 distinct_append : (seen names more : List (ℕ × ℕ)) → distinct_after seen (names ++ more) ≡ distinct_after (distinct_after seen names) more
 distinct_append seen [] more = refl
-distinct_append seen (name ∷ names) more = distinct_append (insert_key is_name seen name) names more
+distinct_append seen (name ∷ names) more = distinct_append (insert_key is_same_name seen name) names more
 
 globals_append : (parts : List Part) (part : Part)
     → global_names (parts ++ part ∷ []) ≡ distinct_after (global_names parts) (filter_map global_in (part ∷ []))
@@ -188,10 +188,10 @@ enters_none : (known : Known) (stage : Stage) (sections globals : List (ℕ × �
 enters_none known stage sections globals section text = rw (add_zero known.modules, append-nil known.entered)
 
 -- a section that is entered for the first time in its module
-enters : (known : Known) (entry : GsdEntry) → first_there ((is_some (lookup (is_name entry.name) known.entered), BadOrder) ∷ (is_past most_sections known.sections entry.name, TooManySections) ∷ []) ≡ None
-    → known.entered ++ (entry.name, entry.value) ∷ [] ≡ insert_entry is_name known.entered entry.name entry.value
-enters known entry e = sym (insert_entry-absent is_name entry.name entry.value known.entered
-    (absent_from_lookup (is_name entry.name) known.entered (none_there (lookup (is_name entry.name) known.entered) ((is_past most_sections known.sections entry.name, TooManySections) ∷ []) e)))
+enters : (known : Known) (entry : GsdEntry) → first_there ((is_some (lookup (is_same_name entry.name) known.entered), BadOrder) ∷ (is_past most_sections known.sections entry.name, TooManySections) ∷ []) ≡ None
+    → known.entered ++ (entry.name, entry.value) ∷ [] ≡ insert_entry is_same_name known.entered entry.name entry.value
+enters known entry e = sym (insert_entry-absent is_same_name entry.name entry.value known.entered
+    (absent_from_lookup (is_same_name entry.name) known.entered (none_there (lookup (is_same_name entry.name) known.entered) ((is_past most_sections known.sections entry.name, TooManySections) ∷ []) e)))
 
 entry_after : (kind : GsdKind) (entry : GsdEntry) (known : Known) → entry_fault kind entry known.entered known.sections known.globals ≡ None
     → with_parts known known.stage (distinct_after known.sections (keys_of (cons_option (section_by kind entry) [])))
@@ -204,7 +204,7 @@ entry_after ModuleName entry known e = enters_none known known.stage known.secti
 entry_after InternalSymbol entry known e = enters_none known known.stage known.sections known.globals known.section known.text
 entry_after TransferAddress entry known e = enters_none known known.stage known.sections known.globals known.section known.text
 entry_after GlobalSymbol entry known e =
-    enters_none known known.stage known.sections (insert_key is_name known.globals entry.name) known.section known.text
+    enters_none known known.stage known.sections (insert_key is_same_name known.globals entry.name) known.section known.text
 entry_after Identification entry known e = enters_none known known.stage known.sections known.globals known.section known.text
 
 target_after : (global : Option (ℕ × ℕ)) (section : ℕ × ℕ) (known : Known)
@@ -213,7 +213,7 @@ target_after : (global : Option (ℕ × ℕ)) (section : ℕ × ℕ) (known : Kn
     ≡ with_optional_global global (record known { section = section })
 target_after None section known = enters_none known known.stage known.sections known.globals section known.text
 target_after (Some name) section known =
-    enters_none known known.stage known.sections (insert_key is_name known.globals name) section known.text
+    enters_none known known.stage known.sections (insert_key is_same_name known.globals name) section known.text
 
 part_after : (known : Known) (part : Part) → ends_module part ≡ false → fault_known known part ≡ None → going_on known part ≡ known_after known part
 unfolding known_after modules_in fault_known

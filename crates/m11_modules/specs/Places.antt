@@ -6,7 +6,8 @@ use Rattle.std.specs.List.{filter_map, list_any}
 use Rattle.std.specs.Map.{keys_of, lookup}
 use Rattle.std.specs.Option.{option_or}
 use Rattle.indexmap.specs.IndexSet.{insert_key}
-use Rattle.m11_base.specs.Rad50.{Name}
+use Rattle.m11_base.specs.Rad50.{Name, is_same_name}
+use Rattle.m11_base.specs.Names.{absolute_name}
 use Rattle.m11_obj.specs.declared.gsd.GsdEntry.{GsdEntry}
 use Rattle.m11_obj.specs.declared.gsd.GsdKind.{GsdKind}
 use Rattle.m11_obj.specs.declared.gsd.GsdKind.TheVariants.{ControlSection, GlobalSymbol, ProgramSection}
@@ -14,8 +15,6 @@ use Rattle.m11_obj.specs.declared.relocations.Target.{Target}
 use Rattle.m11_obj.specs.declared.relocations.Target.TheVariants as target
 use Rattle.m11_modules.specs.declared.stage.Stage.{Stage}
 use Rattle.m11_modules.specs.declared.stage.Stage.TheVariants.{Between, InDirectory, InBody}
-use Rattle.m11_obj.specs.Names.{absolute_name}
-use Rattle.m11_modules.specs.Names.{is_name}
 use Rattle.m11_modules.specs.Parts.{Part, Directory, Entry, EndOfDirectory, Text, Relocated, EndOfModule}
 
 -- ---- modules
@@ -65,7 +64,7 @@ sections_in parts = filter_map section_in parts
 -- the size of a section that a module knows: one that it entered, or else `. ABS.`, of which it then has nothing
 abbrev pub size_known : List (Name × ℕ) → Name → Option ℕ
 size_known sections name =
-    option_or (lookup (is_name name) sections) (if is_name name absolute_name then Some 0 else None)
+    option_or (lookup (is_same_name name) sections) (if is_same_name name absolute_name then Some 0 else None)
 
 -- the section that a location counter definition selects
 abbrev pub selected_by : Name → Target → Name
@@ -97,7 +96,7 @@ text_length parts = length_after None parts
 -- names in order of first appearance, each once
 abbrev pub distinct_after : List Name → List Name → List Name
 distinct_after seen [] = seen
-distinct_after seen (name ∷ names) = distinct_after (insert_key is_name seen name) names
+distinct_after seen (name ∷ names) = distinct_after (insert_key is_same_name seen name) names
 
 unfoldable pub distinct : List Name → List Name
 distinct names = distinct_after [] names

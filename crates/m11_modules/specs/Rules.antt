@@ -5,7 +5,7 @@ use Rattle.std.specs.Prelude.{ℕ, ◌+◌, ◌<◌, ◌≤◌, ◌&&◌, not, n
 use Rattle.std.specs.Int.RustNames.{bit_and}
 use Rattle.std.specs.Option.{is_none, is_some, option_or, unwrap_or}
 use Rattle.std.specs.Map.{lookup}
-use Rattle.m11_base.specs.Rad50.{Name}
+use Rattle.m11_base.specs.Rad50.{Name, is_same_name}
 use Rattle.m11_obj.specs.declared.gsd.GsdEntry.{GsdEntry}
 use Rattle.m11_obj.specs.declared.gsd.GsdKind.{GsdKind}
 use Rattle.m11_obj.specs.declared.gsd.GsdKind.TheVariants.{ControlSection, TransferAddress, GlobalSymbol, ProgramSection}
@@ -14,7 +14,7 @@ use Rattle.m11_obj.specs.declared.relocations.Target.{Target}
 use Rattle.m11_obj.specs.declared.relocations.Target.TheVariants as target
 use Rattle.m11_modules.specs.declared.fault.ModuleFault.{ModuleFault}
 use Rattle.m11_modules.specs.declared.fault.ModuleFault.TheVariants.{BadOrder, NoText, BadDisplacement, UnknownSection, TextOutside, TooManyGlobals, TooManySections, TooManyModules}
-use Rattle.m11_modules.specs.Names.{is_among, is_name}
+use Rattle.m11_modules.specs.Names.{is_among}
 use Rattle.m11_modules.specs.Parts.{Part, Directory, Entry, EndOfDirectory, Text, Relocations, Relocated, EndOfModule, EndOfFile}
 use Rattle.m11_modules.specs.Places.{Known, known_of, size_known}
 use Rattle.m11_modules.specs.declared.stage.Stage.{Stage}
@@ -79,7 +79,7 @@ defines_relocatable entry = defines entry && has_bits 0o40 entry.flags
 -- a section is entered once in a module
 abbrev pub entering_fault : List (Name × ℕ) → List Name → Name → Option ModuleFault
 entering_fault entered sections name = first_there
-    ((is_some (lookup (is_name name) entered), BadOrder) ∷ (is_past most_sections sections name, TooManySections) ∷ [])
+    ((is_some (lookup (is_same_name name) entered), BadOrder) ∷ (is_past most_sections sections name, TooManySections) ∷ [])
 
 -- a section that is named has to be known
 abbrev pub section_fault : List (Name × ℕ) → Name → Option ModuleFault

@@ -4,7 +4,8 @@ use Rattle.std.specs.Prelude.{◌≡◌, ◌+◌, List, [], ◌∷◌, length, �
 use Rattle.std.specs.Option.{option_or}
 use Rattle.indexmap.specs.IndexMap.{insert_entry}
 use Rattle.indexmap.specs.IndexSet.{insert_key}
-use Rattle.m11_base.specs.Rad50.{Name}
+use Rattle.m11_base.specs.Rad50.{Name, is_same_name}
+use Rattle.m11_base.specs.Names.{absolute_name}
 use Rattle.m11_obj.specs.declared.gsd.GsdEntry.{GsdEntry}
 use Rattle.m11_obj.specs.declared.gsd.GsdKind.{GsdKind}
 use Rattle.m11_obj.specs.declared.gsd.GsdKind.TheVariants.{ControlSection, GlobalSymbol, ProgramSection}
@@ -12,20 +13,18 @@ use Rattle.m11_obj.specs.declared.relocations.Target.{Target}
 use Rattle.m11_modules.specs.declared.fault.ModuleFault.{ModuleFault}
 use Rattle.m11_modules.specs.declared.fault.ModuleFault.TheVariants.{NoMemory}
 use Rattle.m11_modules.specs.declared.stage.Stage.TheVariants.{Between, InDirectory, InBody}
-use Rattle.m11_obj.specs.Names.{absolute_name}
-use Rattle.m11_modules.specs.Names.{is_name}
 use Rattle.m11_modules.specs.Parts.{Part, Directory, Entry, EndOfDirectory, Text, Relocations, Relocated, EndOfModule, EndOfFile}
 use Rattle.m11_modules.specs.Places.{Known, selected_by, global_of}
 use Rattle.m11_modules.specs.Rules.{fault_known}
 
 abbrev pub with_section : GsdEntry → Known → Known
 with_section entry known = record known {
-  sections = insert_key is_name known.sections entry.name;
-  entered = insert_entry is_name known.entered entry.name entry.value;
+  sections = insert_key is_same_name known.sections entry.name;
+  entered = insert_entry is_same_name known.entered entry.name entry.value;
 }
 
 abbrev pub with_global : Name → Known → Known
-with_global name known = record known { globals = insert_key is_name known.globals name }
+with_global name known = record known { globals = insert_key is_same_name known.globals name }
 
 abbrev pub with_entry : GsdKind → GsdEntry → Known → Known
 with_entry ControlSection entry known = with_section entry known

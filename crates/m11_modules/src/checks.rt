@@ -8,8 +8,8 @@ use crate::fault::ModuleFault;
 use crate::stage::Stage;
 use bitflags::Flags;
 use indexmap::{IndexMap, IndexSet};
-use m11_base::Name;
-use m11_obj::{GsdEntry, GsdKind, Relocation, SymbolFlags, Target, absolute_section};
+use m11_base::{Name, absolute_section};
+use m11_obj::{GsdEntry, GsdKind, Relocation, SymbolFlags, Target};
 
 /// The most modules of a link.
 pub(crate) const MOST_MODULES: usize = 32;

@@ -11,8 +11,8 @@ use crate::checks::{check_begin, check_entry, check_relocation, check_text, size
 use crate::fault::ModuleFault;
 use crate::stage::Stage;
 use indexmap::{IndexMap, IndexSet};
-use m11_base::Name;
-use m11_obj::{GsdEntry, GsdKind, Record, RecordKind, Relocation, Target, absolute_section};
+use m11_base::{Name, absolute_section};
+use m11_obj::{GsdEntry, GsdKind, Record, RecordKind, Relocation, Target};
 use std::alloc::Global;
 use std::marker::Model;
 

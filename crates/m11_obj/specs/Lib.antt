@@ -1,7 +1,6 @@
 pub mod Commands
 pub mod Fault
 pub mod Gsd
-pub mod Names
 pub mod Reading
 pub mod Records
 pub mod Relocations

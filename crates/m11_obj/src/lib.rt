@@ -7,7 +7,6 @@ mod commands;
 mod fault;
 mod flags;
 mod gsd;
-mod names;
 mod reading;
 mod records;
 mod relocation_walk;
@@ -20,7 +19,6 @@ pub use m11_blocks::{
     Block, BlockFault, BlockReader, TapeFault, TapePart, TapeReader, block_bytes, blocks_are_read,
     tape_block, tape_transfer, tapes_are_read,
 };
-pub use names::absolute_section;
 pub use records::{Record, RecordKind, read_record, record_bytes};
 pub use relocation_walk::Relocations;
 pub use relocations::{Relocation, Target};

@@ -5,10 +5,11 @@ use Rattle.std.specs.List.{flat_map, list_all}
 use Rattle.std.specs.Option.{option_to_list}
 use Rattle.std.proofs.lemmas.List.{append-nil}
 use Rattle.std.proofs.lemmas.List.Folds.{list_all-append}
+use Rattle.m11_base.specs.Names.{absolute_name}
+use Rattle.m11_base.proofs.SameNames.{same_name_equal}
 use Rattle.m11_obj.specs.declared.relocations.Relocation.{Relocation}
 use Rattle.m11_obj.specs.declared.relocations.Target.{Target}
 use Rattle.m11_obj.specs.declared.relocations.Target.TheVariants.{Internal, Global, InternalDisplaced, GlobalDisplaced, GlobalAdditive, GlobalAdditiveDisplaced, LocationCounterDefinition, LocationCounterModification, ProgramLimits, Section, SectionDisplaced, SectionAdditive, SectionAdditiveDisplaced}
-use Rattle.m11_obj.specs.Names.{absolute_name}
 use Rattle.m11_obj.specs.Records.{Content, Text}
 use Rattle.m11_object_text.specs.declared.pieces.Piece.{Piece}
 use Rattle.m11_object_text.specs.declared.pieces.PieceContent.{PieceContent}
@@ -18,7 +19,7 @@ use Rattle.m11_object_text.specs.declared.pieces.RelocationKind.TheVariants as k
 use Rattle.m11_object_text.specs.Pieces.{relocation, relocation_at, relocations_from, size_of, target_of}
 use Rattle.m11_object_text.specs.Reading.{AreReadAgain, ReadText, as_read, is_stored, relocations_after, section_after, selected, stores, texts_read}
 use Rattle.m11_object_text.specs.Texts.{cutting, is_in_section, records_of, relocation_records, selection, text_of, texts_after}
-use Rattle.m11_object_text.proofs.TextCuts.{left_of, right_of, same_words}
+use Rattle.m11_object_text.proofs.TextCuts.{left_of, right_of}
 
 -- ---- relocations of pieces store something, and select nothing
 
@@ -128,7 +129,7 @@ Agrees (Some before) section = before ≡ section
 in_section : (before : Option (ℕ × ℕ)) (section own : ℕ × ℕ) → is_in_section before own ≡ true → Agrees before section
     → section ≡ own
 in_section None section own e h = absurd (cc)
-in_section (Some before) section own e h = sym h ∙ same_words before own e
+in_section (Some before) section own e h = sym h ∙ same_name_equal before own e
 
 reads_one : (b : Bool) (section own : ℕ × ℕ) (place : ℕ) (bytes : List ℕ) (relocations : List Relocation)
     (more : List Content) → (b ≡ true → section ≡ own) → list_all is_stored relocations ≡ true

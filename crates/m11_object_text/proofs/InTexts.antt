@@ -3,13 +3,14 @@ use Rattle.std.proofs.Common.{◌≡◌, ℕ, ◌+◌, ◌-◌, ◌%◌, ◌<◌
 use Rattle.std.specs.Prelude.{◌&&◌, ◌==◌}
 use Rattle.std.proofs.lemmas.Bool.{eqb-true, leb-true}
 use Rattle.std.proofs.lemmas.List.{length-append}
+use Rattle.m11_base.specs.Rad50.{is_same_name}
 use Rattle.m11_object_text.specs.declared.pieces.Piece.{Piece}
 use Rattle.m11_object_text.specs.declared.pieces.PieceContent.{PieceContent}
 use Rattle.m11_object_text.specs.declared.pieces.PieceContent.TheVariants.{Byte, Word, Limits}
 use Rattle.m11_obj.specs.Relocations.{relocations_bytes}
 use Rattle.m11_object_text.specs.Laws.{HoldsPieces, LiesInText, place_of}
 use Rattle.m11_object_text.specs.Pieces.{content_bytes, last_place, relocations_of, size_of, text_bytes}
-use Rattle.m11_object_text.specs.Texts.{are_contiguous, follows, is_one_text, same_name}
+use Rattle.m11_object_text.specs.Texts.{are_contiguous, follows, is_one_text}
 use Rattle.m11_object_text.proofs.Cutting.{are_cut}
 use Rattle.m11_object_text.proofs.TextCuts.{alone, beginning, left_of, nothing, relocations-append, right_of, text_bytes-append}
 
@@ -34,7 +35,7 @@ place_at place size at h k e = omega arith
 
 is_next : (before piece : Piece) → follows before piece ≡ true → piece.place ≡ last_place before + 1
 is_next before piece e = eqb-true piece.place (last_place before + 1)
-    (right_of (same_name piece.section before.section) (piece.place == last_place before + 1) e)
+    (right_of (is_same_name piece.section before.section) (piece.place == last_place before + 1) e)
 
 placed : (first : Piece) (rest : List Piece) (piece : Piece) (after : List Piece) → piece.place < 65536
     → are_contiguous first (rest ++ piece ∷ after) ≡ true

@@ -3,10 +3,12 @@ use Rattle.std.proofs.Common.{◌≡◌, ℕ, ◌+◌, ◌≤◌, leb, Bool, tru
 use Rattle.std.specs.Prelude.{◌&&◌, ◌==◌}
 use Rattle.std.specs.List.{flat_map}
 use Rattle.std.specs.Option.{option_to_list}
-use Rattle.std.proofs.lemmas.Bool.{eqb-true, false≢true, le-leb, leb-true}
+use Rattle.std.proofs.lemmas.Bool.{false≢true, le-leb, leb-true}
 use Rattle.std.proofs.lemmas.List.{append-nil, length-append}
 use Rattle.std.proofs.lemmas.Grind.{flat_map-append}
 use Rattle.std.proofs.Math.Bool.{and-true}
+use Rattle.m11_base.specs.Rad50.{is_same_name}
+use Rattle.m11_base.proofs.SameNames.{same_name_equal}
 use Rattle.m11_obj.specs.declared.relocations.Relocation.{Relocation}
 use Rattle.m11_obj.specs.declared.relocations.Target.{Target}
 use Rattle.m11_obj.specs.declared.relocations.Target.TheVariants.{Internal, Global, InternalDisplaced, GlobalDisplaced, GlobalAdditive, GlobalAdditiveDisplaced, LocationCounterDefinition, LocationCounterModification, ProgramLimits, Section, SectionDisplaced, SectionAdditive, SectionAdditiveDisplaced}
@@ -17,7 +19,7 @@ use Rattle.m11_object_text.specs.declared.pieces.PieceContent.{PieceContent}
 use Rattle.m11_object_text.specs.declared.pieces.PieceContent.TheVariants.{Byte, Word, Limits}
 use Rattle.m11_object_text.specs.Fronts.{fronts_of}
 use Rattle.m11_object_text.specs.Pieces.{target_of, relocation, content_bytes, size_of, last_place, relocation_at, text_bytes, relocations_from, relocations_of}
-use Rattle.m11_object_text.specs.Texts.{TextParts, same_name, follows, are_contiguous, is_one_text, cutting, place_after, text_of, texts_after, records_of, text_records}
+use Rattle.m11_object_text.specs.Texts.{TextParts, follows, are_contiguous, is_one_text, cutting, place_after, text_of, texts_after, records_of, text_records}
 use Rattle.m11_object_text.specs.OpenText.{relocations_in, takes_in, with_piece, last_section, Stands, records_in}
 use Rattle.m11_object_text.proofs.Cutting.{first_front, the_last_passes, fronts-grown, fronts-opened}
 
@@ -144,23 +146,17 @@ alone x = both_of (leb (length (text_bytes (x ∷ []))) 32)
 
 -- ---- one more piece
 
-pub same_words : (a b : ℕ × ℕ) → same_name a b ≡ true → a ≡ b
-same_words a b e =
-    let first : a.0 ≡ b.0 = eqb-true a.0 b.0 (left_of (a.0 == b.0) (a.1 == b.1) e) in
-    let second : a.1 ≡ b.1 = eqb-true a.1 b.1 (right_of (a.0 == b.0) (a.1 == b.1) e) in
-    ap (λ (n : ℕ). (n, a.1)) first ∙ ap (λ (n : ℕ). (b.0, n)) second
-
 contiguous-push : (first : Piece) (rest : List Piece) (p : Piece) → are_contiguous first rest ≡ true
     → are_contiguous first (rest ++ p ∷ [])
-    ≡ (same_name p.section first.section && (p.place == place_after first rest))
+    ≡ (is_same_name p.section first.section && (p.place == place_after first rest))
 contiguous-push first [] p e = and-true (follows first p)
 contiguous-push first (next ∷ rest) p e =
     let after : Bool = are_contiguous next rest in
     ap (λ (b : Bool). b && are_contiguous next (rest ++ p ∷ [])) (left_of (follows first next) after e)
     ∙ contiguous-push next rest p (right_of (follows first next) after e)
-    ∙ ap (λ (section : ℕ × ℕ). same_name p.section section && (p.place == place_after next rest))
-    (same_words next.section first.section
-    (left_of (same_name next.section first.section) (next.place == last_place first + 1)
+    ∙ ap (λ (section : ℕ × ℕ). is_same_name p.section section && (p.place == place_after next rest))
+    (same_name_equal next.section first.section
+    (left_of (is_same_name next.section first.section) (next.place == last_place first + 1)
     (left_of (follows first next) after e)))
 
 takes_one : (before : Option (ℕ × ℕ)) (first : Piece) (rest : List Piece) (p : Piece)
@@ -182,9 +178,9 @@ takes_one before first rest p e =
     ap (λ (b : Bool). b && (leb (length (text_bytes (front ++ p ∷ []))) 32
     && leb (length (relocations_bytes (relocations_of (front ++ p ∷ [])))) 120))
     (contiguous-push first rest p (left_of (are_contiguous first rest) _ e))
-    ∙ ap (λ (n : ℕ). (same_name p.section first.section && (p.place == place_after first rest)) && (leb n 32
+    ∙ ap (λ (n : ℕ). (is_same_name p.section first.section && (p.place == place_after first rest)) && (leb n 32
     && leb (length (relocations_bytes (relocations_of (front ++ p ∷ [])))) 120)) bytes
-    ∙ ap (λ (n : ℕ). (same_name p.section first.section && (p.place == place_after first rest))
+    ∙ ap (λ (n : ℕ). (is_same_name p.section first.section && (p.place == place_after first rest))
     && (leb (length (text_bytes front) + size_of p) 32 && leb n 120)) relocations
 
 place_after-push : (first : Piece) (rest : List Piece) (p : Piece)

@@ -2,12 +2,13 @@
 use Rattle.std.specs.Prelude.{◌≡◌, ◌==◌, ℕ, ◌+◌, Bool, ◌&&◌, nat_le, List, [], ◌∷◌, ◌++◌, length, Option, Some, None}
 use Rattle.std.specs.List.{flat_map}
 use Rattle.std.specs.Option.{option_to_list}
+use Rattle.m11_base.specs.Rad50.{is_same_name}
 use Rattle.m11_object_text.specs.declared.pieces.Piece.{Piece}
 use Rattle.m11_obj.specs.declared.relocations.Relocation.{Relocation}
 use Rattle.m11_obj.specs.Records.{Content}
 use Rattle.m11_obj.specs.Relocations.{relocations_bytes}
 use Rattle.m11_object_text.specs.Pieces.{content_bytes, size_of, last_place, relocation_at}
-use Rattle.m11_object_text.specs.Texts.{TextParts, most_bytes, most_relocation_bytes, same_name, cutting, text_of, texts_after, records_of}
+use Rattle.m11_object_text.specs.Texts.{TextParts, most_bytes, most_relocation_bytes, cutting, text_of, texts_after, records_of}
 
 -- ---- one piece
 
@@ -17,7 +18,7 @@ relocations_in text piece = option_to_list (relocation_at (4 + length text.bytes
 
 -- a piece comes into a text that it follows directly, while it stays within the limits
 abbrev pub takes_in : TextParts → Piece → Bool
-takes_in text piece = (same_name piece.section text.section && (piece.place == text.next))
+takes_in text piece = (is_same_name piece.section text.section && (piece.place == text.next))
     && (nat_le (length text.bytes + size_of piece) most_bytes
     && nat_le (length (relocations_bytes text.relocations) + length (relocations_bytes (relocations_in text piece)))
     most_relocation_bytes)

@@ -1,11 +1,11 @@
 -- The texts of an object as a linker reads their records. (RT-11 Volume and File Formats Manual, "Object file format", TXT and RLD
 -- blocks.)
 use Rattle.std.specs.Prelude.{◌≡◌, ℕ, Bool, true, false, List, [], ◌∷◌, ◌++◌, map, filter, None}
+use Rattle.m11_base.specs.Names.{absolute_name}
 use Rattle.m11_object_text.specs.declared.pieces.Piece.{Piece}
 use Rattle.m11_obj.specs.declared.relocations.Relocation.{Relocation}
 use Rattle.m11_obj.specs.declared.relocations.Target.{Target}
 use Rattle.m11_obj.specs.declared.relocations.Target.TheVariants.{LocationCounterDefinition, LocationCounterModification}
-use Rattle.m11_obj.specs.Names.{absolute_name}
 use Rattle.m11_obj.specs.Records.{Content, Text, Relocations}
 use Rattle.m11_object_text.specs.Texts.{TextParts, cutting, texts_after, text_records}
 

@@ -2,6 +2,7 @@
 -- file format", TXT and RLD blocks. Where a text ends, and which records stand before and after it, is this project's own.)
 use Rattle.std.specs.Prelude.{◌==◌, ℕ, ◌+◌, Bool, true, false, ◌&&◌, nat_le, if◌then◌else◌, List, [], ◌∷◌, ◌++◌, length, Option, Some, None}
 use Rattle.std.specs.List.{flat_map}
+use Rattle.m11_base.specs.Rad50.{Name, is_same_name}
 use Rattle.m11_object_text.specs.declared.pieces.Piece.{Piece}
 use Rattle.m11_obj.specs.declared.relocations.Relocation.{Relocation}
 use Rattle.m11_obj.specs.declared.relocations.Target.TheVariants.{LocationCounterDefinition}
@@ -12,12 +13,9 @@ use Rattle.m11_object_text.specs.Pieces.{last_place, text_bytes, relocation, rel
 
 -- ---- the cutting
 
-abbrev pub same_name : ℕ × ℕ → ℕ × ℕ → Bool
-same_name one other = (one.0 == other.0) && (one.1 == other.1)
-
 -- a piece stands directly after another one: in its section, at the place after its last byte. Place 000000 doesn't follow 177777
 abbrev pub follows : Piece → Piece → Bool
-follows before piece = same_name piece.section before.section && (piece.place == last_place before + 1)
+follows before piece = is_same_name piece.section before.section && (piece.place == last_place before + 1)
 
 abbrev pub are_contiguous : Piece → List Piece → Bool
 are_contiguous first [] = true
@@ -45,8 +43,8 @@ cutting pieces = fronts_of is_one_text pieces
 -- a text: the section of the text before it, if there is one, its own section, the place of its first byte, the place after its
 -- last one, its bytes and their relocations
 pub record TextParts : Type 0 where
-  pub before : Option (ℕ × ℕ)
-  pub section : ℕ × ℕ
+  pub before : Option Name
+  pub section : Name
   pub place : ℕ
   pub next : ℕ
   pub bytes : List ℕ
@@ -57,7 +55,7 @@ place_after first [] = last_place first + 1
 place_after first (next ∷ rest) = place_after next rest
 
 -- the text of a piece and those after it
-abbrev pub text_of : Option (ℕ × ℕ) → Piece → List Piece → TextParts
+abbrev pub text_of : Option Name → Piece → List Piece → TextParts
 text_of before first rest = record {
   before = before;
   section = first.section;
@@ -67,18 +65,18 @@ text_of before first rest = record {
   relocations = relocations_of (first ∷ rest);
 }
 
-abbrev pub texts_after : Option (ℕ × ℕ) → List (List Piece) → List TextParts
+abbrev pub texts_after : Option Name → List (List Piece) → List TextParts
 texts_after before [] = []
 texts_after before ([] ∷ fronts) = texts_after before fronts
 texts_after before ((first ∷ rest) ∷ fronts) = text_of before first rest ∷ texts_after (Some first.section) fronts
 
 -- whether the text before stands in this section
-abbrev pub is_in_section : Option (ℕ × ℕ) → ℕ × ℕ → Bool
+abbrev pub is_in_section : Option Name → Name → Bool
 is_in_section None section = false
-is_in_section (Some before) section = same_name before section
+is_in_section (Some before) section = is_same_name before section
 
 -- the record that selects a section and a place in it; its displacement means nothing
-abbrev pub selection : ℕ × ℕ → ℕ → Content
+abbrev pub selection : Name → ℕ → Content
 selection section place = Relocations (relocation false 0 (LocationCounterDefinition section place) ∷ [])
 
 -- before the first text, and one of another section than the text before it

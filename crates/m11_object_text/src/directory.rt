@@ -7,8 +7,8 @@ ghost use Rattle.m11_object_text.specs.Blocks.{AreRecords};
 ghost use Rattle.m11_object_text.specs.Directory.{entry, entry_of, definition_flags, reference_flags, Stands, directory_records, written_by};
 
 use bitflags::Flags;
-use m11_base::Name;
-use m11_obj::{Block, GsdEntry, GsdKind, Record, SectionFlags, SymbolFlags, absolute_section};
+use m11_base::{Name, absolute_section};
+use m11_obj::{Block, GsdEntry, GsdKind, Record, SectionFlags, SymbolFlags};
 use std::marker::Model;
 
 /// The most entries of one record.

@@ -8,7 +8,7 @@ ghost use Rattle.m11_blocks.specs.Frames.{word_bytes};
 ghost use Rattle.m11_obj.specs.Relocations.{relocations_bytes};
 ghost use Rattle.m11_object_text.specs.Pieces.{target_of, standing, content_bytes, relocation_at, last_place, size_of};
 ghost use Rattle.m11_object_text.specs.RelocationList.{has_byte_form, has_form};
-ghost use Rattle.m11_object_text.specs.Texts.{same_name, most_bytes};
+ghost use Rattle.m11_object_text.specs.Texts.{most_bytes};
 
 use arrayvec::ArrayVec;
 use byteorder::{ByteOrder, LittleEndian};
@@ -171,11 +171,4 @@ impl Piece {
         let size = self.content.byte_count() as u32;
         (u32::from(place) + (size - 1)) % 65536 + 1
     }
-}
-
-// Whether two names are one.
-pub(crate) fn same_name(one: Name, other: Name) -> bool
-    ensures { result ≡ same_name one other }
-{
-    one.words() == other.words()
 }

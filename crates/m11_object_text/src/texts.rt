@@ -10,7 +10,7 @@ ghost use Rattle.m11_object_text.specs.Pieces.{size_of};
 ghost use Rattle.m11_object_text.specs.RelocationList.{has_form};
 ghost use Rattle.m11_object_text.specs.Texts.{most_bytes, most_relocation_bytes, text_of, selections_of, relocation_records, records_of};
 
-use crate::pieces::{Piece, same_name};
+use crate::pieces::Piece;
 use crate::relocation_list::{MOST_RELOCATION_BYTES, RelocationList};
 use arrayvec::ArrayVec;
 use m11_base::Name;
@@ -95,7 +95,7 @@ impl Text {
     pub(crate) fn takes(&self, piece: &Piece) -> bool
         ensures { result ≡ takes_in self.now piece.now }
     {
-        let is_next = same_name(piece.section, self.section) && u32::from(piece.place) == self.next;
+        let is_next = piece.section.is_same(self.section) && u32::from(piece.place) == self.next;
         let size = self.bytes.len() + piece.content.byte_count();
         let relocations_size = self.relocations.byte_count()
             + relocation_size(self.relocation(piece));
@@ -121,7 +121,7 @@ impl Text {
         ensures { AreRecords (option_to_list result) (selections_of self.now) }
     {
         if let Some(before) = self.before
-            && same_name(before, self.section)
+            && before.is_same(self.section)
         {
             return None;
         }

@@ -1,9 +1,10 @@
 -- What lines define. (MACRO-11 Language Reference Manual, "Symbols", "Direct assignment statements", "Label field" and "Local symbols".
 -- That a further definition of a label's name only makes the name doubled, and which definitions are firm, is this project's own.)
-use Rattle.std.specs.Prelude.{ℕ, ◌==◌, ◌&&◌, Bool, true, false, if◌then◌else◌, List, [], ◌∷◌, map, codes, unwrap_or, Option, Some, None}
+use Rattle.std.specs.Prelude.{ℕ, ◌==◌, ◌&&◌, Bool, true, false, if◌then◌else◌, List, [], ◌∷◌, map, codes, Option, Some, None}
 use Rattle.std.specs.List.{list_any}
 use Rattle.m11_base.specs.Devices.{Bytes}
-use Rattle.m11_base.specs.Rad50.{Name, name_of}
+use Rattle.m11_base.specs.Names.{name_in_words}
+use Rattle.m11_base.specs.Rad50.{Name, is_same_name}
 use Rattle.m11_values.specs.declared.kinds.Kind.{Kind}
 use Rattle.m11_values.specs.declared.kinds.Kind.TheVariants.{Register}
 
@@ -13,7 +14,7 @@ pub data Key : Type 0 where
   Numbered : ℕ → ℕ → Key
 
 abbrev pub is_same : Key → Key → Bool
-is_same (Named one) (Named other) = (one.0 == other.0) && (one.1 == other.1)
+is_same (Named one) (Named other) = is_same_name one other
 is_same (Named one) (Numbered block number) = false
 is_same (Numbered block number) (Named other) = false
 is_same (Numbered block number) (Numbered other_block other) = (block == other_block) && (number == other)
@@ -71,7 +72,7 @@ has_key key keys = list_any (λ other. is_same other key) keys
 
 abbrev pub register_named : Bytes → ℕ → Definition
 register_named name number = record {
-  key = Named (unwrap_or (name_of name) (0, 0));
+  key = Named (name_in_words name);
   standing = Known number Register;
   is_firm = true;
   is_label = false;

@@ -1,7 +1,8 @@
 -- The sections of an assembly, by their numbers. (MACRO-11 Language Reference Manual, "Program section directives". Which attributes
 -- the blank section has is that of `.PSECT` without arguments.)
-use Rattle.std.specs.Prelude.{ℕ, ◌==◌, ◌&&◌, not, Bool, false, true, if◌then◌else◌, List, [], ◌∷◌, codes, position, bit_and, slice_index_or, unwrap_or, Option}
-use Rattle.m11_base.specs.Rad50.{Name, name_of}
+use Rattle.std.specs.Prelude.{ℕ, ◌==◌, not, Bool, false, true, if◌then◌else◌, List, [], ◌∷◌, position, bit_and, slice_index_or, Option}
+use Rattle.m11_base.specs.Names.{absolute_name, blank_name}
+use Rattle.m11_base.specs.Rad50.{Name, is_same_name}
 use Rattle.m11_values.specs.declared.kinds.Kind.{Kind}
 use Rattle.m11_values.specs.declared.kinds.Kind.TheVariants as kind
 
@@ -23,12 +24,6 @@ of_program = 0o040
 abbrev pub of_control : ℕ
 of_control = 0o144
 
-abbrev pub absolute_name : Name
-absolute_name = unwrap_or (name_of (codes ". ABS.")) (0, 0)
-
-abbrev pub blank_name : Name
-blank_name = (0, 0)
-
 -- those that each assembly has; it begins in the blank one
 abbrev pub first_sections : List Section
 first_sections = section absolute_name of_absolute ∷ section blank_name of_program ∷ []
@@ -36,12 +31,9 @@ first_sections = section absolute_name of_absolute ∷ section blank_name of_pro
 abbrev pub first_number : ℕ
 first_number = 1
 
-abbrev pub is_same : Name → Name → Bool
-is_same one other = (one.0 == other.0) && (one.1 == other.1)
-
 -- the number of the section of a name, if it is known
 abbrev pub number_of : Name → List Section → Option ℕ
-number_of name sections = position (λ known. is_same known.name name) sections
+number_of name sections = position (λ known. is_same_name known.name name) sections
 
 -- the section of a number
 abbrev pub numbered : ℕ → List Section → Section

@@ -4,7 +4,7 @@ use Rattle.std.specs.Prelude.{◌&&◌, ◌==◌, if◌then◌else◌, nat_le, n
 use Rattle.std.specs.Option.{is_none}
 use Rattle.std.proofs.lemmas.Bool.Decides.{nat_tests}
 use Rattle.std.proofs.lemmas.List.Sums.{sum_by-append}
-use Rattle.m11_base.specs.Rad50.{Name}
+use Rattle.m11_base.specs.Rad50.{Name, is_same_name}
 use Rattle.m11_arguments.specs.declared.directives.Directive.{Directive}
 use Rattle.m11_arguments.specs.declared.directives.Directive.TheVariants as word
 use Rattle.m11_expansions.specs.Bodies.{size_of}
@@ -15,7 +15,7 @@ use Rattle.m11_expansions.proofs.Stacks.{marks-rounds}
 use Rattle.m11_lines.specs.Line.{SourceLine}
 use Rattle.m11_unfolding.specs.Limits.{body_fault, bytes_of, bytes_taken, closing_fault, fault_from, most_bytes, most_lines, most_macros, next_fault, taking_fault}
 use Rattle.m11_expansions.specs.Left.{most_expansions}
-use Rattle.m11_unfolding.specs.Macros.{defined, is_name, macro_named}
+use Rattle.m11_unfolding.specs.Macros.{defined, macro_named}
 use Rattle.m11_unfolding.specs.Stages.{Macro, Opening, Purpose, Defines, Repeats, Drops, Stage}
 use Rattle.m11_unfolding.specs.Taking.{Move, Rests, Passes, Gives, into_body, line_taken, live_or_skipped, move, move_from, nesting, one_taken, opened, skipped, skipped_by, switch_in, used}
 use Rattle.m11_expansions.specs.Bodies.{depth_after}
@@ -168,7 +168,7 @@ grown : (macros : List (Name × Macro)) (name : Name) (macro : Macro)
     → length (defined macros name macro) ≡ length macros + (if is_none (macro_named macros name) then 1 else 0)
 grown [] name macro = refl
 grown (e ∷ es) name macro =
-    grown_if (is_name name e.0) e es (defined es name macro) macro (macro_named es name) (grown es name macro)
+    grown_if (is_same_name name e.0) e es (defined es name macro) macro (macro_named es name) (grown es name macro)
 
 few_macros : (b : Bool) (held after : ℕ) → after ≡ held + (if b then 1 else 0) → held ≤ most_macros
     → (b && nat_le most_macros held) ≡ false → after ≤ most_macros

@@ -1,18 +1,15 @@
 -- The macros that are defined, by their names. (MACRO-11 Language Reference Manual, "Macro definition": a later definition of a name
 -- takes the place of the earlier one.)
-use Rattle.std.specs.Prelude.{◌==◌, ◌&&◌, Bool, List, Option}
+use Rattle.std.specs.Prelude.{List, Option}
 use Rattle.std.specs.Map.{lookup}
 use Rattle.indexmap.specs.IndexMap.{insert_entry}
-use Rattle.m11_base.specs.Rad50.{Name}
+use Rattle.m11_base.specs.Rad50.{Name, is_same_name}
 use Rattle.m11_unfolding.specs.Stages.{Macro}
-
-abbrev pub is_name : Name → Name → Bool
-is_name one other = (one.0 == other.0) && (one.1 == other.1)
 
 -- the macro of a name, if it is defined
 abbrev pub macro_named : List (Name × Macro) → Name → Option Macro
-macro_named macros name = lookup (is_name name) macros
+macro_named macros name = lookup (is_same_name name) macros
 
 -- the macros after a definition
 abbrev pub defined : List (Name × Macro) → Name → Macro → List (Name × Macro)
-defined macros name macro = insert_entry is_name macros name macro
+defined macros name macro = insert_entry is_same_name macros name macro

@@ -1,5 +1,5 @@
 use Rattle.std.proofs.Common.{◌∙◌, sym}
-use Rattle.m11_obj.proofs.NameWords.{never_none}
+use Rattle.m11_base.proofs.NameWords.{never_none}
 use Rattle.m11_asm.proofs.Names.{main_words}
 use Rattle.m11_asm.proofs.object.main_name.Goals as goal
 

@@ -1,4 +1,4 @@
--- Names that stand in objects by themselves. (MACRO-11 Language Reference Manual, ".ASECT and .CSECT directives".)
+-- Names of the sections that need none in a source: the absolute one, and the blank one. (MACRO-11 Language Reference Manual, ".ASECT and .CSECT directives".)
 use Rattle.std.specs.Prelude.{codes, unwrap_or}
 use Rattle.m11_base.specs.Devices.{Bytes}
 use Rattle.m11_base.specs.Rad50.{Name, name_of}
@@ -10,3 +10,7 @@ name_in_words text = unwrap_or (name_of text) (0, 0)
 -- the section that each module knows, entered or not
 abbrev pub absolute_name : Name
 absolute_name = name_in_words (codes ". ABS.")
+
+-- the section in which assembly begins, and the name of what has none: six blanks
+abbrev pub blank_name : Name
+blank_name = (0, 0)
