@@ -11,6 +11,7 @@ mod fuse;
 mod instruction;
 mod instruction_list;
 mod interrupted;
+mod latch;
 mod memory;
 mod mnemonics;
 mod names;
@@ -32,6 +33,7 @@ pub use instruction::{
     RegisterOp, SingleOp,
 };
 pub use instruction_list::{Row, other_names, rows};
+pub use latch::Latch;
 pub use memory::{MemoryFeed, MemorySink};
 pub use mnemonics::mnemonic;
 pub use names::{absolute_section, blank_name};

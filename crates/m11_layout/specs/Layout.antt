@@ -45,8 +45,3 @@ TakesBlock bottom before new bytes result = TakesParts bottom before new (record
 -- where a fault was returned, it is returned again and nothing changes
 abbrev pub FailsAgain : LayoutState → LayoutState → Result (Unit {0}) LinkFault → Type 0
 FailsAgain old new result = (fault : LinkFault) → old.fault ≡ Some fault → (result ≡ Err fault) × (new ≡ old)
-
--- a fault is kept
-abbrev pub KeepsFault : LayoutState → Result (Unit {0}) LinkFault → Type 0
-KeepsFault new (Ok done) = new.fault ≡ None
-KeepsFault new (Err fault) = new.fault ≡ Some fault

@@ -1,6 +1,7 @@
 //! The first pass of a link: what it gathers, record by record.
 
 ghost use Rattle.std.specs.Prelude.{◌≡◌, ◌≢◌, ◌∷◌, [], ℕ, List, Some, None, Ok, Err, IfErr, IfOk, map};
+ghost use Rattle.std.specs.Result.{result_err};
 ghost use Rattle.m11_obj.specs.Reading.{IsRecord, record_kind, record_relocations};
 ghost use Rattle.m11_modules.specs.Parts.{Part, EndOfFile, Relocated, Relocations, record_parts};
 ghost use Rattle.m11_modules.specs.Places.{global_of};
@@ -8,11 +9,12 @@ ghost use Rattle.m11_modules.specs.Steps.{RulesTake, TakesOne};
 ghost use Rattle.m11_layout.specs.Tables.{gathered_after_all, with_relocated};
 ghost use Rattle.m11_layout.specs.Plan.{LayoutEnds};
 ghost use Rattle.m11_layout.specs.declared.fault.LinkFault.{LinkFault};
-ghost use Rattle.m11_layout.specs.Layout.{FailsAgain, KeepsFault, LayoutStands, TakesBlock, TakesParts};
+ghost use Rattle.m11_layout.specs.Layout.{FailsAgain, LayoutStands, TakesBlock, TakesParts};
 
 use crate::fault::LinkFault;
 use crate::plan::{Plan, plan_of};
 use crate::tables::Tables;
+use m11_base::Latch;
 use m11_modules::{ModuleFault, Rules};
 use m11_obj::{Block, Record, RecordKind, Relocation, read_record};
 use std::alloc::Global;
@@ -25,7 +27,7 @@ pub struct Layout {
     rules: Rules,
     tables: Tables,
     bottom: u16,
-    fault: Option<LinkFault>,
+    fault: Latch<LinkFault>,
 }
 
 impl Model for Layout {
@@ -46,7 +48,7 @@ impl Layout {
             rules: Rules::new(alloc),
             tables: Tables::new(alloc),
             bottom,
-            fault: None,
+            fault: Latch::new(),
         }
     }
 
@@ -59,18 +61,11 @@ impl Layout {
             → TakesBlock bottom before self.new block.now.items result }
         ensures is_record { IfOk result (λ _. IsRecord block.now.items) }
         ensures again { FailsAgain self.old self.new result }
-        ensures kept { KeepsFault self.new result }
+        ensures kept { self.new.fault ≡ result_err result }
     {
-        match self.fault {
-            Some(fault) => Err(fault),
-            None => match self.take_block(block) {
-                Ok(()) => Ok(()),
-                Err(fault) => {
-                    self.fault = Some(fault);
-                    Err(fault)
-                }
-            },
-        }
+        self.fault.check()?;
+        let taken = self.take_block(block);
+        self.fault.keep(taken)
     }
 
     /// Takes the end of an object: `BadOrder` inside a module, and no other fault of its own. After a fault it is
@@ -80,18 +75,11 @@ impl Layout {
             → TakesParts bottom before self.new (EndOfFile ∷ []) result }
         ensures inside { self.old.fault ≡ None → IfErr result (λ fault. fault ≡ LinkFault.BadOrder) }
         ensures again { FailsAgain self.old self.new result }
-        ensures kept { KeepsFault self.new result }
+        ensures kept { self.new.fault ≡ result_err result }
     {
-        match self.fault {
-            Some(fault) => Err(fault),
-            None => match self.take_end() {
-                Ok(()) => Ok(()),
-                Err(fault) => {
-                    self.fault = Some(fault);
-                    Err(fault)
-                }
-            },
-        }
+        self.fault.check()?;
+        let taken = self.take_end();
+        self.fault.keep(taken)
     }
 
     /// The end of the first pass: what it has found, as a plan for the second.
@@ -122,10 +110,8 @@ impl Layout {
             → TakesParts bottom before self.new (EndOfFile ∷ []) result }
         ensures again { (fault : LinkFault) → self.old.fault ≡ Some fault → result ≡ Err fault }
     {
-        match self.fault {
-            Some(fault) => Err(fault),
-            None => self.take_end(),
-        }
+        self.fault.check()?;
+        self.take_end()
     }
 
     // Takes the end of an object where no fault came before.

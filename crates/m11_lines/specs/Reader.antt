@@ -106,8 +106,3 @@ ReadsNext old new (Ok (Some line)) = ReadsLine old new line
 ReadsNext old new (Ok None) = ReadsEnd old new
 ReadsNext old new (Err fault) =
     (given : List (Option ℕ)) × (middle : Place) × Came old middle given × FaultComes middle new fault
-
--- the fault that a reader keeps after such a result
-abbrev pub fault_of : {A : Type 0} → Result A LineFault → Option LineFault
-fault_of (Ok x) = None
-fault_of (Err fault) = Some fault

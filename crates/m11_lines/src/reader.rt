@@ -1,14 +1,15 @@
 //! Reads the lines of sources. (MACRO-11 Language Reference Manual, "Source program format".)
 
 ghost use Rattle.std.specs.Prelude.{◌≡◌, Some, None, Err};
+ghost use Rattle.std.specs.Result.{result_err};
 ghost use Rattle.m11_lines.specs.Lines.{most_bytes, most_lines};
-ghost use Rattle.m11_lines.specs.Reader.{fault_of, place, ReadsNext};
+ghost use Rattle.m11_lines.specs.Reader.{place, ReadsNext};
 
 use crate::fault::LineFault;
 use crate::line::Line;
 use crate::open_line::OpenLine;
 use crate::sources::{LineEnd, read_source};
-use m11_base::Feed;
+use m11_base::{Feed, Latch};
 use std::marker::Model;
 
 /// The most bytes that all sources have together.
@@ -23,7 +24,7 @@ pub struct LineReader {
     source: usize,
     bytes_left: u32,
     lines_left: u32,
-    fault: Option<LineFault>,
+    fault: Latch<LineFault>,
 }
 
 impl Model for LineReader {
@@ -48,7 +49,7 @@ impl LineReader {
             source: 0,
             bytes_left: MOST_BYTES,
             lines_left: MOST_LINES,
-            fault: None,
+            fault: Latch::new(),
         }
     }
 
@@ -60,18 +61,11 @@ impl LineReader {
             → ReadsNext (place F.text F.faults feeds.old self.old) (place F.text F.faults feeds.new self.new) result }
         ensures failed { (fault : LineFault) → self.old.fault ≡ Some fault
             → (result ≡ Err fault) × (self.new ≡ self.old) × (feeds.new ≡ feeds.old) }
-        ensures keeps { self.new.fault ≡ fault_of result }
+        ensures keeps { self.new.fault ≡ result_err result }
     {
-        if let Some(fault) = self.fault {
-            return Err(fault);
-        }
-        match self.read_line(feeds) {
-            Ok(answer) => Ok(answer),
-            Err(fault) => {
-                self.fault = Some(fault);
-                Err(fault)
-            }
-        }
+        self.fault.check()?;
+        let line = self.read_line(feeds);
+        self.fault.keep(line)
     }
 
     fn read_line<F: Feed>(&mut self, feeds: &mut [F]) -> Result<Option<Line>, LineFault>

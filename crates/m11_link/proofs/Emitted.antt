@@ -1,5 +1,5 @@
 -- A second pass that stands after parts, and after more of them.
-use Rattle.std.proofs.Common.{◌≡◌, ℕ, Bool, true, false, if◌then◌else◌, List, [], ◌∷◌, ◌++◌, append_assoc, append-nil, Option, Some, None, Result, Ok, Err, IfOk, IsErrAnd, inl, inr, refl, sym, subst, ap, ap₂, ◌∙◌}
+use Rattle.std.proofs.Common.{◌≡◌, ℕ, Bool, true, false, if◌then◌else◌, List, [], ◌∷◌, ◌++◌, append_assoc, append-nil, Option, Some, None, Result, Ok, Err, IsErrAnd, inl, inr, refl, sym, subst, ap, ap₂, ◌∙◌}
 use Rattle.std.proofs.lemmas.Bool.{false≢true, true≢false}
 use Rattle.std.specs.Prelude.{is_ok}
 use Rattle.m11_obj.specs.Reading.{◌>>=◌, IsRecord, content_of, entries_in, kind_in, record_kind, record_of, record_relocations, relocations_in, text_in}
@@ -581,12 +581,6 @@ stored_more now later target rest following item e i h =
     let P : List Relocation → Type 0 = λ left. relocating left now ≡ target in
     let Q : Reporting → Type 0 = λ t. relocating following t ≡ target in
     subst Q (sym h) (subst P e i)
-
-pub fault_left : {A : Type 0} (a b : Outputs) (ws : List Write) (state expected : Emitting) (kept : Option LinkFault)
-    (result : Result A LinkFault) → Goes a b ws state expected result → expected.fault ≡ kept
-    → IfOk result (λ _. state.fault ≡ kept)
-fault_left a b ws state expected kept (Ok done) h e = ap (λ x. x.fault) h.1 ∙ e
-fault_left a b ws state expected kept (Err stopped) h e = tt
 
 -- ---- a record by its block
 

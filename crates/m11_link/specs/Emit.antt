@@ -250,11 +250,6 @@ abbrev pub FailsAgain : Emitting → Emitting → Outputs → Outputs → Result
 FailsAgain state state' old new result = (stopped : LinkFault) → state.fault ≡ Some stopped
     → (result ≡ Err stopped) × (state' ≡ state) × (new ≡ old)
 
--- a fault is kept
-abbrev pub KeepsFault : Emitting → Result (Unit {0}) LinkFault → Type 0
-KeepsFault state (Ok done) = state.fault ≡ None
-KeepsFault state (Err stopped) = state.fault ≡ Some stopped
-
 -- the end of the second pass: the whole link is written; or the parts end inside a module, and nothing more was
 -- written; or an output failed, or memory was refused
 abbrev pub EmitEnds : Planned → List Part → Outputs → Outputs → Emitting → Result LinkDone LinkFault → Type 0

@@ -1,20 +1,21 @@
 //! The second pass of a link: it writes tape, map and messages while blocks come.
 
 ghost use Rattle.std.specs.Prelude.{◌≡◌, ◌≢◌, ◌∷◌, ◌++◌, [], ℕ, List, Some, None, Ok, Err, IfOk, false, is_some, IfErr};
+ghost use Rattle.std.specs.Result.{result_err};
 ghost use Rattle.m11_obj.specs.Reading.{IsRecord, record_kind, record_relocations};
 ghost use Rattle.m11_blocks.specs.Tapes.{tape_block};
 ghost use Rattle.m11_modules.specs.Parts.{Part, EndOfFile, Relocated, Relocations, record_parts};
 ghost use Rattle.m11_modules.specs.Steps.{RulesTake, TakesOne};
 ghost use Rattle.m11_layout.specs.Plan.{Planned};
 ghost use Rattle.m11_layout.specs.declared.fault.LinkFault.{LinkFault};
-ghost use Rattle.m11_link.specs.Emit.{EmitEnds, EmitStands, FailsAgain, Goes, KeepsFault, TakesBlock, TakesParts, begin_writes, begun_reporting, bytes_writes, call_of, held_with, held_with_all, held_writes, relocated_parts, with_bytes, with_held, with_reporting};
+ghost use Rattle.m11_link.specs.Emit.{EmitEnds, EmitStands, FailsAgain, Goes, TakesBlock, TakesParts, begin_writes, begun_reporting, bytes_writes, call_of, held_with, held_with_all, held_writes, relocated_parts, with_bytes, with_held, with_reporting};
 ghost use Rattle.m11_link_text.specs.Findings.{planned};
 ghost use Rattle.m11_writes.specs.Outputs.{Output, optional_output, output_of};
 ghost use Rattle.m11_link.specs.Outputs.{Writes, outputs, outputs_of, to_tape};
 
 use crate::held::ModuleSection;
 use crate::reporting::Reporter;
-use m11_base::Sink;
+use m11_base::{Latch, Sink};
 use m11_layout::{LinkFault, Plan};
 use m11_modules::{ModuleFault, Rules};
 use m11_obj::{Block, Record, RecordKind, Relocation, read_record};
@@ -34,7 +35,7 @@ pub struct Emit {
     rules: Rules,
     reporter: Reporter,
     has_begun: bool,
-    fault: Option<LinkFault>,
+    fault: Latch<LinkFault>,
 }
 
 impl Model for Emit {
@@ -55,7 +56,7 @@ impl Emit {
             rules: Rules::new(alloc),
             reporter: Reporter::new(alloc, plan),
             has_begun: false,
-            fault: None,
+            fault: Latch::new(),
         }
     }
 
@@ -81,19 +82,12 @@ impl Emit {
             (outputs_of S.Sink T.Sink U.Sink tape.old map.old messages.old)
             (outputs_of S.Sink T.Sink U.Sink tape.new map.new messages.new) result }
         ensures is_record { IfOk result (λ _. IsRecord block.now.items) }
-        ensures kept { KeepsFault self.new result }
+        ensures kept { self.new.fault ≡ result_err result }
         ensures stays { is_some map.new ≡ is_some map.old }
     {
-        match self.fault {
-            Some(fault) => Err(fault),
-            None => match self.take_block(block, tape, map, messages) {
-                Ok(()) => Ok(()),
-                Err(fault) => {
-                    self.fault = Some(fault);
-                    Err(fault)
-                }
-            },
-        }
+        self.fault.check()?;
+        let taken = self.take_block(block, tape, map, messages);
+        self.fault.keep(taken)
     }
 
     /// Takes the end of an object: `BadOrder` inside a module, `Write` where the map or the messages failed. It takes no
@@ -112,21 +106,14 @@ impl Emit {
         ensures again { FailsAgain self.old self.new
             (outputs_of S.Sink T.Sink U.Sink tape.old map.old messages.old)
             (outputs_of S.Sink T.Sink U.Sink tape.new map.new messages.new) result }
-        ensures kept { KeepsFault self.new result }
+        ensures kept { self.new.fault ≡ result_err result }
         ensures stays { is_some map.new ≡ is_some map.old }
         ensures untouched { tape.new ≡ tape.old }
         ensures no_memory { self.old.fault ≡ None → IfErr result (λ fault. fault ≢ LinkFault.NoMemory) }
     {
-        match self.fault {
-            Some(fault) => Err(fault),
-            None => match self.take_end(map, messages) {
-                Ok(()) => Ok(()),
-                Err(fault) => {
-                    self.fault = Some(fault);
-                    Err(fault)
-                }
-            },
-        }
+        self.fault.check()?;
+        let taken = self.take_end(map, messages);
+        self.fault.keep(taken)
     }
 
     /// The end of the second pass: the transfer block is written.
@@ -170,13 +157,9 @@ impl Emit {
             ≡ outputs_of S.Sink T.Sink U.Sink tape.old map.old messages.old) }
         ensures stays { is_some map.new ≡ is_some map.old }
     {
-        match self.fault {
-            Some(fault) => Err(fault),
-            None => {
-                self.rules.end_of_file()?;
-                self.write_transfer(tape, map, messages)
-            }
-        }
+        self.fault.check()?;
+        self.rules.end_of_file()?;
+        self.write_transfer(tape, map, messages)
     }
 
     // Takes one block where no fault came before.
@@ -193,7 +176,7 @@ impl Emit {
             (outputs_of S.Sink T.Sink U.Sink tape.new map.new messages.new)
             self.old self.new) block.now.items result }
         ensures is_record { IfOk result (λ _. IsRecord block.now.items) }
-        ensures kept { IfOk result (λ _. self.new.fault ≡ self.old.fault) }
+        ensures kept { self.new.fault ≡ self.old.fault }
         ensures stays { is_some map.new ≡ is_some map.old }
     {
         let record = read_record(block)?;
@@ -218,7 +201,7 @@ impl Emit {
             (outputs_of S.Sink T.Sink U.Sink tape.old map.old messages.old)
             (outputs_of S.Sink T.Sink U.Sink tape.new map.new messages.new)
             self.old self.new) (record_parts «record».now) result }
-        ensures kept { IfOk result (λ _. self.new.fault ≡ self.old.fault) }
+        ensures kept { self.new.fault ≡ self.old.fault }
         ensures stays { is_some map.new ≡ is_some map.old }
     {
         let location = self.location();
@@ -239,7 +222,7 @@ impl Emit {
             (outputs tape (optional_output T.Sink map.old) (output_of U.Sink messages.old))
             (outputs tape (optional_output T.Sink map.new) (output_of U.Sink messages.new))
             self.old self.new) (Relocations ∷ relocated_parts (record_relocations «record».now)) result }
-        ensures kept { IfOk result (λ _. self.new.fault ≡ self.old.fault) }
+        ensures kept { self.new.fault ≡ self.old.fault }
         ensures stays { is_some map.new ≡ is_some map.old }
     {
         self.store_relocations(record)?;
@@ -321,6 +304,7 @@ impl Emit {
             (with_reporting
             (with_bytes location.module_index location.section «record».now (begun_reporting self.old)) self.old)
             result }
+        ensures kept { self.new.fault ≡ self.old.fault }
         ensures stays { is_some map.new ≡ is_some map.old }
     {
         self.begin(map, messages)?;
@@ -338,7 +322,7 @@ impl Emit {
             (outputs tape (optional_output T.Sink map.old) (output_of U.Sink messages.old))
             (outputs tape (optional_output T.Sink map.new) (output_of U.Sink messages.new))
             self.old self.new) (EndOfFile ∷ []) result }
-        ensures kept { IfOk result (λ _. self.new.fault ≡ self.old.fault) }
+        ensures kept { self.new.fault ≡ self.old.fault }
         ensures stays { is_some map.new ≡ is_some map.old }
         ensures no_memory { IfErr result (λ fault. fault ≢ LinkFault.NoMemory) }
     {
@@ -378,6 +362,7 @@ impl Emit {
             (outputs tape (optional_output T.Sink map.old) (output_of U.Sink messages.old))
             (outputs tape (optional_output T.Sink map.new) (output_of U.Sink messages.new))
             (begin_writes self.old) self.new (with_reporting (begun_reporting self.old) self.old) result }
+        ensures kept { self.new.fault ≡ self.old.fault }
         ensures stays { is_some map.new ≡ is_some map.old }
         ensures no_memory { IfErr result (λ fault. fault ≢ LinkFault.NoMemory) }
     {

@@ -1,6 +1,8 @@
 -- No operator passes a limit without its fault.
-use Rattle.std.proofs.Common.{◌≡◌, ◌≤◌, ◌<◌, ◌+◌, ℕ, Bool, true, false, List, [], ◌∷◌, length, Option, Some, None, refl, arith}
+use Rattle.std.proofs.Common.{◌≡◌, ◌≤◌, ◌<◌, ◌+◌, ℕ, Bool, true, false, List, [], ◌∷◌, length, Option, Some, None, Result, Ok, IfOk, refl, sym, ap, ◌∙◌, subst, arith}
 use Rattle.std.specs.Prelude.{if◌then◌else◌, nat_le, nat_lt, drop, map}
+use Rattle.std.specs.Option.{option_or}
+use Rattle.std.specs.Result.{result_err}
 use Rattle.std.proofs.lemmas.Bool.Decides.{nat_tests}
 use Rattle.m11_arguments.specs.Actuals.{actuals_from}
 use Rattle.m11_arguments.specs.Conditions.{Asked, condition}
@@ -19,7 +21,9 @@ use Rattle.m11_lines.specs.Line.{line_of}
 use Rattle.m11_unfolding.specs.Acting.{Acted, Operation, Foreign, Calls, Directs, act, act_fault, acted_by, acted_exit, acted_within, condition_opened, defining, fault_by, flagged, formal_name, letter_O, operation, opens, own, repeating, with_statement}
 use Rattle.m11_unfolding.specs.Limits.{has_room}
 use Rattle.m11_unfolding.specs.Stages.{Purpose, Stage}
+use Rattle.m11_unfolding.specs.declared.fault.UnfoldFault.{UnfoldFault}
 use Rattle.m11_unfold.specs.Kept.{IsKept}
+use Rattle.m11_unfold.specs.Unfolder.{IsWithin}
 use Rattle.m11_unfold.proofs.Keeping.{not_so, opened_kept, under}
 
 -- either of two
@@ -173,3 +177,19 @@ module _ (stage : Stage) (kept : IsKept stage) where
   -- what the operator of a line leaves
   pub kept_acts : (known : Known) (text : List ℕ) → act_fault stage text ≡ None → IsKept (act known stage text).after
   kept_acts known text fits = kept_by known text (operation stage.conditions stage.macros text) fits
+
+-- the same where no fault was kept before, and the outcome is handed on
+pub kept_latched : {A : Type 0} (before after : Stage) (stood latch : Option UnfoldFault) (acted : Result A UnfoldFault) (done : A)
+    (known : Known) (text : List ℕ) → Ok done ≡ acted → stood ≡ None → latch ≡ option_or stood (result_err acted)
+    → IsWithin stood before → IfOk acted (λ _. act_fault before text ≡ None)
+    → IfOk acted (λ _. after ≡ (act known before text).after) → IsWithin latch after
+kept_latched {A} before after stood latch acted done known text ok none is within fits goes =
+    let P : Option UnfoldFault → Type 0 = λ f. IsWithin f before in
+    let Q : Option UnfoldFault → Type 0 = λ f. IsWithin f after in
+    let R : Result A UnfoldFault → Type 0 = λ r. IfOk r (λ _. act_fault before text ≡ None) in
+    let S : Result A UnfoldFault → Type 0 = λ r. IfOk r (λ _. after ≡ (act known before text).after) in
+    let open_still : latch ≡ None = is ∙ ap (λ o. option_or o (result_err acted)) none
+    ∙ ap (λ (r : Result A UnfoldFault). result_err r) (sym ok) in
+    let goes_so : after ≡ (act known before text).after = subst S (sym ok) goes in
+    subst Q (sym open_still)
+    (subst IsKept (sym goes_so) (kept_acts before (subst P none within) known text (subst R (sym ok) fits)))

@@ -1,4 +1,3 @@
-pub mod Faults
 pub mod Kept
 pub mod Purposes
 pub mod Sources

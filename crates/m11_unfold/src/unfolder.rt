@@ -1,10 +1,10 @@
 //! The unfolder of a source. (MACRO-11 Language Reference Manual, "Macro directives" and "Conditional assembly directives".)
 
 ghost use Rattle.std.specs.Prelude.{◌≡◌, ◌∷◌, [], false, None, Some, Err, IfOk, IfErr};
+ghost use Rattle.std.specs.Result.{result_err};
 ghost use Rattle.m11_arguments.specs.Expressions.{known_by};
 ghost use Rattle.m11_expansions.specs.Left as lefts;
 ghost use Rattle.m11_unfolding.specs.Stages.{start};
-ghost use Rattle.m11_unfold.specs.Faults.{err_in};
 ghost use Rattle.m11_unfold.specs.Kept.{IsKept};
 ghost use Rattle.m11_unfold.specs.Unfolder as spec;
 ghost use Rattle.m11_unfold.specs.Views.{stage_of};
@@ -13,6 +13,7 @@ use crate::state::State;
 use crate::steps::{Act, LiveLine, Step};
 use crate::taking::Moved;
 use m11_arguments::Notes;
+use m11_base::Latch;
 use m11_scan::Line;
 use m11_unfolding::UnfoldFault;
 use m11_values::Names;
@@ -26,7 +27,7 @@ use std::marker::Model;
 pub struct Unfolder {
     alloc: Global,
     state: State,
-    fault: Option<UnfoldFault>,
+    fault: Latch<UnfoldFault>,
 }
 
 impl Model for Unfolder {
@@ -52,7 +53,7 @@ impl Unfolder {
         Unfolder {
             alloc,
             state: State::new(alloc),
-            fault: None,
+            fault: Latch::new(),
         }
     }
 
@@ -75,21 +76,14 @@ impl Unfolder {
     pub fn next(&mut self) -> Result<Step, UnfoldFault>
         ensures steps { self.old.fault ≡ None → spec.Steps self.old.stage self.new.stage result }
         ensures again { (fault : UnfoldFault) → self.old.fault ≡ Some fault → result ≡ Err fault }
-        ensures fault { self.new.fault ≡ err_in result }
+        ensures fault { self.new.fault ≡ result_err result }
         ensures empty { spec.IsEmpty self.new.stage result }
         ensures free { spec.IsFree self.new.has_statement result }
         ensures kept { spec.IsWithin self.new.fault self.new.stage }
     {
-        if let Some(fault) = self.fault {
-            return Err(fault);
-        }
-        match self.state.next_live(self.alloc) {
-            Ok(step) => Ok(step),
-            Err(fault) => {
-                self.fault = Some(fault);
-                Err(fault)
-            }
-        }
+        self.fault.check()?;
+        let step = self.state.next_live(self.alloc);
+        self.fault.keep(step)
     }
 
     /// Does the operator of the line that became live last, by the step before, under what is known of names once its labels are defined.
@@ -100,25 +94,19 @@ impl Unfolder {
         ensures acts { self.old.fault ≡ None → spec.Acts (known_by (N.base names.now) (N.stands_for names.now))
             line.now.text self.old.stage self.new.stage result }
         ensures again { (fault : UnfoldFault) → self.old.fault ≡ Some fault → result ≡ Err fault }
-        ensures fault { self.new.fault ≡ err_in result }
+        ensures fault { self.new.fault ≡ result_err result }
         ensures kept { spec.IsWithin self.new.fault self.new.stage }
     {
-        if let Some(fault) = self.fault {
-            return Err(fault);
-        }
+        self.fault.check()?;
         let arguments = self.state.left.argument_count();
         let mut notes = Notes::new(self.alloc);
-        match self.state.act(self.alloc, line, names, &mut notes) {
-            Ok(is_own) => Ok(Act {
-                is_own,
-                notes,
-                arguments,
-            }),
-            Err(fault) => {
-                self.fault = Some(fault);
-                Err(fault)
-            }
-        }
+        let acted = self.state.act(self.alloc, line, names, &mut notes);
+        let is_own = self.fault.keep(acted)?;
+        Ok(Act {
+            is_own,
+            notes,
+            arguments,
+        })
     }
 }
 

@@ -1,6 +1,4 @@
-use Rattle.std.proofs.Common.{ap}
-use Rattle.m11_writes.specs.Outputs.{no_output}
-use Rattle.m11_link.proofs.Emitted.{end_refused, end_taken, fault_left}
+use Rattle.m11_link.proofs.Emitted.{end_refused, end_taken}
 use Rattle.m11_link.proofs.emit.Emit.take_end.Goals as goal
 
 pub returns-in_err-end_of_file-clause-takes : goal.returns-in_err-end_of_file-clause-takes
@@ -10,7 +8,3 @@ returns-in_err-end_of_file-clause-takes g c = λ tape plan before stands. end_re
 pub returns-clause-takes : goal.returns-clause-takes
 returns-clause-takes g c = λ tape plan before stands. end_taken plan before c.args.self.now c.self.view_is stands
     _ _ _ c.end_of_file.new.self c.begin.result (c.in_ok-end_of_file.ensures.takes before) (c.begin.ensures.writes tape)
-
-pub returns-clause-kept : goal.returns-clause-kept
-returns-clause-kept g c = fault_left _ _ _ _ _ _ c.begin.result (c.begin.ensures.writes no_output)
-    (ap (λ s. s.fault) c.self.view_is)

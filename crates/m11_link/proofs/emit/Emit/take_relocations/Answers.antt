@@ -1,6 +1,5 @@
 use Rattle.m11_obj.specs.Reading.{record_relocations}
-use Rattle.m11_writes.specs.Outputs.{no_output}
-use Rattle.m11_link.proofs.Emitted.{fault_left, relocations_refused, relocations_taken}
+use Rattle.m11_link.proofs.Emitted.{relocations_refused, relocations_taken}
 use Rattle.m11_link.proofs.emit.Emit.take_relocations.Goals as goal
 
 pub returns-in_err-store_relocations-clause-takes : goal.returns-in_err-store_relocations-clause-takes
@@ -13,7 +12,3 @@ returns-clause-takes g c = λ tape plan before stands. relocations_taken plan be
     (record_relocations c.args.record.now) c.args.self.now c.store_relocations.new.self stands _ _ c.begin.new.self
     c.begin.result c.in_ok-store_relocations.ensures.judged c.in_ok-store_relocations.ensures.stored
     c.in_ok-store_relocations.ensures.begun c.in_ok-store_relocations.ensures.kept (c.begin.ensures.writes tape)
-
-pub returns-clause-kept : goal.returns-clause-kept
-returns-clause-kept g c = fault_left _ _ _ _ _ _ c.begin.result (c.begin.ensures.writes no_output)
-    c.in_ok-store_relocations.ensures.kept

@@ -1,28 +1,20 @@
-use Rattle.std.proofs.Common.{Option, sym, subst}
 use Rattle.m11_arguments.specs.Expressions.{known_by}
-use Rattle.m11_unfolding.specs.declared.fault.UnfoldFault.{UnfoldFault}
-use Rattle.m11_unfold.specs.Kept.{IsKept}
-use Rattle.m11_unfold.specs.Unfolder.{IsWithin}
 use Rattle.m11_unfold.specs.Views.{stage_of}
-use Rattle.m11_unfold.proofs.KeptActing.{kept_acts}
+use Rattle.m11_unfold.proofs.KeptActing.{kept_latched}
 use Rattle.m11_unfold.proofs.unfolder.Unfolder.act.Goals as goal
 
-pub invariant_of-self : goal.invariant_of-self
-invariant_of-self g c =
-    let known = known_by (g.N.Names.base c.args.names.now) (g.N.Names.stands_for c.args.names.now) in
-    let before = stage_of c.self.inside.state in
-    let P : Option UnfoldFault → Type 0 = λ f. IsWithin f before in
-    let Q : Option UnfoldFault → Type 0 = λ f. IsWithin f (stage_of c.act.new.self) in
-    let kept = subst P c.in_default.is c.self.invariant in
-    subst Q (sym c.in_default.is) (subst IsKept (sym c.in-Ok.ensures.after)
-    (kept_acts before kept known c.args.line.now.text c.in-Ok.ensures.within))
+pub invariant_of-self-2 : goal.invariant_of-self-2
+invariant_of-self-2 g c =
+    kept_latched (stage_of c.self.inside.state) (stage_of c.act-acted.new.self) c.self.inside.fault c.keep.new.self
+    c.act-acted.result c.in_ok-is_own.is_own
+    (known_by (g.N.Names.base c.args.names.now) (g.N.Names.stands_for c.args.names.now)) c.args.line.now.text
+    c.in_ok-is_own.ensures.same c.in_ok-check.ensures.none c.in_ok-is_own.ensures.kept c.self.invariant
+    c.act-acted.ensures.within c.act-acted.ensures.after
 
-pub returns-in-Ok-clause-kept : goal.returns-in-Ok-clause-kept
-returns-in-Ok-clause-kept g c =
-    let known = known_by (g.N.Names.base c.args.names.now) (g.N.Names.stands_for c.args.names.now) in
-    let before = stage_of c.self.inside.state in
-    let P : Option UnfoldFault → Type 0 = λ f. IsWithin f before in
-    let Q : Option UnfoldFault → Type 0 = λ f. IsWithin f (stage_of c.act.new.self) in
-    let kept = subst P c.in_default.is c.self.invariant in
-    subst Q (sym c.in_default.is) (subst IsKept (sym c.in-Ok.ensures.after)
-    (kept_acts before kept known c.args.line.now.text c.in-Ok.ensures.within))
+pub returns-clause-kept : goal.returns-clause-kept
+returns-clause-kept g c =
+    kept_latched (stage_of c.self.inside.state) (stage_of c.act-acted.new.self) c.self.inside.fault c.keep.new.self
+    c.act-acted.result c.in_ok-is_own.is_own
+    (known_by (g.N.Names.base c.args.names.now) (g.N.Names.stands_for c.args.names.now)) c.args.line.now.text
+    c.in_ok-is_own.ensures.same c.in_ok-check.ensures.none c.in_ok-is_own.ensures.kept c.self.invariant
+    c.act-acted.ensures.within c.act-acted.ensures.after
