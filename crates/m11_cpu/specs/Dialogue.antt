@@ -2,7 +2,7 @@
 -- no manual speaks of a failing device.)
 use Rattle.std.specs.Prelude.{◌≡◌, ℕ, ◌<◌, Bool, true, false, List, [], ◌∷◌, Option, Some, None}
 use Rattle.std.specs.Io.KnownBytes.{Appends}
-use Rattle.m11_base.specs.Devices.{Rises}
+use Rattle.m11_base.specs.Devices.{Bytes, Rises}
 use Rattle.m11_base.specs.Feed.{Text, GivesByte, GivesEnd, GivesFailure}
 
 -- what the input returns where it is asked
@@ -49,7 +49,7 @@ pub record Input : Type 0 where
   pub faults : ℕ
 
 pub record Output : Type 0 where
-  pub text : Option (List ℕ)
+  pub text : Option Bytes
   pub faults : ℕ
 
 -- the devices that a call has: the input, the output, or both
@@ -60,16 +60,16 @@ pub record Devices : Type 0 where
 abbrev pub input_of : Option Text → ℕ → Input
 input_of text faults = record { text = text; faults = faults }
 
-abbrev pub output_of : Option (List ℕ) → ℕ → Output
+abbrev pub output_of : Option Bytes → ℕ → Output
 output_of text faults = record { text = text; faults = faults }
 
 abbrev pub input_alone : Option Text → ℕ → Devices
 input_alone text faults = record { input = Some (record { text = text; faults = faults }); output = None }
 
-abbrev pub output_alone : Option (List ℕ) → ℕ → Devices
+abbrev pub output_alone : Option Bytes → ℕ → Devices
 output_alone text faults = record { input = None; output = Some (output_of text faults) }
 
-abbrev pub both : Option Text → ℕ → Option (List ℕ) → ℕ → Devices
+abbrev pub both : Option Text → ℕ → Option Bytes → ℕ → Devices
 both given given_faults taken taken_faults = record {
   input = Some (record { text = given; faults = given_faults });
   output = Some (output_of taken taken_faults);

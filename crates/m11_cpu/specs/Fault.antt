@@ -1,6 +1,7 @@
 -- The faults of a run, each with its number and its name. (This project's own: no manual speaks of them.
 -- The printed line of a fault is made of these.)
-use Rattle.std.specs.Prelude.{ℕ, List, codes}
+use Rattle.std.specs.Prelude.{ℕ, codes}
+use Rattle.m11_base.specs.Devices.{Bytes}
 use Rattle.m11_blocks.specs.Tapes.{tape_fault_name, tape_fault_number}
 use Rattle.m11_cpu.specs.declared.fault.LoadFault.{LoadFault}
 use Rattle.m11_cpu.specs.declared.fault.LoadFault.TheVariants.{Tape, OutsideMemory}
@@ -13,7 +14,7 @@ load_fault_number (Tape fault) = tape_fault_number fault
 load_fault_number OutsideMemory = 10
 
 -- the name of a fault of loading
-abbrev pub load_fault_name : LoadFault → List ℕ
+abbrev pub load_fault_name : LoadFault → Bytes
 load_fault_name (Tape fault) = tape_fault_name fault
 load_fault_name OutsideMemory = codes "OutsideMemory"
 
@@ -24,7 +25,7 @@ sim_fault_number Write = 11
 sim_fault_number NoMemory = 90
 
 -- the name of a fault of a run
-abbrev pub sim_fault_name : SimFault → List ℕ
+abbrev pub sim_fault_name : SimFault → Bytes
 sim_fault_name (Load fault) = load_fault_name fault
 sim_fault_name Write = codes "Write"
 sim_fault_name NoMemory = codes "NoMemory"

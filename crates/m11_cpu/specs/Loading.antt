@@ -3,7 +3,7 @@
 -- came, before the sum of its block is checked, is this project's own.
 use Rattle.std.specs.Prelude.{◌≡◌, ℕ, ◌+◌, ◌<◌, ◌≤◌, List, [], ◌∷◌, ◌++◌, length, take, drop, Option, Result, Ok, Err, ◌⊎◌}
 use Rattle.std.specs.List.{AllByRecursion}
-use Rattle.m11_base.specs.Devices.{Rises}
+use Rattle.m11_base.specs.Devices.{Bytes, Rises}
 use Rattle.m11_base.specs.Feed.{Text}
 use Rattle.m11_blocks.specs.Limited.{Place, place, Took, Read, Reads, Stops, most_bytes}
 use Rattle.m11_blocks.specs.Tapes.{IsTape, total_of, first_part, next_part, data_byte, why_of}
@@ -18,44 +18,44 @@ use Rattle.m11_cpu.specs.declared.fault.LoadFault.TheVariants.{Tape, OutsideMemo
 -- ---- what is put into memory
 
 -- the memory after bytes were put at an address and the places after it
-abbrev pub with_bytes : ℕ → List ℕ → List ℕ → List ℕ
+abbrev pub with_bytes : ℕ → Bytes → Bytes → Bytes
 with_bytes address bytes memory = take address memory ++ (bytes ++ drop (address + length bytes) memory)
 
 -- each byte has its place in a memory of this size. The places do not begin again after 177777
-abbrev pub AreInside : ℕ → ℕ → List ℕ → Type 0
+abbrev pub AreInside : ℕ → ℕ → Bytes → Type 0
 AreInside size address bytes = (index : ℕ) → index < length bytes → address + index < size
 
 -- the memory after blocks, each an address and its bytes: where two lie over one another the later counts
-abbrev pub stored : List (ℕ × List ℕ) → List ℕ → List ℕ
+abbrev pub stored : List (ℕ × Bytes) → Bytes → Bytes
 stored [] memory = memory
 stored (block ∷ blocks) memory = stored blocks (with_bytes block.0 block.1 memory)
 
 -- ---- what the feed gives
 
 -- what reads the part after blocks: after the data of one it begins with the sum byte of that block
-abbrev pub part_after : (List ℕ → Read TapeFault TapePart) → List (ℕ × List ℕ) → List ℕ → Read TapeFault TapePart
+abbrev pub part_after : (Bytes → Read TapeFault TapePart) → List (ℕ × Bytes) → Bytes → Read TapeFault TapePart
 part_after read [] = read
 part_after read (block ∷ blocks) = part_after (next_part (total_of block.0 block.1)) blocks
 
 -- bytes that hold blocks: for each those that are read as its header, and its data
-abbrev pub Hold : (List ℕ → Read TapeFault TapePart) → List (ℕ × List ℕ) → List ℕ → Type 0
+abbrev pub Hold : (Bytes → Read TapeFault TapePart) → List (ℕ × Bytes) → Bytes → Type 0
 Hold read [] bytes = bytes ≡ []
-Hold read (block ∷ blocks) bytes = (header : List ℕ) × (following : List ℕ) × (bytes ≡ header ++ (block.1 ++ following))
-    × ((rest : List ℕ) → read (header ++ rest) ≡ Ok (Data block.0 (length block.1), rest))
+Hold read (block ∷ blocks) bytes = (header : Bytes) × (following : Bytes) × (bytes ≡ header ++ (block.1 ++ following))
+    × ((rest : Bytes) → read (header ++ rest) ≡ Ok (Data block.0 (length block.1), rest))
     × Hold (next_part (total_of block.0 block.1)) blocks following
 
 -- ---- a load
 
 -- blocks were given, and put into memory, each inside it
-pub record PutBlocks (old new : Place) (before after : List ℕ) (blocks : List (ℕ × List ℕ)) : Type 0 where
-  pub given : List ℕ
+pub record PutBlocks (old new : Place) (before after : Bytes) (blocks : List (ℕ × Bytes)) : Type 0 where
+  pub given : Bytes
   pub took : Took old new given
   pub hold : Hold first_part blocks given
   pub inside : AllByRecursion (λ block. AreInside (length before) block.0 block.1) blocks
   pub memory : after ≡ stored blocks before
 
 -- some of n bytes that belong at an address were given, and put into memory, inside it
-pub record PutSome (old new : Place) (before after : List ℕ) (address count : ℕ) (taken : List ℕ) : Type 0 where
+pub record PutSome (old new : Place) (before after : Bytes) (address count : ℕ) (taken : Bytes) : Type 0 where
   pub took : Took old new taken
   pub some : length taken < count
   pub inside : AreInside (length before) address taken
@@ -66,25 +66,25 @@ abbrev pub GivesOutside : Place → Place → ℕ → ℕ → Type 0
 GivesOutside old new size place = (byte : ℕ) × Took old new (byte ∷ []) × (size ≤ place)
 
 -- a whole tape: its blocks, and then its transfer block, after which no byte was given
-pub record LoadsTape (old new : Place) (before after : List ℕ) (start : ℕ) : Type 0 where
-  pub blocks : List (ℕ × List ℕ)
+pub record LoadsTape (old new : Place) (before after : Bytes) (start : ℕ) : Type 0 where
+  pub blocks : List (ℕ × Bytes)
   pub following : Place
   pub put : PutBlocks old following before after blocks
   pub last : Reads (part_after first_part blocks) following new (Start start)
   pub tape : IsTape blocks start (put.given ++ last.given)
 
 -- some blocks of a tape, after which no part can be read
-pub record StopsAtPart (old new : Place) (before after : List ℕ) (fault : TapeFault) : Type 0 where
-  pub blocks : List (ℕ × List ℕ)
+pub record StopsAtPart (old new : Place) (before after : Bytes) (fault : TapeFault) : Type 0 where
+  pub blocks : List (ℕ × Bytes)
   pub following : Place
   pub put : PutBlocks old following before after blocks
   pub stops : Stops (part_after first_part blocks) following new (why_of fault)
 
 -- some blocks of a tape, and of one more its header and a beginning of its data
-pub record InsideData (old new : Place) (before after : List ℕ) (address : ℕ) (taken : List ℕ) : Type 0 where
-  pub blocks : List (ℕ × List ℕ)
+pub record InsideData (old new : Place) (before after : Bytes) (address : ℕ) (taken : Bytes) : Type 0 where
+  pub blocks : List (ℕ × Bytes)
   pub following : Place
-  pub held : List ℕ
+  pub held : Bytes
   pub put : PutBlocks old following before held blocks
   pub count : ℕ
   pub opened : Place
@@ -92,18 +92,18 @@ pub record InsideData (old new : Place) (before after : List ℕ) (address : ℕ
   pub part : PutSome opened new held after address count taken
 
 -- what a load yields. After a fault the memory holds what was given before it
-abbrev pub Loads : Place → Place → List ℕ → List ℕ → Result ℕ LoadFault → Type 0
+abbrev pub Loads : Place → Place → Bytes → Bytes → Result ℕ LoadFault → Type 0
 Loads old new before after (Ok start) = LoadsTape old new before after start
 Loads old new before after (Err (Tape fault)) =
     StopsAtPart old new before after fault
-    ⊎ ((address : ℕ) × (taken : List ℕ) × (here : Place) × InsideData old here before after address taken
+    ⊎ ((address : ℕ) × (taken : Bytes) × (here : Place) × InsideData old here before after address taken
     × Stops data_byte here new (why_of fault))
 Loads old new before after (Err OutsideMemory) =
-    (address : ℕ) × (taken : List ℕ) × (here : Place) × InsideData old here before after address taken
+    (address : ℕ) × (taken : Bytes) × (here : Place) × InsideData old here before after address taken
     × GivesOutside here new (length before) (address + length taken)
 
 -- the same of a feed, of which at most n bytes as a tape may have are read
-abbrev pub LoadsFrom : Option Text → Option Text → ℕ → ℕ → List ℕ → List ℕ → Result ℕ LoadFault → Type 0
+abbrev pub LoadsFrom : Option Text → Option Text → ℕ → ℕ → Bytes → Bytes → Result ℕ LoadFault → Type 0
 LoadsFrom text text' faults faults' before after answer =
     (room : ℕ) × Loads (place text faults most_bytes) (place text' faults' room) before after answer
 
@@ -121,7 +121,7 @@ LoadsInto text text' faults faults' before after answer =
 -- ---- one block
 
 -- what the putting of a block's data yields, the header of which was given: `span` is its address and the number of its bytes
-abbrev pub PutsData : {A : Type 0} → Place → Place → List ℕ → List ℕ → ℕ × ℕ → List ℕ → Result A LoadFault → Type 0
+abbrev pub PutsData : {A : Type 0} → Place → Place → Bytes → Bytes → ℕ × ℕ → Bytes → Result A LoadFault → Type 0
 PutsData old new before after span content (Ok done) =
     (length content ≡ span.1) × Took old new content × AreInside (length before) span.0 content
     × (after ≡ with_bytes span.0 content before)

@@ -1,6 +1,7 @@
 -- Memory: bytes, each at its address from 0 on. A word has its low byte at an even address and its high byte
 -- after it. (PDP-11/40 Processor Handbook, "Memory organization".)
 use Rattle.std.specs.Prelude.{ℕ, ◌+◌, ◌*◌, ◌/◌, ◌%◌, List, [], ◌∷◌, slice_index_or, slice_set}
+use Rattle.m11_base.specs.Devices.{Bytes}
 
 -- the least words that a machine may have here
 abbrev pub least_words : ℕ
@@ -11,21 +12,21 @@ abbrev pub most_words : ℕ
 most_words = 28672
 
 -- the byte at an address
-abbrev pub byte_at : List ℕ → ℕ → ℕ
+abbrev pub byte_at : Bytes → ℕ → ℕ
 byte_at memory address = slice_index_or memory address 0
 
 -- the word at an even address
-abbrev pub word_at : List ℕ → ℕ → ℕ
+abbrev pub word_at : Bytes → ℕ → ℕ
 word_at memory address = byte_at memory address + 256 * byte_at memory (address + 1)
 
 -- the memory after a byte, or the word at an even address, was put in
-abbrev pub with_byte : ℕ → ℕ → List ℕ → List ℕ
+abbrev pub with_byte : ℕ → ℕ → Bytes → Bytes
 with_byte address value memory = slice_set memory address value
 
-abbrev pub with_word : ℕ → ℕ → List ℕ → List ℕ
+abbrev pub with_word : ℕ → ℕ → Bytes → Bytes
 with_word address value memory = with_byte (address + 1) (value / 256) (with_byte address (value % 256) memory)
 
 -- the bytes of words that stand one after another from address 0 on
-abbrev pub bytes_of : List ℕ → List ℕ
+abbrev pub bytes_of : List ℕ → Bytes
 bytes_of [] = []
 bytes_of (word ∷ words) = word % 256 ∷ word / 256 ∷ bytes_of words

@@ -4,7 +4,7 @@
 use Rattle.std.specs.Prelude.{◌≡◌, ℕ, List, ◌++◌, slice_index_or, codes, Option, Result, Ok, Err}
 use Rattle.std.specs.Fmt.{decimal}
 use Rattle.std.specs.Io.KnownBytes.{Appends}
-use Rattle.m11_base.specs.Devices.{Rises}
+use Rattle.m11_base.specs.Devices.{Bytes, Rises}
 use Rattle.m11_base.specs.Octal.{octal_text}
 use Rattle.m11_base.specs.Sink.{AppendsBeginning}
 use Rattle.m11_cpu.specs.Stop.{stop_name}
@@ -13,15 +13,15 @@ use Rattle.m11_cpu.specs.declared.fault.SimFault.{SimFault}
 use Rattle.m11_cpu.specs.declared.fault.SimFault.TheVariants.{Load, Write, NoMemory}
 
 -- the stop, and how many steps were begun
-unfoldable pub stop_line : Stop → ℕ → List ℕ
+unfoldable pub stop_line : Stop → ℕ → Bytes
 stop_line stop steps = stop_name stop ++ (codes " AFTER " ++ (decimal steps ++ codes " STEPS\n"))
 
 -- the digits of a register
-abbrev pub register_text : List ℕ → ℕ → List ℕ
+abbrev pub register_text : List ℕ → ℕ → Bytes
 register_text registers number = octal_text (slice_index_or registers number 0)
 
 -- the registers, of which the last two have names of their own, and the PSW
-unfoldable pub register_line : List ℕ → ℕ → List ℕ
+unfoldable pub register_line : List ℕ → ℕ → Bytes
 register_line registers psw =
     codes "R0 " ++ (register_text registers 0
     ++ (codes " R1 " ++ (register_text registers 1
@@ -34,11 +34,11 @@ register_line registers psw =
     ++ (codes " PSW " ++ (octal_text psw ++ codes "\n")))))))))))))))))
 
 -- the messages of a stop
-abbrev pub messages_of : Stop → ℕ → List ℕ → ℕ → List ℕ
+abbrev pub messages_of : Stop → ℕ → List ℕ → ℕ → Bytes
 messages_of stop steps registers psw = stop_line stop steps ++ register_line registers psw
 
 -- the text was put whole; or a beginning of it before the sink failed
-abbrev pub PutsMessages : {A : Type 0} → Option (List ℕ) → Option (List ℕ) → ℕ → ℕ → List ℕ → Result A SimFault → Type 0
+abbrev pub PutsMessages : {A : Type 0} → Option Bytes → Option Bytes → ℕ → ℕ → Bytes → Result A SimFault → Type 0
 PutsMessages old new faults faults' text (Ok done) = Appends old new text × (faults' ≡ faults)
 PutsMessages old new faults faults' text (Err Write) = AppendsBeginning old new text × Rises faults faults'
 PutsMessages old new faults faults' text (Err NoMemory) = ⊥

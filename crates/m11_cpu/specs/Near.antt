@@ -1,5 +1,6 @@
 -- What an instruction finds near: in registers and in memory, and not at the console. (This project's own.)
-use Rattle.std.specs.Prelude.{◌≡◌, ℕ, Bool, true, not, ◌&&◌, List, length, nat_lt, Ok}
+use Rattle.std.specs.Prelude.{◌≡◌, ℕ, Bool, true, not, ◌&&◌, length, nat_lt, Ok}
+use Rattle.m11_base.specs.Devices.{Bytes}
 use Rattle.m11_base.specs.declared.operand.Size.{Size}
 use Rattle.m11_base.specs.declared.operand.Size.TheVariants.{Word, Byte}
 use Rattle.m11_cpu.specs.Access.{is_odd}
@@ -11,11 +12,11 @@ use Rattle.m11_cpu.specs.declared.addressing.OperandLocation.{OperandLocation}
 use Rattle.m11_cpu.specs.declared.addressing.OperandLocation.TheVariants.{InRegister, InMemory}
 
 -- a word or byte lies in memory, and which
-abbrev pub is_plain : Size → ℕ → List ℕ → Bool
+abbrev pub is_plain : Size → ℕ → Bytes → Bool
 is_plain Word address memory = not (is_odd address) && nat_lt address (length memory)
 is_plain Byte address memory = nat_lt address (length memory)
 
-abbrev pub plain_at : Size → ℕ → List ℕ → ℕ
+abbrev pub plain_at : Size → ℕ → Bytes → ℕ
 plain_at Word address memory = word_at memory address
 plain_at Byte address memory = byte_at memory address
 

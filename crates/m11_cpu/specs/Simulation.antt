@@ -1,7 +1,7 @@
 -- A whole run: a tape is loaded into a new machine and started, and its stop is reported. (This project's own.)
-use Rattle.std.specs.Prelude.{◌≡◌, ℕ, ◌%◌, ◌==◌, if◌then◌else◌, List, Option, unwrap_or, Result, Ok, Err}
+use Rattle.std.specs.Prelude.{◌≡◌, ℕ, ◌%◌, ◌==◌, if◌then◌else◌, Option, unwrap_or, Result, Ok, Err}
 use Rattle.std.specs.Io.KnownBytes.{Appends}
-use Rattle.m11_base.specs.Devices.{Rises}
+use Rattle.m11_base.specs.Devices.{Bytes, Rises}
 use Rattle.m11_base.specs.Sink.{AppendsBeginning}
 use Rattle.m11_base.specs.declared.operand.Register.TheVariants.{Pc}
 use Rattle.m11_cpu.specs.Dialogue.{Dialogue, Comes, Devices, Does, Input, Output}
@@ -52,7 +52,7 @@ pub record HasRun (request : Request) (before after : RunDevices) (ran : Ran) (m
   pub loads : Loaded request.words before.tape after.tape loaded (Ok transfer)
   pub runs : Does (started (unwrap_or request.start transfer) request.limit loaded) before.console after.console (ran, m)
 
-abbrev pub text_at_stop : Ran → Machine → List ℕ
+abbrev pub text_at_stop : Ran → Machine → Bytes
 text_at_stop ran m = messages_of ran.stop ran.steps m.registers (psw_in m)
 
 -- what a whole run yields: its stop, which the messages report; or the tape was not loaded, and nothing was run or

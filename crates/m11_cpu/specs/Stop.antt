@@ -1,5 +1,6 @@
 -- How a stop is reported. (This project's own.)
-use Rattle.std.specs.Prelude.{ℕ, List, codes}
+use Rattle.std.specs.Prelude.{ℕ, codes}
+use Rattle.m11_base.specs.Devices.{Bytes}
 use Rattle.m11_cpu.specs.declared.stop.LastingStop.{LastingStop}
 use Rattle.m11_cpu.specs.declared.stop.LastingStop.TheVariants as lasting
 use Rattle.m11_cpu.specs.declared.stop.Stop.{Stop}
@@ -22,7 +23,7 @@ stop_number InputFault = 6
 stop_number OutputFault = 7
 
 -- the name of a stop
-abbrev pub stop_name : Stop → List ℕ
+abbrev pub stop_name : Stop → Bytes
 stop_name Halt = codes "HALT"
 stop_name Limit = codes "LIMIT"
 stop_name Wait = codes "WAIT"

@@ -1,6 +1,7 @@
 //! Loads tapes. (RT-11 Volume and File Formats Manual, "Absolute binary file format".)
 
-ghost use Rattle.std.specs.Prelude.{◌≡◌, ◌+◌, ◌<◌, ◌%◌, ℕ, List, length, sum, MatchResult, ⊤};
+ghost use Rattle.std.specs.Prelude.{◌≡◌, ◌+◌, ◌<◌, ◌%◌, length, sum, MatchResult, ⊤};
+ghost use Rattle.m11_base.specs.Devices.{Bytes};
 ghost use Rattle.m11_blocks.specs.Limited.{place};
 ghost use Rattle.m11_blocks.specs.Tapes.{tape_header, total_of};
 ghost use Rattle.m11_blocks.specs.declared.tape_part.TapeStage.TheVariants.{InBlock};
@@ -20,7 +21,7 @@ fn load_block<F: Feed>(
     count: u16,
 ) -> Result<(), LoadFault>
     requires { reader.old.stage ≡ InBlock count (sum (tape_header address count) % 256) }
-    ensures put { (content : List ℕ)
+    ensures put { (content : Bytes)
         × PutsData (place (F.text feed.old) (F.faults feed.old) reader.old.room)
         (place (F.text feed.new) (F.faults feed.new) reader.new.room)
         memory.old memory.new (address, count) content result

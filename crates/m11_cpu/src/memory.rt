@@ -14,10 +14,11 @@ pub(crate) struct Memory {
 }
 
 impl Model for Memory {
-    ghost use Rattle.std.specs.Prelude.{List, ℕ, ◌≤◌, length};
+    ghost use Rattle.std.specs.Prelude.{◌≤◌, length};
+    ghost use Rattle.m11_base.specs.Devices.{Bytes};
     ghost use Rattle.m11_cpu.specs.Memory.{bytes_of, most_words};
 
-    ghost Value = { List ℕ };
+    ghost Value = { Bytes };
 
     ghost view = { λ m. bytes_of m.words.items };
 

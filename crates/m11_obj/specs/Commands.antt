@@ -1,6 +1,7 @@
 -- The commands of a relocation directory, by what follows them. (RT-11 Volume and File Formats Manual,
 -- "Object file format", RLD block.) What each reports is in the rows of the definition of reading.
 use Rattle.std.specs.Prelude.{ℕ}
+use Rattle.m11_base.specs.Rad50 as rad50
 use Rattle.m11_obj.specs.declared.relocations.Target.{Target}
 use Rattle.m11_obj.specs.declared.relocations.Target.TheVariants as target
 use Rattle.m11_obj.specs.declared.commands.ConstantCommand.{ConstantCommand}
@@ -19,13 +20,13 @@ constant_target constant_command.InternalDisplaced constant = target.InternalDis
 constant_target constant_command.LocationCounterModification constant =
     target.LocationCounterModification constant
 
-abbrev pub name_target : NameCommand → ℕ × ℕ → Target
+abbrev pub name_target : NameCommand → rad50.Name → Target
 name_target name_command.Global name = target.Global name
 name_target name_command.GlobalDisplaced name = target.GlobalDisplaced name
 name_target name_command.Section name = target.Section name
 name_target name_command.SectionDisplaced name = target.SectionDisplaced name
 
-abbrev pub both_target : NameAndConstantCommand → ℕ × ℕ → ℕ → Target
+abbrev pub both_target : NameAndConstantCommand → rad50.Name → ℕ → Target
 both_target both_command.GlobalAdditive name constant = target.GlobalAdditive name constant
 both_target both_command.GlobalAdditiveDisplaced name constant =
     target.GlobalAdditiveDisplaced name constant

@@ -5,6 +5,7 @@
 use Rattle.std.specs.Prelude.{◌≡◌, is_ok, true, ℕ, zero, suc, ◌+◌, ◌*◌, ◌%◌, ◌≤◌, Bool, ◌&&◌, List, [], ◌∷◌, length, slice_get, unwrap_or, Option, Some, None, Result, Ok, Err, nat_lt, nat_le, if◌then◌else◌}
 use Rattle.std.specs.Result.{result_unwrap_or}
 use Rattle.m11_base.specs.Devices.{Bytes}
+use Rattle.m11_base.specs.Rad50 as rad50
 use Rattle.m11_base.specs.Rad50.{word_limit}
 use Rattle.m11_blocks.specs.Frames.{content_limit}
 use Rattle.m11_obj.specs.declared.fault.RecordFault.{RecordFault}
@@ -41,7 +42,7 @@ first_name_word bytes = do
   word ← first_word bytes
   if nat_lt word.0 word_limit then Ok word else Err BadName
 
-unfoldable pub first_name : Bytes → Result ((ℕ × ℕ) × Bytes) RecordFault
+unfoldable pub first_name : Bytes → Result (rad50.Name × Bytes) RecordFault
 first_name bytes = do
   first ← first_name_word bytes
   second ← first_name_word first.1
@@ -93,8 +94,8 @@ entries_of bytes = items_of first_entry bytes
 pub data Form : Type 0 where
   Nothing : Target → Form
   Constant : (ℕ → Target) → Form
-  Name : (ℕ × ℕ → Target) → Form
-  NameAndConstant : (ℕ × ℕ → ℕ → Target) → Form
+  Name : (rad50.Name → Target) → Form
+  NameAndConstant : (rad50.Name → ℕ → Target) → Form
 
 -- the commands, each at the place of its code
 abbrev pub forms : List (Result Form RecordFault)

@@ -2,6 +2,7 @@
 -- GSD block; MACRO-11 Language Reference Manual, ".TITLE", ".IDENT", ".PSECT", ".GLOBL", ".WEAK" and ".END" directives. That a
 -- record has at most 15 entries is this project's own.)
 use Rattle.std.specs.Prelude.{◌≡◌, ℕ, Bool, ◌&&◌, nat_le, if◌then◌else◌, List, [], ◌∷◌, ◌++◌, length, map}
+use Rattle.m11_base.specs.Rad50.{Name}
 use Rattle.m11_object_text.specs.declared.directory.DirectoryRow.{DirectoryRow}
 use Rattle.m11_object_text.specs.declared.directory.DirectoryRow.TheVariants as row
 use Rattle.m11_obj.specs.declared.gsd.GsdEntry.{GsdEntry}
@@ -12,7 +13,7 @@ use Rattle.m11_object_text.specs.Fronts.{fronts_of}
 
 -- ---- one row
 
-abbrev pub entry : ℕ × ℕ → ℕ → GsdKind → ℕ → GsdEntry
+abbrev pub entry : Name → ℕ → GsdKind → ℕ → GsdEntry
 entry name flags kind value = record { name = name; flags = flags; kind = kind; value = value }
 
 -- 010 stands for defined, and 040 beside it for relocatable, as the section is that the definition stands under

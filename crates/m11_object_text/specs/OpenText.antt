@@ -1,8 +1,8 @@
 -- The text that is open while pieces come. (This project's own.)
-use Rattle.std.specs.Prelude.{◌≡◌, ◌==◌, ℕ, ◌+◌, Bool, ◌&&◌, nat_le, List, [], ◌∷◌, ◌++◌, length, Option, Some, None}
+use Rattle.std.specs.Prelude.{◌≡◌, ◌==◌, ◌+◌, Bool, ◌&&◌, nat_le, List, [], ◌∷◌, ◌++◌, length, Option, Some, None}
 use Rattle.std.specs.List.{flat_map}
 use Rattle.std.specs.Option.{option_to_list}
-use Rattle.m11_base.specs.Rad50.{is_same_name}
+use Rattle.m11_base.specs.Rad50.{Name, is_same_name}
 use Rattle.m11_object_text.specs.declared.pieces.Piece.{Piece}
 use Rattle.m11_obj.specs.declared.relocations.Relocation.{Relocation}
 use Rattle.m11_obj.specs.Records.{Content}
@@ -36,7 +36,7 @@ with_piece text piece = record {
 -- ---- all pieces so far
 
 -- the section of the last of some texts, before which there may have been one
-abbrev pub last_section : Option (ℕ × ℕ) → List (List Piece) → Option (ℕ × ℕ)
+abbrev pub last_section : Option Name → List (List Piece) → Option Name
 last_section before [] = before
 last_section before ([] ∷ fronts) = last_section before fronts
 last_section before ((first ∷ rest) ∷ fronts) = last_section (Some first.section) fronts

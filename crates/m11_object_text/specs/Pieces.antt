@@ -4,6 +4,7 @@
 use Rattle.std.specs.Prelude.{ℕ, ◌+◌, ◌-◌, ◌%◌, ◌==◌, Bool, true, false, if◌then◌else◌, List, [], ◌∷◌, ◌++◌, length, Option, Some, None, option_map}
 use Rattle.std.specs.List.{flat_map}
 use Rattle.std.specs.Option.{option_to_list}
+use Rattle.m11_base.specs.Devices.{Bytes}
 use Rattle.m11_object_text.specs.declared.pieces.RelocationKind.{RelocationKind}
 use Rattle.m11_object_text.specs.declared.pieces.RelocationKind.TheVariants as kind
 use Rattle.m11_object_text.specs.declared.pieces.PieceContent.{PieceContent}
@@ -35,7 +36,7 @@ abbrev pub standing : RelocationKind → ℕ → ℕ
 standing kind.Fixed constant = constant
 standing _ constant = 0
 
-abbrev pub content_bytes : PieceContent → List ℕ
+abbrev pub content_bytes : PieceContent → Bytes
 content_bytes (Byte stored) = (standing stored.kind stored.constant % 256) ∷ []
 content_bytes (Word stored) = word_bytes (standing stored.kind stored.constant)
 content_bytes Limits = 0 ∷ 0 ∷ 0 ∷ 0 ∷ []
@@ -62,7 +63,7 @@ abbrev pub last_place : Piece → ℕ
 last_place piece = (piece.place + (size_of piece - 1)) % 65536
 
 -- the bytes of pieces that stand one after another
-abbrev pub text_bytes : List Piece → List ℕ
+abbrev pub text_bytes : List Piece → Bytes
 text_bytes pieces = flat_map (λ piece. content_bytes piece.content) pieces
 
 -- their relocations, the first piece standing at this displacement

@@ -1,7 +1,9 @@
 -- The texts of an object as a linker reads their records. (RT-11 Volume and File Formats Manual, "Object file format", TXT and RLD
 -- blocks.)
 use Rattle.std.specs.Prelude.{◌≡◌, ℕ, Bool, true, false, List, [], ◌∷◌, ◌++◌, map, filter, None}
+use Rattle.m11_base.specs.Devices.{Bytes}
 use Rattle.m11_base.specs.Names.{absolute_name}
+use Rattle.m11_base.specs.Rad50.{Name}
 use Rattle.m11_object_text.specs.declared.pieces.Piece.{Piece}
 use Rattle.m11_obj.specs.declared.relocations.Relocation.{Relocation}
 use Rattle.m11_obj.specs.declared.relocations.Target.{Target}
@@ -11,17 +13,17 @@ use Rattle.m11_object_text.specs.Texts.{TextParts, cutting, texts_after, text_re
 
 -- a text as it is read: the section that was selected last, its address there, its bytes, and the relocations of them
 pub record ReadText : Type 0 where
-  pub section : ℕ × ℕ
+  pub section : Name
   pub place : ℕ
-  pub bytes : List ℕ
+  pub bytes : Bytes
   pub relocations : List Relocation
 
 -- command 7 selects a section, and no other command does
-abbrev pub selected : ℕ × ℕ → Target → ℕ × ℕ
+abbrev pub selected : Name → Target → Name
 selected section (LocationCounterDefinition name place) = name
 selected section target = section
 
-abbrev pub section_after : ℕ × ℕ → List Relocation → ℕ × ℕ
+abbrev pub section_after : Name → List Relocation → Name
 section_after section [] = section
 section_after section (relocation ∷ relocations) = section_after (selected section relocation.target) relocations
 
@@ -40,7 +42,7 @@ relocations_after (Relocations relocations ∷ contents) = filter is_stored relo
 relocations_after _ = []
 
 -- the texts of some records, a section being selected
-abbrev pub texts_read : ℕ × ℕ → List Content → List ReadText
+abbrev pub texts_read : Name → List Content → List ReadText
 texts_read section [] = []
 texts_read section (Text place bytes ∷ contents) =
     record { section = section; place = place; bytes = bytes; relocations = relocations_after contents }

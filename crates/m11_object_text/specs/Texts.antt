@@ -2,6 +2,7 @@
 -- file format", TXT and RLD blocks. Where a text ends, and which records stand before and after it, is this project's own.)
 use Rattle.std.specs.Prelude.{◌==◌, ℕ, ◌+◌, Bool, true, false, ◌&&◌, nat_le, if◌then◌else◌, List, [], ◌∷◌, ◌++◌, length, Option, Some, None}
 use Rattle.std.specs.List.{flat_map}
+use Rattle.m11_base.specs.Devices.{Bytes}
 use Rattle.m11_base.specs.Rad50.{Name, is_same_name}
 use Rattle.m11_object_text.specs.declared.pieces.Piece.{Piece}
 use Rattle.m11_obj.specs.declared.relocations.Relocation.{Relocation}
@@ -47,7 +48,7 @@ pub record TextParts : Type 0 where
   pub section : Name
   pub place : ℕ
   pub next : ℕ
-  pub bytes : List ℕ
+  pub bytes : Bytes
   pub relocations : List Relocation
 
 abbrev pub place_after : Piece → List Piece → ℕ

@@ -1,11 +1,12 @@
 -- The names of conditions. (MACRO-11 Language Reference Manual, "Conditional assembly block directives".)
-use Rattle.std.specs.Prelude.{ℕ, List, [], ◌∷◌, codes, find, Option, Some, None}
+use Rattle.std.specs.Prelude.{List, [], ◌∷◌, codes, find, Option, Some, None}
 use Rattle.std.specs.Str.{bytes_eq}
+use Rattle.m11_base.specs.Devices.{Bytes}
 use Rattle.m11_scan.specs.declared.conditions.Condition.{Condition}
 use Rattle.m11_scan.specs.declared.conditions.Condition.TheVariants.{Zero, NotZero, Positive, Negative, NotNegative, NotPositive, Defined, NotDefined, Blank, NotBlank, Identical, Different}
 use Rattle.m11_scan.specs.declared.conditions.ConditionRow.{ConditionRow}
 
-abbrev pub named : List ℕ → Condition → ConditionRow
+abbrev pub named : Bytes → Condition → ConditionRow
 named name condition = record { name = name; condition = condition }
 
 -- the conditions, each with its name of six characters
@@ -30,5 +31,5 @@ condition_in (Some row) = Some row.condition
 condition_in None = None
 
 -- the condition of a name of six characters, if it is one
-abbrev pub condition_named : List ℕ → Option Condition
+abbrev pub condition_named : Bytes → Option Condition
 condition_named name = condition_in (find (λ row. bytes_eq row.name name) condition_rows)

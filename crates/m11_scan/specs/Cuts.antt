@@ -2,6 +2,7 @@
 -- Language Reference Manual, "Symbols and expressions" and "Character set".)
 use Rattle.std.specs.Prelude.{◌≡◌, ℕ, ◌<◌, ◌≤◌, Bool, ◌==◌, nat_le, if◌then◌else◌, List, [], ◌∷◌, ◌++◌, length, take, drop, Option, Some, None}
 use Rattle.std.specs.List.{list_all}
+use Rattle.m11_base.specs.Devices.{Bytes}
 use Rattle.m11_base.specs.Mnemonics.{folded, is_name_character}
 use Rattle.m11_scan.specs.Characters.{is_blank, is_digit}
 use Rattle.m11_scan.specs.Cutting.{Lexeme, text_between}
@@ -13,20 +14,20 @@ use Rattle.m11_scan.specs.declared.sort.Form.TheVariants.{Cut, Blank, Comment, S
 use Rattle.m11_scan.specs.declared.pieces.Piece.{Piece}
 
 -- a form, where nothing more stands there
-abbrev pub alone : Form → List ℕ → Option Form
+abbrev pub alone : Form → Bytes → Option Form
 alone form [] = Some form
 alone form (byte ∷ more) = None
 
 -- a form, where at most n characters more stand there
-abbrev pub at_most : ℕ → Form → List ℕ → Option Form
+abbrev pub at_most : ℕ → Form → Bytes → Option Form
 at_most count form more = if nat_le (length more) count then Some form else None
 
 -- a form, where all that stands there passes
-abbrev pub all_pass : (ℕ → Bool) → Form → List ℕ → Option Form
+abbrev pub all_pass : (ℕ → Bool) → Form → Bytes → Option Form
 all_pass passes form more = if list_all passes more then Some form else None
 
 -- what follows a digit: digits, and then perhaps a point or a `$`
-abbrev pub number_form : List ℕ → Option Form
+abbrev pub number_form : Bytes → Option Form
 number_form [] = Some (Cut Number)
 number_form (byte ∷ more) =
     if is_digit byte then number_form more
@@ -34,7 +35,7 @@ number_form (byte ∷ more) =
     else (if byte == 36 then alone (Cut LocalSymbol) more else None))
 
 -- what follows a `^`
-abbrev pub caret_form : List ℕ → Option Form
+abbrev pub caret_form : Bytes → Option Form
 caret_form [] = Some Skipped
 caret_form (letter ∷ more) =
     if folded letter == 66 then alone (Cut BinaryRadix) more
@@ -44,12 +45,12 @@ caret_form (letter ∷ more) =
     else (if folded letter == 82 then all_pass is_name_character (Cut Packed) more else None))))
 
 -- what follows a character that counts for two where it stands twice
-abbrev pub doubled_form : ℕ → Sort → Sort → List ℕ → Option Form
+abbrev pub doubled_form : ℕ → Sort → Sort → Bytes → Option Form
 doubled_form byte single double [] = Some (Cut single)
 doubled_form byte single double (next ∷ more) = if next == byte then alone (Cut double) more else None
 
 -- the form of a piece by its first character and what follows it
-abbrev pub marked_form : ℕ → List ℕ → Option Form
+abbrev pub marked_form : ℕ → Bytes → Option Form
 marked_form byte more =
     if byte == 39 then at_most 1 (Cut Character) more
     else (if byte == 34 then at_most 2 (Cut TwoCharacters) more
@@ -59,7 +60,7 @@ marked_form byte more =
     else alone (mark_form byte) more))))
 
 -- the form of a text that is one piece, if it is one
-abbrev pub form_of : List ℕ → Option Form
+abbrev pub form_of : Bytes → Option Form
 form_of [] = None
 form_of (byte ∷ more) =
     if is_digit byte then number_form more
@@ -69,14 +70,14 @@ form_of (byte ∷ more) =
     else marked_form byte more)))
 
 -- the longest beginning of a text that has a form
-pub record IsNext (piece : Piece) (text : List ℕ) : Type 0 where
+pub record IsNext (piece : Piece) (text : Bytes) : Type 0 where
   pub begins : 0 < piece.length
   pub within : piece.length ≤ length text
   pub form : form_of (take piece.length text) ≡ Some piece.form
   pub longest : (n : ℕ) → piece.length < n → n ≤ length text → form_of (take n text) ≡ None
 
 -- a cut of a text: each piece is the next one, and nothing is left
-abbrev pub IsCut : List Piece → List ℕ → Type 0
+abbrev pub IsCut : List Piece → Bytes → Type 0
 IsCut [] text = text ≡ []
 IsCut (piece ∷ pieces) text = IsNext piece text × IsCut pieces (drop piece.length text)
 
@@ -87,7 +88,7 @@ AreOrdered size place (token ∷ tokens) =
     (place ≤ token.start) × (token.start < token.end) × AreOrdered size token.end tokens
 
 -- the characters of tokens, and those between them, of a line from a place on
-abbrev pub joined_from : List ℕ → ℕ → List Lexeme → List ℕ
+abbrev pub joined_from : Bytes → ℕ → List Lexeme → Bytes
 joined_from line place [] = drop place line
 joined_from line place (token ∷ tokens) =
     text_between line place token.start ++ (token.text ++ joined_from line token.end tokens)

@@ -1,5 +1,6 @@
 -- The tokens of a line, with their places. (MACRO-11 Language Reference Manual, "Symbols and expressions".)
 use Rattle.std.specs.Prelude.{ℕ, zero, suc, ◌+◌, ◌-◌, nat_le, ◌&&◌, if◌then◌else◌, List, [], ◌∷◌, ◌++◌, length, take, drop}
+use Rattle.m11_base.specs.Devices.{Bytes}
 use Rattle.m11_scan.specs.declared.sort.Sort.{Sort}
 use Rattle.m11_scan.specs.declared.sort.Form.{Form}
 use Rattle.m11_scan.specs.declared.sort.Form.TheVariants.{Cut, Blank, Comment, Skipped}
@@ -7,14 +8,14 @@ use Rattle.m11_scan.specs.declared.pieces.Piece.{Piece}
 use Rattle.m11_scan.specs.Pieces.{first_piece}
 
 -- the pieces of a text, of whose first piece some characters are left over from a piece before
-abbrev pub pieces_after : ℕ → List ℕ → List Piece
+abbrev pub pieces_after : ℕ → Bytes → List Piece
 pieces_after left [] = []
 pieces_after zero (byte ∷ text) =
     first_piece (byte ∷ text) ∷ pieces_after ((first_piece (byte ∷ text)).length - 1) text
 pieces_after (suc left) (byte ∷ text) = pieces_after left text
 
 -- the pieces of a text: each begins where the one before it ends
-abbrev pub pieces_of : List ℕ → List Piece
+abbrev pub pieces_of : Bytes → List Piece
 pieces_of text = pieces_after 0 text
 
 -- a token: what it is, where it stands in its line, and its characters
@@ -22,15 +23,15 @@ pub record Lexeme : Type 0 where
   pub sort : Sort
   pub start : ℕ
   pub end : ℕ
-  pub text : List ℕ
+  pub text : Bytes
 
 -- the characters of a line between two places, if both are in it and in this order
-abbrev pub text_between : List ℕ → ℕ → ℕ → List ℕ
+abbrev pub text_between : Bytes → ℕ → ℕ → Bytes
 text_between line start end =
     if nat_le start end && nat_le end (length line) then take (end - start) (drop start line) else []
 
 -- the token of a piece at a place of a line, if it is one
-abbrev pub lexemes_at : List ℕ → ℕ → ℕ → Form → List Lexeme
+abbrev pub lexemes_at : Bytes → ℕ → ℕ → Form → List Lexeme
 lexemes_at line start end (Cut sort) =
     record { sort = sort; start = start; end = end; text = text_between line start end } ∷ []
 lexemes_at line start end Blank = []
@@ -38,15 +39,15 @@ lexemes_at line start end Comment = []
 lexemes_at line start end Skipped = []
 
 -- the tokens among pieces that stand one after the other from a place of a line on
-abbrev pub lexemes_from : List ℕ → ℕ → List Piece → List Lexeme
+abbrev pub lexemes_from : Bytes → ℕ → List Piece → List Lexeme
 lexemes_from line place [] = []
 lexemes_from line place (piece ∷ pieces) =
     lexemes_at line place (place + piece.length) piece.form ++ lexemes_from line (place + piece.length) pieces
 
 -- the tokens of a line from a place on
-abbrev pub tokens_from : List ℕ → ℕ → List Lexeme
+abbrev pub tokens_from : Bytes → ℕ → List Lexeme
 tokens_from line place = lexemes_from line place (pieces_of (drop place line))
 
 -- the tokens of a line
-abbrev pub tokens_of : List ℕ → List Lexeme
+abbrev pub tokens_of : Bytes → List Lexeme
 tokens_of line = tokens_from line 0

@@ -1,5 +1,6 @@
 -- Where an expression of a line ends. (MACRO-11 Language Reference Manual, "Expressions".)
 use Rattle.std.specs.Prelude.{ℕ, List, [], ◌∷◌, map, take}
+use Rattle.m11_base.specs.Devices.{Bytes}
 use Rattle.m11_scan.specs.declared.expressions.Within.{Within}
 use Rattle.m11_scan.specs.declared.sort.Sort.{Sort}
 use Rattle.m11_scan.specs.Cutting.{Lexeme, tokens_from}
@@ -18,5 +19,5 @@ abbrev pub end_of : Within → ℕ → List Lexeme → ℕ
 end_of within place tokens = place_after place (take (taken (map sort_in tokens) within) tokens)
 
 -- the place after the expression that begins at a place of a line
-abbrev pub expression_end : List ℕ → ℕ → ℕ
+abbrev pub expression_end : Bytes → ℕ → ℕ
 expression_end line place = end_of begin place (tokens_from line place)

@@ -1,6 +1,7 @@
 -- Expressions and brackets as they are written. (MACRO-11 Language Reference Manual, "Terms", "Expressions", and "Arguments in macro
 -- definitions and macro calls".)
 use Rattle.std.specs.Prelude.{◌≡◌, ◌≢◌, ℕ, Bool, true, false, List, [], ◌∷◌, ◌++◌}
+use Rattle.m11_base.specs.Devices.{Bytes}
 use Rattle.m11_scan.specs.declared.expressions.Role.TheVariants.{Term, Prefix, Sign, Operator}
 use Rattle.m11_scan.specs.declared.sort.Sort.{Sort}
 use Rattle.m11_scan.specs.declared.sort.Sort.TheVariants.{Less, Greater}
@@ -29,7 +30,7 @@ MayFollow [] = Unit {0}
 MayFollow (sort ∷ sorts) = (role_of sort ≢ Sign) × (role_of sort ≢ Operator)
 
 -- texts whose brackets are nested
-pub data IsNested : List ℕ → Type 0 where
+pub data IsNested : Bytes → Type 0 where
   Empty : IsNested []
-  Plain : (byte : ℕ) (text : List ℕ) → byte ≢ 60 → byte ≢ 62 → IsNested text → IsNested (byte ∷ text)
-  Bracketed : (text rest : List ℕ) → IsNested text → IsNested rest → IsNested (60 ∷ (text ++ 62 ∷ rest))
+  Plain : (byte : ℕ) (text : Bytes) → byte ≢ 60 → byte ≢ 62 → IsNested text → IsNested (byte ∷ text)
+  Bracketed : (text rest : Bytes) → IsNested text → IsNested rest → IsNested (60 ∷ (text ++ 62 ∷ rest))

@@ -2,6 +2,7 @@
 -- summary". That a set is a number, with a bit for each letter in the order of the alphabet, is this project's own.)
 use Rattle.std.specs.Prelude.{ℕ, ◌==◌, if◌then◌else◌, List, [], ◌∷◌}
 use Rattle.std.specs.Int.RustNames.{bit_and}
+use Rattle.m11_base.specs.Devices.{Bytes}
 use Rattle.m11_scan.specs.declared.letters.Row.{Row}
 
 abbrev pub with_bit : ℕ → ℕ → Row
@@ -27,13 +28,13 @@ letter_rows =
     ∷ []
 
 -- those letters of rows that are in a set
-abbrev pub letters_in : List Row → ℕ → List ℕ
+abbrev pub letters_in : List Row → ℕ → Bytes
 letters_in [] set = []
 letters_in (row ∷ rows) set =
     if bit_and set row.bit == row.bit then row.letter ∷ letters_in rows set else letters_in rows set
 
 -- a set's letters in the order of the alphabet
-abbrev pub letters_text : ℕ → List ℕ
+abbrev pub letters_text : ℕ → Bytes
 letters_text set = letters_in letter_rows set
 
 -- the sets of one letter

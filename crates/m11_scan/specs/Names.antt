@@ -1,17 +1,18 @@
 -- Names, and the characters of `^R`. (MACRO-11 Language Reference Manual, "Symbols": six characters of a name count; "Radix-50
 -- operator": `^R` packs three.) Which six they are stands with the names of instructions, and their words with RADIX-50.
-use Rattle.std.specs.Prelude.{ℕ, Bool, List, [], ◌∷◌, map, Option, Some, None}
+use Rattle.std.specs.Prelude.{ℕ, Bool, [], ◌∷◌, map, Option, Some, None}
 use Rattle.std.specs.List.{list_all}
+use Rattle.m11_base.specs.Devices.{Bytes}
 use Rattle.m11_base.specs.Mnemonics.{character_at, is_name_character}
 use Rattle.m11_base.specs.Rad50.{packed_at}
 use Rattle.m11_scan.specs.Letters.{letter_Q}
 
 -- letters, digits, `$` and `.`
-abbrev pub has_name_characters_alone : List ℕ → Bool
+abbrev pub has_name_characters_alone : Bytes → Bool
 has_name_characters_alone text = list_all is_name_character text
 
 -- the first three characters in upper case, with blanks where there are fewer
-abbrev pub three_of : List ℕ → List ℕ
+abbrev pub three_of : Bytes → Bytes
 three_of text = map (character_at text) (0 ∷ 1 ∷ 2 ∷ [])
 
 abbrev pub word_or_none : Option ℕ → ℕ
@@ -19,10 +20,10 @@ word_or_none (Some word) = word
 word_or_none None = 0
 
 -- the word of what stands after `^R`
-abbrev pub packed_word : List ℕ → ℕ
+abbrev pub packed_word : Bytes → ℕ
 packed_word characters = word_or_none (packed_at (three_of characters) 0)
 
 -- Q where nothing stands there
-abbrev pub packed_letters : List ℕ → ℕ
+abbrev pub packed_letters : Bytes → ℕ
 packed_letters [] = letter_Q
 packed_letters (character ∷ characters) = 0

@@ -1,8 +1,9 @@
 -- Numbers. (MACRO-11 Language Reference Manual, "Numbers". That a number with a digit outside the radix is decimal, and that
 -- one over 65535 counts modulo 65536, is this project's own.)
-use Rattle.std.specs.Prelude.{ℕ, ◌+◌, ◌-◌, ◌*◌, ◌^◌, Bool, nat_le, nat_lt, if◌then◌else◌, List, [], ◌∷◌, length}
+use Rattle.std.specs.Prelude.{ℕ, ◌+◌, ◌-◌, ◌*◌, ◌^◌, Bool, nat_le, nat_lt, if◌then◌else◌, [], ◌∷◌, length}
 use Rattle.std.specs.List.{list_any}
 use Rattle.std.specs.Int.RustNames.{bit_or}
+use Rattle.m11_base.specs.Devices.{Bytes}
 use Rattle.m11_scan.specs.Letters.{letter_N, letter_T}
 use Rattle.m11_scan.specs.declared.radix.Radix.{Radix}
 use Rattle.m11_scan.specs.declared.radix.Radix.TheVariants.{Binary, Octal, Decimal}
@@ -13,24 +14,24 @@ base_of Octal = 8
 base_of Decimal = 10
 
 -- the number that digits spell: each digit counts the base to the number of digits after it
-abbrev pub spelled : ℕ → List ℕ → ℕ
+abbrev pub spelled : ℕ → Bytes → ℕ
 spelled base [] = 0
 spelled base (digit ∷ digits) = (digit - 48) * base ^ length digits + spelled base digits
 
 -- some digit is none of the base
-abbrev pub has_digit_outside : ℕ → List ℕ → Bool
+abbrev pub has_digit_outside : ℕ → Bytes → Bool
 has_digit_outside base digits = list_any (λ digit. nat_le (base + 48) digit) digits
 
 -- the base that digits have in a radix: ten where one of them lies outside it
-abbrev pub base_in : Radix → List ℕ → ℕ
+abbrev pub base_in : Radix → Bytes → ℕ
 base_in radix digits = if has_digit_outside (base_of radix) digits then 10 else base_of radix
 
 -- the number of digits in a radix
-abbrev pub number_of : Radix → List ℕ → ℕ
+abbrev pub number_of : Radix → Bytes → ℕ
 number_of radix digits = spelled (base_in radix digits) digits
 
 -- T for a number over 65535, N for a digit outside the radix
-abbrev pub number_letters : Radix → List ℕ → ℕ
+abbrev pub number_letters : Radix → Bytes → ℕ
 number_letters radix digits =
     bit_or (if nat_lt 65535 (number_of radix digits) then letter_T else 0)
     (if has_digit_outside (base_of radix) digits then letter_N else 0)

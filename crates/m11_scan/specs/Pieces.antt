@@ -1,8 +1,9 @@
 -- The pieces of a line: tokens, blanks, the comment, and characters that begin no token. (MACRO-11 Language Reference
 -- Manual, "Symbols and expressions" and "Character set". Which characters begin no token, and what becomes of `'` and
 -- `"` at the end of a line, is this project's own.)
-use Rattle.std.specs.Prelude.{ℕ, ◌+◌, min, ◌==◌, if◌then◌else◌, List, [], ◌∷◌, length, drop}
+use Rattle.std.specs.Prelude.{ℕ, ◌+◌, min, ◌==◌, if◌then◌else◌, [], ◌∷◌, length, drop}
 use Rattle.std.specs.List.{prefix_len}
+use Rattle.m11_base.specs.Devices.{Bytes}
 use Rattle.m11_base.specs.Mnemonics.{folded, is_name_character}
 use Rattle.m11_scan.specs.Characters.{is_blank, is_digit}
 use Rattle.m11_scan.specs.declared.sort.Sort.{Sort}
@@ -37,17 +38,17 @@ abbrev pub token : Sort → ℕ → Piece
 token sort length = record { form = Cut sort; length = length }
 
 -- digits, with a point or a `$` directly after them where one stands there
-abbrev pub number_ending : ℕ → List ℕ → Piece
+abbrev pub number_ending : ℕ → Bytes → Piece
 number_ending digits [] = token Number digits
 number_ending digits (byte ∷ rest) =
     if byte == 46 then token DecimalNumber (digits + 1)
     else (if byte == 36 then token LocalSymbol (digits + 1) else token Number digits)
 
-abbrev pub number_piece : List ℕ → Piece
+abbrev pub number_piece : Bytes → Piece
 number_piece text = number_ending (prefix_len is_digit text) (drop (prefix_len is_digit text) text)
 
 -- `^` by the letter after it, in either case
-abbrev pub caret_piece : List ℕ → Piece
+abbrev pub caret_piece : Bytes → Piece
 caret_piece [] = record { form = Skipped; length = 1 }
 caret_piece (letter ∷ rest) =
     if folded letter == 66 then token BinaryRadix 2
@@ -58,11 +59,11 @@ caret_piece (letter ∷ rest) =
     else record { form = Skipped; length = 1 }))))
 
 -- a character that counts for two where it stands twice
-abbrev pub doubled_piece : ℕ → Sort → Sort → List ℕ → Piece
+abbrev pub doubled_piece : ℕ → Sort → Sort → Bytes → Piece
 doubled_piece byte single double [] = token single 1
 doubled_piece byte single double (next ∷ rest) = if next == byte then token double 2 else token single 1
 
-abbrev pub mark_piece : List ℕ → Piece
+abbrev pub mark_piece : Bytes → Piece
 mark_piece [] = record { form = Skipped; length = 1 }
 mark_piece (byte ∷ rest) =
     if byte == 39 then token Character (min (length (byte ∷ rest)) 2)
@@ -72,7 +73,7 @@ mark_piece (byte ∷ rest) =
     else (if byte == 61 then doubled_piece 61 Equals TwoEquals rest
     else record { form = mark_form byte; length = 1 }))))
 
-unfoldable pub first_piece : List ℕ → Piece
+unfoldable pub first_piece : Bytes → Piece
 first_piece [] = record { form = Skipped; length = 1 }
 first_piece (byte ∷ rest) =
     if is_digit byte then number_piece (byte ∷ rest)

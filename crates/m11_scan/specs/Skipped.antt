@@ -1,7 +1,8 @@
 -- Characters that begin no token. (MACRO-11 Language Reference Manual, "Character set". That such a character is skipped wherever
 -- tokens are looked for is this project's own.)
-use Rattle.std.specs.Prelude.{ℕ, Bool, true, false, List}
+use Rattle.std.specs.Prelude.{ℕ, Bool, true, false}
 use Rattle.std.specs.List.{list_any}
+use Rattle.m11_base.specs.Devices.{Bytes}
 use Rattle.m11_scan.specs.declared.sort.Form.{Form}
 use Rattle.m11_scan.specs.declared.sort.Form.TheVariants.{Cut, Blank, Comment, Skipped}
 use Rattle.m11_scan.specs.declared.pieces.Piece.{Piece}
@@ -14,9 +15,9 @@ is_skipped Comment = false
 is_skipped Skipped = true
 
 -- some piece of a text is a character that begins no token
-abbrev pub has_skipped : List ℕ → Bool
+abbrev pub has_skipped : Bytes → Bool
 has_skipped text = list_any (λ (piece : Piece). is_skipped piece.form) (pieces_of text)
 
 -- some piece between two places of a line is one
-abbrev pub skipped_between : List ℕ → ℕ → ℕ → Bool
+abbrev pub skipped_between : Bytes → ℕ → ℕ → Bool
 skipped_between line start end = has_skipped (text_between line start end)

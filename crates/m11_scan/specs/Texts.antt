@@ -1,13 +1,14 @@
 -- Texts that a directive or a call of a macro takes from its line itself. (MACRO-11 Language Reference Manual, ".ASCII directive"
 -- and "Arguments in macro definitions and macro calls". That a text without its end goes to the end of the line is this
 -- project's own.)
-use Rattle.std.specs.Prelude.{ℕ, zero, suc, ◌+◌, Bool, true, false, not, ◌||◌, ◌==◌, if◌then◌else◌, List, [], ◌∷◌, drop}
+use Rattle.std.specs.Prelude.{ℕ, zero, suc, ◌+◌, Bool, true, false, not, ◌||◌, ◌==◌, if◌then◌else◌, [], ◌∷◌, drop}
 use Rattle.std.specs.List.{list_any, prefix_len}
+use Rattle.m11_base.specs.Devices.{Bytes}
 use Rattle.m11_scan.specs.Characters.{is_blank}
 use Rattle.m11_scan.specs.declared.texts.Enclosed.{Enclosed}
 
 -- the text up to the first delimiter, or to the end
-abbrev pub delimited : ℕ → List ℕ → Enclosed
+abbrev pub delimited : ℕ → Bytes → Enclosed
 delimited delimiter text = record {
   length = prefix_len (λ byte. not (byte == delimiter)) text;
   is_closed = list_any (λ byte. byte == delimiter) text;
@@ -18,7 +19,7 @@ abbrev pub longer : Enclosed → Enclosed
 longer enclosed = record { length = suc enclosed.length; is_closed = enclosed.is_closed }
 
 -- the text up to the `>` that closes one bracket more than n
-abbrev pub inside : ℕ → List ℕ → Enclosed
+abbrev pub inside : ℕ → Bytes → Enclosed
 inside depth [] = record { length = 0; is_closed = false }
 inside zero (byte ∷ text) =
     if byte == 60 then longer (inside 1 text)
@@ -27,7 +28,7 @@ inside (suc depth) (byte ∷ text) =
     if byte == 60 then longer (inside (suc (suc depth)) text)
     else (if byte == 62 then longer (inside depth text) else longer (inside (suc depth) text))
 
-abbrev pub bracketed : List ℕ → Enclosed
+abbrev pub bracketed : Bytes → Enclosed
 bracketed text = inside zero text
 
 -- a character of an actual that isn't bracketed
@@ -35,9 +36,9 @@ abbrev pub is_bare : ℕ → Bool
 is_bare byte = not (is_blank byte || (byte == 44 || byte == 59))
 
 -- blanks, and what stands after them: a comma with the blanks after it, or nothing that separates
-abbrev pub comma_length : List ℕ → ℕ
+abbrev pub comma_length : Bytes → ℕ
 comma_length [] = 0
 comma_length (byte ∷ text) = if byte == 44 then prefix_len is_blank text + 1 else 0
 
-abbrev pub separator_length : List ℕ → ℕ
+abbrev pub separator_length : Bytes → ℕ
 separator_length text = comma_length (drop (prefix_len is_blank text) text) + prefix_len is_blank text

@@ -1,6 +1,7 @@
 //! Laws of the cut of a line into pieces, of expressions and of brackets. Each is the contract of a function that does nothing.
 
-ghost use Rattle.std.specs.Prelude.{◌≡◌, ◌∷◌, ◌++◌, ℕ, List, false, length, true};
+ghost use Rattle.std.specs.Prelude.{◌≡◌, ◌∷◌, ◌++◌, List, false, length, true};
+ghost use Rattle.m11_base.specs.Devices.{Bytes};
 ghost use Rattle.m11_scan.specs.Cuts.{AreOrdered, IsCut, joined_from};
 ghost use Rattle.m11_scan.specs.Cutting.{pieces_of, tokens_of};
 ghost use Rattle.m11_scan.specs.Expressions.{expression_length};
@@ -13,15 +14,15 @@ ghost use Rattle.m11_scan.specs.declared.sort.Sort.{Sort};
 /// that has the form of a piece.
 #[tactic(auto, using(crate::proofs::OnlyCut::cuts))]
 pub fn there_is_one_cut()
-    ensures exists { (text : List ℕ) → IsCut (pieces_of text) text }
-    ensures only { (text : List ℕ) (pieces : List Piece) → IsCut pieces text → pieces ≡ pieces_of text }
+    ensures exists { (text : Bytes) → IsCut (pieces_of text) text }
+    ensures only { (text : Bytes) (pieces : List Piece) → IsCut pieces text → pieces ≡ pieces_of text }
 {}
 
 /// The tokens of a line stand in it in order and apart, and with the characters between them they are the line.
 #[tactic(auto, using(crate::proofs::OrderedTokens::orders))]
 pub fn tokens_lie_in_order()
-    ensures ordered { (line : List ℕ) → AreOrdered (length line) 0 (tokens_of line) }
-    ensures whole { (line : List ℕ) → joined_from line 0 (tokens_of line) ≡ line }
+    ensures ordered { (line : Bytes) → AreOrdered (length line) 0 (tokens_of line) }
+    ensures whole { (line : Bytes) → joined_from line 0 (tokens_of line) ≡ line }
 {}
 
 /// What is written as an expression is taken whole, up to a token that may follow one: terms with signs and prefixes before them,
@@ -35,6 +36,6 @@ pub fn written_expressions_are_taken_whole()
 /// A text whose brackets are nested is what stands in brackets, up to the `>` after it.
 #[tactic(auto, using(crate::proofs::NestedBrackets::nested_bracketed))]
 pub fn nested_brackets_are_read_whole()
-    ensures { (text rest : List ℕ) → IsNested text
+    ensures { (text rest : Bytes) → IsNested text
         → bracketed (text ++ 62 ∷ rest) ≡ record { length = length text; is_closed = true } }
 {}
