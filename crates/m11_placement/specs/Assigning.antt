@@ -8,7 +8,7 @@ use Rattle.m11_arguments.specs.Expressions.{value_at}
 use Rattle.m11_arguments.specs.LeftOvers.{has_token}
 use Rattle.m11_base.specs.Devices.{Bytes}
 use Rattle.m11_base.specs.Mnemonics.{six_of}
-use Rattle.m11_base.specs.Rad50.{Name, name_of}
+use Rattle.m11_base.specs.Rad50.{Name, is_same_name, name_of}
 use Rattle.m11_scan.specs.Cutting.{text_between, tokens_from}
 use Rattle.m11_scan.specs.Ends.{expression_end}
 use Rattle.m11_scan.specs.Letters.{letter_A, letter_Q}
@@ -22,7 +22,6 @@ use Rattle.m11_placement.specs.Labels.{letter_M}
 use Rattle.m11_placement.specs.Meanings.{Knows, Map, firm_known, known_at}
 use Rattle.m11_placement.specs.Places.{Goes}
 use Rattle.m11_placement.specs.Relocations.{is_here}
-use Rattle.m11_placement.specs.Sections.{is_same}
 use Rattle.m11_placement.specs.Tables.{Table, place}
 
 -- Q for what stands after the expression at a place
@@ -55,7 +54,7 @@ is_unknown (Some definition) = is_unknown_as definition.standing
 is_unknown None = false
 
 abbrev pub is_exported : Name → Map → Bool
-is_exported name map = list_any (λ other. is_same other name) map.globals
+is_exported name map = list_any (λ other. is_same_name other name) map.globals
 
 abbrev pub global_letters : Map → Name → ℕ
 global_letters map name =

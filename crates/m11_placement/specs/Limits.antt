@@ -2,7 +2,7 @@
 -- "Program section directives". The numbers, and that names which are only read count too, are this project's own.)
 use Rattle.std.specs.Prelude.{ℕ, ◌||◌, Bool, true, false, nat_lt, if◌then◌else◌, List, [], ◌∷◌, ◌++◌, length, count_by, Option, Some, None}
 use Rattle.std.specs.List.{list_any}
-use Rattle.m11_base.specs.Rad50.{Name}
+use Rattle.m11_base.specs.Rad50.{Name, is_same_name}
 use Rattle.m11_unfolding.specs.Unfolding.{Given}
 use Rattle.m11_values.specs.declared.names.Symbol.{Symbol}
 use Rattle.m11_values.specs.declared.names.Symbol.TheVariants.{Ordinary, Local, Counter}
@@ -11,7 +11,6 @@ use Rattle.m11_placement.specs.Lines.{after_line}
 use Rattle.m11_placement.specs.Meanings.{Map, empty_map}
 use Rattle.m11_placement.specs.Mentions.{Mention, mentions}
 use Rattle.m11_placement.specs.Placements.{program_map}
-use Rattle.m11_placement.specs.Sections.{is_same}
 use Rattle.m11_placement.specs.Tables.{Table, first_table}
 
 -- the names of the registers don't count
@@ -32,7 +31,7 @@ pub data LimitFault : Type 0 where
 -- ---- names: those that lines mention, each once, in the order in which they appear
 
 abbrev pub is_counted : Name → List Name → Bool
-is_counted name names = is_defined (Named name) registers || list_any (λ other. is_same other name) names
+is_counted name names = is_defined (Named name) registers || list_any (λ other. is_same_name other name) names
 
 abbrev pub with_symbol : Symbol → List Name → List Name
 with_symbol (Ordinary name) names = if is_counted name names then names else names ++ name ∷ []

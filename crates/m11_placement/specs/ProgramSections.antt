@@ -7,6 +7,7 @@ use Rattle.m11_arguments.specs.LeftOvers.{left_over, letters_before, rest_letter
 use Rattle.m11_arguments.specs.Macros.{name_at}
 use Rattle.m11_arguments.specs.declared.macros.NameAt.{NameAt}
 use Rattle.m11_base.specs.Devices.{Bytes}
+use Rattle.m11_base.specs.Names.{absolute_name, blank_name}
 use Rattle.m11_base.specs.Rad50.{Name}
 use Rattle.m11_scan.specs.Cutting.{Lexeme, tokens_from}
 use Rattle.m11_scan.specs.Letters.{letter_A}
@@ -14,7 +15,7 @@ use Rattle.m11_statements.specs.Listed.{is_comma}
 use Rattle.m11_statements.specs.Statements.{letter_if}
 use Rattle.m11_placement.specs.Elements.{Names, bad_letters, names_at, next_element, texts_of}
 use Rattle.m11_placement.specs.Changes.{Change, Keeps, Selects}
-use Rattle.m11_placement.specs.Sections.{Section, absolute_name, blank_name, number_of, numbered, of_absolute, of_control, of_program}
+use Rattle.m11_placement.specs.Sections.{Section, number_of, numbered, of_absolute, of_control, of_program}
 
 -- ---- attributes
 

@@ -2,11 +2,11 @@
 -- Language Reference Manual, "Program section directives".)
 use Rattle.std.specs.Prelude.{List, [], ◌∷◌, codes, unwrap_or}
 use Rattle.m11_base.specs.Devices.{Bytes}
+use Rattle.m11_base.specs.Names.{absolute_name, blank_name}
 use Rattle.m11_base.specs.Rad50.{Name, name_of}
 use Rattle.m11_object_text.specs.declared.pieces.PieceContent.TheVariants.{Limits}
 use Rattle.m11_object_text.specs.declared.pieces.RelocationKind.TheVariants as kind
 use Rattle.m11_placement.specs.Contents.{fixed_word, piece}
-use Rattle.m11_placement.specs.Sections.{absolute_name, blank_name}
 use Rattle.m11_placements.specs.Worked.{Row, byte, moved_byte, moved_word, row, word}
 
 abbrev pub named : Bytes → Name

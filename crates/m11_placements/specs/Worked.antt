@@ -2,6 +2,7 @@
 use Rattle.std.specs.Prelude.{ℕ, false, List, map, None}
 use Rattle.std.specs.List.{flat_map}
 use Rattle.m11_arguments.specs.Notes.{no_notes}
+use Rattle.m11_base.specs.Names.{blank_name}
 use Rattle.m11_base.specs.Devices.{Bytes}
 use Rattle.m11_lines.specs.Line.{line_of}
 use Rattle.m11_object_text.specs.declared.pieces.Piece.{Piece}
@@ -10,7 +11,6 @@ use Rattle.m11_object_text.specs.declared.pieces.RelocationKind.{RelocationKind}
 use Rattle.m11_placement.specs.Contents.{fixed_byte, fixed_word, piece}
 use Rattle.m11_placement.specs.Meanings.{firm_known}
 use Rattle.m11_placement.specs.Placements.{Placed, placement, program_map}
-use Rattle.m11_placement.specs.Sections.{blank_name}
 use Rattle.m11_placement.specs.Sources.{reported}
 use Rattle.m11_placement.specs.Tables.{first_table}
 use Rattle.m11_scan.specs.Letters.{letters_text}
