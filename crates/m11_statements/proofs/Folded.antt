@@ -71,11 +71,12 @@ unfolding folded_token
 set-folded Name target equals = if_cong (counter-folded target.text) refl refl
 set-folded _ target equals = refl
 
-assignment-folded : (target : Lexeme) (tokens : List Lexeme)
-    → assignment_to (folded_token target) (map folded_token tokens) ≡ assignment_to target tokens
+assignment-folded : (line : List ℕ) (target : Lexeme) (tokens : List Lexeme)
+    → assignment_to (map folded line) (folded_token target) (map folded_token tokens) ≡ assignment_to line target tokens
 unfolding folded_token
-assignment-folded target [] = refl
-assignment-folded target (equals ∷ tokens) = set-folded target.sort target equals
+assignment-folded line target [] = refl
+assignment-folded line target (equals ∷ tokens) =
+    if_cong (skipped_between-folded line target.end equals.start) refl (set-folded target.sort target equals)
 
 module _ (known : ℕ × ℕ → Bool) where
   operates-folded : (sort : Sort) (text : List ℕ) → operates known sort (map folded text) ≡ operates known sort text
@@ -87,15 +88,16 @@ module _ (known : ℕ × ℕ → Bool) where
   unfolding folded_token
   operation-folded first = if_cong (operates-folded first.sort first.text) refl refl
 
-  body_in-folded : (tokens : List Lexeme) → body_in known (map folded_token tokens) ≡ body_in known tokens
-  body_in-folded [] = refl
-  body_in-folded (first ∷ tokens) = λ i. body_or (assignment-folded first tokens i) (operation-folded first i)
+  body_in-folded : (line : List ℕ) (tokens : List Lexeme)
+      → body_in known (map folded line) (map folded_token tokens) ≡ body_in known line tokens
+  body_in-folded line [] = refl
+  body_in-folded line (first ∷ tokens) = λ i. body_or (assignment-folded line first tokens i) (operation-folded first i)
 
   body_of-folded : (line : List ℕ) → body_of known (map folded line) ≡ body_of known line
   body_of-folded line =
-      ap (λ n. body_in known (tokens_from (map folded line) n)) (ap (end_of 0) (labels_at-folded line))
-      ∙ ap (body_in known) (tokens_from-folded line (labels_end line))
-      ∙ body_in-folded (tokens_from line (labels_end line))
+      ap (λ n. body_in known (map folded line) (tokens_from (map folded line) n)) (ap (end_of 0) (labels_at-folded line))
+      ∙ ap (body_in known (map folded line)) (tokens_from-folded line (labels_end line))
+      ∙ body_in-folded line (tokens_from line (labels_end line))
 
   body_letters-folded : (line : List ℕ) → body_letters known (map folded line) ≡ body_letters known line
   body_letters-folded line =

@@ -1,3 +1,4 @@
+mod AssignedBodies
 mod Folded
 mod InOrder
 mod NextLabels

@@ -7,6 +7,7 @@ use Rattle.m11_base.specs.Rad50.{Name, name_of}
 use Rattle.m11_scan.specs.declared.sort.Sort.{Sort}
 use Rattle.m11_scan.specs.declared.sort.Sort.TheVariants as sorts
 use Rattle.m11_scan.specs.Cutting.{Lexeme}
+use Rattle.m11_scan.specs.Skipped.{skipped_between}
 use Rattle.m11_statements.specs.Labels.{is_counter}
 use Rattle.m11_statements.specs.declared.bodies.Body.{Body}
 use Rattle.m11_statements.specs.declared.bodies.Body.TheVariants.{Nothing, Assigns, SetsCounter, Operates, Words}
@@ -36,9 +37,11 @@ set_by _ target equals = None
 abbrev pub assigned : Lexeme → Lexeme → Option Body
 assigned target equals = set_by target.sort target equals
 
-abbrev pub assignment_to : Lexeme → List Lexeme → Option Body
-assignment_to target [] = None
-assignment_to target (equals ∷ tokens) = assigned target equals
+-- only blanks may stand between the two
+abbrev pub assignment_to : Bytes → Lexeme → List Lexeme → Option Body
+assignment_to line target [] = None
+assignment_to line target (equals ∷ tokens) =
+    if skipped_between line target.end equals.start then None else assigned target equals
 
 abbrev pub is_known_name : (Name → Bool) → Option Name → Bool
 is_known_name known None = false
@@ -66,13 +69,13 @@ body_or (Some body) other = body
 body_or None other = other
 
 -- an assignment, or else an operator or words
-abbrev pub begun_body : (Name → Bool) → Lexeme → List Lexeme → Body
-begun_body known first tokens = body_or (assignment_to first tokens) (operation known first)
+abbrev pub begun_body : (Name → Bool) → Bytes → Lexeme → List Lexeme → Body
+begun_body known line first tokens = body_or (assignment_to line first tokens) (operation known first)
 
--- what some tokens say
-abbrev pub body_in : (Name → Bool) → List Lexeme → Body
-body_in known [] = Nothing
-body_in known (first ∷ tokens) = begun_body known first tokens
+-- what some tokens of a line say
+abbrev pub body_in : (Name → Bool) → Bytes → List Lexeme → Body
+body_in known line [] = Nothing
+body_in known line (first ∷ tokens) = begun_body known line first tokens
 
 -- up to which place a line of a size is cut before its operator is known: what stands after a known operator is the operator's
 abbrev pub reach : Body → ℕ → ℕ

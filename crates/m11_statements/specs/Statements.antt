@@ -17,7 +17,7 @@ use Rattle.m11_statements.specs.declared.labels.LabelKind.TheVariants.{Ordinary,
 
 -- what stands after a line's labels
 abbrev pub body_of : (Name → Bool) → Bytes → Body
-body_of known line = body_in known (tokens_from line (labels_end line))
+body_of known line = body_in known line (tokens_from line (labels_end line))
 
 abbrev pub is_outside : LabelKind → Bool
 is_outside Ordinary = false

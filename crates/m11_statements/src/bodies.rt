@@ -9,7 +9,7 @@ ghost use Rattle.m11_statements.specs.Bodies as spec;
 use crate::labels::is_counter;
 use crate::spans::Span;
 use m11_base::Name;
-use m11_scan::{Line, Sort, Token, next_token, read_name};
+use m11_scan::{Line, Sort, Token, next_token, read_name, skipped_between};
 
 /// The operators that are known: the names of instructions, of directives and of the macros that are defined.
 pub trait Operators {
@@ -50,7 +50,7 @@ pub enum Body {
 // What stands in a line from a place on.
 pub(crate) fn body_at<O: Operators>(line: &Line, place: usize, operators: &O) -> Body
     requires { place ≤ length line.now.text }
-    ensures body { result ≡ spec.body_in (O.known operators.now) (tokens_from line.now.text place) }
+    ensures body { result ≡ spec.body_in (O.known operators.now) line.now.text (tokens_from line.now.text place) }
     ensures least { place ≤ spec.reach result (length line.now.text) }
     ensures most { spec.reach result (length line.now.text) ≤ length line.now.text }
     ensures within { spec.end_of result (length line.now.text) ≤ length line.now.text }
@@ -65,7 +65,7 @@ pub(crate) fn body_at<O: Operators>(line: &Line, place: usize, operators: &O) ->
 fn begun_body<O: Operators>(line: &Line, first: Token, operators: &O) -> Body
     requires ordered { first.start ≤ first.end }
     requires within { first.end ≤ length line.now.text }
-    ensures body { result ≡ spec.begun_body (O.known operators.now) (lexeme line.now.text first)
+    ensures body { result ≡ spec.begun_body (O.known operators.now) line.now.text (lexeme line.now.text first)
         (tokens_from line.now.text first.end) }
     ensures least { first.start ≤ spec.reach result (length line.now.text) }
     ensures most { spec.reach result (length line.now.text) ≤ length line.now.text }
@@ -77,12 +77,17 @@ fn begun_body<O: Operators>(line: &Line, first: Token, operators: &O) -> Body
     }
 }
 
-// The assignment to a token, if an `=` stands after it.
+// The assignment to a token, if an `=` stands after it, and only blanks between them.
 fn assignment_to(line: &Line, target: Token) -> Option<Body>
     requires { target.end ≤ length line.now.text }
-    ensures { result ≡ spec.assignment_to (lexeme line.now.text target) (tokens_from line.now.text target.end) }
+    ensures { result
+        ≡ spec.assignment_to line.now.text (lexeme line.now.text target) (tokens_from line.now.text target.end) }
 {
-    let equals = next_token(line, usize::from(target.end))?;
+    let end = usize::from(target.end);
+    let equals = next_token(line, end)?;
+    if skipped_between(line, end, usize::from(equals.start)) {
+        return None;
+    }
     assigned(line, target, equals)
 }
 

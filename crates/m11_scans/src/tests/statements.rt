@@ -293,7 +293,7 @@ static BODIES: [Row; 21] = [
 ];
 
 // Characters that begin no token, and those that stand where they count.
-static SKIPPED: [Row; 15] = [
+static SKIPPED: [Row; 16] = [
     Row {
         line: "?",
         labels: &[],
@@ -357,7 +357,13 @@ static SKIPPED: [Row; 15] = [
     Row {
         line: "X ?= 5",
         labels: &[],
-        body: (Assigns, 0, 1, 4),
+        body: (Words, 0, 0, 0),
+        letters: ("", "I"),
+    },
+    Row {
+        line: "?X=5",
+        labels: &[],
+        body: (Assigns, 1, 2, 3),
         letters: ("", "I"),
     },
     Row {
