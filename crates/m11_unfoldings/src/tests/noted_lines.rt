@@ -129,6 +129,89 @@ static CALLS: [Row; 5] = [
     (&[(".MACRO M", 1), (".ENDM", 1), ("M A", 1)], "0 Q0 "),
 ];
 
+static CORNERS: [Row; 10] = [
+    (
+        &[
+            (".MACRO M A", 1),
+            (".NARG N", 1),
+            (".ENDM", 1),
+            ("M 1,", 1),
+            ("M ,", 1),
+            ("M", 1),
+        ],
+        "0 0 0/1 0 0/1 0 0/0 ",
+    ),
+    (
+        &[
+            (".MACRO M", 1),
+            ("?", 1),
+            (".ENDM", 1),
+            (".IF EQ 1", 1),
+            ("?", 1),
+            (".ENDC", 1),
+        ],
+        "0 0 0 ",
+    ),
+    (&[(".MACRO M X 5 Y", 1), (".ENDM", 1)], "A0 "),
+    (
+        &[
+            (".MACRO M A", 1),
+            ("L'A: .ENDM", 1),
+            (".ENDM", 1),
+            ("M 1", 1),
+        ],
+        "0 0 O0/1 ",
+    ),
+    (
+        &[
+            (".IF DIF A,", 1),
+            (".ENDC", 1),
+            (".IF DIF A", 1),
+            (".ENDC", 1),
+        ],
+        "0 0 A0 0 ",
+    ),
+    (
+        &[
+            (".MACRO M A,B", 1),
+            (".ENDM", 1),
+            ("M <1;2", 1),
+            ("M 1<2,3>", 1),
+        ],
+        "0 A0 0 ",
+    ),
+    (
+        &[
+            (".IIF EQ 0", 1),
+            (".IIF EQ 0 .WORD 1", 1),
+            (".IIF EQ 0,", 1),
+        ],
+        "A0 AQ0 0 ",
+    ),
+    (
+        &[(".IF EQ 0", 1), (".IFF A", 1), (".IFT", 1), (".ENDC A", 1)],
+        "0 Q0 0 Q0 ",
+    ),
+    (
+        &[
+            (".IF EQ 0", 32),
+            (".IF EQ UNKN", 1),
+            (".IFF", 1),
+            (".ENDC", 1),
+        ],
+        "0 0 0 0 0 0 0 0 0 0 0 0 0 0 0 0 0 0 0 0 0 0 0 0 0 0 0 0 0 0 0 0 O0 0 ",
+    ),
+    (
+        &[
+            (".IRP X,<1,>", 1),
+            (".ENDR", 1),
+            (".IRPC X,<>", 1),
+            (".ENDR", 1),
+        ],
+        "0 0 ",
+    ),
+];
+
 fn check_rows(rt: &impl Abort, alloc: Global, rows: &[Row]) {
     for (source, wanted) in rows {
         match noted(alloc, source) {
@@ -156,4 +239,9 @@ fn bodies_note_the_letters_and_symbols_of_their_arguments(rt: HostRuntime) {
 #[test]
 fn calls_note_their_letters_and_count_their_actuals(rt: HostRuntime) {
     check_rows(&rt, rt.alloc(), &CALLS);
+}
+
+#[test]
+fn corners_note_what_was_worked(rt: HostRuntime) {
+    check_rows(&rt, rt.alloc(), &CORNERS);
 }

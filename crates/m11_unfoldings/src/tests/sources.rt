@@ -325,6 +325,148 @@ static CALLS: [Row; 14] = [
     ),
 ];
 
+// Corners of arguments, bodies and conditions.
+static CORNERS: [Row; 16] = [
+    (
+        &[(".REPT 1", 1), ("A", 1), ("X: .ENDR", 1), ("B", 1)],
+        "A\nB\n",
+    ),
+    (
+        &[(".REPT 2", 1), (".ENDM=5", 1), (".ENDR", 1)],
+        ".ENDM=5\n.ENDM=5\n",
+    ),
+    (
+        &[
+            (".IF EQ 1", 1),
+            ("A: .WORD 1", 1),
+            ("B: .ENDC", 1),
+            ("C", 1),
+        ],
+        "C\n",
+    ),
+    (&[(".IRP X,<1,>", 1), ("B X", 1), (".ENDR", 1)], "B 1\n"),
+    (
+        &[
+            (".IRP X,5", 1),
+            ("B X", 1),
+            (".ENDR", 1),
+            (".IRPC X,<>", 1),
+            ("B", 1),
+            (".ENDR", 1),
+        ],
+        "B 5\n",
+    ),
+    (
+        &[
+            (".MACRO M A,B", 1),
+            (".WORD A+0,B+0", 1),
+            (".ENDM", 1),
+            ("M \\X -1", 1),
+            ("M \\X \\1", 1),
+        ],
+        ".WORD 11+0,+0\n.WORD 12+0,1+0\n",
+    ),
+    (
+        &[
+            (".IF DIF A,", 1),
+            ("B", 1),
+            (".ENDC", 1),
+            (".IF DIF A", 1),
+            ("C", 1),
+            (".ENDC", 1),
+        ],
+        "B\n",
+    ),
+    (
+        &[
+            (".MACRO M A,B", 1),
+            (";A'B A''B A'''B 'A' ''B''", 1),
+            (".ENDM", 1),
+            ("M 1,2", 1),
+        ],
+        ";12 12 1'2 1 '2'\n",
+    ),
+    (
+        &[
+            (".MACRO LONGNAME", 1),
+            ("A", 1),
+            (".ENDM", 1),
+            ("LONGNAMES", 1),
+        ],
+        "A\n",
+    ),
+    (
+        &[
+            (".MACRO M A,B", 1),
+            (";A|B", 1),
+            (".ENDM", 1),
+            ("M <1>2", 1),
+            ("M <1;2", 1),
+            ("M 1<2,3>", 1),
+        ],
+        ";1|2\n;1;2|\n;1<2|3>\n",
+    ),
+    (
+        &[
+            (".MACRO M A,A", 1),
+            (".WORD A", 1),
+            (".ENDM", 1),
+            ("M 1,2", 1),
+        ],
+        ".WORD 1\n",
+    ),
+    (
+        &[
+            (".MACRO M,A B , ?C", 1),
+            (".WORD A,B", 1),
+            (".ENDM", 1),
+            ("M 1 2", 1),
+        ],
+        ".WORD 1,2\n",
+    ),
+    (
+        &[
+            (".IF B <\t >", 1),
+            ("A", 1),
+            (".ENDC", 1),
+            (".IF IDN \\5,<\\5>", 1),
+            ("B", 1),
+            (".ENDC", 1),
+        ],
+        "A\nB\n",
+    ),
+    (
+        &[
+            (".IF NDF A!5", 1),
+            ("A", 1),
+            (".ENDC", 1),
+            (".IF NDF", 1),
+            ("B", 1),
+            (".ENDC", 1),
+        ],
+        "",
+    ),
+    (
+        &[
+            (".IIF EQ 0,  .WORD 1 ;x", 1),
+            (".IIF EQ 0,", 1),
+            (".IIF EQ 0", 1),
+        ],
+        "  .WORD 1 ;x\n\n",
+    ),
+    (
+        &[
+            (".MACRO M", 1),
+            ("?", 1),
+            (".ENDM", 1),
+            (".IF EQ 1", 1),
+            ("?", 1),
+            (".ENDC", 1),
+        ],
+        "",
+    ),
+];
+
 fn check_rows(rt: &impl Abort, alloc: Global, rows: &[Row]) {
     for (source, live) in rows {
         match unfolded(alloc, source) {
@@ -352,4 +494,9 @@ fn repeats_give_their_rounds(rt: HostRuntime) {
 #[test]
 fn calls_give_their_bodies(rt: HostRuntime) {
     check_rows(&rt, rt.alloc(), &CALLS);
+}
+
+#[test]
+fn corners_are_unfolded_as_worked(rt: HostRuntime) {
+    check_rows(&rt, rt.alloc(), &CORNERS);
 }
