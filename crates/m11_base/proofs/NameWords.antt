@@ -7,10 +7,6 @@ pub absolute_words : name_of (codes ". ABS.") ≡ Some (0o127401, 0o7624)
 unfolding code_of alphabet
 absolute_words = refl
 
-pub blank_words : name_of (codes "      ") ≡ Some (0, 0)
-unfolding code_of alphabet
-blank_words = refl
-
 pub never_none : (o : Option (ℕ × ℕ)) (x : ℕ × ℕ) → None ≡ o → o ≡ Some x → ⊥
 never_none o x e f = none_some o x e f
   where

@@ -1,4 +1,5 @@
--- Names of the sections that need none in a source: the absolute one, and the blank one. (MACRO-11 Language Reference Manual, ".ASECT and .CSECT directives".)
+-- Names of the sections that need none in a source: the absolute one, and the blank one.
+-- (MACRO-11 Language Reference Manual, ".ASECT and .CSECT directives".)
 use Rattle.std.specs.Prelude.{codes, unwrap_or}
 use Rattle.m11_base.specs.Devices.{Bytes}
 use Rattle.m11_base.specs.Rad50.{Name, name_of}

@@ -1,4 +1,5 @@
-//! Names of the sections that need none in a source: the absolute one, and the blank one. (MACRO-11 Language Reference Manual, ".ASECT and .CSECT directives".)
+//! Names of the sections that need none in a source: the absolute one, and the blank one.
+//! (MACRO-11 Language Reference Manual, ".ASECT and .CSECT directives".)
 
 ghost use Rattle.std.specs.Prelude.{◌≡◌, Some, codes};
 ghost use Rattle.m11_base.specs.Names.{absolute_name, blank_name};
