@@ -1,13 +1,14 @@
 -- What labels leave is the same in a table and in its firm part.
 use Rattle.std.proofs.Common.{◌≡◌, ◌∙◌, ℕ, Bool, true, false, List, [], ◌∷◌, Option, Some, None, refl, ap}
-use Rattle.std.specs.Prelude.{if◌then◌else◌, ◌&&◌, ◌||◌}
+use Rattle.std.specs.Prelude.{if◌then◌else◌, ◌||◌}
 use Rattle.std.proofs.lemmas.List.{map-append}
 use Rattle.m11_base.specs.Rad50.{Name}
 use Rattle.m11_statements.specs.Labels.{labels_at}
 use Rattle.m11_statements.specs.declared.labels.Label.{Label}
 use Rattle.m11_statements.specs.declared.labels.LabelKind.{LabelKind}
 use Rattle.m11_statements.specs.declared.labels.LabelKind.TheVariants as label
-use Rattle.m11_placement.specs.Definitions.{Definition, Key, Named, Numbered, firm_part, firm_parts, is_defined, is_labelled, is_same}
+use Rattle.m11_placement.proofs.FirmNames.{firm_option, last_firm}
+use Rattle.m11_placement.specs.Definitions.{Definition, Key, Named, Numbered, firm_part, firm_parts, is_defined, is_labelled, is_of_label, is_same, last_definition}
 use Rattle.m11_placement.specs.Labels.{global_if, label_name, labelled, labels_stand, with_block, with_definition, with_doubled, with_global, with_key, with_kind, with_label, with_labels, with_name}
 use Rattle.m11_placement.specs.Tables.{Table, firm_table}
 
@@ -17,11 +18,14 @@ defined_firm key [] = refl
 defined_firm key (definition ∷ definitions) =
     ap (λ (b : Bool). is_same definition.key key || b) (defined_firm key definitions)
 
+of_label_firm : (found : Option Definition) → is_of_label (firm_option found) ≡ is_of_label found
+of_label_firm (Some definition) = refl
+of_label_firm None = refl
+
 pub labelled_firm : (key : Key) (definitions : List Definition)
     → is_labelled key (firm_parts definitions) ≡ is_labelled key definitions
-labelled_firm key [] = refl
-labelled_firm key (definition ∷ definitions) =
-    ap (λ (b : Bool). (is_same definition.key key && definition.is_label) || b) (labelled_firm key definitions)
+labelled_firm key definitions =
+    ap is_of_label (last_firm key definitions) ∙ of_label_firm (last_definition key definitions)
 
 abbrev with_definitions : Table → List Definition → Table
 with_definitions table definitions = record table { definitions = definitions }

@@ -5,31 +5,18 @@ use Rattle.std.specs.List.{list_any}
 use Rattle.m11_base.specs.Devices.{Bytes}
 use Rattle.m11_base.specs.Names.{name_in_words}
 use Rattle.m11_base.specs.Rad50.{Name, is_same_name}
-use Rattle.m11_values.specs.declared.kinds.Kind.{Kind}
 use Rattle.m11_values.specs.declared.kinds.Kind.TheVariants.{Register}
-
--- what is defined: a name, or a local symbol by its block and its number
-pub data Key : Type 0 where
-  Named : Name → Key
-  Numbered : ℕ → ℕ → Key
+pub use Rattle.m11_placement.specs.declared.definitions.Definition.{Definition}
+pub use Rattle.m11_placement.specs.declared.definitions.Key.{Key}
+pub use Rattle.m11_placement.specs.declared.definitions.Key.TheVariants.{Named, Numbered}
+pub use Rattle.m11_placement.specs.declared.definitions.Standing.{Standing}
+pub use Rattle.m11_placement.specs.declared.definitions.Standing.TheVariants.{Known, Unknown}
 
 abbrev pub is_same : Key → Key → Bool
 is_same (Named one) (Named other) = is_same_name one other
 is_same (Named one) (Numbered block number) = false
 is_same (Numbered block number) (Named other) = false
 is_same (Numbered block number) (Numbered other_block other) = (block == other_block) && (number == other)
-
--- what it stands for: a number and what that counts from, or nothing that is known
-pub data Standing : Type 0 where
-  Known : ℕ → Kind → Standing
-  Unknown : Standing
-
--- a definition; it is firm where no later line decides its value
-pub record Definition : Type 0 where
-  pub key : Key
-  pub standing : Standing
-  pub is_firm : Bool
-  pub is_label : Bool
 
 -- a definition as far as it is firm
 abbrev pub firm_standing : Bool → Standing → Standing
@@ -61,9 +48,14 @@ last_definition key (definition ∷ definitions) =
 abbrev pub is_defined : Key → List Definition → Bool
 is_defined key definitions = list_any (λ definition. is_same definition.key key) definitions
 
--- a key that a label has defined
+-- a definition is that of a label
+abbrev pub is_of_label : Option Definition → Bool
+is_of_label (Some definition) = definition.is_label
+is_of_label None = false
+
+-- a key whose last definition is that of a label; no line after it gives it another one
 abbrev pub is_labelled : Key → List Definition → Bool
-is_labelled key definitions = list_any (λ definition. is_same definition.key key && definition.is_label) definitions
+is_labelled key definitions = is_of_label (last_definition key definitions)
 
 abbrev pub has_key : Key → List Key → Bool
 has_key key keys = list_any (λ other. is_same other key) keys

@@ -10,6 +10,8 @@ use Rattle.m11_values.specs.declared.kinds.Kind.TheVariants.{Reference}
 use Rattle.m11_values.specs.declared.names.Symbol.{Symbol}
 use Rattle.m11_values.specs.declared.names.Symbol.TheVariants.{Ordinary, Local, Counter}
 use Rattle.m11_values.specs.Quantities.{Quantity, absolute}
+pub use Rattle.m11_placement.specs.declared.meanings.Context.{Context}
+pub use Rattle.m11_placement.specs.declared.meanings.Context.TheVariants.{Refers, Knows}
 use Rattle.m11_placement.specs.Definitions.{Definition, Key, Named, Numbered, Standing, Known, Unknown, has_key, last_definition}
 use Rattle.m11_placement.specs.Tables.{Table, firm_table, kind_here}
 
@@ -34,13 +36,6 @@ letter_D = 4
 abbrev pub quantity_of : ℕ → Standing → Quantity
 quantity_of letters (Known number kind) = record { number = number; kind = kind; letters = letters }
 quantity_of letters Unknown = absolute 0 (bit_or letters letter_U)
-
--- where a symbol stands
-pub data Context : Type 0 where
-  -- in a word, a byte or the word after an instruction: a name that no line defines is a reference to another object
-  Refers : Context
-  -- anywhere else
-  Knows : Context
 
 -- what a symbol without a definition stands for
 abbrev pub undefined : Context → Symbol → Quantity

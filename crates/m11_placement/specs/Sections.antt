@@ -5,11 +5,7 @@ use Rattle.m11_base.specs.Names.{absolute_name, blank_name}
 use Rattle.m11_base.specs.Rad50.{Name, is_same_name}
 use Rattle.m11_values.specs.declared.kinds.Kind.{Kind}
 use Rattle.m11_values.specs.declared.kinds.Kind.TheVariants as kind
-
--- a section: its name, and the bits of its attributes
-pub record Section : Type 0 where
-  pub name : Name
-  pub attributes : ℕ
+pub use Rattle.m11_placement.specs.declared.sections.Section.{Section}
 
 abbrev pub section : Name → ℕ → Section
 section name attributes = record { name = name; attributes = attributes }

@@ -2,24 +2,12 @@
 -- directives".)
 use Rattle.std.specs.Prelude.{ℕ, Bool, false, List, [], ◌∷◌}
 use Rattle.m11_base.specs.Rad50.{Name}
-use Rattle.m11_scan.specs.declared.radix.Radix.{Radix}
 use Rattle.m11_scan.specs.declared.radix.Radix.TheVariants.{Octal}
 use Rattle.m11_values.specs.declared.kinds.Kind.{Kind}
+pub use Rattle.m11_placement.specs.declared.settings.Settings.{Settings}
 use Rattle.m11_placement.specs.Definitions.{Definition, Key, firm_parts, registers}
 use Rattle.m11_placement.specs.Places.{Moved, place_in}
 use Rattle.m11_placement.specs.Sections.{Section, first_number, first_sections, place_kind}
-
--- what holds from a line on until another one changes it
-pub record Settings : Type 0 where
-  -- the number of the section
-  pub section : ℕ
-  -- the number of the block of local symbols
-  pub block : ℕ
-  pub radix : Radix
-  -- how many `.LIST` and `.NLIST` there were, and whether expansions are listed
-  pub listed : ℕ
-  pub unlisted : ℕ
-  pub shows_expansions : Bool
 
 abbrev pub first_settings : Settings
 first_settings = record {
