@@ -5,7 +5,7 @@ mod FirmAssignments
 mod FirmChanges
 mod FirmLabels
 mod FirmLines
-mod FirmNames
+pub mod FirmNames
 mod Forms
 mod LabelPlaces
 mod LinesFill

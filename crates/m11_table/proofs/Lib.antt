@@ -1,0 +1,4 @@
+mod Counting
+mod Doubling
+mod FirmMeanings
+mod Found

@@ -1,0 +1,43 @@
+-- What is asked when a symbol stands for something, and by which steps it is found. (MACRO-11 Language Reference Manual, "Symbols" and
+-- "Current location counter".)
+use Rattle.std.specs.Prelude.{ℕ, Bool, Option, Some, None}
+use Rattle.m11_statements.specs.Statements.{letter_if}
+use Rattle.m11_values.specs.declared.kinds.Kind.{Kind}
+use Rattle.m11_values.specs.Quantities.{Quantity}
+use Rattle.m11_placement.specs.declared.definitions.Definition.{Definition}
+use Rattle.m11_placement.specs.declared.meanings.Context.{Context}
+use Rattle.m11_placement.specs.Definitions.{firm_part}
+use Rattle.m11_placement.specs.Meanings.{Map, letter_D, quantity_of}
+use Rattle.m11_placement.specs.Tables.{Table}
+
+-- the map and the table, where the symbol stands, and the place that `.` is
+pub record Asked : Type 0 where
+  pub map : Map
+  pub context : Context
+  pub table : Table
+  pub place : ℕ
+
+abbrev pub asked : Map → Context → Table → ℕ → Asked
+asked map context table place = record { map = map; context = context; table = table; place = place }
+
+-- of firm names alone
+pub record FirmAsked : Type 0 where
+  pub table : Table
+  pub place : ℕ
+
+abbrev pub firm_asked : Table → ℕ → FirmAsked
+firm_asked table place = record { table = table; place = place }
+
+-- what `.` stands for
+abbrev pub counted : ℕ → Kind → Quantity
+counted place kind = record { number = place; kind = kind; letters = 0 }
+
+-- what a definition gives, with D where its key is doubled; without one there is something else
+abbrev pub defined_by : Bool → Quantity → Option Definition → Quantity
+defined_by is_doubled other (Some definition) = quantity_of (letter_if is_doubled letter_D) definition.standing
+defined_by is_doubled other None = other
+
+-- a definition as far as it is firm
+abbrev pub firm_found : Option Definition → Option Definition
+firm_found (Some definition) = Some (firm_part definition)
+firm_found None = None

@@ -1,0 +1,60 @@
+-- What a table keeps, as the definitions of placing have it. (MACRO-11 Language Reference Manual, "Symbols and expressions" and "Program
+-- section directives". That the last definition of a symbol decides, so that no other is kept, is this project's own.)
+use Rattle.std.specs.Prelude.{ℕ, ◌+◌, ◌==◌, ◌&&◌, Bool, List, [], ◌∷◌, ◌++◌, map, Option, Some, None}
+use Rattle.m11_base.specs.Rad50.{Name}
+use Rattle.m11_placement.specs.declared.definitions.Definition.{Definition}
+use Rattle.m11_placement.specs.declared.definitions.Key.{Key}
+use Rattle.m11_placement.specs.declared.definitions.Key.TheVariants.{Named, Numbered}
+use Rattle.m11_placement.specs.declared.sections.Section.{Section}
+use Rattle.m11_placement.specs.declared.settings.Settings.{Settings}
+use Rattle.m11_placement.specs.Places.{Goes, Moved, in_section}
+use Rattle.m11_placement.specs.Tables.{Table}
+use Rattle.m11_table.specs.declared.entries.Entry.{Entry}
+
+-- a local symbol by its block and its number
+abbrev pub is_same_symbol : ℕ × ℕ → ℕ × ℕ → Bool
+is_same_symbol one other = (one.0 == other.0) && (one.1 == other.1)
+
+abbrev pub symbol_key : ℕ × ℕ → Key
+symbol_key symbol = Numbered symbol.0 symbol.1
+
+-- ---- definitions: one of each key
+
+abbrev pub definition : Key → Entry → Definition
+definition key entry = record {
+  key = key;
+  standing = entry.standing;
+  is_firm = entry.is_firm;
+  is_label = entry.is_label;
+}
+
+abbrev pub definitions_by : {A : Type 0} → (A → Key) → List (A × Entry) → List Definition
+definitions_by key_of [] = []
+definitions_by key_of (entry ∷ entries) = definitions_by key_of entries ++ definition (key_of entry.0) entry.1 ∷ []
+
+-- ---- sections by their numbers, and where their counters stand
+
+abbrev pub section_in : Name × ℕ → Section
+section_in entry = record { name = entry.0; attributes = entry.1 }
+
+abbrev pub counters_from : ℕ → List ℕ → List Moved
+counters_from number [] = []
+counters_from number (counter ∷ counters) = in_section number (Goes counter) ∷ counters_from (number + 1) counters
+
+-- 0 where there is none
+abbrev pub counter_or : Option ℕ → ℕ
+counter_or (Some counter) = counter
+counter_or None = 0
+
+-- ---- the table
+
+abbrev pub table_of : List (Name × Entry) → List ((ℕ × ℕ) × Entry) → List Name → List (ℕ × ℕ) → List Name → List (Name × ℕ)
+    → List ℕ → Settings → Table
+table_of names symbols doubled_names doubled_symbols globals sections counters settings = record {
+  definitions = definitions_by Named names ++ definitions_by symbol_key symbols;
+  doubled = map Named doubled_names ++ map symbol_key doubled_symbols;
+  globals = globals;
+  sections = map section_in sections;
+  moves = counters_from 0 counters;
+  settings = settings;
+}

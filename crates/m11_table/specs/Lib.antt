@@ -1,0 +1,4 @@
+pub mod Alike
+pub mod Asking
+pub mod Entries
+pub mod Maps

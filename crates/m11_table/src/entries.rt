@@ -1,0 +1,11 @@
+//! What a table keeps of a name or a local symbol.
+
+use m11_placement::Standing;
+
+// The last definition of a name or a local symbol.
+#[derive(Clone, Copy)]
+pub(crate) struct Entry {
+    pub(crate) standing: Standing,
+    pub(crate) is_firm: bool,
+    pub(crate) is_label: bool,
+}

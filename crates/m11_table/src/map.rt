@@ -1,0 +1,70 @@
+//! What a whole source gives its names in the end, as a second reading is told it. (MACRO-11 Language Reference Manual, "Symbols".)
+
+ghost use Rattle.std.specs.Prelude.{◌≡◌};
+ghost use Rattle.m11_placement.specs.Assigning.{is_exported};
+ghost use Rattle.m11_placement.specs.Definitions.{has_key, last_definition};
+ghost use Rattle.m11_placement.specs.Meanings.{empty_map, map_of};
+
+use crate::table::Table;
+use m11_base::Name;
+use m11_placement::{Definition, Key};
+use std::marker::Model;
+
+/// What a whole source gives its names: nothing in the first reading, the table after the first one in the second.
+#[derive(Drop)]
+pub struct Map<'a> {
+    table: Option<&'a Table>,
+}
+
+impl<'a> Model for Map<'a> {
+    ghost use Rattle.std.specs.Prelude.{option_map};
+    ghost use Rattle.m11_placement.specs.Meanings.{Map as Meanings};
+    ghost use Rattle.m11_table.specs.Maps.{map_by};
+
+    ghost Value = { Meanings };
+
+    ghost view = { λ m. map_by (option_map (λ t. t.now) m.table) };
+}
+
+impl<'a> Map<'a> {
+    /// That of the first reading: nothing is known.
+    pub fn none() -> Map<'a>
+        ensures { result ≡ empty_map }
+    {
+        Map { table: None }
+    }
+
+    /// That of the second reading: what the first one left.
+    pub fn of(table: &'a Table) -> Map<'a>
+        ensures { result ≡ map_of table.now }
+    {
+        Map { table: Some(table) }
+    }
+
+    /// The last definition of a key.
+    pub fn definition(&self, key: &Key) -> Option<Definition>
+        ensures { result ≡ last_definition key.now self.now.definitions }
+    {
+        self.table?.definition(key)
+    }
+
+    /// Whether a key is doubled.
+    pub fn is_doubled(&self, key: &Key) -> bool
+        ensures { result ≡ has_key key.now self.now.doubled }
+    {
+        match self.table {
+            Some(table) => table.is_doubled(key),
+            None => false,
+        }
+    }
+
+    /// Whether some line made a name global.
+    pub fn is_exported(&self, name: Name) -> bool
+        ensures { result ≡ is_exported name self.now }
+    {
+        match self.table {
+            Some(table) => table.is_global(name),
+            None => false,
+        }
+    }
+}

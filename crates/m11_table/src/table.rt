@@ -1,0 +1,204 @@
+//! The table that the lines of a source fill. (MACRO-11 Language Reference Manual, "Symbols and expressions", "Local symbols", "Current
+//! location counter" and "Program section directives".)
+
+ghost use Rattle.std.specs.Prelude.{◌≡◌, ◌<◌, ◌^◌, IfOk, slice_get};
+ghost use Rattle.std.specs.List.{list_any};
+ghost use Rattle.m11_base.specs.Rad50.{is_same_name};
+ghost use Rattle.m11_placement.specs.Changes.{with_move, with_section, with_settings};
+ghost use Rattle.m11_placement.specs.Definitions.{has_key, is_labelled, last_definition};
+ghost use Rattle.m11_placement.specs.Labels.{with_block, with_definition, with_doubled, with_global};
+ghost use Rattle.m11_placement.specs.Meanings.{is_firm, is_firm_in};
+ghost use Rattle.m11_placement.specs.Places.{Goes, Steps};
+ghost use Rattle.m11_placement.specs.Sections.{number_of, numbered};
+ghost use Rattle.m11_placement.specs.Tables.{first_table, kind_here, place};
+ghost use Rattle.m11_table.specs.Alike.{Alike, Follows};
+ghost use Rattle.m11_table.specs.Entries as entries;
+ghost use Rattle.m11_table.specs.Entries.{counter_or};
+
+use crate::entries::Entry;
+use indexmap::{IndexMap, IndexSet};
+use m11_base::{Name, blank_name};
+use m11_placement::{Definition, Key, Section, Settings};
+use m11_values::{Kind, Symbol};
+use std::alloc::{AllocError, Global};
+use std::marker::Model;
+
+// The attributes of a section that there isn't: those of the blank one.
+const BLANK_ATTRIBUTES: u8 = 0o040;
+
+// The bit of REL in the attributes of a section.
+const RELOCATABLE: u8 = 0o040;
+
+/// What the lines done tell the next one: of each name and local symbol the last definition, and where the counter of each section stands.
+#[derive(Drop)]
+pub struct Table {
+    names: IndexMap<Name, Entry>,
+    local_symbols: IndexMap<(u64, u16), Entry>,
+    doubled_names: IndexSet<Name>,
+    doubled_symbols: IndexSet<(u64, u16)>,
+    globals: IndexSet<Name>,
+    // The bits of their attributes.
+    sections: IndexMap<Name, u8>,
+    // Where the counters stand, by the numbers of sections.
+    counters: [u16; 64],
+    settings: Settings,
+}
+
+impl Model for Table {
+    ghost use Rattle.m11_placement.specs.Tables.{Table as Told};
+    ghost use Rattle.m11_table.specs.Entries.{table_of};
+
+    ghost Value = { Told };
+
+    ghost view = { λ t. table_of t.names.entries t.local_symbols.entries t.doubled_names.keys t.doubled_symbols.keys t.globals.keys
+        t.sections.entries t.counters t.settings };
+}
+
+impl Table {
+    /// What holds at the next line.
+    pub fn settings(&self) -> Settings
+        ensures { result ≡ self.now.settings }
+    {
+        self.settings
+    }
+
+    /// The section of a number; the blank one where there is none.
+    pub fn section(&self, number: u16) -> Section
+        ensures { result ≡ numbered number self.now.sections }
+    {
+        match self.sections.get_index(usize::from(number)) {
+            Some((name, attributes)) => Section {
+                name: *name,
+                attributes: *attributes,
+            },
+            None => Section {
+                name: blank_name(),
+                attributes: BLANK_ATTRIBUTES,
+            },
+        }
+    }
+
+    /// The number of the section of a name, if it is known.
+    pub fn section_number(&self, name: Name) -> Option<usize>
+        ensures { result ≡ number_of name self.now.sections }
+    {
+        self.sections.get_index_of(&name)
+    }
+
+    /// Where the counter of the section stands.
+    pub fn place(&self) -> u16
+        ensures { result ≡ place self.now }
+    {
+        counter_at(&self.counters, self.settings.section)
+    }
+
+    /// What places of the section count from.
+    pub fn kind_here(&self) -> Kind
+        ensures { result ≡ kind_here self.now }
+    {
+        let number = self.settings.section;
+        if self.section(number).attributes & RELOCATABLE == 0 {
+            Kind::Absolute
+        } else {
+            Kind::Section(number)
+        }
+    }
+
+    /// The last definition of a key.
+    pub fn definition(&self, key: &Key) -> Option<Definition>
+        ensures { result ≡ last_definition key.now self.now.definitions }
+    {
+        match key {
+            Key::Named(name) => self.name_definition(*name),
+            Key::Numbered(block, number) => self.symbol_definition(*block, *number),
+        }
+    }
+
+    fn name_definition(&self, name: Name) -> Option<Definition>
+        ensures { result ≡ last_definition (Key.Named name) self.now.definitions }
+    {
+        match self.names.get(&name) {
+            Some(entry) => Some(definition(Key::Named(name), *entry)),
+            None => None,
+        }
+    }
+
+    fn symbol_definition(&self, block: u64, number: u16) -> Option<Definition>
+        ensures { result ≡ last_definition (Key.Numbered block number) self.now.definitions }
+    {
+        match self.local_symbols.get(&(block, number)) {
+            Some(entry) => Some(definition(Key::Numbered(block, number), *entry)),
+            None => None,
+        }
+    }
+
+    /// Whether the last definition of a key is that of a label.
+    pub fn is_labelled(&self, key: &Key) -> bool
+        ensures { result ≡ is_labelled key.now self.now.definitions }
+    {
+        match self.definition(key) {
+            Some(definition) => definition.is_label,
+            None => false,
+        }
+    }
+
+    /// Whether a key is doubled.
+    pub fn is_doubled(&self, key: &Key) -> bool
+        ensures { result ≡ has_key key.now self.now.doubled }
+    {
+        match key {
+            Key::Named(name) => self.doubled_names.contains(name),
+            Key::Numbered(block, number) => self.doubled_symbols.contains(&(*block, *number)),
+        }
+    }
+
+    /// Whether some line made a name global.
+    pub fn is_global(&self, name: Name) -> bool
+        ensures { result ≡ list_any (λ global. is_same_name global name) self.now.globals }
+    {
+        self.globals.contains(&name)
+    }
+
+    /// Whether no later line decides what a symbol stands for.
+    pub fn is_firm(&self, symbol: Symbol) -> bool
+        ensures { result ≡ is_firm self.now symbol }
+    {
+        match symbol {
+            Symbol::Counter => true,
+            Symbol::Ordinary(name) => is_firm_in(self.definition(&Key::Named(name))),
+            Symbol::Local(number) => {
+                is_firm_in(self.definition(&Key::Numbered(self.settings.block, number)))
+            }
+        }
+    }
+}
+
+// Where the counter of a section stands.
+fn counter_at(counters: &[u16; 64], number: u16) -> u16
+    ensures { result ≡ counter_or (slice_get counters.now number) }
+{
+    match counters.get(usize::from(number)) {
+        Some(counter) => *counter,
+        None => 0,
+    }
+}
+
+fn definition(key: Key, entry: Entry) -> Definition
+    ensures { result ≡ entries.definition key entry }
+{
+    Definition {
+        key,
+        standing: entry.standing,
+        is_firm: entry.is_firm,
+        is_label: entry.is_label,
+    }
+}
+
+fn is_firm_in(found: Option<Definition>) -> bool
+    ensures { result ≡ is_firm_in found }
+{
+    match found {
+        Some(definition) => definition.is_firm,
+        None => false,
+    }
+}
