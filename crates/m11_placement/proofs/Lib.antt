@@ -1,4 +1,4 @@
-mod Counters
+pub mod Counters
 mod Equations
 mod FilledSizes
 mod FirmAssignments

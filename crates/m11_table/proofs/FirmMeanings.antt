@@ -1,10 +1,10 @@
 -- What a key stands for as far as it is firm.
-use Rattle.std.proofs.Common.{◌≡◌, ◌∙◌, ℕ, Bool, Option, Some, None, refl, sym, ap}
+use Rattle.std.proofs.Common.{◌≡◌, ◌∙◌, Bool, Option, Some, None, refl, sym, ap}
 use Rattle.m11_arguments.specs.Definedness.{letter_U}
 use Rattle.m11_values.specs.Quantities.{Quantity, absolute}
 use Rattle.m11_placement.specs.declared.definitions.Definition.{Definition}
 use Rattle.m11_placement.specs.declared.definitions.Key.{Key}
-use Rattle.m11_placement.specs.Definitions.{firm_parts, has_key, last_definition}
+use Rattle.m11_placement.specs.Definitions.{has_key, last_definition}
 use Rattle.m11_placement.specs.Meanings.{defined_or, empty_map, meaning_of}
 use Rattle.m11_placement.specs.Tables.{Table, firm_table}
 use Rattle.m11_placement.proofs.FirmNames.{firm_option, last_firm}

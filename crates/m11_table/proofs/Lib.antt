@@ -1,4 +1,7 @@
 mod Counting
 mod Doubling
 mod FirmMeanings
+mod Following
 mod Found
+mod Inserting
+mod Moving

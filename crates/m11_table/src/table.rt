@@ -1,7 +1,7 @@
 //! The table that the lines of a source fill. (MACRO-11 Language Reference Manual, "Symbols and expressions", "Local symbols", "Current
 //! location counter" and "Program section directives".)
 
-ghost use Rattle.std.specs.Prelude.{◌≡◌, ◌<◌, ◌^◌, IfOk, slice_get};
+ghost use Rattle.std.specs.Prelude.{◌≡◌, ◌<◌, ◌+◌, ◌^◌, IfOk, slice_get};
 ghost use Rattle.std.specs.List.{list_any};
 ghost use Rattle.m11_base.specs.Rad50.{is_same_name};
 ghost use Rattle.m11_placement.specs.Changes.{with_move, with_section, with_settings};
@@ -11,7 +11,8 @@ ghost use Rattle.m11_placement.specs.Meanings.{is_firm, is_firm_in};
 ghost use Rattle.m11_placement.specs.Places.{Goes, Steps};
 ghost use Rattle.m11_placement.specs.Sections.{number_of, numbered};
 ghost use Rattle.m11_placement.specs.Tables.{first_table, kind_here, place};
-ghost use Rattle.m11_table.specs.Alike.{Alike, Follows};
+ghost use Rattle.m11_placement.specs.declared.definitions.Key.TheVariants.{Named, Numbered};
+ghost use Rattle.m11_table.specs.Alike.{Follows};
 ghost use Rattle.m11_table.specs.Entries as entries;
 ghost use Rattle.m11_table.specs.Entries.{counter_or};
 
@@ -20,7 +21,7 @@ use indexmap::{IndexMap, IndexSet};
 use m11_base::{Name, blank_name};
 use m11_placement::{Definition, Key, Section, Settings};
 use m11_values::{Kind, Symbol};
-use std::alloc::{AllocError, Global};
+use std::alloc::AllocError;
 use std::marker::Model;
 
 // The attributes of a section that there isn't: those of the blank one.
@@ -115,7 +116,7 @@ impl Table {
     }
 
     fn name_definition(&self, name: Name) -> Option<Definition>
-        ensures { result ≡ last_definition (Key.Named name) self.now.definitions }
+        ensures { result ≡ last_definition (Named name) self.now.definitions }
     {
         match self.names.get(&name) {
             Some(entry) => Some(definition(Key::Named(name), *entry)),
@@ -124,7 +125,7 @@ impl Table {
     }
 
     fn symbol_definition(&self, block: u64, number: u16) -> Option<Definition>
-        ensures { result ≡ last_definition (Key.Numbered block number) self.now.definitions }
+        ensures { result ≡ last_definition (Numbered block number) self.now.definitions }
     {
         match self.local_symbols.get(&(block, number)) {
             Some(entry) => Some(definition(Key::Numbered(block, number), *entry)),
@@ -170,6 +171,115 @@ impl Table {
                 is_firm_in(self.definition(&Key::Numbered(self.settings.block, number)))
             }
         }
+    }
+}
+
+impl Table {
+    /// One more definition, which is then the last one of its key.
+    pub fn insert(&mut self, definition: &Definition) -> Result<(), AllocError>
+        ensures { IfOk result (λ _. Follows self.old self.new (with_definition definition.now)) }
+    {
+        match &definition.key {
+            Key::Named(name) => self.insert_name(*name, definition),
+            Key::Numbered(block, number) => self.insert_symbol(*block, *number, definition),
+        }
+    }
+
+    fn insert_name(&mut self, name: Name, definition: &Definition) -> Result<(), AllocError>
+        requires { definition.now.key ≡ Named name }
+        ensures { IfOk result (λ _. Follows self.old self.new (with_definition definition.now)) }
+    {
+        let entry = Entry {
+            standing: definition.standing,
+            is_firm: definition.is_firm,
+            is_label: definition.is_label,
+        };
+        self.names.insert(name, entry)?;
+        Ok(())
+    }
+
+    fn insert_symbol(
+        &mut self,
+        block: u64,
+        number: u16,
+        definition: &Definition,
+    ) -> Result<(), AllocError>
+        requires { definition.now.key ≡ Numbered block number }
+        ensures { IfOk result (λ _. Follows self.old self.new (with_definition definition.now)) }
+    {
+        let entry = Entry {
+            standing: definition.standing,
+            is_firm: definition.is_firm,
+            is_label: definition.is_label,
+        };
+        self.local_symbols.insert((block, number), entry)?;
+        Ok(())
+    }
+
+    /// A key is doubled from here on.
+    pub fn double(&mut self, key: &Key) -> Result<(), AllocError>
+        ensures { IfOk result (λ _. Follows self.old self.new (with_doubled key.now)) }
+    {
+        match key {
+            Key::Named(name) => self.double_name(*name, key),
+            Key::Numbered(block, number) => self.double_symbol(*block, *number, key),
+        }
+    }
+
+    fn double_name(&mut self, name: Name, key: &Key) -> Result<(), AllocError>
+        requires { key.now ≡ Named name }
+        ensures { IfOk result (λ _. Follows self.old self.new (with_doubled key.now)) }
+    {
+        self.doubled_names.insert(name)?;
+        Ok(())
+    }
+
+    fn double_symbol(&mut self, block: u64, number: u16, key: &Key) -> Result<(), AllocError>
+        requires { key.now ≡ Numbered block number }
+        ensures { IfOk result (λ _. Follows self.old self.new (with_doubled key.now)) }
+    {
+        self.doubled_symbols.insert((block, number))?;
+        Ok(())
+    }
+
+    /// A name is global from here on.
+    pub fn export(&mut self, name: Name) -> Result<(), AllocError>
+        ensures { IfOk result (λ _. Follows self.old self.new (with_global name)) }
+    {
+        self.globals.insert(name)?;
+        Ok(())
+    }
+
+    /// A new block of local symbols begins.
+    pub fn open_block(&mut self)
+        requires { self.old.settings.block + 1 < 2 ^ 64 }
+        ensures { self.new ≡ with_block self.old }
+    {
+        self.settings.block += 1;
+    }
+
+    /// Other settings hold from here on.
+    pub fn set(&mut self, settings: Settings)
+        ensures { self.new ≡ with_settings settings self.old }
+    {
+        self.settings = settings;
+    }
+
+    /// The counter of the section is set to a place.
+    pub fn go_to(&mut self, place: u16)
+        requires { self.old.settings.section < 64 }
+        ensures { Follows self.old self.new (with_move (Goes place)) }
+    {
+        self.counters[usize::from(self.settings.section)] = place;
+    }
+
+    /// The counter of the section goes on by some bytes, modulo 65536.
+    pub fn step(&mut self, size: u32)
+        requires { self.old.settings.section < 64 }
+        ensures { Follows self.old self.new (with_move (Steps size)) }
+    {
+        let place = (u64::from(self.place()) + u64::from(size)) % 65536;
+        self.go_to(place as u16);
     }
 }
 

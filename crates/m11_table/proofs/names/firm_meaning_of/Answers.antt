@@ -1,4 +1,4 @@
-use Rattle.std.proofs.Common.{◌≡◌, ◌∙◌}
+use Rattle.std.proofs.Common.{◌∙◌}
 use Rattle.m11_values.specs.Quantities.{quantity}
 use Rattle.m11_table.proofs.FirmMeanings.{firm_meant}
 use Rattle.m11_table.proofs.names.firm_meaning_of.Goals as goal

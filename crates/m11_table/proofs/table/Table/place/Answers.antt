@@ -1,5 +1,5 @@
-use Rattle.std.proofs.Common.{◌≡◌, ◌∙◌, ◌<◌, ℕ, refl, sym, ap, subst}
-use Rattle.m11_placement.specs.Tables.{Table, place}
+use Rattle.std.proofs.Common.{◌∙◌, ◌<◌, ℕ, ap, subst}
+use Rattle.m11_placement.specs.Tables.{place}
 use Rattle.m11_table.proofs.Counting.{counter_place}
 use Rattle.m11_table.proofs.table.Table.place.Goals as goal
 

@@ -1,4 +1,4 @@
-use Rattle.std.proofs.Common.{◌≡◌, ◌∙◌, ap}
+use Rattle.std.proofs.Common.{◌∙◌, ap}
 use Rattle.m11_placement.specs.Sections.{number_of}
 use Rattle.m11_placement.specs.Tables.{Table}
 use Rattle.m11_table.proofs.Doubling.{section_found}
