@@ -10,7 +10,9 @@ use Rattle.m11_placement.specs.Codes.{Setting, form_words, words_from}
 use Rattle.m11_placement.specs.Contents.{contents_size, fixed_byte, further}
 use Rattle.m11_placement.specs.Definitions.{Definition, Standing, firm_part, firm_parts, firm_standing}
 use Rattle.m11_placement.specs.Meanings.{Map}
-use Rattle.m11_placement.specs.Operands.{Form, Absent, InRegister, Indexed, Unindexed, AfterCounter, instruction_size, words_of}
+use Rattle.m11_placement.specs.declared.operands.Form.{Form}
+use Rattle.m11_placement.specs.declared.operands.Form.TheVariants.{Absent, InRegister, Indexed, Unindexed, AfterCounter}
+use Rattle.m11_placement.specs.Operands.{instruction_size, words_of}
 use Rattle.m11_placement.specs.Storage as storage
 use Rattle.m11_placement.specs.Strings as strings
 use Rattle.m11_placement.specs.Tables.{Table, firm_table}

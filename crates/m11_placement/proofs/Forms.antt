@@ -1,6 +1,8 @@
 -- An operand has at most one word after its instruction.
-use Rattle.std.proofs.Common.{ℕ, ◌≤◌, arith}
-use Rattle.m11_placement.specs.Operands.{Form, Absent, InRegister, Indexed, Unindexed, AfterCounter, words_of}
+use Rattle.std.proofs.Common.{◌≤◌, arith}
+use Rattle.m11_placement.specs.declared.operands.Form.{Form}
+use Rattle.m11_placement.specs.declared.operands.Form.TheVariants.{Absent, InRegister, Indexed, Unindexed, AfterCounter}
+use Rattle.m11_placement.specs.Operands.{words_of}
 
 pub one_word : (form : Form) → words_of form ≤ 1
 one_word Absent = omega arith

@@ -15,8 +15,11 @@ use Rattle.m11_placement.specs.Filling.{Fills, gap_before}
 use Rattle.m11_placement.specs.Instructions as instructions
 use Rattle.m11_placement.specs.Lines.{Deed, Rests, Assigning, Setting, Operating, change_of, deed, line_change, line_put, put_by}
 use Rattle.m11_placement.specs.Meanings.{Knows, Map, empty_map, known_at}
-use Rattle.m11_placement.specs.Operators.{Directive, Operator, Instruction, Directs, is_even}
-use Rattle.m11_placement.specs.Operators as word
+use Rattle.m11_placement.specs.declared.operators.Directive.{Directive}
+use Rattle.m11_placement.specs.declared.operators.Operator.{Operator}
+use Rattle.m11_placement.specs.declared.operators.Operator.TheVariants.{Instruction, Directs}
+use Rattle.m11_placement.specs.Operators.{is_even}
+use Rattle.m11_placement.specs.declared.operators.Directive.TheVariants as word
 use Rattle.m11_placement.specs.Operands.{instruction_size}
 use Rattle.m11_placement.specs.Places.{Steps}
 use Rattle.m11_placement.specs.Strings as strings
@@ -118,8 +121,8 @@ operator_fills map table passed here line start arguments (Instruction operation
     inr (same_step passed (instructions.size (firm_table table) here line start operation)
     (contents_size (instructions.words map table here line start operation).contents)
     (instruction_fills map table here line start operation))
-operator_fills map table passed here line start arguments (Directs row) =
-    directive_fills map (firm_table table) table passed here line start arguments row.directive
+operator_fills map table passed here line start arguments (Directs directive) =
+    directive_fills map (firm_table table) table passed here line start arguments directive
 
 deed_fills : (map : Map) (table : Table) (line : Bytes) (arguments : Option ℕ) (does : Deed)
     → Fills (gap_before table does) (put_by map table line arguments does).contents

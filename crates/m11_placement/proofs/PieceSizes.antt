@@ -19,9 +19,14 @@ use Rattle.m11_placement.specs.Fields.{fields_at, forms_of}
 use Rattle.m11_placement.specs.Instructions as instructions
 use Rattle.m11_placement.specs.Lines.{Assigning, Deed, Operating, Rests, Setting, after_line, deed, line_put, pieces, put_by, put_place, section_name, stands}
 use Rattle.m11_placement.specs.Meanings.{Knows, Map, empty_map, known_at}
-use Rattle.m11_placement.specs.Operands.{Form, Absent, InRegister, Indexed, Unindexed, AfterCounter, words_of}
-use Rattle.m11_placement.specs.Operators.{Directive, Operator, Instruction, Directs, is_even}
-use Rattle.m11_placement.specs.Operators as word
+use Rattle.m11_placement.specs.declared.operands.Form.{Form}
+use Rattle.m11_placement.specs.declared.operands.Form.TheVariants.{Absent, InRegister, Indexed, Unindexed, AfterCounter}
+use Rattle.m11_placement.specs.Operands.{words_of}
+use Rattle.m11_placement.specs.declared.operators.Directive.{Directive}
+use Rattle.m11_placement.specs.declared.operators.Operator.{Operator}
+use Rattle.m11_placement.specs.declared.operators.Operator.TheVariants.{Instruction, Directs}
+use Rattle.m11_placement.specs.Operators.{is_even}
+use Rattle.m11_placement.specs.declared.operators.Directive.TheVariants as word
 use Rattle.m11_placement.specs.Placements.{placed_from, placement}
 use Rattle.m11_placement.specs.Shapes.{Shape, shape_of, shapes_in}
 use Rattle.m11_placement.specs.Storage as storage
@@ -192,7 +197,7 @@ directive_sized known table here line start arguments word.End = refl
 abbrev operator_sizes : Table → ℕ → Bytes → ℕ → Operator → List ℕ
 operator_sizes firm here line start (Instruction operation) =
     2 ∷ forms_twos (forms_of (fields_at (known_at empty_map Knows firm here) line start operation).list)
-operator_sizes firm here line start (Directs row) = directive_sizes line start row.directive
+operator_sizes firm here line start (Directs directive) = directive_sizes line start directive
 
 operator_sized : (known : Map) (table : Table) (here : ℕ) (line : Bytes) (start : ℕ) (arguments : Option ℕ) (operator : Operator)
     → sizes (operator_put known table here line start arguments operator).contents
@@ -200,8 +205,8 @@ operator_sized : (known : Map) (table : Table) (here : ℕ) (line : Bytes) (star
 operator_sized known table here line start arguments (Instruction operation) =
     ap (λ (l : List ℕ). 2 ∷ l) (forms_sized (instructions.setting known table here line) (further here 2)
     (forms_of (instructions.fields table here line start operation).list))
-operator_sized known table here line start arguments (Directs row) =
-    directive_sized known table here line start arguments row.directive
+operator_sized known table here line start arguments (Directs directive) =
+    directive_sized known table here line start arguments directive
 
 abbrev deed_sizes : Table → Bytes → Deed → List ℕ
 deed_sizes firm line Rests = []

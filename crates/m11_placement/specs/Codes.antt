@@ -27,8 +27,11 @@ use Rattle.m11_values.specs.Operations.{absence}
 use Rattle.m11_values.specs.Quantities.{Quantity}
 use Rattle.m11_placement.specs.Branches.{branch_offset, branch_reaches, loop_offset, loop_reaches, target_letters}
 use Rattle.m11_placement.specs.Contents.{Put, fixed_word, followed_by, further, nothing, put, register_letters, word}
-use Rattle.m11_placement.specs.Fields.{Field, Formed, Missing, Numbered, Registered, Targeted}
-use Rattle.m11_placement.specs.Operands.{AfterCounter, Absent, Form, InRegister, Indexed, Unindexed, words_of}
+use Rattle.m11_placement.specs.declared.fields.Field.{Field}
+use Rattle.m11_placement.specs.declared.fields.Field.TheVariants.{Formed, Registered, Targeted, Numbered, Missing}
+use Rattle.m11_placement.specs.declared.operands.Form.{Form}
+use Rattle.m11_placement.specs.declared.operands.Form.TheVariants.{Absent, InRegister, Indexed, Unindexed, AfterCounter}
+use Rattle.m11_placement.specs.Operands.{words_of}
 use Rattle.m11_placement.specs.Tables.{Table}
 
 -- where an instruction stands, and what is known there: of registers, targets and numbers; and of words, which may refer to other

@@ -13,8 +13,11 @@ use Rattle.m11_placement.specs.Counts as counts
 use Rattle.m11_placement.specs.Exports as exports
 use Rattle.m11_placement.specs.Instructions as instructions
 use Rattle.m11_placement.specs.Meanings.{Map}
-use Rattle.m11_placement.specs.Operators.{Directive, Operator, Instruction, Directs, is_even}
-use Rattle.m11_placement.specs.Operators as word
+use Rattle.m11_placement.specs.declared.operators.Directive.{Directive}
+use Rattle.m11_placement.specs.declared.operators.Operator.{Operator}
+use Rattle.m11_placement.specs.declared.operators.Operator.TheVariants.{Instruction, Directs}
+use Rattle.m11_placement.specs.Operators.{is_even}
+use Rattle.m11_placement.specs.declared.operators.Directive.TheVariants as word
 use Rattle.m11_placement.specs.Places.{Steps}
 use Rattle.m11_placement.specs.ProgramSections as sections
 use Rattle.m11_placement.specs.Storage as storage
@@ -63,8 +66,8 @@ directive_change table passed here line start arguments word.End = Keeps
 abbrev pub change_by : Table → ℕ → ℕ → Bytes → ℕ → Option ℕ → Operator → Change
 change_by table passed here line start arguments (Instruction operation) =
     steps passed (instructions.size table here line start operation)
-change_by table passed here line start arguments (Directs row) =
-    directive_change table passed here line start arguments row.directive
+change_by table passed here line start arguments (Directs directive) =
+    directive_change table passed here line start arguments directive
 
 -- what an operator changes, whose name ends at a place of its line
 abbrev pub operator_change : Table → Bytes → ℕ → Option ℕ → Operator → Change
@@ -111,5 +114,5 @@ directive_put map table here line start arguments word.End = nothing (exports.en
 abbrev pub operator_put : Map → Table → ℕ → Bytes → ℕ → Option ℕ → Operator → Put
 operator_put map table here line start arguments (Instruction operation) =
     instructions.words map table here line start operation
-operator_put map table here line start arguments (Directs row) =
-    directive_put map table here line start arguments row.directive
+operator_put map table here line start arguments (Directs directive) =
+    directive_put map table here line start arguments directive

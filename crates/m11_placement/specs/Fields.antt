@@ -11,21 +11,17 @@ use Rattle.m11_scan.specs.Ends.{expression_end}
 use Rattle.m11_scan.specs.Letters.{letter_A}
 use Rattle.m11_placement.specs.Contents.{has_expression}
 use Rattle.m11_placement.specs.Elements.{next_element}
-use Rattle.m11_placement.specs.Operands.{Form, Absent, Read, operand_at}
+use Rattle.m11_placement.specs.declared.fields.Field.{Field}
+use Rattle.m11_placement.specs.declared.fields.Field.TheVariants.{Formed, Registered, Targeted, Numbered, Missing}
+use Rattle.m11_placement.specs.declared.fields.FieldPlace.{FieldPlace}
+use Rattle.m11_placement.specs.declared.fields.FieldPlace.TheVariants.{Operand, Register, Target, Number}
+use Rattle.m11_placement.specs.declared.operands.Form.{Form}
+use Rattle.m11_placement.specs.declared.operands.Form.TheVariants.{Absent}
+use Rattle.m11_placement.specs.Operands.{Read, operand_at}
 
 -- ---- which fields an instruction has, in the order in which they are written
 
-pub data Place : Type 0 where
-  -- an operand of any form
-  Operand : Place
-  -- a register
-  Register : Place
-  -- a target: an expression
-  Target : Place
-  -- a number
-  Number : Place
-
-abbrev pub places_of : Op → List Place
+abbrev pub places_of : Op → List FieldPlace
 places_of (op.Double operation size) = Operand ∷ Operand ∷ []
 places_of (op.Extended operation) = Operand ∷ Register ∷ []
 places_of (op.Register operation) = Register ∷ Operand ∷ []
@@ -41,16 +37,6 @@ places_of op.Return = []
 places_of (op.Codes operation codes) = []
 
 -- ---- what stands in them
-
-pub data Field : Type 0 where
-  -- an operand, by its form
-  Formed : Form → Field
-  -- a register, a target or a number: the place where its expression begins
-  Registered : ℕ → Field
-  Targeted : ℕ → Field
-  Numbered : ℕ → Field
-  -- none
-  Missing : Field
 
 -- a field, the place after it, and its letters
 pub record FieldRead : Type 0 where
@@ -69,14 +55,14 @@ abbrev pub expression_read : Field → ℕ → Bytes → ℕ → FieldRead
 expression_read field letters line start =
     if has_expression line start then field_read field (expression_end line start) 0 else field_read Missing start letters
 
-abbrev pub field_at : Known → Bytes → ℕ → Place → FieldRead
+abbrev pub field_at : Known → Bytes → ℕ → FieldPlace → FieldRead
 field_at firm line start Operand = operand_read (operand_at firm line start)
 field_at firm line start Register = expression_read (Registered start) letter_A line start
 field_at firm line start Target = expression_read (Targeted start) letter_A line start
 field_at firm line start Number = expression_read (Numbered start) 0 line start
 
 -- a field before which its comma is missing
-abbrev pub missing_field : Place → FieldRead
+abbrev pub missing_field : FieldPlace → FieldRead
 missing_field Operand = field_read (Formed Absent) 0 letter_A
 missing_field Register = field_read Missing 0 letter_A
 missing_field Target = field_read Missing 0 letter_A
@@ -96,7 +82,7 @@ before first more =
     record { list = first.field ∷ more.list; end = more.end; letters = bit_or first.letters more.letters }
 
 -- fields without their commas
-abbrev pub missing_fields : ℕ → List Place → Fields
+abbrev pub missing_fields : ℕ → List FieldPlace → Fields
 missing_fields end [] = no_fields end
 missing_fields end (place ∷ places) = before (missing_field place) (missing_fields end places)
 
@@ -105,14 +91,14 @@ abbrev pub after_comma_by : (ℕ → Fields) → Fields → Option ℕ → Field
 after_comma_by more missing (Some next) = more next
 after_comma_by more missing None = missing
 
-abbrev pub fields_after : Known → Bytes → ℕ → List Place → Fields
+abbrev pub fields_after : Known → Bytes → ℕ → List FieldPlace → Fields
 fields_after firm line end [] = no_fields end
 fields_after firm line end (place ∷ places) =
     after_comma_by
     (λ next. before (field_at firm line next place) (fields_after firm line (field_at firm line next place).end places))
     (missing_fields end (place ∷ places)) (next_element line end)
 
-abbrev pub fields_in : Known → Bytes → ℕ → List Place → Fields
+abbrev pub fields_in : Known → Bytes → ℕ → List FieldPlace → Fields
 fields_in firm line start [] = no_fields start
 fields_in firm line start (place ∷ places) =
     before (field_at firm line start place) (fields_after firm line (field_at firm line start place).end places)

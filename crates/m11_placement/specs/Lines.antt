@@ -1,7 +1,7 @@
 -- What a line of a source does: the pieces that it puts at its places, its letters, and what holds after it. (MACRO-11 Language Reference
 -- Manual, "Source program format", "Operator field" and ".WORD directive". That a line which unfolding has done places nothing, is this
 -- project's own.)
-use Rattle.std.specs.Prelude.{ℕ, Bool, if◌then◌else◌, List, [], length, Option, Some, None}
+use Rattle.std.specs.Prelude.{ℕ, Bool, if◌then◌else◌, List, length, Option, Some, None}
 use Rattle.std.specs.Int.RustNames.{bit_or}
 use Rattle.m11_arguments.specs.Directives.{every_name}
 use Rattle.m11_arguments.specs.LeftOvers.{skip_letters}
@@ -23,8 +23,10 @@ use Rattle.m11_placement.specs.Contents.{Put, nothing, pieces_from, with_letters
 use Rattle.m11_placement.specs.Effects.{operator_change, operator_put}
 use Rattle.m11_placement.specs.Labels.{labels_letters, labels_stand}
 use Rattle.m11_placement.specs.Meanings.{Map}
-use Rattle.m11_placement.specs.Operators.{Directs, Operator, at_even, is_even, operator_named}
-use Rattle.m11_placement.specs.Operators as word
+use Rattle.m11_placement.specs.declared.operators.Operator.{Operator}
+use Rattle.m11_placement.specs.declared.operators.Operator.TheVariants.{Directs}
+use Rattle.m11_placement.specs.Operators.{is_even, operator_named}
+use Rattle.m11_placement.specs.declared.operators.Directive.TheVariants as word
 use Rattle.m11_placement.specs.Sections.{numbered}
 use Rattle.m11_placement.specs.Tables.{Table, firm_table, place}
 
@@ -42,7 +44,7 @@ pub data Deed : Type 0 where
 
 -- all of the text from a place on, as if `.WORD` stood before it
 abbrev pub implied_words : ℕ → Deed
-implied_words start = Operating (Directs (at_even [] word.Words)) start
+implied_words start = Operating (Directs word.Words) start
 
 abbrev pub operating : Option Operator → Span → Deed
 operating (Some operator) name = Operating operator name.end

@@ -22,14 +22,18 @@ use Rattle.m11_placement.specs.Counts as counts
 use Rattle.m11_placement.specs.Definitions.{Named, last_definition}
 use Rattle.m11_placement.specs.Elements.{elements_at}
 use Rattle.m11_placement.specs.Exports.{listed_names}
-use Rattle.m11_placement.specs.Fields.{Field, Formed, Missing, Numbered, Registered, Targeted}
+use Rattle.m11_placement.specs.declared.fields.Field.{Field}
+use Rattle.m11_placement.specs.declared.fields.Field.TheVariants.{Formed, Registered, Targeted, Numbered, Missing}
 use Rattle.m11_placement.specs.Instructions as instructions
 use Rattle.m11_placement.specs.Labels.{label_name}
 use Rattle.m11_placement.specs.Lines.{Assigning, Deed, Operating, Rests, Setting, deed, stands}
 use Rattle.m11_placement.specs.Meanings.{Context, Knows, Map, Refers}
-use Rattle.m11_placement.specs.Operands.{AfterCounter, Absent, Form, InRegister, Indexed, Unindexed}
-use Rattle.m11_placement.specs.Operators.{Directive, Directs, Instruction, Operator}
-use Rattle.m11_placement.specs.Operators as word
+use Rattle.m11_placement.specs.declared.operands.Form.{Form}
+use Rattle.m11_placement.specs.declared.operands.Form.TheVariants.{Absent, InRegister, Indexed, Unindexed, AfterCounter}
+use Rattle.m11_placement.specs.declared.operators.Directive.{Directive}
+use Rattle.m11_placement.specs.declared.operators.Operator.{Operator}
+use Rattle.m11_placement.specs.declared.operators.Operator.TheVariants.{Instruction, Directs}
+use Rattle.m11_placement.specs.declared.operators.Directive.TheVariants as word
 use Rattle.m11_placement.specs.Strings.{parts_at}
 use Rattle.m11_placement.specs.Tables.{Table, place}
 
@@ -118,7 +122,7 @@ abbrev pub operator_mentions : Table → Bytes → ℕ → Option ℕ → Operat
 operator_mentions table line start arguments (Instruction operation) =
     flat_map (field_mentions line)
     (instructions.fields table (place_for true (place table)) line start operation).list
-operator_mentions table line start arguments (Directs row) = directive_mentions line start arguments row.directive
+operator_mentions table line start arguments (Directs directive) = directive_mentions line start arguments directive
 
 abbrev pub deed_mentions : Table → Bytes → Option ℕ → Deed → List Mention
 deed_mentions table line arguments Rests = []

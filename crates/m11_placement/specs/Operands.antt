@@ -18,19 +18,8 @@ use Rattle.m11_scan.specs.Skipped.{skipped_between}
 use Rattle.m11_scan.specs.declared.sort.Sort.{Sort}
 use Rattle.m11_scan.specs.declared.sort.Sort.TheVariants as sorts
 use Rattle.m11_values.specs.Kinds.{is_register}
-
--- a form, with the places where its expressions begin
-pub data Form : Type 0 where
-  -- nothing stands there
-  Absent : Form
-  -- a mode, and its register
-  InRegister : Mode → ℕ → Form
-  -- a mode, its register, and the word that is added to it
-  Indexed : Mode → ℕ → ℕ → Form
-  -- `@(R)`: the register
-  Unindexed : ℕ → Form
-  -- a mode of PC, and the word after the instruction
-  AfterCounter : Mode → ℕ → Form
+use Rattle.m11_placement.specs.declared.operands.Form.{Form}
+use Rattle.m11_placement.specs.declared.operands.Form.TheVariants.{Absent, InRegister, Indexed, Unindexed, AfterCounter}
 
 -- how many words stand after the instruction for it
 abbrev pub words_of : Form → ℕ

@@ -6,90 +6,53 @@ use Rattle.m11_base.specs.Devices.{Bytes}
 use Rattle.m11_base.specs.Instructions.{other_names, rows}
 use Rattle.m11_base.specs.Mnemonics.{named_in, or_else}
 use Rattle.m11_base.specs.declared.instruction.Op.{Op}
+use Rattle.m11_placement.specs.declared.operators.Directive.{Directive}
+use Rattle.m11_placement.specs.declared.operators.Directive.TheVariants.{Words, Bytewise, Ascii, Asciz, Rad50, ByteBlock, WordBlock, Even, Odd, Limit, InRadix, AbsoluteSection, ControlSection, ProgramSection, Global, Weak, Title, Identification, Subtitle, Page, Lists, Unlists, Enable, Disable, ArgumentCount, CharacterCount, End}
+use Rattle.m11_placement.specs.declared.operators.DirectiveRow.{DirectiveRow}
+use Rattle.m11_placement.specs.declared.operators.Operator.{Operator}
+use Rattle.m11_placement.specs.declared.operators.Operator.TheVariants.{Instruction, Directs}
 
-pub data Directive : Type 0 where
-  Words : Directive
-  Bytewise : Directive
-  Ascii : Directive
-  Asciz : Directive
-  Rad50 : Directive
-  ByteBlock : Directive
-  WordBlock : Directive
-  Even : Directive
-  Odd : Directive
-  Limit : Directive
-  InRadix : Directive
-  AbsoluteSection : Directive
-  ControlSection : Directive
-  ProgramSection : Directive
-  Global : Directive
-  Weak : Directive
-  Title : Directive
-  Identification : Directive
-  Subtitle : Directive
-  Page : Directive
-  Lists : Directive
-  Unlists : Directive
-  Enable : Directive
-  Disable : Directive
-  ArgumentCount : Directive
-  CharacterCount : Directive
-  End : Directive
-
--- a directive with its name of six characters; some stand at even places
-pub record DirectiveRow : Type 0 where
-  pub name : Bytes
-  pub directive : Directive
-  pub is_even : Bool
-
-abbrev pub at_even : Bytes → Directive → DirectiveRow
-at_even name directive = record { name = name; directive = directive; is_even = true }
-
-abbrev pub anywhere : Bytes → Directive → DirectiveRow
-anywhere name directive = record { name = name; directive = directive; is_even = false }
+-- a directive with its name of six characters
+abbrev pub named : Bytes → Directive → DirectiveRow
+named name directive = record { name = name; directive = directive }
 
 abbrev pub directive_rows : List DirectiveRow
 directive_rows =
-    at_even (codes ".WORD ") Words
-    ∷ anywhere (codes ".BYTE ") Bytewise
-    ∷ anywhere (codes ".ASCII") Ascii
-    ∷ anywhere (codes ".ASCIZ") Asciz
-    ∷ at_even (codes ".RAD50") Rad50
-    ∷ anywhere (codes ".BLKB ") ByteBlock
-    ∷ at_even (codes ".BLKW ") WordBlock
-    ∷ anywhere (codes ".EVEN ") Even
-    ∷ anywhere (codes ".ODD  ") Odd
-    ∷ at_even (codes ".LIMIT") Limit
-    ∷ anywhere (codes ".RADIX") InRadix
-    ∷ anywhere (codes ".ASECT") AbsoluteSection
-    ∷ anywhere (codes ".CSECT") ControlSection
-    ∷ anywhere (codes ".PSECT") ProgramSection
-    ∷ anywhere (codes ".GLOBL") Global
-    ∷ anywhere (codes ".WEAK ") Weak
-    ∷ anywhere (codes ".TITLE") Title
-    ∷ anywhere (codes ".IDENT") Identification
-    ∷ anywhere (codes ".SBTTL") Subtitle
-    ∷ anywhere (codes ".PAGE ") Page
-    ∷ anywhere (codes ".LIST ") Lists
-    ∷ anywhere (codes ".NLIST") Unlists
-    ∷ anywhere (codes ".ENABL") Enable
-    ∷ anywhere (codes ".DSABL") Disable
-    ∷ anywhere (codes ".NARG ") ArgumentCount
-    ∷ anywhere (codes ".NCHR ") CharacterCount
-    ∷ anywhere (codes ".END  ") End
+    named (codes ".WORD ") Words
+    ∷ named (codes ".BYTE ") Bytewise
+    ∷ named (codes ".ASCII") Ascii
+    ∷ named (codes ".ASCIZ") Asciz
+    ∷ named (codes ".RAD50") Rad50
+    ∷ named (codes ".BLKB ") ByteBlock
+    ∷ named (codes ".BLKW ") WordBlock
+    ∷ named (codes ".EVEN ") Even
+    ∷ named (codes ".ODD  ") Odd
+    ∷ named (codes ".LIMIT") Limit
+    ∷ named (codes ".RADIX") InRadix
+    ∷ named (codes ".ASECT") AbsoluteSection
+    ∷ named (codes ".CSECT") ControlSection
+    ∷ named (codes ".PSECT") ProgramSection
+    ∷ named (codes ".GLOBL") Global
+    ∷ named (codes ".WEAK ") Weak
+    ∷ named (codes ".TITLE") Title
+    ∷ named (codes ".IDENT") Identification
+    ∷ named (codes ".SBTTL") Subtitle
+    ∷ named (codes ".PAGE ") Page
+    ∷ named (codes ".LIST ") Lists
+    ∷ named (codes ".NLIST") Unlists
+    ∷ named (codes ".ENABL") Enable
+    ∷ named (codes ".DSABL") Disable
+    ∷ named (codes ".NARG ") ArgumentCount
+    ∷ named (codes ".NCHR ") CharacterCount
+    ∷ named (codes ".END  ") End
     ∷ []
-
--- what stands in an operator's place: an instruction, which stands at an even place; a directive; or neither, and then all are words
-pub data Operator : Type 0 where
-  Instruction : Op → Operator
-  Directs : DirectiveRow → Operator
 
 abbrev pub instruction_in : Option Op → Option Operator
 instruction_in (Some operation) = Some (Instruction operation)
 instruction_in None = None
 
 abbrev pub directive_or : Option DirectiveRow → Option Operator → Option Operator
-directive_or (Some row) other = Some (Directs row)
+directive_or (Some row) other = Some (Directs row.directive)
 directive_or None other = other
 
 -- the operator of a name of six characters
@@ -98,6 +61,14 @@ operator_named name =
     directive_or (find (λ row. bytes_eq row.name name) directive_rows)
     (instruction_in (or_else (named_in rows name) (named_in other_names name)))
 
+-- the directives that put words stand at even places; so do instructions
+abbrev pub is_even_directive : Directive → Bool
+is_even_directive Words = true
+is_even_directive Rad50 = true
+is_even_directive WordBlock = true
+is_even_directive Limit = true
+is_even_directive directive = false
+
 abbrev pub is_even : Operator → Bool
 is_even (Instruction operation) = true
-is_even (Directs row) = row.is_even
+is_even (Directs directive) = is_even_directive directive

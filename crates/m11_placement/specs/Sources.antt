@@ -11,8 +11,10 @@ use Rattle.m11_values.specs.Quantities.{Quantity}
 use Rattle.m11_placement.specs.Exports.{identification, listed_names, title, transfer, transfer_letters}
 use Rattle.m11_placement.specs.Lines.{Deed, Operating, after_line, deed, stands}
 use Rattle.m11_placement.specs.Meanings.{Map, empty_map}
-use Rattle.m11_placement.specs.Operators.{Directive, Instruction, Operator, Directs}
-use Rattle.m11_placement.specs.Operators as word
+use Rattle.m11_placement.specs.declared.operators.Directive.{Directive}
+use Rattle.m11_placement.specs.declared.operators.Operator.{Operator}
+use Rattle.m11_placement.specs.declared.operators.Operator.TheVariants.{Instruction, Directs}
+use Rattle.m11_placement.specs.declared.operators.Directive.TheVariants as word
 use Rattle.m11_placement.specs.Placements.{Placed, placement, program_map}
 use Rattle.m11_placement.specs.Tables.{Table, first_table}
 
@@ -22,7 +24,7 @@ pub record Directed : Type 0 where
   pub start : ℕ
 
 abbrev pub directed_by : Operator → ℕ → Option Directed
-directed_by (Directs row) start = Some (record { directive = row.directive; start = start })
+directed_by (Directs directive) start = Some (record { directive = directive; start = start })
 directed_by (Instruction operation) start = None
 
 abbrev pub directed_in : Deed → Option Directed

@@ -1,15 +1,19 @@
 //! Where lines of a source lie, what they define, what symbols stand for there, and what each instruction and directive puts at its
-//! places. Here stand the types and definitions, with their laws. (MACRO-11 Language Reference Manual, "Symbols and expressions", "Addressing modes" and
-//! "General assembler directives".)
+//! places. Here stand definitions with their laws, and the types that they speak of. (MACRO-11 Language Reference Manual, "Symbols and
+//! expressions", "Addressing modes" and "General assembler directives".)
 #![tactic(auto)]
 
 mod definitions;
+mod fields;
 mod laws;
 mod meanings;
+mod operands;
+mod operators;
 mod sections;
 mod settings;
 
 pub use definitions::{Definition, Key, Standing};
+pub use fields::{Field, FieldPlace};
 pub use laws::{
     a_line_fills_what_it_steps_by, a_line_sets_the_counter, a_line_steps_the_counter,
     an_operand_has_at_most_one_word, firm_assignments_are_those_of_every_map,
@@ -19,5 +23,7 @@ pub use laws::{
     sources_have_the_same_lines_under_every_map, the_map_of_a_source_solves_it,
 };
 pub use meanings::Context;
+pub use operands::Form;
+pub use operators::{Directive, DirectiveRow, Operator};
 pub use sections::Section;
 pub use settings::Settings;

@@ -1,0 +1,31 @@
+//! The fields of instructions. (PDP-11/40 Processor Handbook, "Instruction set"; MACRO-11 Language Reference Manual, "Operand field".)
+
+use crate::operands::Form;
+
+/// What may stand in a field.
+#[derive(Clone, Copy)]
+pub enum FieldPlace {
+    /// An operand of any form.
+    Operand,
+    /// A register.
+    Register,
+    /// A target: an expression.
+    Target,
+    /// A number.
+    Number,
+}
+
+/// What stands in a field.
+#[derive(Clone, Copy)]
+pub enum Field {
+    /// An operand, by its form.
+    Formed(Form),
+    /// A register: the place where its expression begins.
+    Registered(u8),
+    /// A target: the place where its expression begins.
+    Targeted(u8),
+    /// A number: the place where its expression begins.
+    Numbered(u8),
+    /// Nothing.
+    Missing,
+}
