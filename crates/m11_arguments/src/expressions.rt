@@ -57,8 +57,8 @@ pub(crate) fn number_at<N: Names>(
     })
 }
 
-// The value of the expression at a place.
-fn value_at<N: Names>(line: &Line, place: usize, names: &N) -> Value
+/// The value of the expression at a place. Where none stands, a term is missing.
+pub fn value_at<N: Names>(line: &Line, place: usize, names: &N) -> Value
     requires { place ≤ length line.now.text }
     ensures { quantity result
         ≡ spec.value_at (known_by (N.base names.now) (N.stands_for names.now)) line.now.text place }
@@ -67,8 +67,8 @@ fn value_at<N: Names>(line: &Line, place: usize, names: &N) -> Value
     value(tokens.as_slice(), line, names).0
 }
 
-// Notes the symbols that the expression at a place reads.
-fn note_symbols(line: &Line, place: usize, notes: &mut Notes) -> Result<(), AllocError>
+/// Notes the symbols that the expression at a place reads, in order.
+pub fn note_symbols(line: &Line, place: usize, notes: &mut Notes) -> Result<(), AllocError>
     requires { place ≤ length line.now.text }
     ensures { IfOk result (λ _. notes.new ≡ with_symbols notes.old (spec.symbols_at line.now.text place)) }
 {

@@ -1,6 +1,7 @@
 //! `.IIF`. (MACRO-11 Language Reference Manual, "Immediate conditional assembly directive".)
 
-ghost use Rattle.std.specs.Prelude.{◌≡◌, ◌≤◌, length, IfOk, IfSome};
+ghost use Rattle.std.specs.Prelude.{◌≡◌, ◌<◌, ◌≤◌, length, IfOk, IfSome};
+ghost use Rattle.m11_scan.specs.Cutting.{tokens_from};
 ghost use Rattle.m11_scan.specs.Views.{bits_of};
 ghost use Rattle.m11_statements.specs.Listed.{is_comma};
 ghost use Rattle.m11_arguments.specs.Expressions.{known_by};
@@ -40,7 +41,7 @@ pub fn immediate_condition<N: Names>(
 {
     let answer = condition(line, place, names, notes)?;
     let end = usize::from(answer.end);
-    let statement = statement_at(line, end);
+    let statement = after_comma(line, end);
     notes.add_letters(comma_letters(line, end, statement));
     Ok(Immediate {
         holds: answer.holds,
@@ -48,10 +49,11 @@ pub fn immediate_condition<N: Names>(
     })
 }
 
-// The place after the comma that stands next.
-fn statement_at(line: &Line, place: usize) -> Option<u8>
+/// The place after the comma that stands next in a line from a place on, if one does.
+pub fn after_comma(line: &Line, place: usize) -> Option<u8>
     requires { place ≤ length line.now.text }
-    ensures statement { result ≡ spec.statement_at line.now.text place }
+    ensures statement { result ≡ spec.after_comma (tokens_from line.now.text place) }
+    ensures least { IfSome result (λ begin. place < begin) }
     ensures within { IfSome result (λ begin. begin ≤ length line.now.text) }
 {
     match next_token(line, place) {

@@ -17,8 +17,8 @@ pub fn left_over(line: &Line, place: usize) -> Letters
         .with(rest_letters(line, place))
 }
 
-// Whether a token stands in a line from a place on.
-pub(crate) fn has_token(line: &Line, place: usize) -> bool
+/// Whether a token stands in a line from a place on.
+pub fn has_token(line: &Line, place: usize) -> bool
     requires { place ≤ length line.now.text }
     ensures { result ≡ spec.has_token (tokens_from line.now.text place) }
 {
@@ -28,16 +28,16 @@ pub(crate) fn has_token(line: &Line, place: usize) -> bool
     }
 }
 
-// I for a skipped character from a place on.
-pub(crate) fn rest_letters(line: &Line, place: usize) -> Letters
+/// I for a skipped character from a place on.
+pub fn rest_letters(line: &Line, place: usize) -> Letters
     requires { place ≤ length line.now.text }
     ensures { bits_of result ≡ spec.rest_letters line.now.text place }
 {
     skip_letters(line, place, line.text().len())
 }
 
-// I for a skipped character before the token that stands next from a place on.
-pub(crate) fn letters_before(line: &Line, place: usize) -> Letters
+/// I for a skipped character before the token that stands next from a place on, or before the line's end.
+pub fn letters_before(line: &Line, place: usize) -> Letters
     requires { place ≤ length line.now.text }
     ensures { bits_of result ≡ spec.letters_before line.now.text place }
 {
@@ -47,8 +47,8 @@ pub(crate) fn letters_before(line: &Line, place: usize) -> Letters
     }
 }
 
-// I for a skipped character between two places, if both are in the line and in this order.
-pub(crate) fn skip_letters(line: &Line, start: usize, end: usize) -> Letters
+/// I for a skipped character between two places, if both are in the line and in this order.
+pub fn skip_letters(line: &Line, start: usize, end: usize) -> Letters
     ensures { bits_of result ≡ spec.skip_letters line.now.text start end }
 {
     if start <= end && end <= line.text().len() {
@@ -58,8 +58,8 @@ pub(crate) fn skip_letters(line: &Line, start: usize, end: usize) -> Letters
     }
 }
 
-// A place of a line in one byte.
-pub(crate) fn place_in(line: &Line, place: usize) -> u8
+/// A place of a line in one byte.
+pub fn place_in(line: &Line, place: usize) -> u8
     requires { place ≤ length line.now.text }
     ensures { result ≡ place }
 {

@@ -59,15 +59,17 @@ pub fn header_at(
     }))
 }
 
-// A name that stands in a line, and the place after it.
+/// A name that stands in a line.
 #[derive(Clone, Copy, PartialEq, Eq, Debug)]
 pub struct NameAt {
-    pub(crate) name: Name,
-    pub(crate) end: u8,
+    /// The name.
+    pub name: Name,
+    /// The place after it.
+    pub end: u8,
 }
 
-// The name that stands next in a line from a place on, if one that a line can define does.
-pub(crate) fn name_at(line: &Line, place: usize) -> Option<NameAt>
+/// The name that stands next in a line from a place on, if one that a line can define does.
+pub fn name_at(line: &Line, place: usize) -> Option<NameAt>
     requires { place ≤ length line.now.text }
     ensures name { result ≡ spec.name_at (tokens_from line.now.text place) }
     ensures within { IfSome result (λ name. name.end ≤ length line.now.text) }

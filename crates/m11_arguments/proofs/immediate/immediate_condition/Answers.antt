@@ -9,4 +9,4 @@ returns-clause-notes g c =
     (condition (known_by (g.N.Names.base c.args.names.now) (g.N.Names.stands_for c.args.names.now)) c.args.line.now.text
     c.args.place)
     c.in_ok-answer.answer _ _ c.in_ok-answer.ensures.answer c.in_ok-answer.ensures.notes c.from-end.ensures
-    c.statement_at-statement.ensures.statement c.comma_letters.ensures c.add_letters.ensures
+    c.after_comma-statement.ensures.statement c.comma_letters.ensures c.add_letters.ensures
