@@ -1,0 +1,3 @@
+mod Beginning
+mod Listing
+mod Naming

@@ -1,0 +1,9 @@
+//! What the operator of a line and its arguments are: fields of instructions, elements of lists, names, and parts of texts. No name is
+//! kept here: what names stand for is the caller's. (MACRO-11 Language Reference Manual, "Operator field" and "Operand field".)
+#![tactic(auto)]
+
+mod elements;
+mod operators;
+
+pub use elements::{Elements, ListedNames, elements_at, has_expression, names_at};
+pub use operators::{is_even, operator_named};

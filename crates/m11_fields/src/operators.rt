@@ -1,0 +1,122 @@
+//! The operators that place something or change what is kept, by their names. (MACRO-11 Language Reference Manual, "Permanent symbol
+//! table".)
+
+ghost use Rattle.std.specs.Prelude.{◌≡◌};
+ghost use Rattle.m11_base.specs.Instructions.{other_names, rows};
+ghost use Rattle.m11_base.specs.Mnemonics.{named_in, or_else};
+ghost use Rattle.m11_fields.specs.Directives.{directive_named};
+ghost use Rattle.m11_placement.specs.Operators as spec;
+
+use m11_base::{Op, Row, other_names, rows};
+use m11_placement::{Directive, DirectiveRow, Operator};
+
+macro_rules! row {
+    ($name:literal, $directive:expr) => {
+        DirectiveRow {
+            name: *$name,
+            directive: $directive,
+        }
+    };
+}
+
+// The directives, each with its name of six characters.
+const DIRECTIVES: [DirectiveRow; 27] = [
+    row!(b".WORD ", Directive::Words),
+    row!(b".BYTE ", Directive::Bytewise),
+    row!(b".ASCII", Directive::Ascii),
+    row!(b".ASCIZ", Directive::Asciz),
+    row!(b".RAD50", Directive::Rad50),
+    row!(b".BLKB ", Directive::ByteBlock),
+    row!(b".BLKW ", Directive::WordBlock),
+    row!(b".EVEN ", Directive::Even),
+    row!(b".ODD  ", Directive::Odd),
+    row!(b".LIMIT", Directive::Limit),
+    row!(b".RADIX", Directive::InRadix),
+    row!(b".ASECT", Directive::AbsoluteSection),
+    row!(b".CSECT", Directive::ControlSection),
+    row!(b".PSECT", Directive::ProgramSection),
+    row!(b".GLOBL", Directive::Global),
+    row!(b".WEAK ", Directive::Weak),
+    row!(b".TITLE", Directive::Title),
+    row!(b".IDENT", Directive::Identification),
+    row!(b".SBTTL", Directive::Subtitle),
+    row!(b".PAGE ", Directive::Page),
+    row!(b".LIST ", Directive::Lists),
+    row!(b".NLIST", Directive::Unlists),
+    row!(b".ENABL", Directive::Enable),
+    row!(b".DSABL", Directive::Disable),
+    row!(b".NARG ", Directive::ArgumentCount),
+    row!(b".NCHR ", Directive::CharacterCount),
+    row!(b".END  ", Directive::End),
+];
+
+/// The operator of a name of six characters in upper case, with blanks where there are fewer: a directive, or else an instruction.
+pub fn operator_named(name: &[u8; 6]) -> Option<Operator>
+    ensures { result ≡ spec.operator_named name.now }
+{
+    match directive_of(name) {
+        Some(directive) => Some(Operator::Directs(directive)),
+        None => instruction_of(name),
+    }
+}
+
+// The directive of a name.
+fn directive_of(name: &[u8; 6]) -> Option<Directive>
+    ensures { result ≡ directive_named name.now }
+{
+    let found = DIRECTIVES.iter().find(|row| row.name == *name);
+    match found {
+        Some(row) => Some(row.directive),
+        None => None,
+    }
+}
+
+// The instruction of a name.
+fn instruction_of(name: &[u8; 6]) -> Option<Operator>
+    ensures { result ≡ spec.instruction_in (or_else (named_in rows name.now) (named_in other_names name.now)) }
+{
+    match operation_of(name) {
+        Some(operation) => Some(Operator::Instruction(operation)),
+        None => None,
+    }
+}
+
+// The operation of a name: that of the list, or else that of the further names.
+fn operation_of(name: &[u8; 6]) -> Option<Op>
+    ensures { result ≡ or_else (named_in rows name.now) (named_in other_names name.now) }
+{
+    match operation_in(rows(), name) {
+        Some(operation) => Some(operation),
+        None => operation_in(other_names(), name),
+    }
+}
+
+// The operation of a row with a name.
+fn operation_in(list: &[Row], name: &[u8; 6]) -> Option<Op>
+    ensures { result ≡ named_in list.now name.now }
+{
+    let found = list.iter().find(|row| row.name == *name);
+    match found {
+        Some(row) => Some(row.operation),
+        None => None,
+    }
+}
+
+/// Whether an operator puts words or leaves room for them, and so stands at an even place.
+pub fn is_even(operator: Operator) -> bool
+    ensures { result ≡ spec.is_even operator }
+{
+    match operator {
+        Operator::Instruction(_) => true,
+        Operator::Directs(directive) => is_even_directive(directive),
+    }
+}
+
+fn is_even_directive(directive: Directive) -> bool
+    ensures { result ≡ spec.is_even_directive directive }
+{
+    match directive {
+        Directive::Words | Directive::Rad50 | Directive::WordBlock | Directive::Limit => true,
+        _ => false,
+    }
+}
