@@ -1,1 +1,2 @@
 pub mod Directives
+pub mod Reads

@@ -3,7 +3,9 @@
 #![tactic(auto)]
 
 mod elements;
+mod operands;
 mod operators;
 
 pub use elements::{Elements, ListedNames, elements_at, has_expression, names_at};
+pub use operands::{OperandRead, operand_at};
 pub use operators::{is_even, operator_named};

@@ -1,0 +1,325 @@
+//! The operand that stands at a place of a line. (MACRO-11 Language Reference Manual, "Addressing modes"; PDP-11/40 Processor Handbook,
+//! "Addressing modes".)
+
+ghost use Rattle.std.specs.Prelude.{◌≡◌, ◌<◌, ◌≤◌, length};
+ghost use Rattle.m11_arguments.specs.Expressions.{known_by, value_at};
+ghost use Rattle.m11_fields.specs.Reads.{opens_after, read_seen};
+ghost use Rattle.m11_placement.specs.declared.operands.Form.TheVariants.{Absent, AfterCounter};
+ghost use Rattle.m11_placement.specs.Operands as spec;
+ghost use Rattle.m11_scan.specs.Cutting.{tokens_from};
+ghost use Rattle.m11_scan.specs.Ends.{expression_end};
+ghost use Rattle.m11_scan.specs.Letters.{letter_A};
+ghost use Rattle.m11_scan.specs.Views.{lexeme};
+ghost use Rattle.m11_values.specs.Kinds.{is_register};
+
+use m11_arguments::{place_in, value_at};
+use m11_base::Mode;
+use m11_placement::Form;
+use m11_scan::{Letters, Line, Sort, Token, expression_end, next_token, skipped_between};
+use m11_values::Names;
+
+/// An operand, as it stands in a line.
+#[derive(Clone, Copy)]
+pub struct OperandRead {
+    /// Its form.
+    pub form: Form,
+    /// The place after it.
+    pub end: u8,
+    /// A where nothing stands there, or where a `)` is missing.
+    pub letters: Letters,
+}
+
+/// The operand at a place of a line. Whether an expression is a register is asked of names: those of the lines before.
+pub fn operand_at<N: Names>(line: &Line, start: usize, names: &N) -> OperandRead
+    requires { start ≤ length line.now.text }
+    ensures read { read_seen result
+        ≡ spec.operand_at (known_by (N.base names.now) (N.stands_for names.now)) line.now.text start }
+    ensures within { result.end ≤ length line.now.text }
+{
+    match next_token(line, start) {
+        Some(token) => operand_by(line, start, token, names),
+        None => absent(line, start),
+    }
+}
+
+// The operand that begins with a token.
+fn operand_by<N: Names>(line: &Line, start: usize, token: Token, names: &N) -> OperandRead
+    requires start { start ≤ length line.now.text }
+    requires token { token.end ≤ length line.now.text }
+    ensures read { read_seen result ≡ spec.operand_by (known_by (N.base names.now) (N.stands_for names.now))
+        line.now.text start token.sort token.end (tokens_from line.now.text token.end) }
+    ensures within { result.end ≤ length line.now.text }
+{
+    match token.sort {
+        Sort::At => deferred(line, usize::from(token.end), names),
+        Sort::Comma => absent(line, start),
+        _ => begun_by(line, false, start, token, names),
+    }
+}
+
+// Nothing stands there.
+fn absent(line: &Line, start: usize) -> OperandRead
+    requires { start ≤ length line.now.text }
+    ensures read { read_seen result ≡ spec.read Absent start letter_A }
+    ensures within { result.end ≤ length line.now.text }
+{
+    OperandRead {
+        form: Form::Absent,
+        end: place_in(line, start),
+        letters: Letters::A,
+    }
+}
+
+// What stands after `@`.
+fn deferred<N: Names>(line: &Line, start: usize, names: &N) -> OperandRead
+    requires { start ≤ length line.now.text }
+    ensures read { read_seen result ≡ spec.deferred_by (known_by (N.base names.now) (N.stands_for names.now))
+        line.now.text start (tokens_from line.now.text start) }
+    ensures within { result.end ≤ length line.now.text }
+{
+    match next_token(line, start) {
+        Some(token) => begun_by(line, true, start, token, names),
+        None => expression(line, true, start, names),
+    }
+}
+
+// What begins with a token, after `@` or without it.
+fn begun_by<N: Names>(
+    line: &Line,
+    is_deferred: bool,
+    start: usize,
+    token: Token,
+    names: &N,
+) -> OperandRead
+    requires start { start ≤ length line.now.text }
+    requires token { token.end ≤ length line.now.text }
+    ensures read { read_seen result ≡ spec.begun_by (known_by (N.base names.now) (N.stands_for names.now)) is_deferred
+        line.now.text start token.sort token.end (tokens_from line.now.text token.end) }
+    ensures within { result.end ≤ length line.now.text }
+{
+    match token.sort {
+        Sort::NumberSign => immediate(line, is_deferred, token.end),
+        Sort::Open => bracketed(line, is_deferred, token.end),
+        Sort::Minus => after_minus(line, is_deferred, start, token.end, names),
+        _ => expression(line, is_deferred, start, names),
+    }
+}
+
+// The expression after `#`.
+fn immediate(line: &Line, is_deferred: bool, start: u8) -> OperandRead
+    requires { start ≤ length line.now.text }
+    ensures read { read_seen result ≡ spec.read (AfterCounter (spec.immediate is_deferred) start)
+        (expression_end line.now.text start) 0 }
+    ensures within { result.end ≤ length line.now.text }
+{
+    let end = expression_end(line, usize::from(start));
+    OperandRead {
+        form: Form::AfterCounter(stepping(is_deferred), start),
+        end: place_in(line, end),
+        letters: Letters::none(),
+    }
+}
+
+// What stands after `-`, at a place of its own: `(` directly after it, or else the `-` is a sign.
+fn after_minus<N: Names>(
+    line: &Line,
+    is_deferred: bool,
+    start: usize,
+    end: u8,
+    names: &N,
+) -> OperandRead
+    requires start { start ≤ length line.now.text }
+    requires end { end ≤ length line.now.text }
+    ensures read { read_seen result ≡ spec.after_minus (known_by (N.base names.now) (N.stands_for names.now)) is_deferred
+        line.now.text start end (tokens_from line.now.text end) }
+    ensures within { result.end ≤ length line.now.text }
+{
+    match next_token(line, usize::from(end)) {
+        Some(token) if opens_after(line, end, token) => closed(
+            line,
+            Form::InRegister(decreased(is_deferred), token.end),
+            token.end,
+        ),
+        _ => expression(line, is_deferred, start, names),
+    }
+}
+
+// Whether a token is a `(`, and no character is skipped between a place and it.
+fn opens_after(line: &Line, place: u8, token: Token) -> bool
+    requires ordered { place ≤ token.start }
+    requires within { token.start ≤ length line.now.text }
+    ensures { result ≡ opens_after line.now.text place (lexeme line.now.text token) }
+{
+    is_open(token.sort) && !skipped_between(line, usize::from(place), usize::from(token.start))
+}
+
+// An expression: before `(` it is an index.
+fn expression<N: Names>(line: &Line, is_deferred: bool, start: usize, names: &N) -> OperandRead
+    requires { start ≤ length line.now.text }
+    ensures read { read_seen result ≡ spec.expression (known_by (N.base names.now) (N.stands_for names.now)) is_deferred
+        line.now.text start }
+    ensures within { result.end ≤ length line.now.text }
+{
+    let end = expression_end(line, start);
+    match next_token(line, end) {
+        Some(token) if is_open(token.sort) => closed(
+            line,
+            Form::Indexed(indexed(is_deferred), token.end, place_in(line, start)),
+            token.end,
+        ),
+        _ => OperandRead {
+            form: plain(line, is_deferred, start, names),
+            end: place_in(line, end),
+            letters: Letters::none(),
+        },
+    }
+}
+
+// An expression without `(`: a register, or a place.
+fn plain<N: Names>(line: &Line, is_deferred: bool, start: usize, names: &N) -> Form
+    requires { start ≤ length line.now.text }
+    ensures { result ≡ spec.plain (known_by (N.base names.now) (N.stands_for names.now)) is_deferred line.now.text start }
+{
+    if is_register_at(line, start, names) {
+        Form::InRegister(direct(is_deferred), place_in(line, start))
+    } else {
+        Form::AfterCounter(indexed(is_deferred), place_in(line, start))
+    }
+}
+
+// Whether the expression at a place is a register.
+fn is_register_at<N: Names>(line: &Line, start: usize, names: &N) -> bool
+    requires { start ≤ length line.now.text }
+    ensures { result ≡ is_register
+        (value_at (known_by (N.base names.now) (N.stands_for names.now)) line.now.text start).kind }
+{
+    value_at(line, start, names).kind.is_register()
+}
+
+// The register after `(`, and what stands after it.
+fn bracketed(line: &Line, is_deferred: bool, register: u8) -> OperandRead
+    requires { register ≤ length line.now.text }
+    ensures read { read_seen result ≡ spec.bracketed is_deferred line.now.text register }
+    ensures within { result.end ≤ length line.now.text }
+{
+    let end = expression_end(line, usize::from(register));
+    match next_token(line, end) {
+        Some(token) if is_close(token.sort) => stepped(line, is_deferred, register, token.end),
+        _ => OperandRead {
+            form: pointed(is_deferred, register),
+            end: place_in(line, end),
+            letters: Letters::A,
+        },
+    }
+}
+
+// What stands after `(R)`: `+`, or nothing.
+fn stepped(line: &Line, is_deferred: bool, register: u8, end: u8) -> OperandRead
+    requires { end ≤ length line.now.text }
+    ensures read { read_seen result
+        ≡ spec.stepped_by is_deferred register end (tokens_from line.now.text end) }
+    ensures within { result.end ≤ length line.now.text }
+{
+    match next_token(line, usize::from(end)) {
+        Some(token) if is_plus(token.sort) => OperandRead {
+            form: Form::InRegister(stepping(is_deferred), register),
+            end: token.end,
+            letters: Letters::none(),
+        },
+        _ => OperandRead {
+            form: pointed(is_deferred, register),
+            end,
+            letters: Letters::none(),
+        },
+    }
+}
+
+// A form with the register that stands after its `(`: `)` stands next.
+fn closed(line: &Line, form: Form, register: u8) -> OperandRead
+    requires { register ≤ length line.now.text }
+    ensures read { read_seen result ≡ spec.closed form line.now.text register }
+    ensures within { result.end ≤ length line.now.text }
+{
+    let end = expression_end(line, usize::from(register));
+    match next_token(line, end) {
+        Some(token) if is_close(token.sort) => OperandRead {
+            form,
+            end: token.end,
+            letters: Letters::none(),
+        },
+        _ => OperandRead {
+            form,
+            end: place_in(line, end),
+            letters: Letters::A,
+        },
+    }
+}
+
+// `(R)` alone: with `@` it has an index, which is 0.
+fn pointed(is_deferred: bool, register: u8) -> Form
+    ensures { result ≡ spec.pointed is_deferred register }
+{
+    if is_deferred {
+        Form::Unindexed(register)
+    } else {
+        Form::InRegister(Mode::RegisterDeferred, register)
+    }
+}
+
+fn stepping(is_deferred: bool) -> Mode
+    ensures { result ≡ spec.immediate is_deferred }
+{
+    if is_deferred {
+        Mode::AutoincrementDeferred
+    } else {
+        Mode::Autoincrement
+    }
+}
+
+fn decreased(is_deferred: bool) -> Mode
+    ensures { result ≡ spec.decreased is_deferred }
+{
+    if is_deferred {
+        Mode::AutodecrementDeferred
+    } else {
+        Mode::Autodecrement
+    }
+}
+
+fn indexed(is_deferred: bool) -> Mode
+    ensures { result ≡ spec.indexed is_deferred }
+{
+    if is_deferred {
+        Mode::IndexDeferred
+    } else {
+        Mode::Index
+    }
+}
+
+fn direct(is_deferred: bool) -> Mode
+    ensures { result ≡ spec.direct is_deferred }
+{
+    if is_deferred {
+        Mode::RegisterDeferred
+    } else {
+        Mode::Register
+    }
+}
+
+fn is_plus(sort: Sort) -> bool
+    ensures { result ≡ spec.is_plus sort }
+{
+    matches!(sort, Sort::Plus)
+}
+
+fn is_open(sort: Sort) -> bool
+    ensures { result ≡ spec.is_open sort }
+{
+    matches!(sort, Sort::Open)
+}
+
+fn is_close(sort: Sort) -> bool
+    ensures { result ≡ spec.is_close sort }
+{
+    matches!(sort, Sort::Close)
+}
