@@ -1,0 +1,22 @@
+-- What is put in parts is what is put at once.
+use Rattle.std.proofs.Common.{◌≡◌, ℕ, List, [], ◌++◌, sym, ap, ◌∙◌}
+use Rattle.std.proofs.lemmas.List.{append-nil, append_assoc}
+use Rattle.std.specs.Int.Bits.{or_zero_r}
+use Rattle.std.specs.Int.RustNames.{bit_or}
+use Rattle.m11_arguments.proofs.Joining.{or_joins}
+use Rattle.m11_object_text.specs.declared.pieces.PieceContent.{PieceContent}
+use Rattle.m11_placement.specs.Contents.{Put, followed_by, nothing, put}
+
+pub followed_joins : (a b c : Put) → followed_by (followed_by a b) c ≡ followed_by a (followed_by b c)
+followed_joins a b c =
+    ap (λ (l : ℕ). put ((a.contents ++ b.contents) ++ c.contents) l) (or_joins a.letters b.letters c.letters)
+    ∙ ap (λ (s : List PieceContent). put s (bit_or a.letters (bit_or b.letters c.letters)))
+    (append_assoc a.contents b.contents c.contents)
+
+pub followed_nothing : (a : Put) → followed_by a (nothing 0) ≡ a
+followed_nothing a =
+    ap (λ (l : ℕ). put (a.contents ++ []) l) (or_zero_r a.letters)
+    ∙ ap (λ (s : List PieceContent). put s a.letters) (append-nil a.contents)
+
+pub lettered : (a : Put) (letters : ℕ) → put a.contents (bit_or a.letters letters) ≡ followed_by a (nothing letters)
+lettered a letters = ap (λ (s : List PieceContent). put s (bit_or a.letters letters)) (sym (append-nil a.contents))

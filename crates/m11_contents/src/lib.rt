@@ -1,0 +1,11 @@
+//! What a line puts at its places: the words and bytes of instructions and directives, with what a linker does to each of them, and
+//! their letters. (MACRO-11 Language Reference Manual, "Relocation and linking", "Addressing modes" and "General assembler directives";
+//! PDP-11/40 Processor Handbook, "Instruction set".)
+#![tactic(auto)]
+
+mod branches;
+mod packing;
+mod puts;
+mod relocations;
+
+pub use puts::Put;

@@ -1,0 +1,102 @@
+//! What is put, one thing after the other, with its letters. (MACRO-11 Language Reference Manual, "Diagnostic error message summary".)
+
+ghost use Rattle.std.specs.Prelude.{◌≡◌, ◌∷◌, [], IfOk};
+ghost use Rattle.m11_object_text.specs.declared.pieces.PieceContent.TheVariants.{Byte, Limits, Word};
+ghost use Rattle.m11_scan.specs.Views.{bits_of};
+ghost use Rattle.m11_placement.specs.Contents.{fixed_byte, fixed_word, followed_by, nothing, put};
+
+use crate::relocations::fixed;
+use m11_object_text::{PieceContent, Stored};
+use m11_scan::Letters;
+use std::alloc::{AllocError, Global};
+use std::marker::Model;
+
+/// What stands at places, one after the other, and letters. Each call that puts something adds its own.
+#[derive(Drop)]
+pub struct Put {
+    contents: Vec<PieceContent>,
+    letters: Letters,
+}
+
+impl Model for Put {
+    ghost use Rattle.m11_scan.specs.Views.{bits_of};
+    ghost use Rattle.m11_placement.specs.Contents.{Put};
+
+    ghost Value = { Put };
+
+    ghost view = { λ what. record { contents = what.contents.items; letters = bits_of what.letters } };
+}
+
+impl Put {
+    /// Nothing, and no letter.
+    pub fn new(alloc: Global) -> Put
+        ensures { result ≡ nothing 0 }
+    {
+        Put {
+            contents: Vec::new(alloc),
+            letters: Letters::none(),
+        }
+    }
+
+    /// Lets go of what was put. The memory is kept for what follows.
+    pub fn clear(&mut self)
+        ensures { self.new ≡ nothing 0 }
+    {
+        self.contents.clear();
+        self.letters = Letters::none();
+    }
+
+    /// What was put, in order.
+    pub fn contents(&self) -> &[PieceContent]
+        ensures { result.now ≡ self.now.contents }
+    {
+        self.contents.as_slice()
+    }
+
+    /// The letters so far.
+    pub fn letters(&self) -> Letters
+        ensures { bits_of result ≡ self.now.letters }
+    {
+        self.letters
+    }
+
+    /// Further letters.
+    #[tactic(auto, using(crate::proofs::Joining::lettered))]
+    pub fn add_letters(&mut self, letters: Letters)
+        ensures { self.new ≡ followed_by self.old (nothing (bits_of letters)) }
+    {
+        self.letters = self.letters.with(letters);
+    }
+
+    /// A word more, with its letters.
+    pub fn add_word(&mut self, stored: Stored, letters: Letters) -> Result<(), AllocError>
+        ensures { IfOk result (λ _. self.new ≡ followed_by self.old (put (Word stored ∷ []) (bits_of letters))) }
+    {
+        self.contents.push(PieceContent::Word(stored))?;
+        self.letters = self.letters.with(letters);
+        Ok(())
+    }
+
+    /// A word more that stands as it is.
+    pub(crate) fn add_fixed_word(&mut self, number: u16) -> Result<(), AllocError>
+        ensures { IfOk result (λ _. self.new ≡ followed_by self.old (put (fixed_word number ∷ []) 0)) }
+    {
+        self.add_word(fixed(number), Letters::none())
+    }
+
+    /// A byte more that stands as it is.
+    pub(crate) fn add_fixed_byte(&mut self, number: u16) -> Result<(), AllocError>
+        ensures { IfOk result (λ _. self.new ≡ followed_by self.old (put (fixed_byte number ∷ []) 0)) }
+    {
+        self.add_byte(fixed(number), Letters::none())
+    }
+
+    /// A byte more, with its letters.
+    pub fn add_byte(&mut self, stored: Stored, letters: Letters) -> Result<(), AllocError>
+        ensures { IfOk result (λ _. self.new ≡ followed_by self.old (put (Byte stored ∷ []) (bits_of letters))) }
+    {
+        self.contents.push(PieceContent::Byte(stored))?;
+        self.letters = self.letters.with(letters);
+        Ok(())
+    }
+}

@@ -1,0 +1,114 @@
+//! What a linker does to the values that a line puts at its places. (MACRO-11 Language Reference Manual, "Relocation and linking"; RT-11
+//! Volume and File Formats Manual, "Object file format", RLD block.)
+
+ghost use Rattle.std.specs.Prelude.{◌≡◌};
+ghost use Rattle.m11_placement.specs.Relocations as spec;
+
+use m11_base::Name;
+use m11_object_text::{RelocationKind, Stored};
+use std::marker::Model;
+
+// What a linker does to a value in a word or a byte; in a relative operand of a section with REL; and in one of a section with ABS.
+#[derive(Clone, Copy)]
+pub(crate) struct Row {
+    in_word: RelocationKind,
+    in_relocatable: RelocationKind,
+    in_absolute: RelocationKind,
+}
+
+impl Model for Row {
+    ghost use Rattle.m11_placement.specs.Relocations.{Row};
+
+    ghost Value = { Row };
+
+    ghost view = { λ r. record { in_word = r.in_word; in_relocatable = r.in_relocatable; in_absolute = r.in_absolute } };
+
+    ghost inverse = { λ r. record { in_word = r.in_word; in_relocatable = r.in_relocatable; in_absolute = r.in_absolute } };
+}
+
+impl Row {
+    // A value of the line's own section.
+    pub(crate) fn here() -> Row
+        ensures { result ≡ spec.row_of spec.Here }
+    {
+        Row {
+            in_word: RelocationKind::Internal,
+            in_relocatable: RelocationKind::Fixed,
+            in_absolute: RelocationKind::Fixed,
+        }
+    }
+
+    // A number that counts from 0.
+    pub(crate) fn zero() -> Row
+        ensures { result ≡ spec.row_of spec.Zero }
+    {
+        Row {
+            in_word: RelocationKind::Fixed,
+            in_relocatable: RelocationKind::InternalDisplaced,
+            in_absolute: RelocationKind::Fixed,
+        }
+    }
+
+    // A value of another section.
+    pub(crate) fn in_section(name: Name) -> Row
+        ensures { result ≡ spec.row_of (spec.InSection name) }
+    {
+        Row {
+            in_word: RelocationKind::Section(name),
+            in_relocatable: RelocationKind::SectionDisplaced(name),
+            in_absolute: RelocationKind::SectionDisplaced(name),
+        }
+    }
+
+    // A name of another object.
+    pub(crate) fn in_object(name: Name) -> Row
+        ensures { result ≡ spec.row_of (spec.InObject name) }
+    {
+        Row {
+            in_word: RelocationKind::Global(name),
+            in_relocatable: RelocationKind::GlobalDisplaced(name),
+            in_absolute: RelocationKind::GlobalDisplaced(name),
+        }
+    }
+
+    // What a linker does to the value, relative to its place or not, in a section that is moved or not.
+    pub(crate) fn relocation(self, is_relative: bool, is_moved: bool) -> RelocationKind
+        ensures { result ≡ spec.relocation_by is_relative is_moved self }
+    {
+        match (is_relative, is_moved) {
+            (false, _) => self.in_word,
+            (true, true) => self.in_relocatable,
+            (true, false) => self.in_absolute,
+        }
+    }
+}
+
+// How far a target lies from the place after a word, modulo 65536.
+pub(crate) fn distance(place: u16, target: u16) -> u16
+    ensures { result ≡ spec.distance place target }
+{
+    ((u32::from(target) + 131072 - (u32::from(place) + 2)) % 65536) as u16
+}
+
+// A value at a place with what a linker does to it. A relative operand that no linker changes has its distance.
+pub(crate) fn stored_as(is_relative: bool, kind: RelocationKind, place: u16, number: u16) -> Stored
+    ensures { result ≡ spec.stored_as is_relative kind place number }
+{
+    match kind {
+        RelocationKind::Fixed if is_relative => fixed(distance(place, number)),
+        _ => Stored {
+            constant: number,
+            kind,
+        },
+    }
+}
+
+// A number that stands as it is.
+pub(crate) fn fixed(number: u16) -> Stored
+    ensures { result ≡ spec.fixed number }
+{
+    Stored {
+        constant: number,
+        kind: RelocationKind::Fixed,
+    }
+}
