@@ -1,1 +1,3 @@
 pub mod Packing
+pub mod Settings
+pub mod Listed

@@ -1,11 +1,14 @@
 //! Where branches and SOB go. (PDP-11/40 Processor Handbook, "Branch instructions" and "SOB".)
 
-ghost use Rattle.std.specs.Prelude.{◌≡◌, ◌%◌, ◌==◌, ◌&&◌, nat_le};
+ghost use Rattle.std.specs.Prelude.{◌≡◌, ◌<◌, ◌%◌, ◌==◌, ◌&&◌, nat_le};
 ghost use Rattle.m11_scan.specs.Views.{bits_of};
 ghost use Rattle.m11_placement.specs.Branches as spec;
+ghost use Rattle.m11_values.specs.Quantities.{quantity};
 
-use crate::relocations::distance;
+use crate::relocations::{distance, is_here};
 use m11_scan::Letters;
+use m11_table::Table;
+use m11_values::Value;
 
 // 128 words back to 127 on, from the place after the branch.
 pub(crate) fn in_reach(bytes: u16) -> bool
@@ -26,6 +29,45 @@ pub(crate) fn in_loop_reach(bytes: u16) -> bool
     ensures { result ≡ (bytes % 2 == 0 && nat_le bytes 126) }
 {
     bytes % 2 == 0 && bytes <= 126
+}
+
+// Whether a branch at a place reaches a target of its section.
+pub(crate) fn branch_reaches(table: &Table, place: u16, target: Value) -> bool
+    ensures { result ≡ spec.branch_reaches table.now place (quantity target) }
+{
+    is_here(table, target.kind) && in_reach(distance(place, target.number))
+}
+
+// The words to go, as eight bits; 0 for a target that isn't reached.
+pub(crate) fn branch_offset(table: &Table, place: u16, target: Value) -> u8
+    ensures { result ≡ spec.branch_offset table.now place (quantity target) }
+{
+    let bytes = distance(place, target.number);
+    if is_here(table, target.kind) && in_reach(bytes) {
+        (bytes / 2 % 256) as u8
+    } else {
+        0
+    }
+}
+
+// Whether SOB at a place reaches a target of its section.
+pub(crate) fn loop_reaches(table: &Table, place: u16, target: Value) -> bool
+    ensures { result ≡ spec.loop_reaches table.now place (quantity target) }
+{
+    is_here(table, target.kind) && in_loop_reach(back(place, target.number))
+}
+
+// The words to go back for SOB, 0 to 63; 0 for a target that isn't reached.
+pub(crate) fn loop_offset(table: &Table, place: u16, target: Value) -> u8
+    ensures offset { result ≡ spec.loop_offset table.now place (quantity target) }
+    ensures below { result < 64 }
+{
+    let bytes = back(place, target.number);
+    if is_here(table, target.kind) && in_loop_reach(bytes) {
+        (bytes / 2) as u8
+    } else {
+        0
+    }
 }
 
 // A for a target that isn't reached.

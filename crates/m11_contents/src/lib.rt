@@ -4,8 +4,13 @@
 #![tactic(auto)]
 
 mod branches;
+mod codes;
+mod operands;
 mod packing;
 mod puts;
 mod relocations;
+mod settings;
+mod values;
 
 pub use puts::Put;
+pub use settings::Setting;

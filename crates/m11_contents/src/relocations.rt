@@ -2,11 +2,18 @@
 //! Volume and File Formats Manual, "Object file format", RLD block.)
 
 ghost use Rattle.std.specs.Prelude.{◌≡◌};
+ghost use Rattle.m11_values.specs.Quantities.{quantity};
 ghost use Rattle.m11_placement.specs.Relocations as spec;
 
 use m11_base::Name;
 use m11_object_text::{RelocationKind, Stored};
+use m11_placement::Section;
+use m11_table::Table;
+use m11_values::{Kind, Value};
 use std::marker::Model;
+
+// The bit of REL in the attributes of a section.
+const RELOCATABLE: u8 = 0o040;
 
 // What a linker does to a value in a word or a byte; in a relative operand of a section with REL; and in one of a section with ABS.
 #[derive(Clone, Copy)]
@@ -80,6 +87,69 @@ impl Row {
             (true, true) => self.in_relocatable,
             (true, false) => self.in_absolute,
         }
+    }
+}
+
+// The row of a value, as a line sees it. A register counts as a number where it may not stand.
+fn row_of(table: &Table, kind: &Kind) -> Row
+    ensures { result ≡ spec.row_of (spec.origin_of table.now kind.now) }
+{
+    match kind {
+        Kind::Absolute | Kind::Register => Row::zero(),
+        Kind::Section(number) => section_row(table, *number),
+        Kind::Reference(name) => Row::in_object(*name),
+    }
+}
+
+// The row of a value of a section.
+fn section_row(table: &Table, number: u16) -> Row
+    ensures { result ≡ spec.row_of (spec.origin_of table.now (Kind.Section number)) }
+{
+    if number == table.settings().section {
+        Row::here()
+    } else {
+        row_in(&table.section(number))
+    }
+}
+
+// The row of a value of another section.
+fn row_in(section: &Section) -> Row
+    ensures { result ≡ spec.row_of (spec.InSection section.now.name) }
+{
+    Row::in_section(section.name)
+}
+
+// Whether the section of the line is moved by a linker.
+pub(crate) fn is_moved(table: &Table) -> bool
+    ensures { result ≡ spec.is_moved table.now }
+{
+    let section = table.section(table.settings().section);
+    section.attributes & RELOCATABLE != 0
+}
+
+// What a linker does to a value of a kind.
+fn relocation_of(table: &Table, is_relative: bool, kind: Kind) -> RelocationKind
+    ensures { result ≡ spec.relocation_of table.now is_relative kind }
+{
+    row_of(table, &kind).relocation(is_relative, is_moved(table))
+}
+
+// What stands at a place for a value.
+pub(crate) fn stored(table: &Table, is_relative: bool, place: u16, value: Value) -> Stored
+    ensures { result ≡ spec.stored table.now is_relative place (quantity value) }
+{
+    let kind = relocation_of(table, is_relative, value.kind);
+    stored_as(is_relative, kind, place, value.number)
+}
+
+// Whether a value is one of the section of the line: in one with ABS every absolute number is.
+pub(crate) fn is_here(table: &Table, kind: Kind) -> bool
+    ensures { result ≡ spec.is_here table.now kind }
+{
+    match kind {
+        Kind::Absolute | Kind::Register => !is_moved(table),
+        Kind::Section(number) => number == table.settings().section,
+        Kind::Reference(_) => false,
     }
 }
 

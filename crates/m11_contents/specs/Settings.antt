@@ -1,0 +1,20 @@
+-- Where a line stands, as the code sees it: from it follow the names that are known there. (MACRO-11 Language Reference Manual,
+-- "Symbols".)
+use Rattle.std.specs.Prelude.{ℕ}
+use Rattle.m11_base.specs.Devices.{Bytes}
+use Rattle.m11_placement.specs.Codes.{Setting}
+use Rattle.m11_placement.specs.Instructions.{setting}
+use Rattle.m11_placement.specs.Meanings.{Map}
+use Rattle.m11_placement.specs.Tables.{Table}
+
+pub record Standpoint : Type 0 where
+  pub map : Map
+  pub table : Table
+  pub place : ℕ
+  pub line : Bytes
+
+abbrev pub standpoint : Map → Table → ℕ → Bytes → Standpoint
+standpoint map table place line = record { map = map; table = table; place = place; line = line }
+
+abbrev pub setting_of : Standpoint → Setting
+setting_of here = setting here.map here.table here.place here.line
