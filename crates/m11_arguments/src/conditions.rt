@@ -252,8 +252,8 @@ fn is_blank_text(text: &[u8]) -> bool
     blanks_length(text) == text.len()
 }
 
-// A for an argument without its `>`.
-pub(crate) fn actual_letters(actual: &Actual) -> Letters
+/// A for an argument without its `>`.
+pub fn actual_letters(actual: &Actual) -> Letters
     ensures { bits_of result ≡ spec.actual_letters actual.now }
 {
     Letters::A.when(!actual.is_closed)
