@@ -1,0 +1,3 @@
+mod Coding
+mod Differing
+mod Rows

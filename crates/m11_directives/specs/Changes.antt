@@ -1,0 +1,28 @@
+-- What the definitions see of a change that the code has.
+use Rattle.std.specs.Prelude.{List, [], ◌∷◌, Option}
+use Rattle.m11_base.specs.Rad50.{Name}
+use Rattle.m11_placement.specs.Changes as changes
+use Rattle.m11_placement.specs.Elements.{with_name}
+use Rattle.m11_placement.specs.Places as places
+use Rattle.m11_directives.specs.declared.changes.Change.{Change}
+use Rattle.m11_directives.specs.declared.changes.Change.TheVariants.{Keeps, Counts, Selects, Assigns, Numbers, Exports, Sets}
+use Rattle.m11_directives.specs.declared.changes.Move.{Move}
+use Rattle.m11_directives.specs.declared.changes.Move.TheVariants.{Steps, Goes}
+
+abbrev pub move_seen : Move → places.Move
+move_seen (Steps size) = places.Steps size
+move_seen (Goes place) = places.Goes place
+
+-- the names among the elements of a list
+abbrev pub names_among : List (Option Name) → List Name
+names_among [] = []
+names_among (name ∷ names) = with_name name (names_among names)
+
+abbrev pub change_seen : Change → changes.Change
+change_seen Keeps = changes.Keeps
+change_seen (Counts move) = changes.Counts (move_seen move)
+change_seen (Selects name attributes) = changes.Selects name attributes
+change_seen (Assigns name is_global start) = changes.Assigns name is_global start
+change_seen (Numbers name number) = changes.Numbers name number
+change_seen (Exports names) = changes.Exports (names_among names.items)
+change_seen (Sets settings) = changes.Sets settings

@@ -1,0 +1,16 @@
+-- Characters that RADIX-50 has. (MACRO-11 Language Reference Manual, appendix on the RADIX-50 character set.)
+use Rattle.std.specs.Prelude.{ℕ, nat_lt, if◌then◌else◌, length, slice_index, Option, Some, None}
+use Rattle.m11_base.specs.Devices.{Bytes}
+use Rattle.m11_base.specs.Rad50.{code_of}
+
+abbrev pub coded_by : ℕ → Option ℕ → ℕ
+coded_by character (Some code) = character
+coded_by character None = 32
+
+-- a character that has a code, and else a blank
+abbrev pub coded : ℕ → ℕ
+coded character = coded_by character (code_of character)
+
+-- that of a text at a place; a blank after its end
+abbrev pub coded_at : Bytes → ℕ → ℕ
+coded_at text place = if nat_lt place (length text) then coded (slice_index text place) else 32

@@ -1,0 +1,5 @@
+pub mod Attributes
+pub mod Changes
+pub mod Codes
+pub mod Numbers
+pub mod SectionNames

@@ -1,0 +1,22 @@
+//! What directives change for the lines after them, and the letters that they have. (MACRO-11 Language Reference Manual, "General
+//! assembler directives" and "Direct assignment statements".)
+#![tactic(auto)]
+
+mod attributes;
+mod changes;
+mod counts;
+mod exports;
+mod identifications;
+mod listing;
+mod radix_control;
+mod sections;
+mod titles;
+
+pub use changes::{Change, Move};
+pub use counts::{argument_count, argument_letters, character_count, character_letters};
+pub use exports::global_letters;
+pub use identifications::{identification, identification_letters};
+pub use listing::{disable_letters, enable_letters, list_letters, page_letters, subtitle_letters};
+pub use radix_control::{radix, radix_letters};
+pub use sections::{absolute_letters, absolute_section, control_letters, control_section};
+pub use titles::{title, title_letters};
