@@ -1,3 +1,4 @@
+mod Asking
 mod Coding
 mod Differing
 mod Rows

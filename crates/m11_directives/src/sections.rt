@@ -1,16 +1,26 @@
 //! `.ASECT`, `.CSECT` and `.PSECT`. (MACRO-11 Language Reference Manual, "Program section directives".)
 
 ghost use Rattle.std.specs.Prelude.{◌≡◌, ◌≤◌, length};
+ghost use Rattle.std.specs.Int.RustNames.{bit_or};
 ghost use Rattle.m11_scan.specs.Views.{bits_of};
 ghost use Rattle.m11_statements.specs.Listed.{is_comma};
+ghost use Rattle.m11_placement.specs.Elements.{bad_letters, texts_of};
 ghost use Rattle.m11_placement.specs.ProgramSections as spec;
 ghost use Rattle.m11_directives.specs.Changes.{change_seen};
-ghost use Rattle.m11_directives.specs.SectionNames.{IsWithin, section_seen};
+ghost use Rattle.m11_directives.specs.SectionNames.{IsWithin, program_letters_by, section_seen};
 
+use crate::attributes::{differing_letters, with_attributes};
 use crate::changes::Change;
-use m11_arguments::{NameAt, left_over, letters_before, name_at, rest_letters};
+use crate::exports::bad_letters;
+use arrayvec::ArrayVec;
+use m11_arguments::{
+    NameAt, after_comma, left_over, letters_before, name_at, place_in, rest_letters, skip_letters,
+};
 use m11_base::blank_name;
+use m11_fields::{ListedNames, names_at};
+use m11_placement::Section;
 use m11_scan::{Letters, Line, Sort, next_token};
+use m11_statements::Span;
 
 // The attributes of sections.
 const OF_ABSOLUTE: u8 = 0o104;
@@ -58,6 +68,81 @@ fn bad_name_letters(line: &Line, start: usize) -> Letters
     ensures { bits_of result ≡ spec.bad_name_letters line.now.text start }
 {
     Letters::A.with(rest_letters(line, start))
+}
+
+/// The section that a `.PSECT` selects, with its attributes where it is new. A bad name changes nothing.
+pub fn program_section(line: &Line, start: usize) -> Change
+    requires { start ≤ length line.now.text }
+    ensures { change_seen result ≡ spec.program_section line.now.text start }
+{
+    match section_at(line, start) {
+        SectionAt::Unnamed => Change::Selects(blank_name(), attributes_of(line, start)),
+        SectionAt::Named(name) => {
+            Change::Selects(name.name, attributes_of(line, usize::from(name.end)))
+        }
+        SectionAt::Bad => Change::Keeps,
+    }
+}
+
+// The attributes that stand after the name.
+fn attributes_of(line: &Line, end: usize) -> u8
+    requires { end ≤ length line.now.text }
+    ensures { result ≡ spec.attributes_of line.now.text end }
+{
+    let names = attributes_at(line, end);
+    with_attributes(OF_PROGRAM, line, names.list.as_slice())
+}
+
+// After a comma attributes stand; without one, nothing more.
+fn attributes_at(line: &Line, end: usize) -> ListedNames
+    requires { end ≤ length line.now.text }
+    ensures list { result.list.items ≡ (spec.attributes_at line.now.text end).list }
+    ensures end { result.end ≡ (spec.attributes_at line.now.text end).end }
+    ensures within { result.end ≤ length line.now.text }
+{
+    match after_comma(line, end) {
+        Some(next) => names_at(line, usize::from(next)),
+        None => ListedNames {
+            list: ArrayVec::new(),
+            end: place_in(line, end),
+        },
+    }
+}
+
+/// The letters of a `.PSECT`, where the section of its name is known or not: A for a bad name, for what is no attribute, and for one that
+/// the known section doesn't have.
+pub fn program_letters(known: &Option<Section>, line: &Line, start: usize) -> Letters
+    requires { start ≤ length line.now.text }
+    ensures { bits_of result ≡ program_letters_by known.now line.now.text start (spec.section_at line.now.text start) }
+{
+    match section_at(line, start) {
+        SectionAt::Unnamed => attributes_letters(line, known, start),
+        SectionAt::Named(name) => {
+            let letters = attributes_letters(line, known, usize::from(name.end));
+            letters_before(line, start).with(letters)
+        }
+        SectionAt::Bad => bad_name_letters(line, start),
+    }
+}
+
+fn attributes_letters(line: &Line, known: &Option<Section>, end: usize) -> Letters
+    requires { end ≤ length line.now.text }
+    ensures { bits_of result
+        ≡ spec.attributes_letters line.now.text known.now end (spec.attributes_at line.now.text end) }
+{
+    let names = attributes_at(line, end);
+    let place = usize::from(names.end);
+    elements_letters(line, known, names.list.as_slice()).with(skip_letters(line, end, place).with(
+        left_over(line, place),
+    ))
+}
+
+// A for an element that is no name, is no attribute or differs.
+fn elements_letters(line: &Line, known: &Option<Section>, names: &[Option<Span>]) -> Letters
+    ensures { bits_of result ≡ bit_or (bad_letters names.now)
+        (spec.differing_letters known.now (texts_of line.now.text names.now)) }
+{
+    bad_letters(names).with(differing_letters(known, line, names))
 }
 
 /// The section that a `.CSECT` selects: that of its name, or the blank one. A bad name changes nothing.
