@@ -1,6 +1,10 @@
 -- What the definitions see of a change that the code has.
-use Rattle.std.specs.Prelude.{List, [], ◌∷◌, Option}
-use Rattle.m11_base.specs.Rad50.{Name}
+use Rattle.std.specs.Prelude.{List, [], ◌∷◌, Option, Some, None}
+use Rattle.m11_base.specs.Devices.{Bytes}
+use Rattle.m11_base.specs.Mnemonics.{six_of}
+use Rattle.m11_base.specs.Rad50.{Name, name_of}
+use Rattle.m11_scan.specs.Cutting.{text_between}
+use Rattle.m11_statements.specs.declared.spans.Span.{Span}
 use Rattle.m11_placement.specs.Changes as changes
 use Rattle.m11_placement.specs.Elements.{with_name}
 use Rattle.m11_placement.specs.Places as places
@@ -12,6 +16,11 @@ use Rattle.m11_directives.specs.declared.changes.Move.TheVariants.{Steps, Goes}
 abbrev pub move_seen : Move → places.Move
 move_seen (Steps size) = places.Steps size
 move_seen (Goes place) = places.Goes place
+
+-- the name of an element, if it is one
+abbrev pub name_in : Bytes → Option Span → Option Name
+name_in line (Some name) = name_of (six_of (text_between line name.start name.end))
+name_in line None = None
 
 -- the names among the elements of a list
 abbrev pub names_among : List (Option Name) → List Name

@@ -17,12 +17,14 @@ mod titles;
 pub use assigning::{
     assignment, assignment_letters, counter_change, counter_letters, known_value, number_letters,
 };
-pub use changes::{Change, Move};
+pub use changes::{Change, Move, NAME_LIMIT};
 pub use counts::{argument_count, argument_letters, character_count, character_letters};
 pub use endings::{end_letters, transfer, transfer_letters};
-pub use exports::global_letters;
+pub use exports::{global, global_letters, listed_names};
 pub use identifications::{identification, identification_letters};
-pub use listing::{disable_letters, enable_letters, list_letters, page_letters, subtitle_letters};
+pub use listing::{
+    disable_letters, enable_letters, list, list_letters, page_letters, subtitle_letters,
+};
 pub use radix_control::{radix, radix_letters};
 pub use sections::{
     absolute_letters, absolute_section, control_letters, control_section, program_letters,

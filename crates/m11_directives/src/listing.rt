@@ -1,16 +1,21 @@
 //! `.LIST`, `.NLIST`, `.ENABL`, `.DSABL`, `.PAGE` and `.SBTTL`. (MACRO-11 Language Reference Manual, "Listing control directives",
 //! "Function directives" and "Page and title directives".)
 
-ghost use Rattle.std.specs.Prelude.{◌≡◌, ◌≤◌, [], ◌∷◌, length, not};
+ghost use Rattle.std.specs.Prelude.{◌≡◌, ◌<◌, ◌≤◌, [], ◌∷◌, false, if◌then◌else◌, length, not};
 ghost use Rattle.std.specs.Int.RustNames.{bit_or};
 ghost use Rattle.std.specs.List.{list_any};
 ghost use Rattle.m11_scan.specs.Views.{bits_of};
+ghost use Rattle.m11_placement.specs.Changes.{Keeps, Sets};
 ghost use Rattle.m11_placement.specs.Control as spec;
 ghost use Rattle.m11_placement.specs.Elements.{bad_letters, names_at, texts_of};
+ghost use Rattle.m11_directives.specs.Changes.{change_seen};
+ghost use Rattle.m11_directives.specs.Gathering.{among_from};
 
+use crate::changes::Change;
 use crate::exports::bad_letters;
 use m11_arguments::{has_token, left_over, rest_letters, skip_letters};
 use m11_fields::names_at;
+use m11_placement::Settings;
 use m11_scan::{Letters, Line, six_characters};
 use m11_statements::Span;
 
@@ -20,8 +25,93 @@ const LISTING_WORDS: [[u8; 6]; 15] = [
     *b"ME    ", *b"MEB   ", *b"CND   ", *b"LD    ", *b"TOC   ", *b"SYM   ", *b"TTM   ",
 ];
 
+// Expansions are listed or not.
+const EXPANSIONS: &[u8; 6] = b"ME    ";
+
 // LC and GBL are always in force.
 const ENABLED_WORDS: [[u8; 6]; 2] = [*b"LC    ", *b"GBL   "];
+
+/// What a `.LIST` changes: the level goes up where nothing stands; with ME among its words, expansions are listed.
+pub fn list(settings: Settings, line: &Line, start: usize) -> Change
+    requires place { start ≤ length line.now.text }
+    requires counted { settings.listed < u64.MAX }
+    ensures { change_seen result ≡ spec.list settings line.now.text start }
+{
+    if has_token(line, start) {
+        with_words(settings, true, has_expansions(line, start))
+    } else {
+        Change::Sets(Settings {
+            listed: settings.listed + 1,
+            ..settings
+        })
+    }
+}
+
+/// What a `.NLIST` changes: the level goes down where nothing stands; with ME among its words, expansions aren't listed.
+pub fn unlist(settings: Settings, line: &Line, start: usize) -> Change
+    requires place { start ≤ length line.now.text }
+    requires counted { settings.unlisted < u64.MAX }
+    ensures { change_seen result ≡ spec.unlist settings line.now.text start }
+{
+    if has_token(line, start) {
+        with_words(settings, false, has_expansions(line, start))
+    } else {
+        Change::Sets(Settings {
+            unlisted: settings.unlisted + 1,
+            ..settings
+        })
+    }
+}
+
+fn with_words(settings: Settings, shows_expansions: bool, has_expansions: bool) -> Change
+    ensures { change_seen result ≡ (if has_expansions then Sets (record settings { shows_expansions = shows_expansions }) else Keeps) }
+{
+    if has_expansions {
+        Change::Sets(Settings {
+            shows_expansions,
+            ..settings
+        })
+    } else {
+        Change::Keeps
+    }
+}
+
+// Whether ME is among the words of a list.
+fn has_expansions(line: &Line, start: usize) -> bool
+    requires { start ≤ length line.now.text }
+    ensures { result ≡ spec.is_among (texts_of line.now.text (names_at line.now.text start).list) spec.expansions_word }
+{
+    has_word(line, names_at(line, start).list.as_slice(), EXPANSIONS)
+}
+
+// Whether a word is among those of a list.
+#[tactic(auto, using(crate::proofs::Among::from_none))]
+fn has_word(line: &Line, names: &[Option<Span>], word: &[u8; 6]) -> bool
+    ensures { result ≡ spec.is_among (texts_of line.now.text names.now) word.now }
+{
+    is_found(line, names, word)
+}
+
+fn is_found(line: &Line, names: &[Option<Span>], word: &[u8; 6]) -> bool
+    ensures { result ≡ among_from false word.now (texts_of line.now.text names.now) }
+{
+    let mut found = false;
+    let mut rest = names;
+    'names: while let [name, others @ ..] = rest {
+        found = found_or(found, line, *name, word);
+        rest = others;
+    }
+    found
+}
+
+fn found_or(found: bool, line: &Line, name: Option<Span>, word: &[u8; 6]) -> bool
+    ensures { result ≡ among_from found word.now (texts_of line.now.text (name ∷ [])) }
+{
+    match name {
+        Some(name) => found || six_characters(name.text(line)) == *word,
+        None => found,
+    }
+}
 
 /// The letters of a `.LIST` or `.NLIST`: A for a word that is none of those that they know.
 pub fn list_letters(line: &Line, start: usize) -> Letters
