@@ -1,5 +1,5 @@
 -- A word that is found in a list is among its words.
-use Rattle.std.proofs.Common.{◌≡◌, ◌||◌, Bool, true, false, List, [], ◌∷◌, refl, ◌∙◌}
+use Rattle.std.proofs.Common.{◌≡◌, ◌||◌, Bool, true, false, List, [], ◌∷◌, refl}
 use Rattle.std.specs.Str.{bytes_eq}
 use Rattle.m11_base.specs.Devices.{Bytes}
 use Rattle.m11_placement.specs.Control.{is_among}

@@ -1,5 +1,5 @@
 -- Names of texts whose characters outside RADIX-50 count as blanks.
-use Rattle.std.proofs.Common.{◌≡◌, ℕ, ◌+◌, ◌*◌, List, [], ◌∷◌, Option, Some, None, unwrap_or, refl, sym, ap, ◌∙◌, arith}
+use Rattle.std.proofs.Common.{◌≡◌, ℕ, ◌+◌, ◌*◌, List, [], ◌∷◌, Option, Some, None, unwrap_or, refl, ap, ◌∙◌, arith}
 use Rattle.m11_base.specs.Rad50.{alphabet, code_of, name_of, packed_at, word_of_codes}
 use Rattle.m11_placement.specs.Exports.{first_six, name_of_codes}
 use Rattle.m11_placement.specs.Strings.{character_code, six_codes}

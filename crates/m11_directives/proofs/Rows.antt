@@ -1,8 +1,7 @@
 -- The row that the code finds is that of the definitions.
-use Rattle.std.proofs.Common.{◌≡◌, Bool, true, false, List, [], ◌∷◌, map, Option, Some, find, if◌then◌else◌, refl}
+use Rattle.std.proofs.Common.{◌≡◌, Bool, true, false, List, [], ◌∷◌, map, Some, find, if◌then◌else◌, refl}
 use Rattle.std.specs.Str.{bytes_eq}
 use Rattle.m11_base.specs.Devices.{Bytes}
-use Rattle.m11_placement.specs.ProgramSections as sections
 use Rattle.m11_directives.specs.Attributes.{attribute_seen, row_seen}
 use Rattle.m11_directives.specs.declared.attributes.Attribute.{Attribute}
 

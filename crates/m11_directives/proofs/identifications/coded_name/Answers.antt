@@ -1,7 +1,5 @@
-use Rattle.std.proofs.Common.{List, ℕ, ◌∷◌, [], ap, ◌∙◌}
-use Rattle.m11_base.specs.Rad50.{name_of}
-use Rattle.m11_directives.specs.Codes.{coded_at}
-use Rattle.m11_directives.proofs.Coding.{six_coded, six_placed}
+use Rattle.std.proofs.Common.{◌∙◌}
+use Rattle.m11_directives.proofs.Coding.{six_placed}
 use Rattle.m11_directives.proofs.identifications.coded_name.Goals as goal
 
 pub returns : goal.returns
