@@ -1,3 +1,4 @@
+mod Alone
 mod Beginning
 mod Listing
 mod Naming

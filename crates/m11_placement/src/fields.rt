@@ -16,7 +16,7 @@ pub enum FieldPlace {
 }
 
 /// What stands in a field.
-#[derive(Clone, Copy)]
+#[derive(Clone, Copy, Default)]
 pub enum Field {
     /// An operand, by its form.
     Formed(Form),
@@ -27,5 +27,6 @@ pub enum Field {
     /// A number: the place where its expression begins.
     Numbered(u8),
     /// Nothing.
+    #[default]
     Missing,
 }

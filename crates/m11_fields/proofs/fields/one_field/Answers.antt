@@ -1,0 +1,10 @@
+use Rattle.std.proofs.Common.{List, [], ◌∷◌, ◌++◌, ap, ◌∙◌}
+use Rattle.m11_placement.specs.declared.fields.Field.{Field}
+use Rattle.m11_fields.specs.Reads.{field_seen}
+use Rattle.m11_fields.proofs.Alone.{one_alone}
+use Rattle.m11_fields.proofs.fields.one_field.Goals as goal
+
+pub returns-clause-fields : goal.returns-clause-fields
+returns-clause-fields c =
+    one_alone (field_seen c.args.field) c.push.new.self.items
+    (c.push.ensures.items ∙ ap (λ (l : List Field). l ++ c.args.field.field ∷ []) c.new-list.ensures)

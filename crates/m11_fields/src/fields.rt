@@ -1,0 +1,246 @@
+//! The fields of an instruction, as they stand in a line. (PDP-11/40 Processor Handbook, "Instruction set"; MACRO-11 Language Reference
+//! Manual, "Operand field".)
+
+ghost use Rattle.std.specs.Prelude.{◌≡◌, ◌≤◌, ◌*◌, ◌∷◌, [], length};
+ghost use Rattle.m11_arguments.specs.Expressions.{known_by};
+ghost use Rattle.m11_fields.specs.Reads.{alone, bytes_in, field_seen, fields_seen, places_in};
+ghost use Rattle.m11_placement.specs.Fields as spec;
+ghost use Rattle.m11_placement.specs.Operands as operand;
+ghost use Rattle.m11_scan.specs.Views.{bits_of};
+
+use crate::elements::has_expression;
+use crate::operands::operand_at;
+use arrayvec::ArrayVec;
+use m11_arguments::{after_comma, place_in};
+use m11_base::Op;
+use m11_placement::{Field, FieldPlace, Form};
+use m11_scan::{Letters, Line, expression_end};
+use m11_values::Names;
+
+/// The fields of an instruction.
+#[derive(Drop)]
+pub struct Fields {
+    /// What stands in them, in the order in which they are written.
+    pub list: ArrayVec<Field, 2>,
+    /// The place after them.
+    pub end: u8,
+    /// A for each operand, register or target that is missing, and for each missing `)`.
+    pub letters: Letters,
+}
+
+// A field, as it stands in a line.
+#[derive(Clone, Copy)]
+pub struct FieldRead {
+    pub(crate) field: Field,
+    // The place after it.
+    pub(crate) end: u8,
+    pub(crate) letters: Letters,
+}
+
+// The fields that an operation has.
+#[derive(Clone, Copy)]
+pub enum Places {
+    Zero,
+    One(FieldPlace),
+    Two(FieldPlace, FieldPlace),
+}
+
+/// The fields of an operation, which begin at a place of a line, with a comma between two of them. The forms of operands are asked of
+/// names: those of the lines before.
+pub fn fields_at<N: Names>(line: &Line, start: usize, operation: Op, names: &N) -> Fields
+    requires { start ≤ length line.now.text }
+    ensures fields { fields_seen result
+        ≡ spec.fields_at (known_by (N.base names.now) (N.stands_for names.now)) line.now.text start operation }
+    ensures within { result.end ≤ length line.now.text }
+{
+    match places_of(operation) {
+        Places::Zero => no_fields(line, start),
+        Places::One(place) => one_field(field_at(line, start, place, names)),
+        Places::Two(first, second) => {
+            let first = field_at(line, start, first, names);
+            let second = field_after(line, first.end, second, names);
+            two_fields(first, second)
+        }
+    }
+}
+
+// Which fields an operation has, in the order in which they are written.
+fn places_of(operation: Op) -> Places
+    ensures { places_in result ≡ spec.places_of operation }
+{
+    match operation {
+        Op::Double(_, _) => Places::Two(FieldPlace::Operand, FieldPlace::Operand),
+        Op::Extended(_) => Places::Two(FieldPlace::Operand, FieldPlace::Register),
+        Op::Register(_) => Places::Two(FieldPlace::Register, FieldPlace::Operand),
+        Op::Sob => Places::Two(FieldPlace::Register, FieldPlace::Target),
+        Op::Single(_, _) | Op::Call => Places::One(FieldPlace::Operand),
+        Op::Rts => Places::One(FieldPlace::Register),
+        Op::Number(_) => Places::One(FieldPlace::Number),
+        Op::Branch(_) => Places::One(FieldPlace::Target),
+        Op::Bare(_) | Op::Condition(_) | Op::Return | Op::Codes(_, _) => Places::Zero,
+    }
+}
+
+fn no_fields(line: &Line, place: usize) -> Fields
+    requires { place ≤ length line.now.text }
+    ensures fields { fields_seen result ≡ spec.no_fields place }
+    ensures within { result.end ≤ length line.now.text }
+{
+    Fields {
+        list: ArrayVec::new(),
+        end: place_in(line, place),
+        letters: Letters::none(),
+    }
+}
+
+fn one_field(field: FieldRead) -> Fields
+    ensures fields { fields_seen result ≡ alone (field_seen field) }
+    ensures end { result.end ≡ field.end }
+{
+    let mut list = ArrayVec::new();
+    list.push(field.field);
+    Fields {
+        list,
+        end: field.end,
+        letters: field.letters,
+    }
+}
+
+fn two_fields(first: FieldRead, second: FieldRead) -> Fields
+    ensures fields { fields_seen result ≡ spec.before (field_seen first) (alone (field_seen second)) }
+    ensures end { result.end ≡ second.end }
+{
+    let mut list = ArrayVec::new();
+    list.push(first.field);
+    list.push(second.field);
+    Fields {
+        list,
+        end: second.end,
+        letters: first.letters.with(second.letters),
+    }
+}
+
+// The field that stands after another one: after its comma, or else it is missing.
+fn field_after<N: Names>(line: &Line, end: u8, place: FieldPlace, names: &N) -> FieldRead
+    requires { end ≤ length line.now.text }
+    ensures field { alone (field_seen result) ≡ spec.fields_after
+        (known_by (N.base names.now) (N.stands_for names.now)) line.now.text end (place ∷ []) }
+    ensures within { result.end ≤ length line.now.text }
+{
+    match after_comma(line, usize::from(end)) {
+        Some(next) => field_at(line, usize::from(next), place, names),
+        None => missing(place, end),
+    }
+}
+
+// A field before which its comma is missing. Nothing stands in it.
+fn missing(place: FieldPlace, end: u8) -> FieldRead
+    ensures field { alone (field_seen result) ≡ spec.missing_fields end (place ∷ []) }
+    ensures end { result.end ≡ end }
+{
+    match place {
+        FieldPlace::Operand => field_read(Field::Formed(Form::Absent), end, Letters::A),
+        FieldPlace::Register | FieldPlace::Target => field_read(Field::Missing, end, Letters::A),
+        FieldPlace::Number => field_read(Field::Missing, end, Letters::none()),
+    }
+}
+
+fn field_read(field: Field, end: u8, letters: Letters) -> FieldRead
+    ensures field { field_seen result ≡ spec.field_read field end (bits_of letters) }
+    ensures end { result.end ≡ end }
+{
+    FieldRead {
+        field,
+        end,
+        letters,
+    }
+}
+
+// The field at a place.
+fn field_at<N: Names>(line: &Line, start: usize, place: FieldPlace, names: &N) -> FieldRead
+    requires { start ≤ length line.now.text }
+    ensures field { field_seen result ≡ spec.field_at
+        (known_by (N.base names.now) (N.stands_for names.now)) line.now.text start place }
+    ensures within { result.end ≤ length line.now.text }
+{
+    let begin = place_in(line, start);
+    match place {
+        FieldPlace::Operand => operand(line, start, names),
+        FieldPlace::Register => expression(line, begin, Field::Registered(begin), Letters::A),
+        FieldPlace::Target => expression(line, begin, Field::Targeted(begin), Letters::A),
+        FieldPlace::Number => expression(line, begin, Field::Numbered(begin), Letters::none()),
+    }
+}
+
+// The operand at a place.
+fn operand<N: Names>(line: &Line, start: usize, names: &N) -> FieldRead
+    requires { start ≤ length line.now.text }
+    ensures field { field_seen result ≡ spec.operand_read (operand.operand_at
+        (known_by (N.base names.now) (N.stands_for names.now)) line.now.text start) }
+    ensures within { result.end ≤ length line.now.text }
+{
+    let operand = operand_at(line, start, names);
+    FieldRead {
+        field: Field::Formed(operand.form),
+        end: operand.end,
+        letters: operand.letters,
+    }
+}
+
+// A field that is an expression at a place, or with letters where none stands there.
+fn expression(line: &Line, start: u8, field: Field, letters: Letters) -> FieldRead
+    requires { start ≤ length line.now.text }
+    ensures field { field_seen result
+        ≡ spec.expression_read field (bits_of letters) line.now.text start }
+    ensures within { result.end ≤ length line.now.text }
+{
+    if has_expression(line, usize::from(start)) {
+        FieldRead {
+            field,
+            end: place_in(line, expression_end(line, usize::from(start))),
+            letters: Letters::none(),
+        }
+    } else {
+        FieldRead {
+            field: Field::Missing,
+            end: start,
+            letters,
+        }
+    }
+}
+
+/// How many words stand after an instruction for an operand.
+pub fn words_of(form: Form) -> u16
+    ensures words { result ≡ operand.words_of form }
+    ensures most { result ≤ 1 }
+{
+    match form {
+        Form::Absent | Form::InRegister(_, _) => 0,
+        Form::Indexed(_, _, _) | Form::Unindexed(_) | Form::AfterCounter(_, _) => 1,
+    }
+}
+
+/// The size of an instruction in bytes, by its fields: 2 to 6.
+pub fn instruction_size(fields: &[Field]) -> u16
+    requires { length fields.now ≤ 2 }
+    ensures { result ≡ operand.instruction_size (spec.forms_of fields.now) }
+{
+    let mut size = 2;
+    let mut rest = fields;
+    'fields: while let [field, others @ ..] = rest {
+        size += bytes_of(*field);
+        rest = others;
+    }
+    size
+}
+
+// How many bytes stand after an instruction for a field.
+fn bytes_of(field: Field) -> u16
+    ensures bytes { result ≡ bytes_in field }
+    ensures most { result ≤ 2 }
+{
+    match field {
+        Field::Formed(form) => words_of(form) * 2,
+        _ => 0,
+    }
+}
