@@ -1,5 +1,5 @@
 -- An expression stands where a token stands that can begin one.
-use Rattle.std.proofs.Common.{◌≡◌, ℕ, suc, take, List, ◌∷◌, Option, Some, None, refl, map}
+use Rattle.std.proofs.Common.{◌≡◌, ℕ, take, List, ◌∷◌, Option, Some, None, refl, map}
 use Rattle.std.specs.Option.{is_some}
 use Rattle.m11_arguments.specs.Expressions.{expression_in}
 use Rattle.m11_arguments.specs.LeftOvers.{has_token}

@@ -2,7 +2,7 @@
 use Rattle.std.proofs.Common.{◌≡◌, ℕ, suc, Bool, true, false, not, if◌then◌else◌, List, Option, Some, None, refl, ap, sym, ◌∙◌}
 use Rattle.m11_scan.specs.Cutting.{tokens_from}
 use Rattle.m11_scan.specs.Ends.{expression_end}
-use Rattle.m11_placement.specs.Elements.{Elements, Names, element_before, elements_by, elements_within, last_element, last_name, name_before, names_by, names_within, next_element}
+use Rattle.m11_placement.specs.Elements.{Names, element_before, elements_by, elements_within, last_element, last_name, name_before, names_by, names_within, next_element}
 use Rattle.m11_statements.specs.Listed.{listed_name}
 use Rattle.m11_statements.specs.declared.listed.ListedName.{ListedName}
 
