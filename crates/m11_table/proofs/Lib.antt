@@ -5,3 +5,5 @@ mod Following
 mod Found
 mod Inserting
 mod Moving
+mod Selecting
+mod Starting

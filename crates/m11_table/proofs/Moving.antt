@@ -39,7 +39,7 @@ set_elsewhere (counter ∷ counters) (suc number) (suc other) new h = set_elsewh
 from_zero : (number : ℕ) → 0 + number ≡ number
 from_zero number = omega (arith)
 
-counter_placed : (number : ℕ) (counters : List ℕ)
+pub counter_placed : (number : ℕ) (counters : List ℕ)
     → place_in number (counters_from 0 counters) ≡ place_after (move_of (slice_get counters number))
 counter_placed number counters =
     ap (λ (n : ℕ). place_in n (counters_from 0 counters)) (sym (from_zero number)) ∙ ap place_after (counter_moves number 0 counters)

@@ -1,12 +1,14 @@
 -- What a table keeps, as the definitions of placing have it. (MACRO-11 Language Reference Manual, "Symbols and expressions" and "Program
 -- section directives". That the last definition of a symbol decides, so that no other is kept, is this project's own.)
-use Rattle.std.specs.Prelude.{ℕ, ◌+◌, ◌==◌, ◌&&◌, Bool, List, [], ◌∷◌, ◌++◌, map, Option, Some, None}
+use Rattle.std.specs.Prelude.{ℕ, ◌+◌, ◌==◌, ◌&&◌, Bool, List, [], ◌∷◌, ◌++◌, fold, map, replicate, Option, Some, None}
 use Rattle.m11_base.specs.Rad50.{Name}
 use Rattle.m11_placement.specs.declared.definitions.Definition.{Definition}
 use Rattle.m11_placement.specs.declared.definitions.Key.{Key}
 use Rattle.m11_placement.specs.declared.definitions.Key.TheVariants.{Named, Numbered}
 use Rattle.m11_placement.specs.declared.sections.Section.{Section}
 use Rattle.m11_placement.specs.declared.settings.Settings.{Settings}
+use Rattle.m11_placement.specs.Definitions.{registers}
+use Rattle.m11_placement.specs.Labels.{with_definition}
 use Rattle.m11_placement.specs.Places.{Goes, Moved, in_section}
 use Rattle.m11_placement.specs.Tables.{Table}
 use Rattle.m11_table.specs.declared.entries.Entry.{Entry}
@@ -46,6 +48,10 @@ abbrev pub counter_or : Option ℕ → ℕ
 counter_or (Some counter) = counter
 counter_or None = 0
 
+-- before the first line all stand at 0
+unfoldable pub no_counters : List ℕ
+no_counters = replicate 64 0
+
 -- ---- the table
 
 abbrev pub table_of : List (Name × Entry) → List ((ℕ × ℕ) × Entry) → List Name → List (ℕ × ℕ) → List Name → List (Name × ℕ)
@@ -58,3 +64,11 @@ table_of names symbols doubled_names doubled_symbols globals sections counters s
   moves = counters_from 0 counters;
   settings = settings;
 }
+
+-- with one more section
+abbrev pub with_new_section : Section → Table → Table
+with_new_section new table = record table { sections = table.sections ++ new ∷ [] }
+
+-- with the names of the registers, each as if it were assigned
+abbrev pub with_registers : Table → Table
+with_registers table = fold (λ told register. with_definition register told) table registers

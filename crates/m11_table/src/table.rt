@@ -1,30 +1,35 @@
 //! The table that the lines of a source fill. (MACRO-11 Language Reference Manual, "Symbols and expressions", "Local symbols", "Current
 //! location counter" and "Program section directives".)
 
-ghost use Rattle.std.specs.Prelude.{◌≡◌, ◌<◌, ◌+◌, ◌^◌, IfOk, slice_get};
+ghost use Rattle.std.specs.Prelude.{◌≡◌, ◌<◌, ◌+◌, ◌^◌, [], IfOk, IfSome, None, length, slice_get};
 ghost use Rattle.std.specs.List.{list_any};
+ghost use Rattle.m11_base.specs.Names.{name_in_words};
 ghost use Rattle.m11_base.specs.Rad50.{is_same_name};
-ghost use Rattle.m11_placement.specs.Changes.{with_move, with_section, with_settings};
-ghost use Rattle.m11_placement.specs.Definitions.{has_key, is_labelled, last_definition};
+ghost use Rattle.m11_placement.specs.Changes.{in_number, with_move, with_section, with_settings};
+ghost use Rattle.m11_placement.specs.Definitions.{has_key, is_labelled, last_definition, register_named};
 ghost use Rattle.m11_placement.specs.Labels.{with_block, with_definition, with_doubled, with_global};
 ghost use Rattle.m11_placement.specs.Meanings.{is_firm, is_firm_in};
 ghost use Rattle.m11_placement.specs.Places.{Goes, Steps};
-ghost use Rattle.m11_placement.specs.Sections.{number_of, numbered};
-ghost use Rattle.m11_placement.specs.Tables.{first_table, kind_here, place};
+ghost use Rattle.m11_placement.specs.Sections.{number_of, numbered, section};
+ghost use Rattle.m11_placement.specs.Tables.{first_settings, first_table, kind_here, place};
 ghost use Rattle.m11_placement.specs.declared.definitions.Key.TheVariants.{Named, Numbered};
-ghost use Rattle.m11_table.specs.Alike.{Follows};
+ghost use Rattle.m11_table.specs.Alike.{Alike, Follows};
 ghost use Rattle.m11_table.specs.Entries as entries;
-ghost use Rattle.m11_table.specs.Entries.{counter_or};
+ghost use Rattle.m11_table.specs.Entries.{counter_or, no_counters, table_of, with_new_section, with_registers};
 
 use crate::entries::Entry;
 use indexmap::{IndexMap, IndexSet};
-use m11_base::{Name, blank_name};
-use m11_placement::{Definition, Key, Section, Settings};
+use m11_base::{Name, absolute_section, blank_name};
+use m11_placement::{Definition, Key, Section, Settings, Standing};
+use m11_scan::Radix;
 use m11_values::{Kind, Symbol};
-use std::alloc::AllocError;
+use std::alloc::{AllocError, Global};
 use std::marker::Model;
 
-// The attributes of a section that there isn't: those of the blank one.
+// The attributes of the absolute section.
+const ABSOLUTE_ATTRIBUTES: u8 = 0o104;
+
+// Those of the blank one, and of a section that there isn't.
 const BLANK_ATTRIBUTES: u8 = 0o040;
 
 // The bit of REL in the attributes of a section.
@@ -56,6 +61,64 @@ impl Model for Table {
 }
 
 impl Table {
+    /// What holds before the first line: the names of the registers, the absolute section, and the blank one, in which assembly begins.
+    pub fn new(alloc: Global) -> Result<Table, AllocError>
+        ensures { IfOk result (λ table. Alike table first_table) }
+    {
+        let mut table = Table::empty(alloc);
+        table.add_section(absolute_section(), ABSOLUTE_ATTRIBUTES)?;
+        table.add_section(blank_name(), BLANK_ATTRIBUTES)?;
+        table.add_registers()?;
+        Ok(table)
+    }
+
+    // Nothing but the first settings.
+    #[tactic(auto, unfolding(crate::specs::Entries::no_counters))]
+    fn empty(alloc: Global) -> Table
+        ensures { result ≡ table_of [] [] [] [] [] [] no_counters first_settings }
+    {
+        Table {
+            names: IndexMap::new(alloc),
+            local_symbols: IndexMap::new(alloc),
+            doubled_names: IndexSet::new(alloc),
+            doubled_symbols: IndexSet::new(alloc),
+            globals: IndexSet::new(alloc),
+            sections: IndexMap::new(alloc),
+            counters: [0; 64],
+            settings: Settings {
+                section: 1,
+                block: 0,
+                radix: Radix::Octal,
+                listed: 0,
+                unlisted: 0,
+                shows_expansions: false,
+            },
+        }
+    }
+
+    // The names of the registers, as if they were assigned.
+    fn add_registers(&mut self) -> Result<(), AllocError>
+        ensures { IfOk result (λ _. Follows self.old self.new with_registers) }
+    {
+        self.add_register(b"R0    ", 0)?;
+        self.add_register(b"R1    ", 1)?;
+        self.add_register(b"R2    ", 2)?;
+        self.add_register(b"R3    ", 3)?;
+        self.add_register(b"R4    ", 4)?;
+        self.add_register(b"R5    ", 5)?;
+        self.add_register(b"SP    ", 6)?;
+        self.add_register(b"PC    ", 7)?;
+        Ok(())
+    }
+
+    fn add_register(&mut self, name: &[u8; 6], number: u16) -> Result<(), AllocError>
+        ensures { IfOk result (λ _. Follows self.old self.new (with_definition (register_named name.now number))) }
+    {
+        let register = register_named(name, number);
+        self.insert(&register)?;
+        Ok(())
+    }
+
     /// What holds at the next line.
     pub fn settings(&self) -> Settings
         ensures { result ≡ self.now.settings }
@@ -81,7 +144,8 @@ impl Table {
 
     /// The number of the section of a name, if it is known.
     pub fn section_number(&self, name: Name) -> Option<usize>
-        ensures { result ≡ number_of name self.now.sections }
+        ensures number { result ≡ number_of name self.now.sections }
+        ensures within { IfSome result (λ number. number < length self.now.sections) }
     {
         self.sections.get_index_of(&name)
     }
@@ -175,6 +239,41 @@ impl Table {
 }
 
 impl Table {
+    /// A section is selected, and with it a new block of local symbols begins. One whose name is new has these attributes.
+    pub fn select(&mut self, name: Name, attributes: u8) -> Result<(), AllocError>
+        requires blocks { self.old.settings.block + 1 < 2 ^ 64 }
+        requires sections { length self.old.sections < 65535 }
+        ensures { IfOk result (λ _. Follows self.old self.new (with_section name attributes)) }
+    {
+        match self.section_number(name) {
+            Some(number) => self.enter(number as u16),
+            None => {
+                let number = self.sections.len() as u16;
+                self.add_section(name, attributes)?;
+                self.enter(number);
+            }
+        }
+        Ok(())
+    }
+
+    // A section whose name is new.
+    fn add_section(&mut self, name: Name, attributes: u8) -> Result<(), AllocError>
+        requires { number_of name self.old.sections ≡ None }
+        ensures { IfOk result (λ _. self.new ≡ with_new_section (section name attributes) self.old) }
+    {
+        self.sections.insert(name, attributes)?;
+        Ok(())
+    }
+
+    // The section of a number, with a new block of local symbols.
+    fn enter(&mut self, number: u16)
+        requires { self.old.settings.block + 1 < 2 ^ 64 }
+        ensures { self.new ≡ with_settings (in_number number self.old.settings) self.old }
+    {
+        self.settings.section = number;
+        self.settings.block += 1;
+    }
+
     /// One more definition, which is then the last one of its key.
     pub fn insert(&mut self, definition: &Definition) -> Result<(), AllocError>
         ensures { IfOk result (λ _. Follows self.old self.new (with_definition definition.now)) }
@@ -301,6 +400,27 @@ fn definition(key: Key, entry: Entry) -> Definition
         standing: entry.standing,
         is_firm: entry.is_firm,
         is_label: entry.is_label,
+    }
+}
+
+// A register by its name.
+fn register_named(name: &[u8; 6], number: u16) -> Definition
+    ensures { result ≡ register_named name.now number }
+{
+    Definition {
+        key: Key::Named(name_in_words(name)),
+        standing: Standing::Known(number, Kind::Register),
+        is_firm: true,
+        is_label: false,
+    }
+}
+
+fn name_in_words(name: &[u8; 6]) -> Name
+    ensures { result ≡ name_in_words name.now }
+{
+    match Name::pack(name) {
+        Some(name) => name,
+        None => blank_name(),
     }
 }
 

@@ -1,0 +1,9 @@
+use Rattle.m11_table.proofs.Selecting.{section_added}
+use Rattle.m11_table.proofs.table.Table.add_section.Goals as goal
+
+pub returns : goal.returns
+returns c =
+    section_added c.self.inside.names.entries c.self.inside.local_symbols.entries c.self.inside.doubled_names.keys
+    c.self.inside.doubled_symbols.keys c.self.inside.globals.keys c.self.inside.sections.entries c.self.inside.counters
+    c.self.inside.settings c.args.self.now c.self.view_is c.args.name c.args.attributes c.insert.new.self.entries
+    c.in_ok-insert.ensures.entries c.requires
