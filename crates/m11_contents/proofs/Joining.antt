@@ -5,7 +5,7 @@ use Rattle.std.specs.Int.Bits.{or_zero_r}
 use Rattle.std.specs.Int.RustNames.{bit_or}
 use Rattle.m11_arguments.proofs.Joining.{or_joins}
 use Rattle.m11_object_text.specs.declared.pieces.PieceContent.{PieceContent}
-use Rattle.m11_placement.specs.Contents.{Put, followed_by, nothing, put}
+use Rattle.m11_placement.specs.Contents.{Put, followed_by, nothing, put, with_letters}
 
 pub followed_joins : (a b c : Put) → followed_by (followed_by a b) c ≡ followed_by a (followed_by b c)
 followed_joins a b c =
@@ -20,3 +20,13 @@ followed_nothing a =
 
 pub lettered : (a : Put) (letters : ℕ) → put a.contents (bit_or a.letters letters) ≡ followed_by a (nothing letters)
 lettered a letters = ap (λ (s : List PieceContent). put s (bit_or a.letters letters)) (sym (append-nil a.contents))
+
+-- letters, one thing and another are put as if they were one
+pub lettered_parts : (old lettered coded code words : Put) (bits letters : ℕ) → lettered ≡ followed_by old (nothing bits)
+    → bits ≡ letters → coded ≡ followed_by lettered code
+    → followed_by coded words ≡ followed_by old (with_letters letters (followed_by code words))
+lettered_parts old lettered coded code words bits letters flags same adds =
+    ap (λ (p : Put). followed_by p words)
+    (adds ∙ ap (λ (p : Put). followed_by p code) (flags ∙ ap (λ (n : ℕ). followed_by old (nothing n)) same))
+    ∙ followed_joins (followed_by old (nothing letters)) code words
+    ∙ followed_joins old (nothing letters) (followed_by code words)

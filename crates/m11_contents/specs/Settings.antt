@@ -1,8 +1,10 @@
 -- Where a line stands, as the code sees it: from it follow the names that are known there. (MACRO-11 Language Reference Manual,
 -- "Symbols".)
-use Rattle.std.specs.Prelude.{ℕ}
+use Rattle.std.specs.Prelude.{ℕ, List}
 use Rattle.m11_base.specs.Devices.{Bytes}
 use Rattle.m11_placement.specs.Codes.{Setting}
+use Rattle.m11_placement.specs.Fields.{Fields}
+use Rattle.m11_placement.specs.declared.fields.Field.{Field}
 use Rattle.m11_placement.specs.Instructions.{setting}
 use Rattle.m11_placement.specs.Meanings.{Map}
 use Rattle.m11_placement.specs.Tables.{Table}
@@ -18,3 +20,7 @@ standpoint map table place line = record { map = map; table = table; place = pla
 
 abbrev pub setting_of : Standpoint → Setting
 setting_of here = setting here.map here.table here.place here.line
+
+-- the fields of an instruction, the place after them, and their letters
+abbrev pub fields_of : List Field → ℕ → ℕ → Fields
+fields_of list end letters = record { list = list; end = end; letters = letters }

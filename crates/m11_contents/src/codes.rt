@@ -184,7 +184,7 @@ fn targeted_letters(setting: &Setting, operation: Op, start: u8) -> Letters
 }
 
 // The letters of a field.
-fn field_letters(setting: &Setting, operation: Op, field: Field) -> Letters
+pub(crate) fn field_letters(setting: &Setting, operation: Op, field: Field) -> Letters
     ensures { bits_of result ≡ spec.field_letters (setting_of setting.now) operation field }
 {
     match field {

@@ -5,6 +5,7 @@
 
 mod branches;
 mod codes;
+mod instructions;
 mod operands;
 mod packing;
 mod puts;
@@ -12,5 +13,6 @@ mod relocations;
 mod settings;
 mod values;
 
+pub use instructions::put_instruction;
 pub use puts::Put;
 pub use settings::Setting;
