@@ -1,14 +1,11 @@
 -- The lines of a link's map and messages. (This project's own: the columns, the words, and that blanks at the end of a
 -- line are removed.)
-use Rattle.std.specs.Prelude.{ℕ, if◌then◌else◌, [], ◌∷◌, ◌++◌, codes}
+use Rattle.std.specs.Prelude.{ℕ, [], ◌∷◌, ◌++◌, codes}
 use Rattle.m11_base.specs.Devices.{Bytes}
-use Rattle.m11_base.specs.Blanks.{without_last_blanks}
 use Rattle.m11_base.specs.Octal.{octal_text}
 use Rattle.m11_base.specs.Rad50.{Name, name_text}
-use Rattle.m11_modules.specs.Rules.{has_bits}
-
-abbrev pub line_of : Bytes → Bytes
-line_of text = without_last_blanks text ++ 10 ∷ []
+use Rattle.m11_print.specs.Attributes.{attributes_text}
+use Rattle.m11_print.specs.Lines.{line_of}
 
 -- ---- messages
 
@@ -27,29 +24,6 @@ different_line section module_name =
     line_of ((codes "DIFFERENT ATTRIBUTES " ++ name_text section) ++ (codes " IN MODULE " ++ name_text module_name))
 
 -- ---- the map
-
--- octal 20 RO, 200 D, 100 GBL, 40 REL, 4 OVR, 1 SAV
-abbrev pub access_text : ℕ → Bytes
-access_text attributes = if has_bits 0o20 attributes then codes "RO," else codes "RW,"
-
-abbrev pub content_text : ℕ → Bytes
-content_text attributes = if has_bits 0o200 attributes then codes "D," else codes "I,"
-
-abbrev pub scope_text : ℕ → Bytes
-scope_text attributes = if has_bits 0o100 attributes then codes "GBL," else codes "LCL,"
-
-abbrev pub relocation_text : ℕ → Bytes
-relocation_text attributes = if has_bits 0o40 attributes then codes "REL," else codes "ABS,"
-
-abbrev pub allocation_text : ℕ → Bytes
-allocation_text attributes = if has_bits 4 attributes then codes "OVR" else codes "CON"
-
-abbrev pub saved_text : ℕ → Bytes
-saved_text attributes = if has_bits 1 attributes then codes ",SAV" else []
-
-abbrev pub attributes_text : ℕ → Bytes
-attributes_text attributes = access_text attributes ++ content_text attributes ++ scope_text attributes
-    ++ relocation_text attributes ++ allocation_text attributes ++ saved_text attributes
 
 abbrev pub columns : Name → ℕ → ℕ → Bytes
 columns name first second =

@@ -2,57 +2,15 @@
 //! and blanks at the end of a line are removed.
 
 ghost use Rattle.std.specs.Prelude.{◌≡◌, ◌≤◌, ◌<◌, ◌+◌, ◌++◌, codes, length};
-ghost use Rattle.m11_base.specs.Blanks.{without_last_blanks};
 ghost use Rattle.m11_base.specs.Rad50.{name_text};
 ghost use Rattle.arrayvec.specs.ArrayVec.{array_vec_len};
 ghost use Rattle.m11_link_text.specs.Lines as spec;
 
-use arrayvec::ArrayVec;
 use m11_base::Name;
-
-/// A line with its line feed. It takes no memory.
-pub type Line = ArrayVec<u8, 64>;
-
-// Adds bytes to a line.
-pub(crate) fn put(line: &mut Line, bytes: &[u8])
-    requires { array_vec_len line.old + length bytes.now ≤ 64 }
-    ensures { line.new.items ≡ line.old.items ++ bytes.now }
-{
-    line.try_extend_from_slice(bytes).unwrap();
-}
-
-// Removes the blanks that stand last.
-fn trim(line: &mut Line)
-    requires { array_vec_len line.old ≤ 64 }
-    ensures bytes { line.new.items ≡ without_last_blanks line.old.items }
-    ensures length { array_vec_len line.new ≤ array_vec_len line.old }
-{
-    'blanks: loop {
-        match line.pop() {
-            Some(byte) => {
-                if byte != b' ' {
-                    line.push(byte);
-                    return;
-                }
-            }
-            None => return,
-        }
-    }
-}
-
-// The line of a text.
-pub(crate) fn ended(text: Line) -> Line
-    requires { array_vec_len text < 64 }
-    ensures { result.items ≡ spec.line_of text.items }
-{
-    let mut line = text;
-    trim(&mut line);
-    line.push(b'\n');
-    line
-}
+use m11_print::{Line, ended, put};
 
 /// The message that a global is referred to and defined nowhere.
-#[tactic(auto, using(crate::proofs::Trimming::line_at))]
+#[tactic(auto, using(m11_print::proofs::Trimming::line_at))]
 pub fn undefined_line(name: Name) -> Line
     ensures { result.items ≡ spec.undefined_line name }
 {
@@ -66,7 +24,7 @@ pub fn undefined_line(name: Name) -> Line
 fn in_module(words: &[u8], name: Name, module_name: Name) -> Line
     requires { length words.now ≤ 24 }
     ensures text { result.items ≡ (words.now ++ name_text name) ++ (codes " IN MODULE " ++ name_text module_name) }
-    ensures room { array_vec_len result < 64 }
+    ensures room { array_vec_len result < 175 }
 {
     let mut line = Line::new();
     put(&mut line, words);
@@ -77,7 +35,7 @@ fn in_module(words: &[u8], name: Name, module_name: Name) -> Line
 }
 
 /// The message that a module defines a global that was defined before.
-#[tactic(auto, using(crate::proofs::Trimming::line_at))]
+#[tactic(auto, using(m11_print::proofs::Trimming::line_at))]
 pub fn multiple_line(name: Name, module_name: Name) -> Line
     ensures { result.items ≡ spec.multiple_line name module_name }
 {
@@ -85,7 +43,7 @@ pub fn multiple_line(name: Name, module_name: Name) -> Line
 }
 
 /// The message that a module enters a section with other attributes than its first entry has.
-#[tactic(auto, using(crate::proofs::Trimming::line_at))]
+#[tactic(auto, using(m11_print::proofs::Trimming::line_at))]
 pub fn different_line(section: Name, module_name: Name) -> Line
     ensures { result.items ≡ spec.different_line section module_name }
 {

@@ -1,6 +1,6 @@
 use Rattle.std.proofs.Common.{arith}
-use Rattle.m11_link_text.proofs.Trimming.{after_blank, after_none, after_other, room_again, shorter}
-use Rattle.m11_link_text.proofs.lines.trim.Goals as goal
+use Rattle.m11_print.proofs.Trimming.{after_blank, after_none, after_other, room_again, shorter}
+use Rattle.m11_print.proofs.lines.trim.Goals as goal
 
 pub push-requires : goal.push-requires
 push-requires c = (

@@ -5,7 +5,7 @@ use Rattle.std.proofs.lemmas.Bool.Decides.{nat_tests}
 use Rattle.std.proofs.lemmas.List.{length-append}
 use Rattle.m11_base.specs.Blanks.{without_last_blanks}
 use Rattle.m11_base.proofs.LastBlanks.{blank_removed, kept, nothing_there}
-use Rattle.m11_link_text.specs.Lines.{line_of}
+use Rattle.m11_print.specs.Lines.{line_of}
 
 not_blank : (byte : ℕ) → (byte ≡ 32 → ⊥) → (byte == 32) ≡ false
 not_blank byte other = grind (arith, nat_tests)
@@ -14,8 +14,8 @@ one_more : (rest : List ℕ) (last : ℕ) → length (rest ++ last ∷ []) ≡ l
 one_more rest last = length-append rest (last ∷ [])
 
 -- there is room for a byte that was taken off
-pub room_again : (all bytes rest : List ℕ) (last : ℕ) → bytes ≡ rest ++ last ∷ [] → length bytes ≤ length all → length all ≤ 64
-    → length rest < 64
+pub room_again : (all bytes rest : List ℕ) (last : ℕ) → bytes ≡ rest ++ last ∷ [] → length bytes ≤ length all → length all ≤ 175
+    → length rest < 175
 room_again all bytes rest last e le most =
     let P : List ℕ → Type 0 = λ bs. length bs ≤ length all in
     let Q : ℕ → Type 0 = λ n. n ≤ length all in

@@ -1,6 +1,6 @@
 use Rattle.std.proofs.Common.{◌≡◌, ◌≤◌, length}
 use Rattle.m11_base.specs.Blanks.{without_last_blanks}
-use Rattle.m11_link_text.proofs.lines.trim.Given as goal
+use Rattle.m11_print.proofs.lines.trim.Given as goal
 
 abbrev pub invariant-blanks : goal.invariant-blanks
 invariant-blanks l = (without_last_blanks l.line.items ≡ without_last_blanks l.initial.line.items)
