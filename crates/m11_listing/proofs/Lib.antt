@@ -1,0 +1,2 @@
+pub mod PrintedLines
+pub mod Widths

@@ -1,0 +1,27 @@
+-- Columns of printed lines. (This project's own: that a byte which doesn't print stands as `?`, and that tabs stay.)
+use Rattle.std.specs.Prelude.{ℕ, ◌-◌, ◌==◌, ◌&&◌, ◌||◌, nat_le, Bool, if◌then◌else◌, ◌++◌, length, map, replicate}
+use Rattle.m11_base.specs.Devices.{Bytes}
+
+abbrev pub blanks : ℕ → Bytes
+blanks count = replicate count 32
+
+-- a text at the left of a column of this width
+abbrev pub at_left : ℕ → Bytes → Bytes
+at_left width text = text ++ blanks (width - length text)
+
+-- at the right
+abbrev pub at_right : ℕ → Bytes → Bytes
+at_right width text = blanks (width - length text) ++ text
+
+-- ---- the text of a source line
+
+-- octal 40 to 176, and a tab
+abbrev pub has_print : ℕ → Bool
+has_print byte = (nat_le 0o040 byte && nat_le byte 0o176) || byte == 0o011
+
+-- a byte that doesn't print stands as `?`
+abbrev pub shown : ℕ → ℕ
+shown byte = if has_print byte then byte else 63
+
+abbrev pub printed : Bytes → Bytes
+printed text = map shown text

@@ -1,0 +1,67 @@
+//! The lines of a listing. A source line has one line with its text, and further ones where it has more than three items.
+
+ghost use Rattle.std.specs.Prelude.{◌≡◌, ◌≤◌, ◌+◌, ◌++◌, length, take};
+ghost use Rattle.arrayvec.specs.ArrayVec.{array_vec_len};
+ghost use Rattle.m11_listing.specs.Listing as spec;
+
+use crate::columns::{put_blanks, put_left, put_printed, put_right};
+use crate::items::{Item, put_items};
+use itoa::Buffer;
+use m11_base::octal6;
+use m11_print::{Line, ended, put};
+
+// At most four of the letters.
+fn first_letters(letters: &[u8]) -> &[u8]
+    ensures value { result.now ≡ take 4 letters.now }
+    ensures few { length result.now ≤ 4 }
+{
+    if letters.len() > 4 {
+        &letters[..4]
+    } else {
+        letters
+    }
+}
+
+// Adds the columns of letters and number.
+fn put_head(line: &mut Line, letters: &[u8], number: u16)
+    requires { array_vec_len line.old ≤ 100 }
+    ensures items { line.new.items ≡ line.old.items ++ spec.head letters.now number }
+    ensures size { array_vec_len line.new ≡ array_vec_len line.old + 10 }
+{
+    put_left(line, 4, first_letters(letters));
+    put_right(line, 6, Buffer::new().format(number).as_bytes());
+}
+
+// Adds the columns of a place and its items.
+fn put_places(line: &mut Line, place: u16, items: &[Item])
+    requires { array_vec_len line.old ≤ 100 }
+    ensures items { line.new.items ≡ line.old.items ++ spec.places place items.now }
+    ensures size { array_vec_len line.new ≡ array_vec_len line.old + 31 }
+{
+    put(line, b" ");
+    put(line, &octal6(place));
+    put_items(line, items);
+}
+
+/// The line of a source line: the first four of its letters, its number, a place, the first three of its items, and its text.
+pub fn listed_line(letters: &[u8], number: u16, place: u16, items: &[Item], text: &[u8]) -> Line
+    requires { length text.now ≤ 132 }
+    ensures { result.items ≡ spec.listed_line letters.now number place items.now text.now }
+{
+    let mut line = Line::new();
+    put_head(&mut line, letters, number);
+    put_places(&mut line, place, items);
+    put(&mut line, b" ");
+    put_printed(&mut line, text);
+    ended(line)
+}
+
+/// A further line of a source line: three more items at most, and the place of the first of them.
+pub fn further_line(place: u16, items: &[Item]) -> Line
+    ensures { result.items ≡ spec.further_line place items.now }
+{
+    let mut line = Line::new();
+    put_blanks(&mut line, 10);
+    put_places(&mut line, place, items);
+    ended(line)
+}
