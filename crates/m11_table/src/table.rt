@@ -142,6 +142,13 @@ impl Table {
         }
     }
 
+    /// How many sections there are.
+    pub fn section_count(&self) -> usize
+        ensures { result ≡ length self.now.sections }
+    {
+        self.sections.len()
+    }
+
     /// The number of the section of a name, if it is known.
     pub fn section_number(&self, name: Name) -> Option<usize>
         ensures number { result ≡ number_of name self.now.sections }
@@ -222,6 +229,13 @@ impl Table {
         ensures { result ≡ list_any (λ global. is_same_name global name) self.now.globals }
     {
         self.globals.contains(&name)
+    }
+
+    /// The names that lines made global, each once.
+    pub fn globals(&self) -> &[Name]
+        ensures { result.now ≡ self.now.globals }
+    {
+        self.globals.as_slice()
     }
 
     /// Whether no later line decides what a symbol stands for.
