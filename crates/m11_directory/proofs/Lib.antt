@@ -1,0 +1,3 @@
+mod InOrder
+mod Joining
+mod SameRows
