@@ -1,0 +1,6 @@
+use Rattle.std.proofs.Common.{false}
+use Rattle.m11_asm_laws.proofs.Rows.{displaced_section_row}
+use Rattle.m11_asm_laws.proofs.relocations.displaced_sections_are_counted_from_the_word.Goals as goal
+
+pub returns : goal.returns
+returns c = λ found index own location number name words. displaced_section_row found index own location false name number words

@@ -1,0 +1,9 @@
+use Rattle.std.proofs.Common.{true, false}
+use Rattle.m11_asm_laws.proofs.Rows.{global_row}
+use Rattle.m11_asm_laws.proofs.relocations.values_move_with_globals.Goals as goal
+
+pub returns-clause-word : goal.returns-clause-word
+returns-clause-word c = λ found index own location number name words. global_row found index own location false name number words
+
+pub returns-clause-byte : goal.returns-clause-byte
+returns-clause-byte c = λ found index own location number name words. global_row found index own location true name number words

@@ -1,0 +1,35 @@
+-- What stands in a linked program for a piece of an object. (RT-11 Volume and File Formats Manual, "Object file format", TXT and RLD blocks.)
+use Rattle.std.specs.Prelude.{ℕ, Option, Some, None}
+use Rattle.m11_base.specs.Devices.{Bytes}
+use Rattle.m11_link_text.specs.Findings.{Findings}
+use Rattle.m11_link_text.specs.Relocation.{stored_bytes}
+use Rattle.m11_obj.specs.declared.relocations.Relocation.{Relocation}
+use Rattle.m11_object_text.specs.Pieces.{content_bytes, relocation_at}
+use Rattle.m11_object_text.specs.declared.pieces.PieceContent.{PieceContent}
+use Rattle.m11_object_text.specs.declared.pieces.PieceContent.TheVariants.{Byte, Word}
+use Rattle.m11_object_text.specs.declared.pieces.RelocationKind.{RelocationKind}
+use Rattle.m11_object_text.specs.declared.pieces.Stored.{Stored}
+
+-- the bytes that a relocation stores, or those of the text where there is none
+abbrev pub bytes_by : Findings → ℕ → ℕ → ℕ → Bytes → Option Relocation → Bytes
+bytes_by found module_index own location text (Some relocation) =
+    stored_bytes found module_index own location relocation.is_byte relocation.target
+bytes_by found module_index own location text None = text
+
+-- those of a piece at a location, in a text of the module of this index that stands after this base. Which displacement its relocation has
+-- changes nothing
+abbrev pub linked_bytes : Findings → ℕ → ℕ → ℕ → PieceContent → Bytes
+linked_bytes found module_index own location content =
+    bytes_by found module_index own location (content_bytes content) (relocation_at 4 content)
+
+abbrev pub constant_of : RelocationKind → ℕ → Stored
+constant_of kind constant = record { constant = constant; kind = kind }
+
+-- of a word, and of a byte
+abbrev pub linked_word : Findings → ℕ → ℕ → ℕ → RelocationKind → ℕ → Bytes
+linked_word found module_index own location kind constant =
+    linked_bytes found module_index own location (Word (constant_of kind constant))
+
+abbrev pub linked_byte : Findings → ℕ → ℕ → ℕ → RelocationKind → ℕ → Bytes
+linked_byte found module_index own location kind constant =
+    linked_bytes found module_index own location (Byte (constant_of kind constant))

@@ -1,0 +1,30 @@
+-- Where the values of a source lie in a linked program. (MACRO-11 Language Reference Manual, "Relocation and linking".)
+use Rattle.std.specs.Prelude.{◌≡◌, ℕ, ◌+◌, ◌<◌, Bool, true, false}
+use Rattle.m11_base.specs.Rad50.{Name}
+use Rattle.m11_link_text.specs.Findings.{Findings}
+use Rattle.m11_link_text.specs.Relocation.{following, less, modulo, symbol}
+use Rattle.m11_placement.specs.Relocations.{Here, InObject, InSection, Origin, Zero, is_moved}
+use Rattle.m11_placement.specs.Tables.{Table}
+
+-- the address of a number that counts from an origin
+abbrev pub address_of : Findings → ℕ → ℕ → Origin → ℕ → ℕ
+address_of found module_index own Here number = modulo (own + number)
+address_of found module_index own Zero number = modulo number
+address_of found module_index own (InSection name) number = modulo (found.base module_index name + number)
+address_of found module_index own (InObject name) number = modulo (symbol found name + number)
+
+-- a relative operand tells how far the address is from the place after it
+abbrev pub told : Bool → ℕ → ℕ → ℕ
+told true location address = less address (following location)
+told false location address = address
+
+-- bases and the values of globals are words
+pub record AreWords (found : Findings) : Type 0 where
+  pub bases : (module_index : ℕ) (name : Name) → found.base module_index name < 65536
+  pub values : (name : Name) → symbol found name < 65536
+
+-- a place of the section of a line lies at a location; a section with ABS stands at 0
+pub record LiesAt (table : Table) (own place location : ℕ) : Type 0 where
+  pub within : place < 65536
+  pub moved : location ≡ modulo (own + place)
+  pub absolute : is_moved table ≡ false → own ≡ 0
