@@ -1,6 +1,6 @@
 pub mod Counters
 mod Equations
-mod FilledSizes
+pub mod FilledSizes
 mod FirmAssignments
 mod FirmChanges
 mod FirmLabels

@@ -5,6 +5,7 @@ ghost use Rattle.m11_arguments.specs.Expressions.{known_by};
 ghost use Rattle.m11_scan.specs.Views.{bits_of};
 ghost use Rattle.m11_statements.specs.Statements.{letter_if};
 ghost use Rattle.m11_values.specs.Quantities.{absolute, quantity};
+ghost use Rattle.m11_placement.specs.Contents.{register_letters};
 ghost use Rattle.m11_placement.specs.Meanings.{empty_map, firm_known, known_at, letter_D, meaning_of, quantity_of, stands_for, undefined};
 ghost use Rattle.m11_placement.specs.declared.meanings.Context.TheVariants.{Knows};
 ghost use Rattle.m11_placement.specs.Tables.{firm_table, kind_here};
@@ -202,4 +203,11 @@ fn firm_meaning_of(table: &Table, key: &Key) -> Value
     let found = firm_found(table.definition(key));
     let is_doubled = table.is_doubled(key);
     defined_or(found, is_doubled, Value::absolute(0, Letters::U))
+}
+
+/// R for a register where none may be.
+pub fn register_letters(kind: Kind) -> Letters
+    ensures { bits_of result ≡ register_letters kind }
+{
+    Letters::R.when(kind.is_register())
 }

@@ -10,6 +10,8 @@ ghost use Rattle.m11_placement.specs.Definitions.{has_key, is_labelled, last_def
 ghost use Rattle.m11_placement.specs.Labels.{with_block, with_definition, with_doubled, with_global};
 ghost use Rattle.m11_placement.specs.Meanings.{is_firm, is_firm_in};
 ghost use Rattle.m11_placement.specs.Places.{Goes, Steps};
+ghost use Rattle.m11_placement.specs.ProgramSections.{known_section};
+ghost use Rattle.m11_placement.specs.Relocations.{is_here, is_moved};
 ghost use Rattle.m11_placement.specs.Sections.{number_of, numbered, section};
 ghost use Rattle.m11_placement.specs.Tables.{first_settings, first_table, kind_here, place};
 ghost use Rattle.m11_placement.specs.declared.definitions.Key.TheVariants.{Named, Numbered};
@@ -130,7 +132,14 @@ impl Table {
     pub fn section(&self, number: u16) -> Section
         ensures { result ≡ numbered number self.now.sections }
     {
-        match self.sections.get_index(usize::from(number)) {
+        self.section_at(usize::from(number))
+    }
+
+    // The same of any number.
+    fn section_at(&self, number: usize) -> Section
+        ensures { result ≡ numbered number self.now.sections }
+    {
+        match self.sections.get_index(number) {
             Some((name, attributes)) => Section {
                 name: *name,
                 attributes: *attributes,
@@ -155,6 +164,35 @@ impl Table {
         ensures within { IfSome result (λ number. number < length self.now.sections) }
     {
         self.sections.get_index_of(&name)
+    }
+
+    /// The section of a name, if it is known.
+    pub fn section_named(&self, name: Name) -> Option<Section>
+        ensures { result ≡ known_section name self.now.sections }
+    {
+        match self.section_number(name) {
+            Some(number) => Some(self.section_at(number)),
+            None => None,
+        }
+    }
+
+    /// Whether a linker moves the section of the line.
+    pub fn is_moved(&self) -> bool
+        ensures { result ≡ is_moved self.now }
+    {
+        let section = self.section(self.settings.section);
+        section.attributes & RELOCATABLE != 0
+    }
+
+    /// Whether a value is one of the section of the line: in one with ABS every absolute number is.
+    pub fn is_here(&self, kind: Kind) -> bool
+        ensures { result ≡ is_here self.now kind }
+    {
+        match kind {
+            Kind::Absolute | Kind::Register => !self.is_moved(),
+            Kind::Section(number) => number == self.settings.section,
+            Kind::Reference(_) => false,
+        }
     }
 
     /// Where the counter of the section stands.
