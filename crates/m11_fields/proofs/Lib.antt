@@ -1,4 +1,5 @@
 mod Alone
 mod Beginning
 mod Listing
+mod NamedOperations
 mod Naming

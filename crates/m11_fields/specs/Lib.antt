@@ -1,2 +1,3 @@
 pub mod Directives
+pub mod ListedOperations
 pub mod Reads

@@ -1,10 +1,11 @@
 //! The operators that place something or change what is kept, by their names. (MACRO-11 Language Reference Manual, "Permanent symbol
 //! table".)
 
-ghost use Rattle.std.specs.Prelude.{◌≡◌};
+ghost use Rattle.std.specs.Prelude.{◌≡◌, IfSome, IsTrue};
 ghost use Rattle.m11_base.specs.Instructions.{other_names, rows};
 ghost use Rattle.m11_base.specs.Mnemonics.{named_in, or_else};
 ghost use Rattle.m11_fields.specs.Directives.{directive_named};
+ghost use Rattle.m11_fields.specs.ListedOperations.{has_listed_operation};
 ghost use Rattle.m11_placement.specs.Operators as spec;
 
 use m11_base::{Op, Row, other_names, rows};
@@ -51,7 +52,15 @@ const DIRECTIVES: [DirectiveRow; 27] = [
 ];
 
 /// The operator of a name of six characters in upper case, with blanks where there are fewer: a directive, or else an instruction.
+#[tactic(auto, using(crate::proofs::NamedOperations::found_listed))]
 pub fn operator_named(name: &[u8; 6]) -> Option<Operator>
+    ensures operator { result ≡ spec.operator_named name.now }
+    ensures listed { IfSome result (λ operator. IsTrue (has_listed_operation operator)) }
+{
+    find_operator(name)
+}
+
+fn find_operator(name: &[u8; 6]) -> Option<Operator>
     ensures { result ≡ spec.operator_named name.now }
 {
     match directive_of(name) {

@@ -2,7 +2,7 @@ use Rattle.std.proofs.Common.{find}
 use Rattle.std.specs.Str.{bytes_eq}
 use Rattle.m11_fields.proofs.Naming.{directs}
 use Rattle.m11_placement.specs.Operators.{directive_rows}
-use Rattle.m11_fields.proofs.operators.operator_named.Goals as goal
+use Rattle.m11_fields.proofs.operators.find_operator.Goals as goal
 
 pub returns-in-Some : goal.returns-in-Some
 returns-in-Some c =
