@@ -5,9 +5,7 @@ ghost use Rattle.m11_arguments.specs.Expressions.{value_at};
 ghost use Rattle.m11_scan.specs.Views.{bits_of};
 ghost use Rattle.m11_values.specs.Quantities.{quantity};
 ghost use Rattle.m11_placement.specs.Assigning as spec;
-ghost use Rattle.m11_placement.specs.Contents.{register_letters};
 ghost use Rattle.m11_placement.specs.Meanings.{known_at};
-ghost use Rattle.m11_placement.specs.Relocations.{is_here, is_moved};
 ghost use Rattle.m11_placement.specs.Tables.{place};
 ghost use Rattle.m11_placement.specs.declared.meanings.Context.TheVariants.{Knows};
 ghost use Rattle.m11_directives.specs.Changes.{change_seen};
@@ -18,11 +16,8 @@ use m11_base::Name;
 use m11_placement::{Context, Definition, Key, Standing};
 use m11_scan::{Letters, Line, expression_end, read_name};
 use m11_statements::Span;
-use m11_table::{FirmNames, Map, NamesAt, Table};
-use m11_values::{Kind, Value};
-
-// The bit of REL in the attributes of a section.
-const RELOCATABLE: u8 = 0o040;
+use m11_table::{FirmNames, Map, NamesAt, Table, register_letters};
+use m11_values::Value;
 
 /// What an assignment changes: its name, if it is one, is assigned the expression at a place.
 pub fn assignment(line: &Line, name: Span, is_global: bool, start: u8) -> Change
@@ -143,7 +138,7 @@ pub fn counter_change(table: &Table, line: &Line, start: usize) -> Change
     ensures { change_seen result ≡ spec.counter_change table.now line.now.text start }
 {
     let value = counter_value(table, line, start);
-    if is_here(table, value.kind) {
+    if table.is_here(value.kind) {
         Change::Counts(Move::Goes(value.number))
     } else {
         Change::Keeps
@@ -170,7 +165,7 @@ fn counter_letters_of(table: &Table, value: Value) -> Letters
 fn outside_letters(table: &Table, value: Value) -> Letters
     ensures { bits_of result ≡ spec.outside_letters table.now (quantity value) }
 {
-    if is_here(table, value.kind) {
+    if table.is_here(value.kind) {
         Letters::none()
     } else {
         Letters::A
@@ -184,30 +179,4 @@ fn counter_value(table: &Table, line: &Line, start: usize) -> Value
 {
     let names = FirmNames::new(table, table.place());
     value_at(line, start, &names)
-}
-
-// R for a register where none may be.
-pub(crate) fn register_letters(kind: Kind) -> Letters
-    ensures { bits_of result ≡ register_letters kind }
-{
-    Letters::R.when(kind.is_register())
-}
-
-// Whether a value is of the section of the line. In one with ABS every absolute number is.
-fn is_here(table: &Table, kind: Kind) -> bool
-    ensures { result ≡ is_here table.now kind }
-{
-    match kind {
-        Kind::Absolute | Kind::Register => !is_moved(table),
-        Kind::Section(number) => number == table.settings().section,
-        Kind::Reference(_) => false,
-    }
-}
-
-// Whether a linker moves the section of the line.
-fn is_moved(table: &Table) -> bool
-    ensures { result ≡ is_moved table.now }
-{
-    let section = table.section(table.settings().section);
-    section.attributes & RELOCATABLE != 0
 }

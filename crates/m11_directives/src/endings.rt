@@ -5,11 +5,11 @@ ghost use Rattle.m11_scan.specs.Views.{bits_of};
 ghost use Rattle.m11_values.specs.Quantities.{quantity};
 ghost use Rattle.m11_placement.specs.Exports as spec;
 
-use crate::assigning::{known_value, register_letters};
+use crate::assigning::known_value;
 use m11_arguments::{left_over, skip_letters};
 use m11_fields::has_expression;
 use m11_scan::{Letters, Line, expression_end};
-use m11_table::{Map, Table};
+use m11_table::{Map, Table, register_letters};
 use m11_values::Value;
 
 /// The address where the program begins, if a `.END` tells one.

@@ -7,7 +7,7 @@ ghost use Rattle.m11_statements.specs.Listed.{is_comma};
 ghost use Rattle.m11_placement.specs.Elements.{bad_letters, texts_of};
 ghost use Rattle.m11_placement.specs.ProgramSections as spec;
 ghost use Rattle.m11_directives.specs.Changes.{change_seen};
-ghost use Rattle.m11_directives.specs.SectionNames.{IsWithin, program_letters_by, section_seen};
+ghost use Rattle.m11_directives.specs.SectionNames.{IsWithin, section_seen};
 
 use crate::attributes::{differing_letters, with_attributes};
 use crate::changes::Change;
@@ -21,6 +21,7 @@ use m11_fields::{ListedNames, names_at};
 use m11_placement::Section;
 use m11_scan::{Letters, Line, Sort, next_token};
 use m11_statements::Span;
+use m11_table::Table;
 
 // The attributes of sections.
 const OF_ABSOLUTE: u8 = 0o104;
@@ -109,20 +110,37 @@ fn attributes_at(line: &Line, end: usize) -> ListedNames
     }
 }
 
-/// The letters of a `.PSECT`, where the section of its name is known or not: A for a bad name, for what is no attribute, and for one that
-/// the known section doesn't have.
-pub fn program_letters(known: &Option<Section>, line: &Line, start: usize) -> Letters
+/// The letters of a `.PSECT`: A for a bad name, for what is no attribute, and for one that a known section of its name doesn't have.
+pub fn program_letters(table: &Table, line: &Line, start: usize) -> Letters
     requires { start ≤ length line.now.text }
-    ensures { bits_of result ≡ program_letters_by known.now line.now.text start (spec.section_at line.now.text start) }
+    ensures { bits_of result ≡ spec.program_letters table.now.sections line.now.text start }
 {
     match section_at(line, start) {
-        SectionAt::Unnamed => attributes_letters(line, known, start),
-        SectionAt::Named(name) => {
-            let letters = attributes_letters(line, known, usize::from(name.end));
-            letters_before(line, start).with(letters)
-        }
+        SectionAt::Unnamed => unnamed_letters(table, line, start),
+        SectionAt::Named(name) => named_letters(table, line, start, name),
         SectionAt::Bad => bad_name_letters(line, start),
     }
+}
+
+// The letters of a `.PSECT` without a name, which is the blank section.
+fn unnamed_letters(table: &Table, line: &Line, start: usize) -> Letters
+    requires { start ≤ length line.now.text }
+    ensures { bits_of result ≡ spec.program_letters_of table.now.sections line.now.text start spec.Unnamed }
+{
+    let known = table.section_named(blank_name());
+    attributes_letters(line, &known, start)
+}
+
+// The letters of a `.PSECT` with a name.
+fn named_letters(table: &Table, line: &Line, start: usize, name: NameAt) -> Letters
+    requires place { start ≤ length line.now.text }
+    requires end { name.end ≤ length line.now.text }
+    ensures { bits_of result
+        ≡ spec.program_letters_of table.now.sections line.now.text start (spec.NamedAt name.name name.end) }
+{
+    let known = table.section_named(name.name);
+    let letters = attributes_letters(line, &known, usize::from(name.end));
+    letters_before(line, start).with(letters)
 }
 
 fn attributes_letters(line: &Line, known: &Option<Section>, end: usize) -> Letters
