@@ -30,3 +30,10 @@ lettered_parts old lettered coded code words bits letters flags same adds =
     (adds ∙ ap (λ (p : Put). followed_by p code) (flags ∙ ap (λ (n : ℕ). followed_by old (nothing n)) same))
     ∙ followed_joins (followed_by old (nothing letters)) code words
     ∙ followed_joins old (nothing letters) (followed_by code words)
+
+-- letters, and then what has them
+pub lettered_by : (old lettered what other : Put) (bits letters : ℕ) → lettered ≡ followed_by old (nothing bits) → bits ≡ letters
+    → what ≡ other → followed_by lettered what ≡ followed_by old (with_letters letters other)
+lettered_by old lettered what other bits letters flags same is =
+    ap (λ (p : Put). followed_by p what) (flags ∙ ap (λ (n : ℕ). followed_by old (nothing n)) same)
+    ∙ followed_joins old (nothing letters) what ∙ ap (λ (p : Put). followed_by old (with_letters letters p)) is

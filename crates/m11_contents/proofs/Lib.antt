@@ -1,3 +1,3 @@
 pub mod Joining
-pub mod Packs
 pub mod Fields
+pub mod Stepping

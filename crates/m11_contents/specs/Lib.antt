@@ -1,3 +1,1 @@
-pub mod Packing
 pub mod Settings
-pub mod Listed

@@ -5,7 +5,7 @@ ghost use Rattle.m11_scan.specs.Views.{bits_of};
 ghost use Rattle.m11_placement.specs.Branches as spec;
 ghost use Rattle.m11_values.specs.Quantities.{quantity};
 
-use crate::relocations::{distance, is_here};
+use crate::relocations::distance;
 use m11_scan::Letters;
 use m11_table::Table;
 use m11_values::Value;
@@ -35,7 +35,7 @@ pub(crate) fn in_loop_reach(bytes: u16) -> bool
 pub(crate) fn branch_reaches(table: &Table, place: u16, target: Value) -> bool
     ensures { result ≡ spec.branch_reaches table.now place (quantity target) }
 {
-    is_here(table, target.kind) && in_reach(distance(place, target.number))
+    table.is_here(target.kind) && in_reach(distance(place, target.number))
 }
 
 // The words to go, as eight bits; 0 for a target that isn't reached.
@@ -43,7 +43,7 @@ pub(crate) fn branch_offset(table: &Table, place: u16, target: Value) -> u8
     ensures { result ≡ spec.branch_offset table.now place (quantity target) }
 {
     let bytes = distance(place, target.number);
-    if is_here(table, target.kind) && in_reach(bytes) {
+    if table.is_here(target.kind) && in_reach(bytes) {
         (bytes / 2 % 256) as u8
     } else {
         0
@@ -54,7 +54,7 @@ pub(crate) fn branch_offset(table: &Table, place: u16, target: Value) -> u8
 pub(crate) fn loop_reaches(table: &Table, place: u16, target: Value) -> bool
     ensures { result ≡ spec.loop_reaches table.now place (quantity target) }
 {
-    is_here(table, target.kind) && in_loop_reach(back(place, target.number))
+    table.is_here(target.kind) && in_loop_reach(back(place, target.number))
 }
 
 // The words to go back for SOB, 0 to 63; 0 for a target that isn't reached.
@@ -63,7 +63,7 @@ pub(crate) fn loop_offset(table: &Table, place: u16, target: Value) -> u8
     ensures below { result < 64 }
 {
     let bytes = back(place, target.number);
-    if is_here(table, target.kind) && in_loop_reach(bytes) {
+    if table.is_here(target.kind) && in_loop_reach(bytes) {
         (bytes / 2) as u8
     } else {
         0

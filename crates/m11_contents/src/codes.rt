@@ -4,7 +4,7 @@
 ghost use Rattle.std.specs.Prelude.{◌≡◌, ◌<◌, ℕ, IsTrue};
 ghost use Rattle.m11_base.specs.Encoding as encoding;
 ghost use Rattle.m11_contents.specs.Settings.{setting_of};
-ghost use Rattle.m11_contents.specs.Listed.{is_listed};
+ghost use Rattle.m11_fields.specs.ListedOperations.{is_listed};
 ghost use Rattle.m11_placement.specs.Codes as spec;
 ghost use Rattle.m11_scan.specs.Views.{bits_of};
 ghost use Rattle.m11_values.specs.Quantities.{quantity};
@@ -12,10 +12,10 @@ ghost use Rattle.m11_values.specs.Quantities.{quantity};
 use crate::branches::{branch_offset, branch_reaches, loop_offset, loop_reaches, target_letters};
 use crate::operands::{form_letters, operand_of, register, registered_letters};
 use crate::settings::Setting;
-use crate::values::register_letters;
 use m11_base::{BareOp, Insn, Mode, NumberOp, Op, Operand, Register, RegisterOp};
 use m11_placement::Field;
 use m11_scan::Letters;
+use m11_table::register_letters;
 use m11_values::Value;
 
 // The operand in the first of some fields.

@@ -2,7 +2,7 @@
 //! set" and "Addressing modes"; MACRO-11 Language Reference Manual, "Operand field".)
 
 ghost use Rattle.std.specs.Prelude.{◌≡◌, ◌≤◌, length, List, IfOk, IsTrue};
-ghost use Rattle.m11_contents.specs.Listed.{is_listed};
+ghost use Rattle.m11_fields.specs.ListedOperations.{is_listed};
 ghost use Rattle.m11_contents.specs.Settings.{fields_of, setting_of};
 ghost use Rattle.m11_placement.specs.Codes as codes;
 ghost use Rattle.m11_placement.specs.Contents.{followed_by, nothing};

@@ -7,12 +7,17 @@ mod branches;
 mod codes;
 mod instructions;
 mod operands;
-mod packing;
 mod puts;
 mod relocations;
 mod settings;
+mod storage;
 mod values;
 
 pub use instructions::put_instruction;
 pub use puts::Put;
 pub use settings::Setting;
+pub use storage::{
+    LIMIT_SIZE, block_letters, byte_block_size, byte_size, put_bytes, put_limits, put_words,
+    word_block_size, word_size,
+};
+pub use values::{further, put_byte};

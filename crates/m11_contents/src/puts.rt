@@ -78,14 +78,14 @@ impl Put {
     }
 
     /// A word more that stands as it is.
-    pub(crate) fn add_fixed_word(&mut self, number: u16) -> Result<(), AllocError>
+    pub fn add_fixed_word(&mut self, number: u16) -> Result<(), AllocError>
         ensures { IfOk result (λ _. self.new ≡ followed_by self.old (put (fixed_word number ∷ []) 0)) }
     {
         self.add_word(fixed(number), Letters::none())
     }
 
     /// A byte more that stands as it is.
-    pub(crate) fn add_fixed_byte(&mut self, number: u16) -> Result<(), AllocError>
+    pub fn add_fixed_byte(&mut self, number: u16) -> Result<(), AllocError>
         ensures { IfOk result (λ _. self.new ≡ followed_by self.old (put (fixed_byte number ∷ []) 0)) }
     {
         self.add_byte(fixed(number), Letters::none())
@@ -96,6 +96,15 @@ impl Put {
         ensures { IfOk result (λ _. self.new ≡ followed_by self.old (put (Byte stored ∷ []) (bits_of letters))) }
     {
         self.contents.push(PieceContent::Byte(stored))?;
+        self.letters = self.letters.with(letters);
+        Ok(())
+    }
+
+    /// The limits of the program, with letters.
+    pub fn add_limits(&mut self, letters: Letters) -> Result<(), AllocError>
+        ensures { IfOk result (λ _. self.new ≡ followed_by self.old (put (Limits ∷ []) (bits_of letters))) }
+    {
+        self.contents.extend_from_slice(&[PieceContent::Limits])?;
         self.letters = self.letters.with(letters);
         Ok(())
     }

@@ -12,9 +12,6 @@ use m11_table::Table;
 use m11_values::{Kind, Value};
 use std::marker::Model;
 
-// The bit of REL in the attributes of a section.
-const RELOCATABLE: u8 = 0o040;
-
 // What a linker does to a value in a word or a byte; in a relative operand of a section with REL; and in one of a section with ABS.
 #[derive(Clone, Copy)]
 pub(crate) struct Row {
@@ -119,19 +116,11 @@ fn row_in(section: &Section) -> Row
     Row::in_section(section.name)
 }
 
-// Whether the section of the line is moved by a linker.
-pub(crate) fn is_moved(table: &Table) -> bool
-    ensures { result ≡ spec.is_moved table.now }
-{
-    let section = table.section(table.settings().section);
-    section.attributes & RELOCATABLE != 0
-}
-
 // What a linker does to a value of a kind.
 fn relocation_of(table: &Table, is_relative: bool, kind: Kind) -> RelocationKind
     ensures { result ≡ spec.relocation_of table.now is_relative kind }
 {
-    row_of(table, &kind).relocation(is_relative, is_moved(table))
+    row_of(table, &kind).relocation(is_relative, table.is_moved())
 }
 
 // What stands at a place for a value.
@@ -140,17 +129,6 @@ pub(crate) fn stored(table: &Table, is_relative: bool, place: u16, value: Value)
 {
     let kind = relocation_of(table, is_relative, value.kind);
     stored_as(is_relative, kind, place, value.number)
-}
-
-// Whether a value is one of the section of the line: in one with ABS every absolute number is.
-pub(crate) fn is_here(table: &Table, kind: Kind) -> bool
-    ensures { result ≡ spec.is_here table.now kind }
-{
-    match kind {
-        Kind::Absolute | Kind::Register => !is_moved(table),
-        Kind::Section(number) => number == table.settings().section,
-        Kind::Reference(_) => false,
-    }
 }
 
 // How far a target lies from the place after a word, modulo 65536.

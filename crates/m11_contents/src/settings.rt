@@ -43,37 +43,56 @@ impl<'a> Setting<'a> {
         }
     }
 
+    /// The same at another place of the line.
+    pub fn at(&self, place: u16) -> Setting<'a>
+        ensures { result ≡ standpoint self.now.map self.now.table place self.now.line }
+    {
+        Setting {
+            map: self.map,
+            table: self.table,
+            place,
+            line: self.line,
+        }
+    }
+
+    /// What a whole source gives its names.
+    pub fn map(&self) -> &Map<'a>
+        ensures { result.now ≡ self.now.map }
+    {
+        self.map
+    }
+
     /// The table of the lines before.
-    pub(crate) fn table(&self) -> &Table
+    pub fn table(&self) -> &Table
         ensures { result.now ≡ self.now.table }
     {
         self.table
     }
 
     /// The place of the line.
-    pub(crate) fn place(&self) -> u16
+    pub fn place(&self) -> u16
         ensures { result ≡ self.now.place }
     {
         self.place
     }
 
     /// The line.
-    pub(crate) fn line(&self) -> &Line
+    pub fn line(&self) -> &Line
         ensures { result.now.text ≡ self.now.line }
     {
         self.line
     }
 
-    // The value of the expression at a place of the line, in a register, a target or a number.
-    pub(crate) fn value(&self, start: u8) -> Value
+    /// The value of the expression at a place of the line, in a register, a target or a number.
+    pub fn value(&self, start: u8) -> Value
         ensures { quantity result ≡ expressions.value_at (setting_of self.now).known self.now.line start }
     {
         let names = NamesAt::new(self.map, Context::Knows, self.table, self.place);
         value_from(self.line, start, &names)
     }
 
-    // The value of the expression at a place of the line, in a word: it may refer to other objects.
-    pub(crate) fn reference(&self, start: u8) -> Value
+    /// The value of the expression at a place of the line, in a word: it may refer to other objects.
+    pub fn reference(&self, start: u8) -> Value
         ensures { quantity result ≡ expressions.value_at (setting_of self.now).refers self.now.line start }
     {
         let names = NamesAt::new(self.map, Context::Refers, self.table, self.place);

@@ -9,22 +9,15 @@ ghost use Rattle.m11_values.specs.Quantities.{quantity};
 use crate::puts::Put;
 use crate::relocations::stored;
 use m11_scan::Letters;
-use m11_table::Table;
-use m11_values::{Kind, Value};
+use m11_table::{Table, register_letters};
+use m11_values::Value;
 use std::alloc::AllocError;
 
-// The place so many bytes after another, modulo 65536.
-pub(crate) fn further(place: u16, size: u16) -> u16
+/// The place so many bytes after another, modulo 65536.
+pub fn further(place: u16, size: u16) -> u16
     ensures { result ≡ spec.further place size }
 {
     place.wrapping_add(size)
-}
-
-// R for a register where none may be.
-pub(crate) fn register_letters(kind: Kind) -> Letters
-    ensures { bits_of result ≡ spec.register_letters kind }
-{
-    Letters::R.when(kind.is_register())
 }
 
 // T for a byte whose high byte is neither 000 nor 377.
@@ -40,8 +33,8 @@ fn is_byte_high(number: u16) -> bool
     number == 0 || number == 255
 }
 
-// A value as a word, relative to the place after it or not.
-pub(crate) fn put_word(
+/// A value as a word, relative to the place after it or not.
+pub fn put_word(
     put: &mut Put,
     table: &Table,
     is_relative: bool,
@@ -54,13 +47,8 @@ pub(crate) fn put_word(
     put.add_word(stored(table, is_relative, place, value), letters)
 }
 
-// A value as a byte: its number is asked, whatever it counts from.
-pub(crate) fn put_byte(
-    put: &mut Put,
-    table: &Table,
-    place: u16,
-    value: Value,
-) -> Result<(), AllocError>
+/// A value as a byte: its number is asked, whatever it counts from.
+pub fn put_byte(put: &mut Put, table: &Table, place: u16, value: Value) -> Result<(), AllocError>
     ensures { IfOk result (λ _. put.new ≡ followed_by put.old (spec.byte table.now place (quantity value))) }
 {
     let letters = value

@@ -1,9 +1,9 @@
 -- Codes that wait, and what is put with them.
-use Rattle.std.proofs.Common.{◌≡◌, ℕ, List, [], ◌∷◌, ◌++◌, sym, ap, ◌∙◌}
+use Rattle.std.proofs.Common.{◌≡◌, ℕ, List, [], ◌∷◌, ◌++◌, Result, Ok, Err, IfOk, sym, ap, ◌∙◌}
 use Rattle.std.specs.Int.Bits.{or_zero_l}
-use Rattle.m11_contents.specs.Packing.{codes_first, codes_of, packing, waiting_codes}
-use Rattle.m11_contents.specs.declared.packing.Waiting.{Waiting}
-use Rattle.m11_contents.specs.declared.packing.Waiting.TheVariants.{Nothing, Two}
+use Rattle.m11_strings.specs.Packing.{codes_first, codes_of, packing, waiting_codes}
+use Rattle.m11_strings.specs.declared.packing.Waiting.{Waiting}
+use Rattle.m11_strings.specs.declared.packing.Waiting.TheVariants.{Nothing, Two}
 use Rattle.m11_object_text.specs.declared.pieces.PieceContent.{PieceContent}
 use Rattle.m11_placement.specs.Contents.{Put, fixed_word, followed_by, nothing, put}
 use Rattle.m11_placement.specs.Strings.{Codes, codes_then, packed, packed_words}
@@ -26,6 +26,16 @@ pub lettered_codes : (done new : Put) (waiting : Waiting) (codes : List ℕ) (le
 lettered_codes done new waiting codes letters bits same adds more =
     ap (λ (p : Put). packing p waiting (codes_first codes more)) (adds ∙ ap (λ (l : ℕ). followed_by done (nothing l)) same)
     ∙ followed_joins done (nothing letters) (put (packed_words (waiting_codes waiting ++ (codes ++ more.codes))) more.letters)
+
+-- the same of codes that are put, if there is memory for them
+pub codes_after : {E : Type 0} (result : Result Waiting E) (old lettered new : Put) (waiting : Waiting) (codes : List ℕ)
+    (letters bits : ℕ) → bits ≡ letters → lettered ≡ followed_by old (nothing bits)
+    → IfOk result (λ after. (more : Codes) → packing new after more ≡ packing lettered waiting (codes_first codes more))
+    → IfOk result (λ after. (more : Codes)
+    → packing new after more ≡ packing old waiting (codes_then (codes_of codes letters) more))
+codes_after (Ok after) old lettered new waiting codes letters bits same adds given = λ more.
+    given more ∙ lettered_codes old lettered waiting codes letters bits same adds more
+codes_after (Err e) old lettered new waiting codes letters bits same adds given = tt
 
 -- where none waits, nothing is left to put
 pub none_waits : (done : Put) (waiting : Waiting) → waiting ≡ Nothing → done ≡ packing done waiting (codes_of [] 0)

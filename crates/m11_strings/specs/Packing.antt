@@ -1,8 +1,8 @@
 -- Codes on their way into words of RADIX-50. (MACRO-11 Language Reference Manual, ".RAD50 directive".)
 use Rattle.std.specs.Prelude.{ℕ, List, [], ◌∷◌, ◌++◌, map}
 use Rattle.m11_base.specs.Devices.{Bytes}
-use Rattle.m11_contents.specs.declared.packing.Waiting.{Waiting}
-use Rattle.m11_contents.specs.declared.packing.Waiting.TheVariants.{Nothing, One, Two}
+use Rattle.m11_strings.specs.declared.packing.Waiting.{Waiting}
+use Rattle.m11_strings.specs.declared.packing.Waiting.TheVariants.{Nothing, One, Two}
 use Rattle.m11_placement.specs.Contents.{Put, followed_by, put}
 use Rattle.m11_placement.specs.Strings.{Codes, character_code, character_letters, packed_words}
 

@@ -3,13 +3,13 @@
 ghost use Rattle.std.specs.Prelude.{◌≡◌, ◌∷◌, [], IfOk, is_none, map};
 ghost use Rattle.std.specs.List.{list_any};
 ghost use Rattle.m11_base.specs.Rad50.{code_of};
-ghost use Rattle.m11_contents.specs.Packing.{codes_first, codes_of, packing, text_codes};
 ghost use Rattle.m11_placement.specs.Contents.{fixed_word};
 ghost use Rattle.m11_placement.specs.Strings as spec;
 ghost use Rattle.m11_scan.specs.Views.{bits_of};
+ghost use Rattle.m11_strings.specs.Packing.{codes_first, codes_of, packing, text_codes};
 
-use crate::puts::Put;
 use m11_base::Rad50;
+use m11_contents::Put;
 use m11_scan::Letters;
 use std::alloc::AllocError;
 

@@ -1,5 +1,5 @@
-use Rattle.m11_contents.proofs.Packs.{third_code}
-use Rattle.m11_contents.proofs.packing.Waiting.with.Goals as goal
+use Rattle.m11_strings.proofs.Packs.{third_code}
+use Rattle.m11_strings.proofs.packing.Waiting.with.Goals as goal
 
 pub returns-in_ok-add_fixed_word-in-Two : goal.returns-in_ok-add_fixed_word-in-Two
 returns-in_ok-add_fixed_word-in-Two c =

@@ -1,8 +1,8 @@
 use Rattle.std.proofs.Common.{ℕ, List, ◌∷◌, ◌+◌, drop, map, sym, ap, ◌∙◌}
 use Rattle.std.proofs.lemmas.List.{at_drop_more}
 use Rattle.m11_placement.specs.Strings.{character_code}
-use Rattle.m11_contents.specs.Packing.{codes_first, packing}
-use Rattle.m11_contents.proofs.packing.Waiting.with_characters.Goals as goal
+use Rattle.m11_strings.specs.Packing.{codes_first, packing}
+use Rattle.m11_strings.proofs.packing.Waiting.with_characters.Goals as goal
 
 pub characters-preserved : goal.characters-preserved
 characters-preserved c = λ more.

@@ -1,7 +1,7 @@
 use Rattle.std.proofs.Common.{◌≡◌, drop, map}
-use Rattle.m11_contents.specs.Packing.{codes_first, packing}
+use Rattle.m11_strings.specs.Packing.{codes_first, packing}
 use Rattle.m11_placement.specs.Strings as spec
-use Rattle.m11_contents.proofs.packing.Waiting.with_characters.Given as goal
+use Rattle.m11_strings.proofs.packing.Waiting.with_characters.Given as goal
 
 abbrev pub invariant-characters : goal.invariant-characters
 invariant-characters l =

@@ -1,0 +1,249 @@
+//! Words and bytes that a line lists, the limits of the program, and room without contents. (MACRO-11 Language Reference Manual, ".WORD
+//! directive", ".BYTE directive", ".LIMIT directive" and ".BLKB and .BLKW directives".)
+
+ghost use Rattle.std.specs.Prelude.{◌≡◌, ◌≤◌, ℕ, ◌∷◌, length, List, IfOk};
+ghost use Rattle.m11_arguments.specs.Expressions.{number_letters, value_at};
+ghost use Rattle.m11_placement.specs.Contents.{element_value, followed_by, has_expression};
+ghost use Rattle.m11_placement.specs.Elements as elements;
+ghost use Rattle.m11_placement.specs.Meanings.{firm_known, known_at};
+ghost use Rattle.m11_placement.specs.Storage as spec;
+ghost use Rattle.m11_placement.specs.declared.meanings.Context.TheVariants.{Refers};
+ghost use Rattle.m11_scan.specs.Views.{bits_of};
+ghost use Rattle.m11_values.specs.Quantities.{quantity};
+
+use crate::puts::Put;
+use crate::settings::Setting;
+use crate::values::{further, put_byte, put_word};
+use m11_arguments::{left_over, skip_letters, value_at};
+use m11_fields::{elements_at, has_expression};
+use m11_scan::{Letters, Line, expression_end};
+use m11_table::{FirmNames, Table};
+use m11_values::Value;
+use std::alloc::AllocError;
+
+/// The size of a `.LIMIT` in bytes.
+pub const LIMIT_SIZE: u16 = 4;
+
+/// The size of a `.WORD` in bytes.
+pub fn word_size(line: &Line, start: usize) -> u16
+    requires { start ≤ length line.now.text }
+    ensures { result ≡ spec.word_size line.now.text start }
+{
+    element_count(line, start) * 2
+}
+
+/// The size of a `.BYTE` in bytes.
+pub fn byte_size(line: &Line, start: usize) -> u16
+    requires { start ≤ length line.now.text }
+    ensures { result ≡ spec.byte_size line.now.text start }
+{
+    element_count(line, start)
+}
+
+// How many elements a list has.
+fn element_count(line: &Line, start: usize) -> u16
+    requires { start ≤ length line.now.text }
+    ensures count { result ≡ length (elements.elements_at line.now.text start).places }
+    ensures most { result ≤ 133 }
+{
+    elements_at(line, start).places.as_slice().len() as u16
+}
+
+/// The words of a `.WORD`.
+pub fn put_words(put: &mut Put, setting: &Setting, start: usize) -> Result<(), AllocError>
+    requires { start ≤ length setting.now.line }
+    ensures { IfOk result (λ _. put.new ≡ followed_by put.old
+        (spec.words setting.now.map setting.now.table setting.now.place setting.now.line start)) }
+{
+    let elements = elements_at(setting.line(), start);
+    put.add_letters(end_letters(setting.line(), start, usize::from(elements.end)));
+    put_words_from(put, setting, setting.place(), elements.places.as_slice())
+}
+
+// Elements as words, one after the other.
+fn put_words_from(
+    put: &mut Put,
+    setting: &Setting,
+    place: u16,
+    starts: &[u8],
+) -> Result<(), AllocError>
+    ensures { IfOk result (λ _. put.new ≡ followed_by put.old
+        (spec.words_from setting.now.map setting.now.table setting.now.line place starts.now)) }
+{
+    let mut place = place;
+    'elements: for start in starts {
+        place = put_element_word(put, setting, place, *start)?;
+    }
+    Ok(())
+}
+
+// An element as a word, and the place after it.
+fn put_element_word(
+    put: &mut Put,
+    setting: &Setting,
+    place: u16,
+    start: u8,
+) -> Result<u16, AllocError>
+    ensures { IfOk result (λ next. (starts : List ℕ)
+        → followed_by put.new (spec.words_from setting.now.map setting.now.table setting.now.line next starts)
+        ≡ followed_by put.old (spec.words_from setting.now.map setting.now.table setting.now.line place (start ∷ starts))) }
+{
+    put_word(
+        put,
+        setting.table(),
+        false,
+        place,
+        element_value(setting, place, start),
+    )?;
+    Ok(further(place, 2))
+}
+
+/// The bytes of a `.BYTE`.
+pub fn put_bytes(put: &mut Put, setting: &Setting, start: usize) -> Result<(), AllocError>
+    requires { start ≤ length setting.now.line }
+    ensures { IfOk result (λ _. put.new ≡ followed_by put.old
+        (spec.bytes setting.now.map setting.now.table setting.now.place setting.now.line start)) }
+{
+    let elements = elements_at(setting.line(), start);
+    put.add_letters(end_letters(setting.line(), start, usize::from(elements.end)));
+    put_bytes_from(put, setting, setting.place(), elements.places.as_slice())
+}
+
+// Elements as bytes, one after the other.
+fn put_bytes_from(
+    put: &mut Put,
+    setting: &Setting,
+    place: u16,
+    starts: &[u8],
+) -> Result<(), AllocError>
+    ensures { IfOk result (λ _. put.new ≡ followed_by put.old
+        (spec.bytes_from setting.now.map setting.now.table setting.now.line place starts.now)) }
+{
+    let mut place = place;
+    'elements: for start in starts {
+        place = put_element_byte(put, setting, place, *start)?;
+    }
+    Ok(())
+}
+
+// An element as a byte, and the place after it.
+fn put_element_byte(
+    put: &mut Put,
+    setting: &Setting,
+    place: u16,
+    start: u8,
+) -> Result<u16, AllocError>
+    ensures { IfOk result (λ next. (starts : List ℕ)
+        → followed_by put.new (spec.bytes_from setting.now.map setting.now.table setting.now.line next starts)
+        ≡ followed_by put.old (spec.bytes_from setting.now.map setting.now.table setting.now.line place (start ∷ starts))) }
+{
+    put_byte(
+        put,
+        setting.table(),
+        place,
+        element_value(setting, place, start),
+    )?;
+    Ok(further(place, 1))
+}
+
+// What an element stands for at its own place, which is `.` in it. An empty one counts as 0.
+fn element_value(setting: &Setting, place: u16, start: u8) -> Value
+    ensures { quantity result ≡ element_value
+        (known_at setting.now.map Refers setting.now.table place) setting.now.line start }
+{
+    if has_element(setting.line(), start) {
+        setting.at(place).reference(start)
+    } else {
+        Value::absolute(0, Letters::none())
+    }
+}
+
+// Whether some expression stands at a place of a line. After its end there is none, as at its end.
+fn has_element(line: &Line, start: u8) -> bool
+    ensures { result ≡ has_expression line.now.text start }
+{
+    let start = usize::from(start);
+    let end = line.text().len();
+    if start <= end {
+        has_expression(line, start)
+    } else {
+        has_expression(line, end)
+    }
+}
+
+// What is skipped up to the end of arguments, and what is left over after it.
+fn end_letters(line: &Line, start: usize, end: usize) -> Letters
+    requires { end ≤ length line.now.text }
+    ensures { bits_of result ≡ spec.end_letters line.now.text start end }
+{
+    skip_letters(line, start, end).with(left_over(line, end))
+}
+
+/// The limits of the program, for a `.LIMIT`.
+pub fn put_limits(put: &mut Put, setting: &Setting, start: usize) -> Result<(), AllocError>
+    requires { start ≤ length setting.now.line }
+    ensures { IfOk result (λ _. put.new ≡ followed_by put.old (spec.limits setting.now.line start)) }
+{
+    put.add_limits(left_over(setting.line(), start))
+}
+
+/// The size of a `.BLKB` in bytes.
+pub fn byte_block_size(table: &Table, place: u16, line: &Line, start: usize) -> u32
+    requires { start ≤ length line.now.text }
+    ensures size { result ≡ spec.byte_block_size table.now place line.now.text start }
+    ensures most { result ≤ 65535 }
+{
+    u32::from(block_count(table, place, line, start))
+}
+
+/// The size of a `.BLKW` in bytes.
+pub fn word_block_size(table: &Table, place: u16, line: &Line, start: usize) -> u32
+    requires { start ≤ length line.now.text }
+    ensures size { result ≡ spec.word_block_size table.now place line.now.text start }
+    ensures most { result ≤ 131070 }
+{
+    u32::from(block_count(table, place, line, start)) * 2
+}
+
+// How many bytes or words a block has: 1 where nothing says it. It is asked of firm names.
+fn block_count(table: &Table, place: u16, line: &Line, start: usize) -> u16
+    requires { start ≤ length line.now.text }
+    ensures { result ≡ spec.block_count table.now place line.now.text start }
+{
+    if has_expression(line, start) {
+        firm_value(table, place, line, start).number
+    } else {
+        1
+    }
+}
+
+fn firm_value(table: &Table, place: u16, line: &Line, start: usize) -> Value
+    requires { start ≤ length line.now.text }
+    ensures { quantity result ≡ value_at (firm_known table.now place) line.now.text start }
+{
+    let names = FirmNames::new(table, place);
+    value_at(line, start, &names)
+}
+
+/// The letters of a `.BLKB` or `.BLKW`: those of its count, and of what is left over.
+pub fn block_letters(table: &Table, place: u16, line: &Line, start: usize) -> Letters
+    requires { start ≤ length line.now.text }
+    ensures { bits_of result ≡ spec.block_letters table.now place line.now.text start }
+{
+    if has_expression(line, start) {
+        let letters = count_letters(table, place, line, start);
+        letters.with(left_over(line, expression_end(line, start)))
+    } else {
+        left_over(line, start)
+    }
+}
+
+// The letters of a count: it has to be an absolute number.
+fn count_letters(table: &Table, place: u16, line: &Line, start: usize) -> Letters
+    requires { start ≤ length line.now.text }
+    ensures { bits_of result ≡ number_letters (firm_known table.now place) line.now.text start }
+{
+    let value = firm_value(table, place, line, start);
+    let letters = value.letters.with(value.kind.absence());
+    letters.with(skip_letters(line, start, expression_end(line, start)))
+}

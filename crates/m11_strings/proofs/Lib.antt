@@ -1,0 +1,3 @@
+pub mod NextParts
+pub mod Packs
+pub mod TextSteps
