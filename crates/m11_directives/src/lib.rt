@@ -23,7 +23,7 @@ pub use endings::{end_letters, transfer, transfer_letters};
 pub use exports::{global, global_letters, listed_names};
 pub use identifications::{identification, identification_letters};
 pub use listing::{
-    disable_letters, enable_letters, list, list_letters, page_letters, subtitle_letters,
+    disable_letters, enable_letters, list, list_letters, page_letters, subtitle_letters, unlist,
 };
 pub use radix_control::{radix, radix_letters};
 pub use sections::{

@@ -1,0 +1,24 @@
+use Rattle.std.proofs.Common.{◌≡◌, ℕ, Bool, IfOk, subst, ap, ◌∙◌}
+use Rattle.m11_contents.proofs.Joining.{lettered_by}
+use Rattle.m11_contents.specs.Settings.{Standpoint}
+use Rattle.m11_placement.specs.Alignment.{gap_letters, place_for}
+use Rattle.m11_placement.specs.Contents.{Put}
+use Rattle.m11_placement.specs.Effects.{operator_put}
+use Rattle.m11_placement.specs.Operators.{is_even}
+use Rattle.m11_operators.proofs.operators.put_operator.Goals as goal
+
+pub returns : goal.returns
+returns c =
+    let line = c.args.line.now.text in
+    let even = is_even c.args.operator in
+    let P : Put → Type 0 = λ p. IfOk c.put_at.result (λ x. c.put_at.new.put ≡ p) in
+    subst P
+    (lettered_by c.args.put.now c.add_letters.new.self _ _ _ _ c.add_letters.ensures
+    (c.gap_letters.ensures ∙ ap (λ (b : Bool). gap_letters b c.place.result) c.is_even-is_even.ensures
+    ∙ ap (λ (n : ℕ). gap_letters even n) c.place.ensures)
+    (ap (λ (s : Standpoint). operator_put s.map s.table s.place s.line c.args.start c.args.arguments c.args.operator)
+    c.new-setting.ensures
+    ∙ ap (λ (n : ℕ). operator_put c.args.map.now c.args.table.now n line c.args.start c.args.arguments c.args.operator)
+    (c.place_for.ensures ∙ ap (λ (b : Bool). place_for b c.place-2.result) c.is_even-is_even.ensures
+    ∙ ap (λ (n : ℕ). place_for even n) c.place-2.ensures)))
+    c.put_at.ensures
