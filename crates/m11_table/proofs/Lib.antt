@@ -7,3 +7,4 @@ mod Inserting
 mod Moving
 mod Selecting
 mod Starting
+pub mod Defined

@@ -6,7 +6,7 @@ ghost use Rattle.std.specs.List.{list_any};
 ghost use Rattle.m11_base.specs.Names.{name_in_words};
 ghost use Rattle.m11_base.specs.Rad50.{is_same_name};
 ghost use Rattle.m11_placement.specs.Changes.{in_number, with_move, with_section, with_settings};
-ghost use Rattle.m11_placement.specs.Definitions.{has_key, is_labelled, last_definition, register_named};
+ghost use Rattle.m11_placement.specs.Definitions.{has_key, is_defined, is_labelled, last_definition, register_named};
 ghost use Rattle.m11_placement.specs.Labels.{with_block, with_definition, with_doubled, with_global};
 ghost use Rattle.m11_placement.specs.Meanings.{is_firm, is_firm_in};
 ghost use Rattle.m11_placement.specs.Places.{Goes, Steps};
@@ -240,6 +240,14 @@ impl Table {
             Some(entry) => Some(definition(Key::Numbered(block, number), *entry)),
             None => None,
         }
+    }
+
+    /// Whether a key has a definition.
+    #[tactic(auto, using(crate::proofs::Defined::is_some_last))]
+    pub fn is_defined(&self, key: &Key) -> bool
+        ensures { result ≡ is_defined key.now self.now.definitions }
+    {
+        self.definition(key).is_some()
     }
 
     /// Whether the last definition of a key is that of a label.
