@@ -9,4 +9,5 @@ mod parts;
 mod radix50;
 
 pub use ascii::{ascii_size, asciz_size, put_ascii, put_asciz};
+pub use parts::parts_at;
 pub use radix50::{put_rad50, rad50_size};

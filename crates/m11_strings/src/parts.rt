@@ -10,7 +10,7 @@ use m11_scan::Line;
 use m11_statements::{Part, PartKind, Parts, next_part};
 
 /// The parts of a text that begins at a place of a line.
-pub(crate) fn parts_at(line: &Line, start: usize) -> Parts
+pub fn parts_at(line: &Line, start: usize) -> Parts
     requires { start ≤ length line.now.text }
     ensures parts { parts_seen result ≡ spec.parts_at line.now.text start }
     ensures within { result.end ≤ length line.now.text }

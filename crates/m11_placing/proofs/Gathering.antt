@@ -1,0 +1,163 @@
+-- Mentions that are gathered one part after the other.
+use Rattle.std.proofs.Common.{◌≡◌, ◌∙◌, ◌<◌, ◌≤◌, ◌-◌, Bool, true, false, if◌then◌else◌, List, [], ◌∷◌, ◌++◌, drop, flat_map, get_or, length, map, take, Option, Some, None, Result, Ok, Err, IsErrAnd, refl, sym, ap, subst, arith}
+use Rattle.std.proofs.lemmas.List.{take_all}
+use Rattle.m11_base.specs.Rad50.{Name}
+use Rattle.m11_directives.specs.Changes.{names_among}
+use Rattle.m11_placement.specs.Limits.{is_counted, most_names, with_mentions, with_symbol}
+use Rattle.m11_placement.specs.Mentions.{Mention, defined, mention, named}
+use Rattle.m11_placement.specs.declared.meanings.Context.{Context}
+use Rattle.m11_placing.specs.Faults.{Refuses}
+use Rattle.m11_placing.specs.Mentioned.{Adds, Gathered, in_context, is_register, names_referred, noted, registers_mentioned, with_all, with_name, with_reference, with_register}
+use Rattle.m11_placing.specs.declared.fault.PlacingFault.{PlacingFault}
+use Rattle.m11_placing.specs.declared.fault.PlacingFault.TheVariants.{TooManySymbols, TooManySections, NoMemory}
+use Rattle.m11_values.specs.declared.names.Symbol.{Symbol}
+use Rattle.m11_values.specs.declared.names.Symbol.TheVariants.{Ordinary, Local, Counter}
+
+names_joined : (first second : List Mention) (names : List Name)
+    → with_mentions (first ++ second) names ≡ with_mentions second (with_mentions first names)
+names_joined [] second names = refl
+names_joined (mention ∷ first) second names = names_joined first second (with_symbol mention.symbol names)
+
+registers_joined : (first second : List Mention) (names : List Name)
+    → registers_mentioned (first ++ second) names ≡ registers_mentioned second (registers_mentioned first names)
+registers_joined [] second names = refl
+registers_joined (mention ∷ first) second names = registers_joined first second (with_register mention.symbol names)
+
+referred_joined : (first second : List Mention) (names : List Name)
+    → names_referred (first ++ second) names ≡ names_referred second (names_referred first names)
+referred_joined [] second names = refl
+referred_joined (mention ∷ first) second names =
+    referred_joined first second (with_reference mention.symbol mention.context names)
+
+abbrev gathered : List Name → List Name → List Name → Gathered
+gathered names registers referred = record { names = names; registers = registers; referred = referred }
+
+pub all_joined : (first second : List Mention) (old : Gathered)
+    → with_all (first ++ second) old ≡ with_all second (with_all first old)
+all_joined first second old =
+    rw (names_joined first second old.names, registers_joined first second old.registers, referred_joined first second old.referred)
+    refl
+
+-- ---- one name
+
+pub noted_register : (name : Name) (old : Gathered) → is_register name ≡ true
+    → record old { registers = with_name name old.registers } ≡ noted name old
+noted_register name old is = rw is refl
+
+pub noted_other : (name : Name) (old : Gathered) → is_register name ≡ false
+    → record old { names = with_name name old.names } ≡ noted name old
+noted_other name old is = rw is refl
+
+-- ---- names don't become fewer
+
+one_more : (names : List Name) (name : Name) → length names ≤ length (names ++ name ∷ [])
+one_more [] name = omega arith
+one_more (first ∷ names) name = let more : length names ≤ length (names ++ name ∷ []) = one_more names name in omega (arith, more)
+
+counted_by : (is_known : Bool) (name : Name) (names : List Name)
+    → length names ≤ length (if is_known then names else names ++ name ∷ [])
+counted_by true name names = omega arith
+counted_by false name names = one_more names name
+
+symbol_more : (symbol : Symbol) (names : List Name) → length names ≤ length (with_symbol symbol names)
+symbol_more (Ordinary name) names = counted_by (is_counted name names) name names
+symbol_more (Local number) names = omega arith
+symbol_more Counter names = omega arith
+
+mentions_more : (mentions : List Mention) (names : List Name) → length names ≤ length (with_mentions mentions names)
+mentions_more [] names = omega arith
+mentions_more (mention ∷ mentions) names =
+    let first : length names ≤ length (with_symbol mention.symbol names) = symbol_more mention.symbol names in
+    let more : length (with_symbol mention.symbol names) ≤ length (with_mentions mentions (with_symbol mention.symbol names))
+    = mentions_more mentions (with_symbol mention.symbol names) in
+    omega (arith, first, more)
+
+-- ---- one part after another
+
+pub added_then : (first second : List Mention) (old middle new : Gathered) (result : Result (Unit {0}) PlacingFault)
+    → middle ≡ with_all first old → Adds second middle new result → Adds (first ++ second) old new result
+added_then first second old middle new (Ok _) e adds =
+    adds ∙ ap (with_all second) e ∙ sym (all_joined first second old)
+added_then first second old middle new (Err fault) e refuses =
+    let P : Gathered → Type 0 = λ g. Refuses fault (most_names < length g.names) ⊥ in
+    subst P (ap (with_all second) e ∙ sym (all_joined first second old)) refuses
+
+refused_more : (fault : PlacingFault) (first second : List Mention) (old : Gathered)
+    → Refuses fault (most_names < length (with_all first old).names) ⊥
+    → Refuses fault (most_names < length (with_all (first ++ second) old).names) ⊥
+refused_more TooManySymbols first second old refuses =
+    let P : Gathered → Type 0 = λ g. most_names < length g.names in
+    subst P (sym (all_joined first second old))
+    (let more : length (with_all first old).names ≤ length (with_all second (with_all first old)).names
+    = mentions_more second (with_all first old).names in
+    omega (arith, refuses, more))
+refused_more TooManySections first second old refuses = refuses
+refused_more NoMemory first second old refuses = tt
+
+-- a fault of the first part is that of the whole
+pub failed_first : (first second : List Mention) (old new : Gathered) (fault : PlacingFault) (result : Result (Unit {0}) PlacingFault)
+    → Refuses fault (most_names < length (with_all first old).names) ⊥ → IsErrAnd result (λ f. f ≡ fault)
+    → Adds (first ++ second) old new result
+failed_first first second old new fault (Ok done) refuses is = absurd is
+failed_first first second old new fault (Err other) refuses is =
+    let P : PlacingFault → Type 0 = λ f. Refuses f (most_names < length (with_all (first ++ second) old).names) ⊥ in
+    subst P (sym is) (refused_more fault first second old refuses)
+
+none_first : 1 ≤ 0 → ⊥
+none_first e = omega (arith, e)
+
+others_all : {A : Type 0} (item : A) (items : List A) → take (length (item ∷ items) - 1) items ≡ items
+others_all item items = take_all (length (item ∷ items) - 1) items (omega arith)
+
+-- of a list as a slice has it: the first item, and those after it
+module _ {A : Type 0} (mentions : A → List Mention) (items : List A) (item other : A) (old : Gathered)
+    (result : Result (Unit {0}) PlacingFault) where
+  pub failed_item : (new : Gathered) (fault : PlacingFault) → 1 ≤ length items → get_or items 0 other ≡ item
+      → Refuses fault (most_names < length (with_all (mentions item) old).names) ⊥ → IsErrAnd result (λ f. f ≡ fault)
+      → Adds (flat_map mentions items) old new result
+  failed_item new fault some first refuses is = by_items items some first
+    where
+      by_items : (all : List A) → 1 ≤ length all → get_or all 0 other ≡ item → Adds (flat_map mentions all) old new result
+      by_items [] some first = absurd (none_first some)
+      by_items (found ∷ rest) some first =
+          let P : A → Type 0 = λ i. Refuses fault (most_names < length (with_all (mentions i) old).names) ⊥ in
+          failed_first (mentions found) (flat_map mentions rest) old new fault result (subst P (sym first) refuses) is
+
+  pub item_then : (middle new : Gathered) → 1 ≤ length items → get_or items 0 other ≡ item → middle ≡ with_all (mentions item) old
+      → Adds (flat_map mentions (take (length items - 1) (drop 1 items))) middle new result
+      → Adds (flat_map mentions items) old new result
+  item_then middle new some first adds rest = by_items items some first rest
+    where
+      by_items : (all : List A) → 1 ≤ length all → get_or all 0 other ≡ item
+          → Adds (flat_map mentions (take (length all - 1) (drop 1 all))) middle new result
+          → Adds (flat_map mentions all) old new result
+      by_items [] some first rest = absurd (none_first some)
+      by_items (found ∷ more) some first rest =
+          let P : List A → Type 0 = λ l. Adds (flat_map mentions l) middle new result in
+          added_then (mentions found) (flat_map mentions more) old middle new result
+          (adds ∙ ap (λ (i : A). with_all (mentions i) old) (sym first)) (subst P (others_all found more) rest)
+
+defined_joined : (name : Option Name) (names : List (Option Name))
+    → defined name ++ map named (names_among names) ≡ map named (names_among (name ∷ names))
+defined_joined (Some name) names = refl
+defined_joined None names = refl
+
+pub failed_name : (names : List (Option Name)) (name other : Option Name) (old new : Gathered) (fault : PlacingFault)
+    (result : Result (Unit {0}) PlacingFault) → 1 ≤ length names → get_or names 0 other ≡ name
+    → Refuses fault (most_names < length (with_all (defined name) old).names) ⊥ → IsErrAnd result (λ f. f ≡ fault)
+    → Adds (map named (names_among names)) old new result
+failed_name [] name other old new fault result some first refuses is = absurd (none_first some)
+failed_name (found ∷ names) name other old new fault result some first refuses is =
+    let P : Option Name → Type 0 = λ n. Refuses fault (most_names < length (with_all (defined n) old).names) ⊥ in
+    let Q : List Mention → Type 0 = λ l. Adds l old new result in
+    subst Q (defined_joined found names)
+    (failed_first (defined found) (map named (names_among names)) old new fault result (subst P (sym first) refuses) is)
+
+pub failed_symbol : (context : Context) (symbols : List Symbol) (symbol other : Symbol) (old new : Gathered) (fault : PlacingFault)
+    (result : Result (Unit {0}) PlacingFault) → 1 ≤ length symbols → get_or symbols 0 other ≡ symbol
+    → Refuses fault (most_names < length (with_all (mention context symbol ∷ []) old).names) ⊥
+    → IsErrAnd result (λ f. f ≡ fault) → Adds (in_context context symbols) old new result
+failed_symbol context [] symbol other old new fault result some first refuses is = absurd (none_first some)
+failed_symbol context (found ∷ symbols) symbol other old new fault result some first refuses is =
+    let P : Symbol → Type 0 = λ s. Refuses fault (most_names < length (with_all (mention context s ∷ []) old).names) ⊥ in
+    failed_first (mention context found ∷ []) (in_context context symbols) old new fault result (subst P (sym first) refuses) is

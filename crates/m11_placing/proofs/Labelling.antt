@@ -1,0 +1,222 @@
+-- What labels do to what a pass keeps.
+use Rattle.std.proofs.Common.{◌≡◌, ◌∙◌, ◌<◌, ◌≤◌, ℕ, ◌+◌, ◌-◌, Bool, true, false, cond, if◌then◌else◌, List, [], ◌∷◌, drop, get_or, length, take, Option, Some, None, refl, sym, ap, subst, arith}
+use Rattle.std.proofs.lemmas.List.{take_all}
+use Rattle.std.specs.Int.RustNames.{bit_or}
+use Rattle.m11_base.specs.Devices.{Bytes}
+use Rattle.m11_base.specs.Rad50.{Name}
+use Rattle.m11_placement.specs.Definitions.{is_defined}
+use Rattle.m11_placement.specs.Labels.{global_if, key_letters, kind_letters, label_name, labelled, labels_letters, name_letters, with_block, with_definition, with_doubled, with_key, with_kind, with_label, with_labels, with_name}
+use Rattle.m11_placement.specs.Limits.{is_local, local_count, most_local_symbols}
+use Rattle.m11_placement.specs.Tables.{Table}
+use Rattle.m11_placement.specs.declared.definitions.Definition.{Definition}
+use Rattle.m11_placement.specs.declared.definitions.Key.{Key}
+use Rattle.m11_placement.specs.declared.definitions.Key.TheVariants.{Named, Numbered}
+use Rattle.m11_placement.specs.declared.settings.Settings.{Settings}
+use Rattle.m11_statements.specs.declared.labels.Label.{Label}
+use Rattle.m11_statements.specs.declared.labels.LabelKind.{LabelKind}
+use Rattle.m11_statements.specs.declared.labels.LabelKind.TheVariants as kind
+use Rattle.m11_placing.proofs.Alike.{alike_defined, same_labelled}
+use Rattle.m11_placing.proofs.Passes.{counted_more}
+use Rattle.m11_placing.proofs.Refusals.{refuses_more}
+use Rattle.m11_placing.specs.Faults.{Refuses}
+use Rattle.m11_placing.specs.declared.fault.PlacingFault.{PlacingFault}
+use Rattle.m11_placing.specs.Labels.{Defines, DefinesAll}
+use Rattle.m11_placing.specs.Passes.{Follows, Kept, Matches}
+
+-- ---- one key
+
+-- a label's definition, as the code makes it, is that of the definitions' table
+pub labelled_there : (kept : Kept) (told : Table) (key : Key) → Matches kept told → labelled kept.table key ≡ labelled told key
+labelled_there kept told key matches = same_labelled kept.table told matches.alike key
+
+pub defined_there : (kept : Kept) (told : Table) (key : Key) → Matches kept told
+    → is_defined key kept.table.definitions ≡ is_defined key told.definitions
+defined_there kept told key matches = alike_defined kept.table told matches.alike key
+
+pub labels_here : (old new : Kept) (key : Key) (definition : Definition) → definition ≡ labelled old.table key
+    → Follows old new (with_definition definition) → Follows old new (λ told. with_definition (labelled told key) told)
+labels_here old new key definition e follows told matches =
+    let P : Definition → Type 0 = λ d. Matches new (with_definition d told) in
+    subst P (e ∙ labelled_there old told key matches) (follows told matches)
+
+module _ (old new : Kept) where
+  pub names_double : (name : Name) (is_global : Bool) → is_defined (Named name) old.table.definitions ≡ true
+      → Follows old new (with_doubled (Named name))
+      → Defines old new 64 (λ told. with_name is_global told (Some name)) (λ told. name_letters told (Some name))
+  names_double name is_global defined follows told matches =
+      let there : is_defined (Named name) told.definitions ≡ true = sym (defined_there old told (Named name) matches) ∙ defined in
+      rw there (follows told matches, refl)
+
+  pub names_open : (name : Name) (is_global : Bool) (letters : ℕ) → is_defined (Named name) old.table.definitions ≡ false
+      → letters ≡ 0
+      → Follows old new (λ told. global_if is_global name (with_block (with_definition (labelled told (Named name)) told)))
+      → Defines old new letters (λ told. with_name is_global told (Some name)) (λ told. name_letters told (Some name))
+  names_open name is_global letters defined none follows told matches =
+      let there : is_defined (Named name) told.definitions ≡ false = sym (defined_there old told (Named name) matches) ∙ defined in
+      rw there (follows told matches, none)
+
+  key_of : (told : Table) (number : ℕ) → Matches old told
+      → Numbered old.table.settings.block number ≡ Numbered told.settings.block number
+  key_of told number matches = ap (λ (s : Settings). Numbered s.block number) matches.alike.settings
+
+  pub symbols_double : (number : ℕ) → is_defined (Numbered old.table.settings.block number) old.table.definitions ≡ true
+      → Follows old new (with_doubled (Numbered old.table.settings.block number))
+      → Defines old new 64 (λ told. with_key (Numbered told.settings.block number) told)
+      (λ told. key_letters told (Numbered told.settings.block number))
+  symbols_double number defined follows told matches =
+      let P : Key → Type 0 = λ k. Matches new (with_key k told) × (64 ≡ key_letters told k) in
+      let there : is_defined (Numbered old.table.settings.block number) told.definitions ≡ true
+      = sym (defined_there old told (Numbered old.table.settings.block number) matches) ∙ defined in
+      subst P (key_of told number matches) (rw there (follows told matches, refl))
+
+  pub symbols_begin : (number letters : ℕ) → is_defined (Numbered old.table.settings.block number) old.table.definitions ≡ false
+      → letters ≡ 0
+      → Follows old new (λ told. with_definition (labelled told (Numbered old.table.settings.block number)) told)
+      → Defines old new letters (λ told. with_key (Numbered told.settings.block number) told)
+      (λ told. key_letters told (Numbered told.settings.block number))
+  symbols_begin number letters defined none follows told matches =
+      let P : Key → Type 0 = λ k. Matches new (with_key k told) × (letters ≡ key_letters told k) in
+      let there : is_defined (Numbered old.table.settings.block number) told.definitions ≡ false
+      = sym (defined_there old told (Numbered old.table.settings.block number) matches) ∙ defined in
+      subst P (key_of told number matches) (rw there (follows told matches, none))
+
+  -- the count of local symbols with the definition is that with the label
+  pub symbol_counted : (number : ℕ) (told : Table) → Matches old told
+      → is_defined (Numbered old.table.settings.block number) old.table.definitions ≡ false
+      → local_count (with_definition (labelled told (Numbered old.table.settings.block number)) told)
+      ≡ local_count (with_key (Numbered told.settings.block number) told)
+  symbol_counted number told matches defined =
+      let P : Key → Type 0 = λ k. local_count (with_definition (labelled told (Numbered old.table.settings.block number)) told)
+      ≡ local_count (with_key k told) in
+      let there : is_defined (Numbered old.table.settings.block number) told.definitions ≡ false
+      = sym (defined_there old told (Numbered old.table.settings.block number) matches) ∙ defined in
+      subst P (key_of told number matches) (rw there refl)
+
+-- the block is read before
+module _ (old new : Kept) (block number : ℕ) (is : block ≡ old.table.settings.block) where
+  pub blocks_double : is_defined (Numbered block number) old.table.definitions ≡ true → Follows old new (with_doubled (Numbered block number))
+      → Defines old new 64 (λ told. with_key (Numbered told.settings.block number) told)
+      (λ told. key_letters told (Numbered told.settings.block number))
+  blocks_double defined follows =
+      let P : ℕ → Type 0 = λ b. is_defined (Numbered b number) old.table.definitions ≡ true in
+      let Q : ℕ → Type 0 = λ b. Follows old new (with_doubled (Numbered b number)) in
+      symbols_double old new number (subst P is defined) (subst Q is follows)
+
+  pub blocks_begin : (letters : ℕ) (definition : Definition) → is_defined (Numbered block number) old.table.definitions ≡ false → letters ≡ 0
+      → definition ≡ labelled old.table (Numbered block number) → Follows old new (with_definition definition)
+      → Defines old new letters (λ told. with_key (Numbered told.settings.block number) told)
+      (λ told. key_letters told (Numbered told.settings.block number))
+  blocks_begin letters definition defined none e follows =
+      let P : ℕ → Type 0 = λ b. is_defined (Numbered b number) old.table.definitions ≡ false in
+      let Q : ℕ → Type 0 = λ b. Follows old new (λ told. with_definition (labelled told (Numbered b number)) told) in
+      symbols_begin old new number letters (subst P is defined) none
+      (subst Q is (labels_here old new (Numbered block number) definition e follows))
+
+  pub blocks_refuse : (fault : PlacingFault) (definition : Definition) → is_defined (Numbered block number) old.table.definitions ≡ false
+      → definition ≡ labelled old.table (Numbered block number)
+      → ((told : Table) → Matches old told
+      → Refuses fault (most_local_symbols < local_count (with_definition definition told)) ⊥)
+      → (told : Table) → Matches old told
+      → Refuses fault (most_local_symbols < local_count (with_key (Numbered told.settings.block number) told)) ⊥
+  blocks_refuse fault definition defined e refuses told matches =
+      let P : ℕ → Type 0 = λ b. is_defined (Numbered b number) old.table.definitions ≡ false in
+      let R : ℕ → Type 0 = λ n. Refuses fault (most_local_symbols < n) ⊥ in
+      subst R
+      (ap (λ (d : Definition). local_count (with_definition d told))
+      (e ∙ labelled_there old told (Numbered block number) matches
+      ∙ ap (λ (b : ℕ). labelled told (Numbered b number)) is)
+      ∙ symbol_counted old new number told matches (subst P is defined))
+      (refuses told matches)
+
+-- ---- labels one after the other
+
+counts_more : (definition : Definition) (told : Table) → local_count told ≤ local_count (with_definition definition told)
+counts_more definition told =
+    let more : local_count (with_definition definition told) ≡ local_count told + cond (is_local definition.key) 1 0
+    = counted_more definition told.definitions told refl in
+    omega (arith, more)
+
+global_counts : (is_global : Bool) (name : Name) (told : Table) → local_count (global_if is_global name told) ≡ local_count told
+global_counts true name told = refl
+global_counts false name told = refl
+
+name_counts : (is_known is_global : Bool) (name : Name) (told : Table) → local_count told
+    ≤ local_count (if is_known then with_doubled (Named name) told
+    else global_if is_global name (with_block (with_definition (labelled told (Named name)) told)))
+name_counts true is_global name told = omega arith
+name_counts false is_global name told =
+    let same : local_count (global_if is_global name (with_block (with_definition (labelled told (Named name)) told)))
+    ≡ local_count (with_definition (labelled told (Named name)) told)
+    = global_counts is_global name (with_block (with_definition (labelled told (Named name)) told)) in
+    let more : local_count told ≤ local_count (with_definition (labelled told (Named name)) told)
+    = counts_more (labelled told (Named name)) told in
+    omega (arith, same, more)
+
+named_counts : (is_global : Bool) (told : Table) (name : Option Name) → local_count told ≤ local_count (with_name is_global told name)
+named_counts is_global told (Some name) = name_counts (is_defined (Named name) told.definitions) is_global name told
+named_counts is_global told None = omega arith
+
+key_counts : (is_known : Bool) (key : Key) (told : Table)
+    → local_count told ≤ local_count (if is_known then with_doubled key told else with_definition (labelled told key) told)
+key_counts true key told = omega arith
+key_counts false key told = counts_more (labelled told key) told
+
+kind_counts : (told : Table) (name : Option Name) (of : LabelKind) → local_count told ≤ local_count (with_kind told name of)
+kind_counts told name kind.Ordinary = named_counts false told name
+kind_counts told name kind.Global = named_counts true told name
+kind_counts told name (kind.Local number) =
+    key_counts (is_defined (Numbered told.settings.block number) told.definitions) (Numbered told.settings.block number) told
+kind_counts told name kind.Outside = omega arith
+
+pub labels_count : (line : Bytes) (told : Table) (labels : List Label)
+    → local_count told ≤ local_count (with_labels line told labels)
+labels_count line told [] = omega arith
+labels_count line told (label ∷ labels) =
+    let first : local_count told ≤ local_count (with_label line told label)
+    = kind_counts told (label_name line label) label.kind in
+    let more : local_count (with_label line told label) ≤ local_count (with_labels line (with_label line told label) labels)
+    = labels_count line (with_label line told label) labels in
+    omega (arith, first, more)
+
+pub labels_defined : (line : Bytes) (label : Label) (others : List Label) (old middle new : Kept) (letters more : ℕ)
+    → Defines old middle letters (λ told. with_label line told label)
+    (λ told. kind_letters told (label_name line label) label.kind)
+    → DefinesAll line others middle new more
+    → DefinesAll line (label ∷ others) old new (bit_or letters more)
+labels_defined line label others old middle new letters more first rest told matches =
+    let one : Matches middle (with_label line told label) × (letters ≡ kind_letters told (label_name line label) label.kind)
+    = first told matches in
+    let all : Matches new (with_labels line (with_label line told label) others)
+    × (more ≡ labels_letters line (with_label line told label) others) = rest (with_label line told label) one.0 in (
+      all.0,
+      ap (λ (n : ℕ). bit_or n more) one.1
+          ∙ ap (bit_or (kind_letters told (label_name line label) label.kind)) all.1,
+    )
+
+-- ---- labels as a slice has them: the first one, and those after it
+
+others_all : (label : Label) (others : List Label) → take (length (label ∷ others) - 1) others ≡ others
+others_all label others = take_all (length (label ∷ others) - 1) others (omega arith)
+
+none_first : 1 ≤ 0 → ⊥
+none_first e = omega (arith, e)
+
+pub first_defined : (line : Bytes) (labels : List Label) (other : Label) (old middle new : Kept) (letters more : ℕ) → 1 ≤ length labels
+    → Defines old middle letters (λ told. with_label line told (get_or labels 0 other))
+    (λ told. kind_letters told (label_name line (get_or labels 0 other)) (get_or labels 0 other).kind)
+    → DefinesAll line (take (length labels - 1) (drop 1 labels)) middle new more
+    → DefinesAll line labels old new (bit_or letters more)
+first_defined line [] other old middle new letters more some first rest = absurd (none_first some)
+first_defined line (label ∷ others) other old middle new letters more some first rest =
+    let P : List Label → Type 0 = λ ls. DefinesAll line ls middle new more in
+    labels_defined line label others old middle new letters more first (subst P (others_all label others) rest)
+
+pub first_refused : (line : Bytes) (labels : List Label) (other : Label) (fault : PlacingFault) (old : Kept) → 1 ≤ length labels
+    → ((told : Table) → Matches old told
+    → Refuses fault (most_local_symbols < local_count (with_label line told (get_or labels 0 other))) ⊥)
+    → (told : Table) → Matches old told
+    → Refuses fault (most_local_symbols < local_count (with_labels line told labels)) ⊥
+first_refused line [] other fault old some refuses told matches = absurd (none_first some)
+first_refused line (label ∷ others) other fault old some refuses told matches =
+    refuses_more fault most_local_symbols (local_count (with_label line told label)) (local_count (with_labels line told (label ∷ others)))
+    (labels_count line (with_label line told label) others) (refuses told matches)

@@ -1,0 +1,206 @@
+-- What a pass keeps follows what is done to the table.
+use Rattle.std.proofs.Common.{◌≡◌, ◌≢◌, ◌∙◌, ◌<◌, ◌≤◌, ℕ, ◌+◌, ◌==◌, Bool, true, false, cond, max, zero, suc, List, [], ◌∷◌, ◌++◌, length, get_or, replicate, slice_set, refl, sym, ap, subst, arith}
+use Rattle.std.proofs.lemmas.Bool.{eqb-true}
+use Rattle.std.proofs.lemmas.Bool.Decides.{nat_tests}
+use Rattle.std.proofs.lemmas.List.{get_or-set_other, get_or-set_same}
+use Rattle.std.proofs.lemmas.List.Sums.{sum_by-append}
+use Rattle.m11_base.specs.Rad50.{Name}
+use Rattle.m11_placement.specs.Changes.{with_move}
+use Rattle.m11_placement.specs.Labels.{with_definition, with_doubled, with_global}
+use Rattle.m11_placement.specs.Limits.{is_local, is_local_definition, local_count}
+use Rattle.m11_placement.specs.Places.{Move, in_section, place_in, size_in}
+use Rattle.m11_placement.specs.Tables.{Table, first_table, place}
+use Rattle.m11_placement.specs.declared.definitions.Definition.{Definition}
+use Rattle.m11_placement.specs.declared.definitions.Key.{Key}
+use Rattle.m11_placement.specs.declared.definitions.Key.TheVariants.{Named, Numbered}
+use Rattle.m11_placement.specs.declared.settings.Settings.{Settings}
+use Rattle.m11_table.specs.Alike as tables
+use Rattle.m11_table.specs.Alike.{Alike}
+use Rattle.m11_placing.proofs.Alike.{alike_itself, alike_place}
+use Rattle.m11_placing.proofs.Sizes.{size_here, size_there}
+use Rattle.m11_placing.specs.Passes.{Follows, Kept, Matches, no_sizes, size_at, with_size}
+
+abbrev pub keeping : Table → ℕ → List ℕ → Kept
+keeping table local_symbols sizes = record { table = table; local_symbols = local_symbols; sizes = sizes }
+
+-- ---- what the same change leaves of a table itself
+
+pub settings_stay : (old new : Table) (change : Table → Table) → tables.Follows old new change → (change old).settings ≡ old.settings
+    → new.settings ≡ old.settings
+settings_stay old new change follows same = (follows old (alike_itself old)).settings ∙ same
+
+-- ---- local symbols are counted
+
+pub counted_more : (definition : Definition) (definitions : List Definition) (told : Table) → told.definitions ≡ definitions
+    → local_count (with_definition definition told) ≡ local_count told + cond (is_local definition.key) 1 0
+counted_more definition definitions told e =
+    sum_by-append (λ d. cond (is_local_definition d) 1 0) told.definitions (definition ∷ [])
+    ∙ ap (λ (n : ℕ). local_count told + n) (last_one (cond (is_local definition.key) 1 0))
+  where
+    last_one : (n : ℕ) → 0 + n ≡ n
+    last_one n = omega arith
+
+defines : (old : Kept) (new : Table) (locals : ℕ) (definition : Definition) → tables.Follows old.table new (with_definition definition)
+    → locals ≡ old.local_symbols + cond (is_local definition.key) 1 0
+    → Follows old (keeping new locals old.sizes) (with_definition definition)
+defines old new locals definition follows counted told matches = record {
+  alike = follows told matches.alike;
+  local_symbols = counted ∙ ap (λ (n : ℕ). n + cond (is_local definition.key) 1 0) matches.local_symbols
+      ∙ sym (counted_more definition told.definitions told refl);
+  sizes = matches.sizes;
+}
+
+-- ---- what leaves definitions and counters as they are
+
+doubles : (old : Kept) (new : Table) (key : Key) → tables.Follows old.table new (with_doubled key)
+    → Follows old (keeping new old.local_symbols old.sizes) (with_doubled key)
+doubles old new key follows told matches = record {
+  alike = follows told matches.alike;
+  local_symbols = matches.local_symbols;
+  sizes = matches.sizes;
+}
+
+exports : (old : Kept) (new : Table) (name : Name) → tables.Follows old.table new (with_global name)
+    → Follows old (keeping new old.local_symbols old.sizes) (with_global name)
+exports old new name follows told matches = record {
+  alike = follows told matches.alike;
+  local_symbols = matches.local_symbols;
+  sizes = matches.sizes;
+}
+
+-- ---- the counter goes on, and with it the size of its section
+
+size_by : (sizes : List ℕ) (section number place_now : ℕ) (told : Table) (move : Move) (is_here : Bool)
+    → (section == number) ≡ is_here → section < length sizes
+    → size_at sizes number ≡ size_in number told.moves
+    → place_now ≡ place_in section (told.moves ++ in_section section move ∷ [])
+    → size_at (slice_set sizes section (max (size_at sizes section) place_now)) number
+    ≡ size_in number (told.moves ++ in_section section move ∷ [])
+size_by sizes section number place_now told move true e within same there =
+    let P : ℕ → Type 0 = λ n. size_at (slice_set sizes section (max (size_at sizes section) place_now)) n
+    ≡ size_in n (told.moves ++ in_section section move ∷ []) in
+    let same_here : size_at sizes section ≡ size_in section told.moves
+    = let Q : ℕ → Type 0 = λ n. size_at sizes n ≡ size_in n told.moves in subst Q (sym (eqb-true section number e)) same in
+    subst P (eqb-true section number e)
+    (get_or-set_same sizes section (max (size_at sizes section) place_now) 0 within
+    ∙ ap (λ (n : ℕ). max n place_now) same_here
+    ∙ ap (max (size_in section told.moves)) there
+    ∙ sym (size_here section section told.moves move (itself section)))
+  where
+    itself : (n : ℕ) → (n == n) ≡ true
+    itself n = grind (arith, nat_tests)
+size_by sizes section number place_now told move false e within same there =
+    get_or-set_other sizes section number (max (size_at sizes section) place_now) 0 (differs section number e)
+    ∙ same ∙ sym (size_there number section told.moves move e)
+  where
+    differs : (section number : ℕ) → (section == number) ≡ false → number ≢ section
+    differs section number e = grind (arith, nat_tests)
+
+counts : (old : Kept) (table : Table) (new : Kept) (move : Move) → tables.Follows old.table table (with_move move)
+    → new ≡ with_size (keeping table old.local_symbols old.sizes) → old.table.settings.section < length old.sizes
+    → Follows old new (with_move move)
+counts old table new move follows e within told matches =
+    let went : Alike table (with_move move told) = follows told matches.alike in
+    let P : Kept → Type 0 = λ k. Matches k (with_move move told) in
+    let S : ℕ → Type 0 = λ n. n < length old.sizes in
+    let T : ℕ → Type 0 = λ n. (number : ℕ) → number < 64
+    → size_at (slice_set old.sizes n (max (size_at old.sizes n) (place table))) number
+    ≡ size_in number (with_move move told).moves in
+    subst P (sym e) (record {
+      alike = went;
+      local_symbols = matches.local_symbols;
+      sizes = subst T (sym (ap (λ (s : Settings). s.section) went.settings))
+          (λ number below. size_by old.sizes told.settings.section number (place table) told move
+          (told.settings.section == number) refl
+          (subst S (ap (λ (s : Settings). s.section) matches.alike.settings) within)
+          (matches.sizes number below) (alike_place table (with_move move told) went));
+    })
+
+-- ---- what is kept, by its parts
+
+module _ (table : Table) (locals : ℕ) (sizes : List ℕ) (old : Kept) (is : keeping table locals sizes ≡ old) where
+  pub settings_kept : (new : Table) (change : Table → Table) → tables.Follows table new change
+      → (change table).settings ≡ table.settings → new.settings ≡ old.table.settings
+  settings_kept new change follows same =
+      settings_stay table new change follows same ∙ ap (λ (k : Kept). k.table.settings) is
+
+  pub name_defined : (name : Name) (definition : Definition) (new : Table) → definition.key ≡ Named name
+      → tables.Follows table new (with_definition definition)
+      → Follows old (keeping new locals sizes) (with_definition definition)
+  name_defined name definition new e follows =
+      let P : Kept → Type 0 = λ k. Follows k (keeping new locals sizes) (with_definition definition) in
+      subst P is (defines (keeping table locals sizes) new locals definition follows
+      (none (cond (is_local definition.key) 1 0) (ap (λ (k : Key). cond (is_local k) 1 0) e)))
+    where
+      none : (n : ℕ) → n ≡ 0 → locals ≡ locals + n
+      none n e = omega (arith, e)
+
+  pub symbol_defined : (block number : ℕ) (definition : Definition) (new : Table) (after : ℕ) → definition.key ≡ Numbered block number
+      → after ≡ locals + 1 → tables.Follows table new (with_definition definition)
+      → Follows old (keeping new after sizes) (with_definition definition)
+  symbol_defined block number definition new after e one follows =
+      let P : Kept → Type 0 = λ k. Follows k (keeping new after sizes) (with_definition definition) in
+      subst P is (defines (keeping table locals sizes) new after definition follows
+      (one ∙ ap (λ (k : Key). locals + cond (is_local k) 1 0) (sym e)))
+
+  -- one more would be too many
+  pub symbols_full : (block number : ℕ) (definition : Definition) (told : Table) → definition.key ≡ Numbered block number
+      → 16384 ≤ locals → Matches old told → 16384 < local_count (with_definition definition told)
+  symbols_full block number definition told e full matches =
+      let count : locals ≡ local_count told = ap (λ (k : Kept). k.local_symbols) is ∙ matches.local_symbols in
+      let more : local_count (with_definition definition told) ≡ local_count told + 1
+      = counted_more definition told.definitions told refl
+      ∙ ap (λ (k : Key). local_count told + cond (is_local k) 1 0) e in
+      omega (arith, count, more, full)
+
+  pub key_doubled : (key : Key) (new : Table) → tables.Follows table new (with_doubled key)
+      → Follows old (keeping new locals sizes) (with_doubled key)
+  key_doubled key new follows =
+      let P : Kept → Type 0 = λ k. Follows k (keeping new locals sizes) (with_doubled key) in
+      subst P is (doubles (keeping table locals sizes) new key follows)
+
+  pub name_exported : (name : Name) (new : Table) → tables.Follows table new (with_global name)
+      → Follows old (keeping new locals sizes) (with_global name)
+  name_exported name new follows =
+      let P : Kept → Type 0 = λ k. Follows k (keeping new locals sizes) (with_global name) in
+      subst P is (exports (keeping table locals sizes) new name follows)
+
+  pub counter_moved : (move : Move) (moved : Table) (new : Kept) → tables.Follows table moved (with_move move)
+      → new ≡ with_size (keeping moved locals sizes) → table.settings.section < length sizes
+      → Follows old new (with_move move)
+  counter_moved move moved new follows e within =
+      let P : Kept → Type 0 = λ k. Follows k new (with_move move) in
+      subst P is (counts (keeping table locals sizes) moved new move follows e within)
+
+  pub section_stays : (move : Move) (moved : Table) → tables.Follows table moved (with_move move) → old.table.settings.section < 64
+      → moved.settings.section < 64
+  section_stays move moved follows below =
+      let same : moved.settings ≡ old.table.settings = settings_kept moved (with_move move) follows refl in
+      let P : Settings → Type 0 = λ s. s.section < 64 in
+      subst P (sym same) below
+
+  -- the array of sizes has one for each section
+  pub section_within : old.table.settings.section < 64 → length sizes ≡ 64 → table.settings.section < length sizes
+  section_within below all =
+      let P : Kept → Type 0 = λ k. k.table.settings.section < 64 in
+      let Q : ℕ → Type 0 = λ n. table.settings.section < n in
+      subst Q (sym all) (subst P (sym is) below)
+
+-- ---- before the first line
+
+nothing_at : (count number : ℕ) → get_or {A = ℕ} (replicate count 0) number 0 ≡ 0
+nothing_at zero number = refl
+nothing_at (suc count) zero = refl
+nothing_at (suc count) (suc number) = nothing_at count number
+
+no_size : (number : ℕ) → get_or no_sizes number 0 ≡ 0
+unfolding no_sizes
+no_size number = nothing_at 64 number
+
+pub first_matches : (table : Table) (sizes : List ℕ) → Alike table first_table → sizes ≡ no_sizes
+    → Matches (keeping table 0 sizes) first_table
+first_matches table sizes alike e = record {
+  alike = alike;
+  local_symbols = refl;
+  sizes = λ number below. ap (λ (s : List ℕ). get_or s number 0) e ∙ no_size number;
+}

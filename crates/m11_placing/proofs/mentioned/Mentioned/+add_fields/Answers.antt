@@ -1,0 +1,14 @@
+use Rattle.std.proofs.Common.{refl}
+use Rattle.m11_placement.specs.Mentions.{field_mentions}
+use Rattle.m11_placing.proofs.Gathering.{failed_item, item_then}
+use Rattle.m11_placing.proofs.mentioned.Mentioned.+add_fields.Goals as goal
+
+pub returns-in_err-add_field-in-len1-up : goal.returns-in_err-add_field-in-len1-up
+returns-in_err-add_field-in-len1-up t c =
+    failed_item (field_mentions c.args.line.now.text) c.args.fields.now _ _ c.args.self.now c.from_residual.result c.add_field.new.self
+    c.in_err-add_field-in-len1-up.field-0.0 c.in-len1-up.len_at_least refl c.in_err-add_field-in-len1-up.ensures c.from_residual.ensures.1
+
+pub returns-in_ok-add_field-in-len1-up : goal.returns-in_ok-add_field-in-len1-up
+returns-in_ok-add_field-in-len1-up t c =
+    item_then (field_mentions c.args.line.now.text) c.args.fields.now _ _ c.args.self.now c.add_fields.result c.add_field.new.self c.add_fields.new.self
+    c.in-len1-up.len_at_least refl c.in_ok-add_field-in-len1-up.ensures c.add_fields.ensures

@@ -1,0 +1,25 @@
+use Rattle.std.proofs.Common.{◌∙◌, ◌<◌}
+use Rattle.m11_placement.specs.Labels.{with_labels}
+use Rattle.m11_placement.specs.Limits.{local_count, most_local_symbols}
+use Rattle.m11_placement.specs.Tables.{Table}
+use Rattle.m11_placing.proofs.Labelling.{first_defined, first_refused}
+use Rattle.m11_placing.proofs.Refusals.{handed_on}
+use Rattle.m11_placing.specs.Faults.{Refuses}
+use Rattle.m11_placing.specs.Passes.{Matches}
+use Rattle.m11_placing.specs.declared.fault.PlacingFault.{PlacingFault}
+use Rattle.m11_placing.proofs.pass.Pass.+define_labels.Goals as goal
+
+pub returns-in_err-letters-in-len1-up-clause-refuses : goal.returns-in_err-letters-in-len1-up-clause-refuses
+returns-in_err-letters-in-len1-up-clause-refuses t c =
+    let P : PlacingFault → Type 0 = λ fault. (told : Table) → Matches c.args.self.now told
+    → Refuses fault (most_local_symbols < local_count (with_labels c.args.line.now.text told c.args.labels.now)) ⊥ in
+    handed_on P c.in_err-letters-in-len1-up.field-0.0 c.from_residual.result
+    (first_refused c.args.line.now.text c.args.labels.now _ c.in_err-letters-in-len1-up.field-0.0 c.args.self.now
+    c.in-len1-up.len_at_least c.in_err-letters-in-len1-up.ensures.refuses)
+    c.from_residual.ensures.1
+
+pub returns-in_ok-more-in-len1-up-clause-defines : goal.returns-in_ok-more-in-len1-up-clause-defines
+returns-in_ok-more-in-len1-up-clause-defines t c = λ told matches.
+    let all = first_defined c.args.line.now.text c.args.labels.now _ c.args.self.now c.define_label.new.self c.define_labels.new.self _ _
+    c.in-len1-up.len_at_least c.in_ok-letters-in-len1-up.ensures.defines c.in_ok-more-in-len1-up.ensures.defines told matches in
+    (all.0, c.with.ensures ∙ all.1)

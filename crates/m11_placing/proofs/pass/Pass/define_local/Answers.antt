@@ -1,0 +1,48 @@
+use Rattle.std.proofs.Common.{◌∙◌, ◌<◌, ap, sym}
+use Rattle.m11_placement.specs.Definitions.{is_defined}
+use Rattle.m11_placement.specs.Labels.{labelled, with_key}
+use Rattle.m11_placement.specs.Limits.{local_count, most_local_symbols}
+use Rattle.m11_placement.specs.Tables.{Table}
+use Rattle.m11_placement.specs.declared.definitions.Key.TheVariants.{Numbered}
+use Rattle.m11_placement.specs.declared.settings.Settings.{Settings}
+use Rattle.m11_placing.proofs.Labelling.{blocks_begin, blocks_double, blocks_refuse}
+use Rattle.m11_placing.proofs.Refusals.{handed_on}
+use Rattle.m11_placing.specs.Faults.{Refuses}
+use Rattle.m11_placing.specs.Passes.{Kept, Matches}
+use Rattle.m11_placing.specs.declared.fault.PlacingFault.{PlacingFault}
+use Rattle.m11_placing.proofs.pass.Pass.define_local.Goals as goal
+
+pub returns-in_err-define_symbol-clause-refuses : goal.returns-in_err-define_symbol-clause-refuses
+returns-in_err-define_symbol-clause-refuses c =
+    let P : PlacingFault → Type 0 = λ fault. (told : Table) → Matches c.args.self.now told
+    → Refuses fault (most_local_symbols < local_count (with_key (Numbered told.settings.block c.args.number) told)) ⊥ in
+    handed_on P c.in_err-define_symbol.field-0.0 c.from_residual-in_err-define_symbol.result
+    (blocks_refuse c.args.self.now c.define_symbol.new.self c.settings-block.result.block c.args.number
+    (ap (λ (s : Settings). s.block) c.settings-block.ensures ∙ ap (λ (k : Kept). k.table.settings.block) c.self.view_is)
+    c.in_err-define_symbol.field-0.0 c.labelled-definition.result
+    (ap (λ (k : Kept). is_defined (Numbered c.settings-block.result.block c.args.number) k.table.definitions) (sym c.self.view_is)
+    ∙ sym c.if-is_defined.ensures)
+    (c.labelled-definition.ensures
+    ∙ ap (λ (k : Kept). labelled k.table (Numbered c.settings-block.result.block c.args.number)) c.self.view_is)
+    c.in_err-define_symbol.ensures.refuses)
+    c.from_residual-in_err-define_symbol.ensures.1
+
+pub returns-in_ok-double-clause-defines : goal.returns-in_ok-double-clause-defines
+returns-in_ok-double-clause-defines c =
+    blocks_double c.args.self.now c.double.new.self c.settings-block.result.block c.args.number
+    (ap (λ (s : Settings). s.block) c.settings-block.ensures ∙ ap (λ (k : Kept). k.table.settings.block) c.self.view_is)
+    (ap (λ (k : Kept). is_defined (Numbered c.settings-block.result.block c.args.number) k.table.definitions) (sym c.self.view_is)
+    ∙ sym c.if-is_defined.ensures)
+    c.in_ok-double.ensures.doubles
+
+pub returns-in_ok-define_symbol-clause-defines : goal.returns-in_ok-define_symbol-clause-defines
+returns-in_ok-define_symbol-clause-defines c =
+    blocks_begin c.args.self.now c.define_symbol.new.self c.settings-block.result.block c.args.number
+    (ap (λ (s : Settings). s.block) c.settings-block.ensures ∙ ap (λ (k : Kept). k.table.settings.block) c.self.view_is)
+    _ c.labelled-definition.result
+    (ap (λ (k : Kept). is_defined (Numbered c.settings-block.result.block c.args.number) k.table.definitions) (sym c.self.view_is)
+    ∙ sym c.if-is_defined.ensures)
+    c.none.ensures
+    (c.labelled-definition.ensures
+    ∙ ap (λ (k : Kept). labelled k.table (Numbered c.settings-block.result.block c.args.number)) c.self.view_is)
+    c.in_ok-define_symbol.ensures.defines

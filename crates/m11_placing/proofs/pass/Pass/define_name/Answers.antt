@@ -1,0 +1,14 @@
+use Rattle.std.proofs.Common.{refl}
+use Rattle.m11_placement.specs.Labels.{with_definition}
+use Rattle.m11_placing.proofs.Passes.{name_defined, settings_kept}
+use Rattle.m11_placing.proofs.pass.Pass.define_name.Goals as goal
+
+pub returns-clause-defines : goal.returns-clause-defines
+returns-clause-defines c =
+    name_defined c.self.inside.table c.self.inside.local_symbols c.self.inside.sizes c.args.self.now c.self.view_is
+    c.args.name c.args.definition.now c.insert.new.self c.requires c.in_ok-insert.ensures
+
+pub returns-clause-settings : goal.returns-clause-settings
+returns-clause-settings c =
+    settings_kept c.self.inside.table c.self.inside.local_symbols c.self.inside.sizes c.args.self.now c.self.view_is
+    c.insert.new.self (with_definition c.args.definition.now) c.in_ok-insert.ensures refl

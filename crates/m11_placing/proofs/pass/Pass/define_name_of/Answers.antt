@@ -1,0 +1,25 @@
+use Rattle.std.proofs.Common.{◌∙◌, Option, ap, sym, unwrap_or}
+use Rattle.m11_placement.specs.Definitions.{is_defined}
+use Rattle.m11_placement.specs.declared.definitions.Key.TheVariants.{Named}
+use Rattle.m11_placing.proofs.Labelling.{names_double, names_open}
+use Rattle.m11_base.specs.Rad50.{Name}
+use Rattle.m11_placing.specs.Passes.{Kept}
+use Rattle.m11_placing.proofs.pass.Pass.define_name_of.Goals as goal
+
+pub returns-in_ok-double-in-Some-clause-defines : goal.returns-in_ok-double-in-Some-clause-defines
+returns-in_ok-double-in-Some-clause-defines c =
+    rw c.in-Some.is
+    (names_double c.args.self.now c.double.new.self c.in-Some.name c.args.is_global
+    (ap (λ (k : Kept). is_defined (Named c.in-Some.name) k.table.definitions) (sym c.self.view_is) ∙ sym c.if-is_defined.ensures)
+    c.in_ok-double-in-Some.ensures.doubles)
+
+pub returns-in_ok-define_new_name-in-Some-2-clause-defines : goal.returns-in_ok-define_new_name-in-Some-2-clause-defines
+returns-in_ok-define_new_name-in-Some-2-clause-defines c =
+    rw c.in-Some-2.is
+    (names_open c.args.self.now c.define_new_name.new.self c.in-Some-2.name c.args.is_global _
+    (ap (λ (k : Kept). is_defined (Named c.in-Some-2.name) k.table.definitions) (sym c.self.view_is)
+    ∙ ap (λ (n : Name). is_defined (Named n) c.self.inside.table.definitions)
+    (ap (λ (o : Option Name). unwrap_or o (0, 0)) (sym c.in-Some-2.is ∙ c.in-Some.is))
+    ∙ sym c.if-is_defined.ensures)
+    c.none.ensures
+    c.in_ok-define_new_name-in-Some-2.ensures.defines)

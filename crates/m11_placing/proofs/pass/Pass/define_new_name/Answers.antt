@@ -1,0 +1,22 @@
+use Rattle.std.proofs.Common.{◌∙◌, ap}
+use Rattle.m11_placement.specs.Labels.{labelled}
+use Rattle.m11_placement.specs.declared.definitions.Key.TheVariants.{Named}
+use Rattle.m11_placing.proofs.Labelling.{labels_here}
+use Rattle.m11_placing.specs.Passes.{Kept}
+use Rattle.m11_placing.proofs.pass.Pass.define_new_name.Goals as goal
+
+pub returns-in_ok-export-clause-defines : goal.returns-in_ok-export-clause-defines
+returns-in_ok-export-clause-defines c = λ told matches.
+    rw c.if-is_global.true
+    (c.in_ok-export.ensures.exports _ (c.open_block.ensures.opens _
+    (labels_here c.args.self.now c.define_name.new.self (Named c.args.name) c.labelled-definition.result
+    (c.labelled-definition.ensures ∙ ap (λ (k : Kept). labelled k.table (Named c.args.name)) c.self.view_is)
+    c.in_ok-define_name.ensures.defines told matches)))
+
+pub returns-else-is_global-clause-defines : goal.returns-else-is_global-clause-defines
+returns-else-is_global-clause-defines c = λ told matches.
+    rw c.if-is_global.false
+    (c.open_block.ensures.opens _
+    (labels_here c.args.self.now c.define_name.new.self (Named c.args.name) c.labelled-definition.result
+    (c.labelled-definition.ensures ∙ ap (λ (k : Kept). labelled k.table (Named c.args.name)) c.self.view_is)
+    c.in_ok-define_name.ensures.defines told matches))

@@ -1,0 +1,6 @@
+pub mod Deeds
+pub mod Faults
+pub mod Labels
+pub mod Lines
+pub mod Mentioned
+pub mod Passes

@@ -1,0 +1,136 @@
+//! What the labels of a line define. (MACRO-11 Language Reference Manual, "Label field", "Local symbols" and "Multiple definition of
+//! symbols".)
+
+ghost use Rattle.std.specs.Prelude.{◌≡◌, ◌<◌, ◌≤◌, ◌+◌, ◌^◌, IfOk, IfErr, length};
+ghost use Rattle.m11_placement.specs.Labels as spec;
+ghost use Rattle.m11_placement.specs.Labels.{with_definition};
+ghost use Rattle.m11_placement.specs.Limits.{local_count, most_local_symbols};
+ghost use Rattle.m11_placement.specs.Tables.{Table as Told};
+ghost use Rattle.m11_placing.specs.Faults.{Refuses};
+ghost use Rattle.m11_placing.specs.Labels.{Defines, DefinesAll};
+ghost use Rattle.m11_placing.specs.Passes.{Follows, Matches};
+ghost use Rattle.m11_placement.specs.declared.definitions.Key.TheVariants.{Named, Numbered};
+ghost use Rattle.m11_placing.specs.declared.fault.PlacingFault.TheVariants.{NoMemory};
+ghost use Rattle.m11_scan.specs.Views.{bits_of};
+
+use crate::fault::PlacingFault;
+use crate::pass::Pass;
+use m11_base::Name;
+use m11_placement::{Definition, Key, Standing};
+use m11_scan::{Letters, Line, read_name};
+use m11_statements::{Label, LabelKind};
+use m11_table::Table;
+
+impl Pass {
+    /// Defines the labels of a line, one after the other. M for each whose name or local symbol is defined before it.
+    ///
+    /// Errors: `TooManySymbols` where more than 16,384 local symbols would be defined, and `NoMemory`.
+    pub fn define_labels(&mut self, line: &Line, labels: &[Label]) -> Result<Letters, PlacingFault>
+        requires { self.old.table.settings.block + length labels.now < 2 ^ 64 }
+        ensures defines { IfOk result (λ letters. DefinesAll line.now.text labels.now self.old self.new (bits_of letters)) }
+        ensures refuses { IfErr result (λ fault. (told : Told) → Matches self.old told
+            → Refuses fault (most_local_symbols < local_count (spec.with_labels line.now.text told labels.now)) ⊥) }
+    {
+        match labels {
+            [] => Ok(Letters::none()),
+            [label, others @ ..] => {
+                let letters = self.define_label(line, label)?;
+                let more = self.define_labels(line, others)?;
+                Ok(letters.with(more))
+            }
+        }
+    }
+
+    // Defines a label.
+    fn define_label(&mut self, line: &Line, label: &Label) -> Result<Letters, PlacingFault>
+        requires { self.old.table.settings.block + 1 < 2 ^ 64 }
+        ensures defines { IfOk result (λ letters. Defines self.old self.new (bits_of letters)
+            (λ told. spec.with_label line.now.text told label.now)
+            (λ told. spec.kind_letters told (spec.label_name line.now.text label.now) label.now.kind)) }
+        ensures block { IfOk result (λ _. self.new.table.settings.block ≤ self.old.table.settings.block + 1) }
+        ensures refuses { IfErr result (λ fault. (told : Told) → Matches self.old told
+            → Refuses fault (most_local_symbols < local_count (spec.with_label line.now.text told label.now)) ⊥) }
+    {
+        match label.kind {
+            LabelKind::Ordinary => self.define_name_of(read_name(label.name.text(line)), false),
+            LabelKind::Global => self.define_name_of(read_name(label.name.text(line)), true),
+            LabelKind::Local(number) => self.define_local(number),
+            LabelKind::Outside => Ok(Letters::none()),
+        }
+    }
+
+    // A name that is new opens a block of local symbols. One that is defined becomes doubled.
+    fn define_name_of(
+        &mut self,
+        name: Option<Name>,
+        is_global: bool,
+    ) -> Result<Letters, PlacingFault>
+        requires { self.old.table.settings.block + 1 < 2 ^ 64 }
+        ensures defines { IfOk result (λ letters. Defines self.old self.new (bits_of letters)
+            (λ told. spec.with_name is_global told name) (λ told. spec.name_letters told name)) }
+        ensures block { IfOk result (λ _. self.new.table.settings.block ≤ self.old.table.settings.block + 1) }
+        ensures refuses { IfErr result (λ fault. fault ≡ NoMemory) }
+    {
+        match name {
+            Some(name) if self.table.is_defined(&Key::Named(name)) => {
+                self.double(&Key::Named(name))?;
+                Ok(Letters::M)
+            }
+            Some(name) => {
+                self.define_new_name(name, is_global)?;
+                Ok(Letters::none())
+            }
+            None => Ok(Letters::none()),
+        }
+    }
+
+    // A name that is new.
+    fn define_new_name(&mut self, name: Name, is_global: bool) -> Result<(), PlacingFault>
+        requires { self.old.table.settings.block + 1 < 2 ^ 64 }
+        ensures defines { IfOk result (λ _. Follows self.old self.new
+            (λ told. spec.global_if is_global name (spec.with_block (with_definition (spec.labelled told (Named name)) told)))) }
+        ensures block { IfOk result (λ _. self.new.table.settings.block ≤ self.old.table.settings.block + 1) }
+        ensures refuses { IfErr result (λ fault. fault ≡ NoMemory) }
+    {
+        let definition = labelled(&self.table, Key::Named(name));
+        self.define_name(name, &definition)?;
+        self.open_block();
+        if is_global {
+            self.export(name)?;
+        }
+        Ok(())
+    }
+
+    // A local symbol belongs to the block that is open.
+    fn define_local(&mut self, number: u16) -> Result<Letters, PlacingFault>
+        ensures defines { IfOk result (λ letters. Defines self.old self.new (bits_of letters)
+            (λ told. spec.with_key (Numbered told.settings.block number) told)
+            (λ told. spec.key_letters told (Numbered told.settings.block number))) }
+        ensures block { IfOk result (λ _. self.new.table.settings.block ≤ self.old.table.settings.block) }
+        ensures refuses { IfErr result (λ fault. (told : Told) → Matches self.old told
+            → Refuses fault (most_local_symbols < local_count (spec.with_key (Numbered told.settings.block number) told)) ⊥) }
+    {
+        let block = self.table.settings().block;
+        let key = Key::Numbered(block, number);
+        if self.table.is_defined(&key) {
+            self.double(&key)?;
+            Ok(Letters::M)
+        } else {
+            let definition = labelled(&self.table, key);
+            self.define_symbol(block, number, &definition)?;
+            Ok(Letters::none())
+        }
+    }
+}
+
+// The definition of a label where the counter stands.
+fn labelled(table: &Table, key: Key) -> Definition
+    ensures { result ≡ spec.labelled table.now key }
+{
+    Definition {
+        key,
+        standing: Standing::Known(table.place(), table.kind_here()),
+        is_firm: true,
+        is_label: true,
+    }
+}

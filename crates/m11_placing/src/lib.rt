@@ -1,0 +1,18 @@
+//! What the lines of a source give, one after the other: labels and changes of the table, sizes of sections, the names that lines
+//! mention, and the limits of all of them. (MACRO-11 Language Reference Manual, "Source program format" and "Symbols and expressions".)
+#![tactic(auto)]
+
+mod changing;
+mod deeds;
+mod fault;
+mod labels;
+mod laws;
+mod mentioned;
+mod mentions;
+mod pass;
+
+pub use deeds::{Deed, deed_after_labels};
+pub use fault::PlacingFault;
+pub use laws::a_line_goes_through_a_pass;
+pub use mentioned::Mentioned;
+pub use pass::Pass;

@@ -1,0 +1,176 @@
+//! The names that lines mention. (MACRO-11 Language Reference Manual, "Table of contents and symbol table" and ".GLOBL directive".)
+
+ghost use Rattle.std.specs.Prelude.{◌≡◌, ◌<◌, ◌∷◌, [], IfOk, IfErr, length};
+ghost use Rattle.m11_placement.specs.Limits.{most_names};
+ghost use Rattle.m11_placement.specs.Mentions.{mention};
+ghost use Rattle.m11_placing.specs.Faults.{Refuses};
+ghost use Rattle.m11_placing.specs.Mentioned as spec;
+ghost use Rattle.m11_placing.specs.Mentioned.{Adds, in_context, none_gathered, noted, with_referred};
+
+use crate::fault::PlacingFault;
+use indexmap::IndexSet;
+use m11_base::Name;
+use m11_placement::Context;
+use m11_values::Symbol;
+use std::alloc::{AllocError, Global};
+use std::marker::Model;
+
+/// The most names of a source besides those of the registers.
+const MOST_NAMES: usize = 4096;
+
+/// The names that lines mention, each once, in the order in which they appear.
+#[derive(Drop)]
+pub struct Mentioned {
+    pub(crate) alloc: Global,
+    // Besides those of the registers.
+    names: IndexSet<Name>,
+    registers: IndexSet<Name>,
+    // Where a name without a definition is a reference to another object.
+    referred: IndexSet<Name>,
+}
+
+impl Model for Mentioned {
+    ghost use Rattle.m11_placing.specs.Mentioned.{Gathered};
+
+    ghost Value = { Gathered };
+
+    ghost view = { λ m. record { names = m.names.keys; registers = m.registers.keys; referred = m.referred.keys } };
+}
+
+impl Mentioned {
+    /// Before the first line.
+    pub fn new(alloc: Global) -> Mentioned
+        ensures { result ≡ none_gathered }
+    {
+        Mentioned {
+            alloc,
+            names: IndexSet::new(alloc),
+            registers: IndexSet::new(alloc),
+            referred: IndexSet::new(alloc),
+        }
+    }
+
+    /// The names besides those of the registers.
+    pub fn names(&self) -> &IndexSet<Name>
+        ensures { result.now.keys ≡ self.now.names }
+    {
+        &self.names
+    }
+
+    /// The names of registers.
+    pub fn registers(&self) -> &IndexSet<Name>
+        ensures { result.now.keys ≡ self.now.registers }
+    {
+        &self.registers
+    }
+
+    /// The names that stand where a name without a definition is a reference to another object.
+    pub fn referred(&self) -> &IndexSet<Name>
+        ensures { result.now.keys ≡ self.now.referred }
+    {
+        &self.referred
+    }
+
+    /// Symbols that are mentioned one after the other.
+    ///
+    /// Errors: `TooManySymbols` where there would be more than 4,096 names besides those of the registers, and `NoMemory`.
+    pub fn add_all(&mut self, symbols: &[Symbol], context: Context) -> Result<(), PlacingFault>
+        ensures { Adds (in_context context symbols.now) self.old self.new result }
+    {
+        match symbols {
+            [] => Ok(()),
+            [symbol, others @ ..] => {
+                self.add(*symbol, context)?;
+                self.add_all(others, context)
+            }
+        }
+    }
+
+    /// A symbol that is mentioned.
+    pub fn add(&mut self, symbol: Symbol, context: Context) -> Result<(), PlacingFault>
+        ensures { Adds (mention context symbol ∷ []) self.old self.new result }
+    {
+        match symbol {
+            Symbol::Ordinary(name) => self.add_name(name, context),
+            Symbol::Local(_) | Symbol::Counter => Ok(()),
+        }
+    }
+
+    fn add_name(&mut self, name: Name, context: Context) -> Result<(), PlacingFault>
+        ensures { Adds (mention context (Symbol.Ordinary name) ∷ []) self.old self.new result }
+    {
+        self.note_name(name)?;
+        self.note_reference(name, context)?;
+        Ok(())
+    }
+
+    // A name that is mentioned anywhere.
+    #[tactic(auto, using(crate::proofs::Gathering::noted_register, crate::proofs::Gathering::noted_other))]
+    fn note_name(&mut self, name: Name) -> Result<(), PlacingFault>
+        ensures notes { IfOk result (λ _. self.new ≡ noted name self.old) }
+        ensures refuses { IfErr result (λ fault. Refuses fault (most_names < length (noted name self.old).names) ⊥) }
+    {
+        if is_register(name) {
+            self.note_register(name)?;
+            Ok(())
+        } else {
+            self.count_name(name)
+        }
+    }
+
+    // It stands where one without a definition is a reference to another object.
+    fn note_reference(&mut self, name: Name, context: Context) -> Result<(), AllocError>
+        ensures { IfOk result (λ _. self.new ≡ with_referred name context self.old) }
+    {
+        match context {
+            Context::Refers => self.note_referred(name),
+            Context::Knows => Ok(()),
+        }
+    }
+
+    fn note_referred(&mut self, name: Name) -> Result<(), AllocError>
+        ensures { IfOk result (λ _. self.new ≡ record self.old { referred = spec.with_name name self.old.referred }) }
+    {
+        self.referred.insert(name)?;
+        Ok(())
+    }
+
+    fn note_register(&mut self, name: Name) -> Result<(), AllocError>
+        ensures { IfOk result (λ _. self.new ≡ record self.old { registers = spec.with_name name self.old.registers }) }
+    {
+        self.registers.insert(name)?;
+        Ok(())
+    }
+
+    // A name that is none of a register's.
+    fn count_name(&mut self, name: Name) -> Result<(), PlacingFault>
+        ensures notes { IfOk result (λ _. self.new ≡ record self.old { names = spec.with_name name self.old.names }) }
+        ensures refuses { IfErr result (λ fault. Refuses fault
+            (most_names < length (spec.with_name name self.old.names)) ⊥) }
+    {
+        if !self.names.contains(&name) && self.names.len() >= MOST_NAMES {
+            return Err(PlacingFault::TooManySymbols);
+        }
+        self.names.insert(name)?;
+        Ok(())
+    }
+}
+
+// Whether a name is that of a register.
+#[tactic(auto, unfolding(m11_base::specs::Rad50::code_of, m11_base::specs::Rad50::alphabet))]
+fn is_register(name: Name) -> bool
+    ensures { result ≡ spec.is_register name }
+{
+    let (first, second) = name.words();
+    second == 0 && is_register_word(first)
+}
+
+// The words of the first three characters of `R0` to `R5`, `SP` and `PC`.
+fn is_register_word(word: u16) -> bool
+    ensures { result ≡ spec.is_register_word word }
+{
+    matches!(
+        word,
+        0o72460 | 0o72530 | 0o72600 | 0o72650 | 0o72720 | 0o72770 | 0o74500 | 0o62170
+    )
+}

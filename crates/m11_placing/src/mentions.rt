@@ -1,0 +1,290 @@
+//! The symbols that a line defines or reads. (MACRO-11 Language Reference Manual, "Symbols", "Table of contents and symbol table" and
+//! ".GLOBL directive".)
+
+ghost use Rattle.std.specs.Prelude.{◌≡◌, ◌≤◌, ◌++◌, None, length, map, true};
+ghost use Rattle.std.specs.List.{flat_map};
+ghost use Rattle.m11_directives.specs.Changes.{change_seen, names_among};
+ghost use Rattle.m11_placement.specs.Alignment.{place_for};
+ghost use Rattle.m11_placement.specs.Assigning.{target};
+ghost use Rattle.m11_placement.specs.declared.meanings.Context.TheVariants.{Knows};
+ghost use Rattle.m11_placement.specs.Mentions as spec;
+ghost use Rattle.m11_placing.specs.Deeds.{IsWithin, deed_seen};
+ghost use Rattle.m11_placing.specs.Mentioned.{Adds};
+
+use crate::changing::within;
+use crate::deeds::Deed;
+use crate::fault::PlacingFault;
+use crate::mentioned::Mentioned;
+use m11_arguments::{Notes, note_symbols};
+use m11_base::{Name, Op};
+use m11_directives::{Change, argument_count, character_count, listed_names};
+use m11_fields::{elements_at, fields_at};
+use m11_placement::{Context, Directive, Field, Form, Operator};
+use m11_scan::{Line, read_name};
+use m11_statements::{Assignment, Label, LabelKind, Part, PartKind};
+use m11_strings::parts_at;
+use m11_table::{FirmNames, Table};
+use m11_values::Symbol;
+
+impl Mentioned {
+    /// The labels of a line. Errors as those of `add_all`.
+    pub fn add_labels(&mut self, line: &Line, labels: &[Label]) -> Result<(), PlacingFault>
+        ensures { Adds (flat_map (spec.label_mentions line.now.text) labels.now) self.old self.new result }
+    {
+        match labels {
+            [] => Ok(()),
+            [label, others @ ..] => {
+                self.add_label(line, label)?;
+                self.add_labels(line, others)
+            }
+        }
+    }
+
+    fn add_label(&mut self, line: &Line, label: &Label) -> Result<(), PlacingFault>
+        ensures { Adds (spec.label_mentions line.now.text label.now) self.old self.new result }
+    {
+        match label.kind {
+            LabelKind::Ordinary | LabelKind::Global => self.define(read_name(
+                label.name.text(line),
+            )),
+            LabelKind::Local(number) => self.add(Symbol::Local(number), Context::Knows),
+            LabelKind::Outside => Ok(()),
+        }
+    }
+
+    // A name that is defined.
+    fn define(&mut self, name: Option<Name>) -> Result<(), PlacingFault>
+        ensures { Adds (spec.defined name) self.old self.new result }
+    {
+        match name {
+            Some(name) => self.add(Symbol::Ordinary(name), Context::Knows),
+            None => Ok(()),
+        }
+    }
+
+    /// What stands after the labels of a line, with the number of actuals of a macro around it, by the table once its labels stand. Errors
+    /// as those of `add_all`.
+    pub fn add_deed(
+        &mut self,
+        table: &Table,
+        line: &Line,
+        arguments: Option<u16>,
+        deed: &Deed,
+    ) -> Result<(), PlacingFault>
+        requires { IsWithin (length line.now.text) deed.now }
+        ensures { Adds (spec.deed_mentions table.now line.now.text arguments (deed_seen deed.now)) self.old self.new result }
+    {
+        match *deed {
+            Deed::Rests => Ok(()),
+            Deed::Assigns(assignment) => self.add_assignment(line, assignment),
+            Deed::Sets(start) => self.read(line, start, Context::Knows),
+            Deed::Operates(operator, start) => {
+                self.add_operator(table, line, start, arguments, operator)
+            }
+        }
+    }
+
+    // The arguments of an operator.
+    fn add_operator(
+        &mut self,
+        table: &Table,
+        line: &Line,
+        start: u8,
+        arguments: Option<u16>,
+        operator: Operator,
+    ) -> Result<(), PlacingFault>
+        requires { start ≤ length line.now.text }
+        ensures { Adds (spec.operator_mentions table.now line.now.text start arguments operator) self.old self.new result }
+    {
+        match operator {
+            Operator::Instruction(operation) => {
+                self.add_instruction(table, line, usize::from(start), operation)
+            }
+            Operator::Directs(directive) => self.add_directive(line, start, arguments, directive),
+        }
+    }
+
+    fn add_assignment(&mut self, line: &Line, assignment: Assignment) -> Result<(), PlacingFault>
+        ensures { Adds (spec.defined (target line.now.text assignment.name) ++ spec.read_at Knows line.now.text assignment.value) self.old self.new result }
+    {
+        self.define(read_name(assignment.name.text(line)))?;
+        self.read(line, assignment.value, Context::Knows)
+    }
+
+    // The symbols of the expression at a place.
+    fn read(&mut self, line: &Line, start: u8, context: Context) -> Result<(), PlacingFault>
+        ensures { Adds (spec.read_at context line.now.text start) self.old self.new result }
+    {
+        let mut notes = Notes::new(self.alloc);
+        note_symbols(line, within(line, start), &mut notes)?;
+        self.add_all(notes.symbols(), context)
+    }
+}
+
+impl Mentioned {
+    // The fields of an instruction. Their forms are asked of firm names.
+    fn add_instruction(
+        &mut self,
+        table: &Table,
+        line: &Line,
+        start: usize,
+        operation: Op,
+    ) -> Result<(), PlacingFault>
+        requires { start ≤ length line.now.text }
+        ensures { Adds (spec.operator_mentions table.now line.now.text start None (Operator.Instruction operation)) self.old self.new result }
+    {
+        let names = FirmNames::new(table, even_place(table.place()));
+        let fields = fields_at(line, start, operation, &names);
+        self.add_fields(line, fields.list.as_slice())
+    }
+
+    fn add_fields(&mut self, line: &Line, fields: &[Field]) -> Result<(), PlacingFault>
+        ensures { Adds (flat_map (spec.field_mentions line.now.text) fields.now) self.old self.new result }
+    {
+        match fields {
+            [] => Ok(()),
+            [field, others @ ..] => {
+                self.add_field(line, *field)?;
+                self.add_fields(line, others)
+            }
+        }
+    }
+
+    fn add_field(&mut self, line: &Line, field: Field) -> Result<(), PlacingFault>
+        ensures { Adds (spec.field_mentions line.now.text field) self.old self.new result }
+    {
+        match field {
+            Field::Formed(form) => self.add_form(line, form),
+            Field::Registered(start) | Field::Targeted(start) | Field::Numbered(start) => {
+                self.read(line, start, Context::Knows)
+            }
+            Field::Missing => Ok(()),
+        }
+    }
+
+    // The word after an instruction may refer to another object. A register may not.
+    fn add_form(&mut self, line: &Line, form: Form) -> Result<(), PlacingFault>
+        ensures { Adds (spec.form_mentions line.now.text form) self.old self.new result }
+    {
+        match form {
+            Form::Absent => Ok(()),
+            Form::InRegister(_, start) | Form::Unindexed(start) => {
+                self.read(line, start, Context::Knows)
+            }
+            Form::Indexed(_, start, index) => {
+                self.read(line, index, Context::Refers)?;
+                self.read(line, start, Context::Knows)
+            }
+            Form::AfterCounter(_, start) => self.read(line, start, Context::Refers),
+        }
+    }
+
+    fn add_directive(
+        &mut self,
+        line: &Line,
+        start: u8,
+        arguments: Option<u16>,
+        directive: Directive,
+    ) -> Result<(), PlacingFault>
+        requires { start ≤ length line.now.text }
+        ensures { Adds (spec.directive_mentions line.now.text start arguments directive) self.old self.new result }
+    {
+        let place = usize::from(start);
+        match directive {
+            Directive::Words | Directive::Bytewise => {
+                let elements = elements_at(line, place);
+                self.add_elements(line, elements.places.as_slice())
+            }
+            Directive::Ascii | Directive::Asciz => self.add_text(line, place, Context::Refers),
+            Directive::Rad50 => self.add_text(line, place, Context::Knows),
+            Directive::ByteBlock | Directive::WordBlock | Directive::End => {
+                self.read(line, start, Context::Knows)
+            }
+            Directive::Global | Directive::Weak => {
+                let names = listed_names(line, place);
+                self.add_names(names.as_slice())
+            }
+            Directive::ArgumentCount => self.add_number(&argument_count(arguments, line, place)),
+            Directive::CharacterCount => self.add_number(&character_count(line, place)),
+            _ => Ok(()),
+        }
+    }
+
+    // The elements of a list of words or bytes.
+    fn add_elements(&mut self, line: &Line, places: &[u8]) -> Result<(), PlacingFault>
+        ensures { Adds (flat_map (spec.read_at Context.Refers line.now.text) places.now) self.old self.new result }
+    {
+        match places {
+            [] => Ok(()),
+            [place, others @ ..] => {
+                self.read(line, *place, Context::Refers)?;
+                self.add_elements(line, others)
+            }
+        }
+    }
+
+    // The expressions among the parts of a text.
+    fn add_text(&mut self, line: &Line, start: usize, context: Context) -> Result<(), PlacingFault>
+        requires { start ≤ length line.now.text }
+        ensures { Adds (spec.part_mentions context line.now.text start) self.old self.new result }
+    {
+        let parts = parts_at(line, start);
+        self.add_parts(line, parts.list.as_slice(), context)
+    }
+
+    fn add_parts(
+        &mut self,
+        line: &Line,
+        parts: &[Part],
+        context: Context,
+    ) -> Result<(), PlacingFault>
+        ensures { Adds (flat_map (λ part. spec.part_mention context line.now.text part part.kind) parts.now) self.old self.new result }
+    {
+        match parts {
+            [] => Ok(()),
+            [part, others @ ..] => {
+                self.add_part(line, part, context)?;
+                self.add_parts(line, others, context)
+            }
+        }
+    }
+
+    fn add_part(&mut self, line: &Line, part: &Part, context: Context) -> Result<(), PlacingFault>
+        ensures { Adds (spec.part_mention context line.now.text part.now part.now.kind) self.old self.new result }
+    {
+        match part.kind {
+            PartKind::Text => Ok(()),
+            PartKind::Expression => self.read(line, part.inside.start, context),
+        }
+    }
+
+    // The names of a list. An element that is none is passed over.
+    fn add_names(&mut self, names: &[Option<Name>]) -> Result<(), PlacingFault>
+        ensures { Adds (map spec.named (names_among names.now)) self.old self.new result }
+    {
+        match names {
+            [] => Ok(()),
+            [name, others @ ..] => {
+                self.define(*name)?;
+                self.add_names(others)
+            }
+        }
+    }
+
+    // The name that is assigned a number.
+    fn add_number(&mut self, change: &Change) -> Result<(), PlacingFault>
+        ensures { Adds (spec.numbered_mention (change_seen change.now)) self.old self.new result }
+    {
+        match change {
+            Change::Numbers(name, _) => self.define(Some(*name)),
+            _ => Ok(()),
+        }
+    }
+}
+
+// An instruction stands at an even place: at the next one after an odd place.
+fn even_place(place: u16) -> u16
+    ensures { result ≡ place_for true place }
+{
+    place.wrapping_add(place % 2)
+}

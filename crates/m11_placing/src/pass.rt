@@ -1,0 +1,204 @@
+//! What one pass over a source keeps from line to line. (MACRO-11 Language Reference Manual, "Symbols and expressions" and "Program
+//! section directives".)
+
+ghost use Rattle.std.specs.Prelude.{◌≡◌, ◌<◌, ◌≤◌, ◌+◌, ◌^◌, IfOk, IfErr, length, slice_get};
+ghost use Rattle.m11_directives.specs.Changes.{move_seen};
+ghost use Rattle.m11_placement.specs.Changes.{with_move, with_section, with_settings};
+ghost use Rattle.m11_placement.specs.Labels.{new_block, with_block, with_definition, with_doubled, with_global};
+ghost use Rattle.m11_placement.specs.Limits.{local_count, most_local_symbols, most_sections};
+ghost use Rattle.m11_placement.specs.Tables.{Table as Told, first_table};
+ghost use Rattle.m11_placing.specs.Faults.{Refuses};
+ghost use Rattle.m11_placing.specs.Passes.{Follows, Matches, no_sizes, size_at, with_size};
+ghost use Rattle.m11_table.specs.Alike as tables;
+ghost use Rattle.m11_placing.specs.declared.fault.PlacingFault.TheVariants.{NoMemory};
+ghost use Rattle.m11_placement.specs.declared.definitions.Key.TheVariants.{Named, Numbered};
+
+use crate::fault::PlacingFault;
+use m11_base::Name;
+use m11_directives::Move;
+use m11_placement::{Definition, Key, Settings};
+use m11_table::Table;
+use std::alloc::{AllocError, Global};
+use std::marker::Model;
+
+/// The most local symbols of a source.
+const MOST_LOCAL_SYMBOLS: u32 = 16384;
+
+/// The most sections of an assembly, with the two that each has.
+const MOST_SECTIONS: usize = 64;
+
+/// What one pass over a source keeps from line to line: the table, and the sizes of sections so far.
+#[derive(Drop)]
+pub struct Pass {
+    pub(crate) alloc: Global,
+    pub(crate) table: Table,
+    // How many local symbols are defined.
+    local_symbols: u32,
+    // The greatest place that each counter had after a line, by the numbers of sections.
+    sizes: [u16; 64],
+}
+
+impl Model for Pass {
+    ghost use Rattle.m11_placing.specs.Passes.{Kept};
+
+    ghost Value = { Kept };
+
+    ghost view = { λ p. record { table = p.table; local_symbols = p.local_symbols; sizes = p.sizes } };
+}
+
+impl Pass {
+    /// Before the first line.
+    pub fn new(alloc: Global) -> Result<Pass, AllocError>
+        ensures { IfOk result (λ pass. Matches pass first_table) }
+    {
+        Ok(Pass {
+            alloc,
+            table: Table::new(alloc)?,
+            local_symbols: 0,
+            sizes: no_sizes(),
+        })
+    }
+
+    /// What the lines so far tell the next one.
+    pub fn table(&self) -> &Table
+        ensures { result.now ≡ self.now.table }
+    {
+        &self.table
+    }
+
+    /// The size of the section of a number, in bytes: the greatest place that its counter had after a line.
+    pub fn size(&self, number: usize) -> u16
+        requires { number < 64 }
+        ensures { result ≡ size_at self.now.sizes number }
+    {
+        self.sizes[number]
+    }
+
+    // One more definition of a name.
+    pub(crate) fn define_name(
+        &mut self,
+        name: Name,
+        definition: &Definition,
+    ) -> Result<(), PlacingFault>
+        requires { definition.now.key ≡ Named name }
+        ensures defines { IfOk result (λ _. Follows self.old self.new (with_definition definition.now)) }
+        ensures settings { IfOk result (λ _. self.new.table.settings ≡ self.old.table.settings) }
+        ensures refuses { IfErr result (λ fault. fault ≡ NoMemory) }
+    {
+        self.table.insert(definition)?;
+        Ok(())
+    }
+
+    // One more definition of a local symbol, where there is room for one.
+    pub(crate) fn define_symbol(
+        &mut self,
+        block: u64,
+        number: u16,
+        definition: &Definition,
+    ) -> Result<(), PlacingFault>
+        requires { definition.now.key ≡ Numbered block number }
+        ensures defines { IfOk result (λ _. Follows self.old self.new (with_definition definition.now)) }
+        ensures settings { IfOk result (λ _. self.new.table.settings ≡ self.old.table.settings) }
+        ensures refuses { IfErr result (λ fault. (told : Told) → Matches self.old told
+            → Refuses fault (most_local_symbols < local_count (with_definition definition.now told)) ⊥) }
+    {
+        if self.local_symbols >= MOST_LOCAL_SYMBOLS {
+            return Err(PlacingFault::TooManySymbols);
+        }
+        self.table.insert(definition)?;
+        self.local_symbols += 1;
+        Ok(())
+    }
+
+    // A key is doubled from here on.
+    pub(crate) fn double(&mut self, key: &Key) -> Result<(), PlacingFault>
+        ensures doubles { IfOk result (λ _. Follows self.old self.new (with_doubled key.now)) }
+        ensures settings { IfOk result (λ _. self.new.table.settings ≡ self.old.table.settings) }
+        ensures refuses { IfErr result (λ fault. fault ≡ NoMemory) }
+    {
+        self.table.double(key)?;
+        Ok(())
+    }
+
+    // A name is global from here on.
+    pub(crate) fn export(&mut self, name: Name) -> Result<(), PlacingFault>
+        ensures exports { IfOk result (λ _. Follows self.old self.new (with_global name)) }
+        ensures settings { IfOk result (λ _. self.new.table.settings ≡ self.old.table.settings) }
+        ensures refuses { IfErr result (λ fault. fault ≡ NoMemory) }
+    {
+        self.table.export(name)?;
+        Ok(())
+    }
+
+    // A new block of local symbols begins.
+    pub(crate) fn open_block(&mut self)
+        requires { self.old.table.settings.block + 1 < 2 ^ 64 }
+        ensures opens { Follows self.old self.new with_block }
+        ensures settings { self.new.table.settings ≡ new_block self.old.table.settings }
+    {
+        self.table.open_block();
+    }
+
+    // Other settings hold from here on.
+    pub(crate) fn set(&mut self, settings: Settings)
+        ensures { Follows self.old self.new (with_settings settings) }
+    {
+        self.table.set(settings);
+    }
+
+    // A section is selected. One whose name is new has these attributes.
+    pub(crate) fn select(&mut self, name: Name, attributes: u8) -> Result<(), PlacingFault>
+        requires blocks { self.old.table.settings.block + 1 < 2 ^ 64 }
+        requires sections { length self.old.table.sections ≤ most_sections }
+        ensures selects { IfOk result (λ _. Follows self.old self.new (with_section name attributes)) }
+        ensures refuses { IfErr result (λ fault. (told : Told) → Matches self.old told
+            → Refuses fault ⊥ (most_sections < length (with_section name attributes told).sections)) }
+    {
+        let is_new = self.table.section_number(name).is_none();
+        if is_new && self.table.section_count() >= MOST_SECTIONS {
+            return Err(PlacingFault::TooManySections);
+        }
+        self.table.select(name, attributes)?;
+        Ok(())
+    }
+
+    // The counter of the section goes on, or is set.
+    pub(crate) fn count(&mut self, step: Move)
+        requires { self.old.table.settings.section < 64 }
+        ensures { Follows self.old self.new (with_move (move_seen step)) }
+    {
+        move_counter(&mut self.table, step);
+        self.note_size();
+    }
+
+    // The size of the section is the greatest place of its counter.
+    fn note_size(&mut self)
+        requires { self.old.table.settings.section < 64 }
+        ensures { self.new ≡ with_size self.old }
+    {
+        let section = usize::from(self.table.settings().section);
+        let place = self.table.place();
+        if self.sizes[section] < place {
+            self.sizes[section] = place;
+        }
+    }
+}
+
+// Before the first line each section has size 0.
+#[tactic(auto, unfolding(crate::specs::Passes::no_sizes))]
+fn no_sizes() -> [u16; 64]
+    ensures { result ≡ no_sizes }
+{
+    [0; 64]
+}
+
+// The counter of the section goes on, or is set.
+fn move_counter(table: &mut Table, step: Move)
+    requires { table.old.settings.section < 64 }
+    ensures { tables.Follows table.old table.new (with_move (move_seen step)) }
+{
+    match step {
+        Move::Steps(size) => table.step(size),
+        Move::Goes(place) => table.go_to(place),
+    }
+}
