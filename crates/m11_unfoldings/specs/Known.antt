@@ -11,10 +11,12 @@ abbrev pub unknown : Quantity
 unknown = record { number = 0; kind = Absolute; letters = 8192 }
 
 abbrev pub of_name : Name → Quantity
-of_name name = if name.0 == 38400 then record { number = 10; kind = Absolute; letters = 0 } else unknown
+of_name name =
+    if name.0 == 0o113000 then record { number = 10; kind = Absolute; letters = 0 }
+    else (if name.0 == 0o14400 then record { number = 1; kind = Absolute; letters = 4 } else unknown)
 
--- X is 10, and no other name is known
+-- X is 10, D is 1 and doubled, `.` is 64, and no other symbol is known
 abbrev pub known : Symbol → Quantity
 known (Ordinary name) = of_name name
 known (Local number) = unknown
-known Counter = unknown
+known Counter = record { number = 64; kind = Absolute; letters = 0 }

@@ -7,16 +7,18 @@ ghost use Rattle.m11_unfoldings.specs.Known.{of_name, unknown};
 mod awkward_sources;
 mod limits;
 mod noted_lines;
+mod shown_lines;
 mod sources;
 
 use m11_base::Name;
 use m11_scan::{Letters, Line};
-use m11_unfold::{Act, Step, Unfolder};
+use m11_unfold::{Act, LiveLine, Step, Unfolder};
 use m11_unfolding::UnfoldFault;
 use m11_values::{Names, Radix, Symbol, Value};
 use std::alloc::{AllocError, Global};
+use std::process::Abort;
 
-// X is 10, no other name is known, and numbers are octal.
+// X is 10, D is 1 and doubled, `.` is 64, no other symbol is known, and numbers are octal.
 struct Known;
 
 impl Names for Known {
@@ -34,7 +36,8 @@ impl Names for Known {
     fn meaning(&self, symbol: Symbol) -> Value {
         match symbol {
             Symbol::Ordinary(name) => of_name(name),
-            Symbol::Local(_) | Symbol::Counter => unknown(),
+            Symbol::Local(_) => unknown(),
+            Symbol::Counter => Value::absolute(64, Letters::none()),
         }
     }
 }
@@ -48,17 +51,17 @@ fn unknown() -> Value
 fn of_name(name: Name) -> Value
     ensures { quantity result ≡ of_name name }
 {
-    if name.words().0 == 0o113000 {
-        Value::absolute(10, Letters::none())
-    } else {
-        unknown()
+    match name.words().0 {
+        0o113000 => Value::absolute(10, Letters::none()),
+        0o14400 => Value::absolute(1, Letters::D),
+        _ => unknown(),
     }
 }
 
 // What is kept of the live lines of a source.
 trait Keeps {
     // A live line, and what its operator gave.
-    fn keep(&mut self, line: &Line, act: &Act) -> Result<(), AllocError>;
+    fn keep(&mut self, live: &LiveLine, act: &Act) -> Result<(), AllocError>;
 }
 
 // Takes what is left. The answer is whether the next line of the source is needed.
@@ -71,7 +74,7 @@ fn take_rest<K: Keeps>(unfolder: &mut Unfolder, kept: &mut K) -> Result<bool, Un
             Step::End => return Ok(false),
             Step::Line(live) => {
                 let act = unfolder.act(&live.line, &Known)?;
-                kept.keep(&live.line, &act)?;
+                kept.keep(&live, &act)?;
             }
         }
     }
@@ -109,4 +112,55 @@ fn unfold<K: Keeps>(alloc: Global, source: &[Lines], kept: &mut K) -> Result<(),
         }
     }
     Ok(())
+}
+
+// How the live lines of a source are written.
+#[derive(Clone, Copy)]
+enum Form {
+    // The texts of those that aren't unfolding's own, each with its end.
+    Texts,
+    // What those that are unfolding's own, or that stand in a call, note.
+    Notes,
+    // All of them, with what unfolding finds of each.
+    Shown,
+    // The text of the last one that isn't unfolding's own.
+    Last,
+}
+
+#[derive(Drop)]
+struct Written {
+    form: Form,
+    text: Vec<u8>,
+}
+
+impl Keeps for Written {
+    fn keep(&mut self, live: &LiveLine, act: &Act) -> Result<(), AllocError> {
+        match self.form {
+            Form::Texts => sources::write(&mut self.text, live, act),
+            Form::Notes => noted_lines::write(&mut self.text, live, act),
+            Form::Shown => shown_lines::write(&mut self.text, live, act),
+            Form::Last => limits::write(&mut self.text, live, act),
+        }
+    }
+}
+
+// A source, and its live lines as they are written.
+type TextRow = (&'static [Lines], &'static str);
+
+fn text_of(alloc: Global, form: Form, source: &[Lines]) -> Result<Vec<u8>, UnfoldFault> {
+    let mut kept = Written {
+        form,
+        text: Vec::new(alloc),
+    };
+    unfold(alloc, source, &mut kept)?;
+    Ok(kept.text)
+}
+
+fn check_texts(rt: &impl Abort, alloc: Global, form: Form, rows: &[TextRow]) {
+    for (source, wanted) in rows {
+        match text_of(alloc, form, source) {
+            Ok(found) => assert_eq!(rt; found.as_slice(), wanted.as_bytes(), "{wanted}"),
+            Err(fault) => assert_eq!(rt; fault.name(), "", "{wanted}"),
+        }
+    }
 }

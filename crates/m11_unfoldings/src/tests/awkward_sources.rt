@@ -2,7 +2,7 @@
 
 use super::{Keeps, take_rest};
 use m11_scan::Line;
-use m11_unfold::{Act, Unfolder};
+use m11_unfold::{Act, LiveLine, Unfolder};
 use m11_unfolding::UnfoldFault;
 use std::alloc::{AllocError, Global};
 use std::process::Abort;
@@ -63,9 +63,9 @@ impl Sum {
 }
 
 impl Keeps for Sum {
-    fn keep(&mut self, line: &Line, act: &Act) -> Result<(), AllocError> {
+    fn keep(&mut self, live: &LiveLine, act: &Act) -> Result<(), AllocError> {
         self.lines = self.lines.wrapping_add(1);
-        for byte in line.text() {
+        for byte in live.line.text() {
             self.add(u64::from(*byte));
         }
         for letter in act.notes.letters().text().iter() {

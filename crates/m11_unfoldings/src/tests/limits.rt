@@ -1,8 +1,10 @@
 //! Each limit at its last accepted value, and one past it.
 
-use super::{Keeps, Lines, feed_all, take_rest, unfold};
+ghost use Rattle.std.specs.Prelude.{◌<◌};
+
+use super::{Form, Keeps, Lines, TextRow, check_texts, feed_all, take_rest, unfold};
 use m11_scan::Line;
-use m11_unfold::{Act, Unfolder};
+use m11_unfold::{Act, LiveLine, Unfolder};
 use m11_unfolding::UnfoldFault;
 use std::alloc::{AllocError, Global};
 use std::process::Abort;
@@ -12,7 +14,7 @@ use std::process::Abort;
 struct Count(u32);
 
 impl Keeps for Count {
-    fn keep(&mut self, _line: &Line, act: &Act) -> Result<(), AllocError> {
+    fn keep(&mut self, _live: &LiveLine, act: &Act) -> Result<(), AllocError> {
         if !act.is_own {
             self.0 = self.0.wrapping_add(1);
         }
@@ -30,11 +32,17 @@ fn count_of(alloc: Global, source: &[Lines]) -> Result<u32, UnfoldFault> {
 // A source, and its count of live lines or its fault.
 type Row = (&'static [Lines], Result<u32, UnfoldFault>);
 
-// 128 bytes with its end
+// 128 bytes with its end; and a line that is too long, of which 133 with its end count
 const LONG: &str =
     ";------------------------------------------------------------------------------------------------------------------------------";
 
-static EXPANSIONS: [Row; 7] = [
+const CUT: &str =
+    ";-------------------------------------------------------------------------------------------------------------------------------------------";
+
+const REST: &str =
+    ";--------------------------------------------------------------------------------------------------";
+
+static EXPANSIONS: [Row; 10] = [
     (&[(".REPT 1", 16), ("A", 1), (".ENDR", 16)], Ok(1)),
     (
         &[(".REPT 1", 17), ("A", 1), (".ENDR", 17)],
@@ -81,6 +89,31 @@ static EXPANSIONS: [Row; 7] = [
             ("M 1", 1),
             (".ENDR", 16),
         ],
+        Err(UnfoldFault::TooDeep),
+    ),
+    // so is a call of a macro without a line, and a list without an actual
+    (
+        &[
+            (".MACRO M", 1),
+            (".ENDM", 1),
+            (".REPT 1", 15),
+            ("M", 1),
+            (".ENDR", 15),
+        ],
+        Ok(0),
+    ),
+    (
+        &[
+            (".MACRO M", 1),
+            (".ENDM", 1),
+            (".REPT 1", 16),
+            ("M", 1),
+            (".ENDR", 16),
+        ],
+        Err(UnfoldFault::TooDeep),
+    ),
+    (
+        &[(".REPT 1", 16), (".IRP X,<>", 1), (".ENDR", 17)],
         Err(UnfoldFault::TooDeep),
     ),
 ];
@@ -130,7 +163,7 @@ static CONDITIONS: [Row; 4] = [
     ),
 ];
 
-static LINES: [Row; 4] = [
+static LINES: [Row; 6] = [
     // 196,602 lines of rounds, and 8 of the repeat itself
     (
         &[(".REPT 77777", 1), ("A", 6), (".ENDR", 1), ("A", 3_390)],
@@ -155,9 +188,29 @@ static LINES: [Row; 4] = [
         ],
         Err(UnfoldFault::TooManyLines),
     ),
+    // so do statements of `.IIF`
+    (
+        &[
+            (".REPT 77777", 1),
+            ("A", 6),
+            (".ENDR", 1),
+            (".IIF EQ 0,A", 1_695),
+        ],
+        Ok(198_297),
+    ),
+    (
+        &[
+            (".REPT 77777", 1),
+            ("A", 6),
+            (".ENDR", 1),
+            (".IIF EQ 0,A", 1_695),
+            ("A", 1),
+        ],
+        Err(UnfoldFault::TooManyLines),
+    ),
 ];
 
-static TEXT: [Row; 6] = [
+static TEXT: [Row; 9] = [
     (&[(".REPT 1", 1), (LONG, 512), (".ENDR", 1)], Ok(512)),
     (
         &[(".REPT 1", 1), (LONG, 512), ("", 1), (".ENDR", 1)],
@@ -205,6 +258,26 @@ static TEXT: [Row; 6] = [
         &[(".MACRO", 1), (LONG, 512), ("", 1)],
         Err(UnfoldFault::TooMuchText),
     ),
+    (
+        &[
+            (".MACRO", 1),
+            (LONG, 512),
+            (".ENDM", 1),
+            (".REPT 1", 1),
+            (LONG, 512),
+            (".ENDR", 1),
+        ],
+        Ok(512),
+    ),
+    // lines count as they were cut
+    (
+        &[(".REPT 1", 1), (CUT, 492), (REST, 1), (".ENDR", 1)],
+        Ok(493),
+    ),
+    (
+        &[(".REPT 1", 1), (CUT, 493), (".ENDR", 1)],
+        Err(UnfoldFault::TooMuchText),
+    ),
 ];
 
 fn check_rows(rt: &impl Abort, alloc: Global, rows: &[Row]) {
@@ -243,12 +316,14 @@ fn header(number: u16) -> Line {
     line
 }
 
-// Defines as many macros.
-fn macros_defined(alloc: Global, count: u16) -> Result<(), UnfoldFault> {
+// Defines as many macros, of as many names, and ends with further lines.
+fn macros_defined(alloc: Global, count: u16, names: u16, last: Lines) -> Result<(), UnfoldFault>
+    requires { 0 < names }
+{
     let mut unfolder = Unfolder::new(alloc);
     let mut live = Count(0);
     'macros: for number in 0..count {
-        unfolder.feed(header(number));
+        unfolder.feed(header(number % names));
         if !take_rest(&mut unfolder, &mut live)? {
             return Ok(());
         }
@@ -256,16 +331,62 @@ fn macros_defined(alloc: Global, count: u16) -> Result<(), UnfoldFault> {
             return Ok(());
         }
     }
+    feed_all(&mut unfolder, last, &mut live)?;
     Ok(())
 }
 
 #[test]
 fn two_hundred_and_fifty_six_macros_may_be_defined(rt: HostRuntime) {
-    assert_eq!(&rt; macros_defined(rt.alloc(), 256), Ok(()));
+    let past = Err(UnfoldFault::TooManyMacros);
+    assert_eq!(&rt; macros_defined(rt.alloc(), 256, 256, ("", 0)), Ok(()));
+    assert_eq!(&rt; macros_defined(rt.alloc(), 257, 257, ("", 0)), past);
+    // a name that is defined again is no further one, nor is that of a body which no line closes
+    assert_eq!(&rt; macros_defined(rt.alloc(), 300, 256, ("", 0)), Ok(()));
     assert_eq!(&rt;
-        macros_defined(rt.alloc(), 257),
-        Err(UnfoldFault::TooManyMacros)
+        macros_defined(rt.alloc(), 256, 256, (".MACRO NEXT", 2)),
+        Ok(())
     );
+}
+
+// The text of a line that isn't unfolding's own, in place of the one before it.
+pub(super) fn write(text: &mut Vec<u8>, live: &LiveLine, act: &Act) -> Result<(), AllocError> {
+    if !act.is_own {
+        text.clear();
+        text.extend_from_slice(live.line.text())?;
+    }
+    Ok(())
+}
+
+static CREATED: [TextRow; 2] = [
+    (
+        &[
+            (".MACRO M ?A", 1),
+            ("A:", 1),
+            (".ENDM", 1),
+            (".REPT 77777", 1),
+            ("M", 1),
+            (".ENDR", 1),
+            ("M", 2_769),
+        ],
+        "65535$:",
+    ),
+    (
+        &[
+            (".MACRO M ?A", 1),
+            ("A:", 1),
+            (".ENDM", 1),
+            (".REPT 77777", 1),
+            ("M", 1),
+            (".ENDR", 1),
+            ("M", 2_770),
+        ],
+        "30000$:",
+    ),
+];
+
+#[test]
+fn created_symbols_begin_again_after_65535(rt: HostRuntime) {
+    check_texts(&rt, rt.alloc(), Form::Last, &CREATED);
 }
 
 // After a fault each call returns it again.

@@ -1,34 +1,26 @@
 //! The letters and symbols of lines that are unfolding's own, and the count of actuals around lines of calls.
 
-use super::{Keeps, Lines, unfold};
-use m11_scan::Line;
-use m11_unfold::Act;
-use m11_unfolding::UnfoldFault;
-use std::alloc::{AllocError, Global};
-use std::process::Abort;
+use super::{Form, TextRow, check_texts};
+use m11_unfold::{Act, LiveLine};
+use std::alloc::AllocError;
 
-// Of each line that is unfolding's own or stands in a call: its letters, how many symbols its arguments read, and, after `/`, how many
+// Adds, of a line that is unfolding's own or stands in a call, its letters, how many symbols its arguments read, and, after `/`, how many
 // actuals the call has.
-#[derive(Drop)]
-struct OwnLines(Vec<u8>);
-
-impl Keeps for OwnLines {
-    fn keep(&mut self, _line: &Line, act: &Act) -> Result<(), AllocError> {
-        if !act.is_own && act.arguments.is_none() {
-            return Ok(());
-        }
-        self.0.extend_from_slice(&act.notes.letters().text())?;
-        self.0.push(digit(act.notes.symbols().len()))?;
-        match act.arguments {
-            Some(count) => {
-                self.0.push(b'/')?;
-                self.0.push(digit(usize::from(count)))?;
-            }
-            None => {}
-        }
-        self.0.push(b' ')?;
-        Ok(())
+pub(super) fn write(text: &mut Vec<u8>, _live: &LiveLine, act: &Act) -> Result<(), AllocError> {
+    if !act.is_own && act.arguments.is_none() {
+        return Ok(());
     }
+    text.extend_from_slice(&act.notes.letters().text())?;
+    text.push(digit(act.notes.symbols().len()))?;
+    match act.arguments {
+        Some(count) => {
+            text.push(b'/')?;
+            text.push(digit(usize::from(count)))?;
+        }
+        None => {}
+    }
+    text.push(b' ')?;
+    Ok(())
 }
 
 fn digit(number: usize) -> u8 {
@@ -38,16 +30,7 @@ fn digit(number: usize) -> u8 {
     }
 }
 
-fn noted(alloc: Global, source: &[Lines]) -> Result<Vec<u8>, UnfoldFault> {
-    let mut lines = OwnLines(Vec::new(alloc));
-    unfold(alloc, source, &mut lines)?;
-    Ok(lines.0)
-}
-
-// A source, and what its lines of unfolding's own note.
-type Row = (&'static [Lines], &'static str);
-
-static OUTSIDE: [Row; 7] = [
+static OUTSIDE: [TextRow; 7] = [
     (&[(".ENDC", 1), (".IFF", 1)], "O0 O0 "),
     (&[(".IFT", 1), (".IFTF", 1)], "O0 O0 "),
     (&[(".ENDM", 1), (".ENDR", 1)], "O0 O0 "),
@@ -58,7 +41,7 @@ static OUTSIDE: [Row; 7] = [
     (&[(".NARG N", 1), (".NCHR N,A", 1)], ""),
 ];
 
-static CONDITIONS: [Row; 12] = [
+static CONDITIONS: [TextRow; 13] = [
     (&[(".IF EQ 0", 1), (".ENDC", 1)], "0 0 "),
     (&[(".IF EQ 0 1", 1)], "Q0 "),
     (&[(".IF EQ", 1)], "A0 "),
@@ -68,12 +51,13 @@ static CONDITIONS: [Row; 12] = [
     (&[(".IF EQ X-A", 1)], "U2 "),
     (&[(".IF DF A&X", 1)], "2 "),
     (&[(".IF DF A!5", 1)], "A1 "),
+    (&[(".IF DF A!5!B", 1)], "A1 "),
     (&[(".IF NDF", 1)], "A0 "),
     (&[(".IF EQ<0>", 1)], "0 "),
     (&[(".IIF EQ X,A", 1), (".IIF NE X A", 1)], "1 AQ1 "),
 ];
 
-static BODIES: [Row; 10] = [
+static BODIES: [TextRow; 10] = [
     (&[(".REPT", 1)], "A0 "),
     (&[(".REPT X 5", 1)], "Q1 "),
     (&[(".REPT A", 1)], "U1 "),
@@ -86,7 +70,7 @@ static BODIES: [Row; 10] = [
     (&[(".IRP A,\\X", 1)], "1 "),
 ];
 
-static CALLS: [Row; 5] = [
+static CALLS: [TextRow; 5] = [
     (
         &[
             (".MACRO M A", 1),
@@ -129,7 +113,7 @@ static CALLS: [Row; 5] = [
     (&[(".MACRO M", 1), (".ENDM", 1), ("M A", 1)], "0 Q0 "),
 ];
 
-static CORNERS: [Row; 10] = [
+static CORNERS: [TextRow; 11] = [
     (
         &[
             (".MACRO M A", 1),
@@ -140,6 +124,16 @@ static CORNERS: [Row; 10] = [
             ("M", 1),
         ],
         "0 0 0/1 0 0/1 0 0/0 ",
+    ),
+    (
+        &[
+            (".MACRO M A,B", 1),
+            (".NARG N", 1),
+            (".ENDM", 1),
+            ("M ,,", 1),
+            ("M ,1", 1),
+        ],
+        "0 0 0/2 0 0/2 ",
     ),
     (
         &[
@@ -212,36 +206,27 @@ static CORNERS: [Row; 10] = [
     ),
 ];
 
-fn check_rows(rt: &impl Abort, alloc: Global, rows: &[Row]) {
-    for (source, wanted) in rows {
-        match noted(alloc, source) {
-            Ok(found) => assert_eq!(rt; found.as_slice(), wanted.as_bytes(), "{wanted}"),
-            Err(fault) => assert_eq!(rt; fault.name(), "", "{wanted}"),
-        }
-    }
-}
-
 #[test]
 fn a_directive_outside_its_block_has_the_letter_o(rt: HostRuntime) {
-    check_rows(&rt, rt.alloc(), &OUTSIDE);
+    check_texts(&rt, rt.alloc(), Form::Notes, &OUTSIDE);
 }
 
 #[test]
 fn conditions_note_the_letters_and_symbols_of_their_arguments(rt: HostRuntime) {
-    check_rows(&rt, rt.alloc(), &CONDITIONS);
+    check_texts(&rt, rt.alloc(), Form::Notes, &CONDITIONS);
 }
 
 #[test]
 fn bodies_note_the_letters_and_symbols_of_their_arguments(rt: HostRuntime) {
-    check_rows(&rt, rt.alloc(), &BODIES);
+    check_texts(&rt, rt.alloc(), Form::Notes, &BODIES);
 }
 
 #[test]
 fn calls_note_their_letters_and_count_their_actuals(rt: HostRuntime) {
-    check_rows(&rt, rt.alloc(), &CALLS);
+    check_texts(&rt, rt.alloc(), Form::Notes, &CALLS);
 }
 
 #[test]
 fn corners_note_what_was_worked(rt: HostRuntime) {
-    check_rows(&rt, rt.alloc(), &CORNERS);
+    check_texts(&rt, rt.alloc(), Form::Notes, &CORNERS);
 }

@@ -1,41 +1,24 @@
 //! Sources, and the lines of them that become live and are none of unfolding's own.
 
-use super::{Keeps, Lines, unfold};
-use m11_scan::Line;
-use m11_unfold::Act;
-use m11_unfolding::UnfoldFault;
-use std::alloc::{AllocError, Global};
-use std::process::Abort;
+use super::{Form, TextRow, check_texts};
+use m11_unfold::{Act, LiveLine};
+use std::alloc::AllocError;
 
-// The texts of lines that aren't unfolding's own, each with its end.
-#[derive(Drop)]
-struct Texts(Vec<u8>);
-
-impl Keeps for Texts {
-    fn keep(&mut self, line: &Line, act: &Act) -> Result<(), AllocError> {
-        if !act.is_own {
-            self.0.extend_from_slice(line.text())?;
-            self.0.push(b'\n')?;
-        }
-        Ok(())
+// Adds the text of a line that isn't unfolding's own, with its end.
+pub(super) fn write(text: &mut Vec<u8>, live: &LiveLine, act: &Act) -> Result<(), AllocError> {
+    if !act.is_own {
+        text.extend_from_slice(live.line.text())?;
+        text.push(b'\n')?;
     }
+    Ok(())
 }
 
-fn unfolded(alloc: Global, source: &[Lines]) -> Result<Vec<u8>, UnfoldFault> {
-    let mut texts = Texts(Vec::new(alloc));
-    unfold(alloc, source, &mut texts)?;
-    Ok(texts.0)
-}
-
-// A source, and its live lines.
-type Row = (&'static [Lines], &'static str);
-
-static PLAIN: [Row; 2] = [
+static PLAIN: [TextRow; 2] = [
     (&[("A=1", 1), ("MOV R0,R1", 1)], "A=1\nMOV R0,R1\n"),
     (&[("A", 1), (".END", 1), ("B", 1)], "A\n.END\n"),
 ];
 
-static CONDITIONS: [Row; 15] = [
+static CONDITIONS: [TextRow; 15] = [
     (
         &[(".IF EQ 0", 1), ("A", 1), (".ENDC", 1), ("B", 1)],
         "A\nB\n",
@@ -125,7 +108,7 @@ static CONDITIONS: [Row; 15] = [
     (&[(".IF EQ 0", 1), ("A", 1)], "A\n"),
 ];
 
-static REPEATS: [Row; 13] = [
+static REPEATS: [TextRow; 13] = [
     (
         &[(".REPT 3", 1), ("A", 1), (".ENDR", 1), ("B", 1)],
         "A\nA\nA\nB\n",
@@ -193,7 +176,7 @@ static REPEATS: [Row; 13] = [
     (&[(".REPT 77777", 2), (".ENDR", 2), (".END", 1)], ".END\n"),
 ];
 
-static CALLS: [Row; 14] = [
+static CALLS: [TextRow; 14] = [
     (
         &[
             (".MACRO TWICE X", 1),
@@ -326,7 +309,7 @@ static CALLS: [Row; 14] = [
 ];
 
 // Corners of arguments, bodies and conditions.
-static CORNERS: [Row; 16] = [
+static CORNERS: [TextRow; 16] = [
     (
         &[(".REPT 1", 1), ("A", 1), ("X: .ENDR", 1), ("B", 1)],
         "A\nB\n",
@@ -467,36 +450,27 @@ static CORNERS: [Row; 16] = [
     ),
 ];
 
-fn check_rows(rt: &impl Abort, alloc: Global, rows: &[Row]) {
-    for (source, live) in rows {
-        match unfolded(alloc, source) {
-            Ok(lines) => assert_eq!(rt; lines.as_slice(), live.as_bytes(), "{live}"),
-            Err(fault) => assert_eq!(rt; fault.name(), "", "{live}"),
-        }
-    }
-}
-
 #[test]
 fn lines_without_directives_of_unfolding_are_live(rt: HostRuntime) {
-    check_rows(&rt, rt.alloc(), &PLAIN);
+    check_texts(&rt, rt.alloc(), Form::Texts, &PLAIN);
 }
 
 #[test]
 fn conditions_decide_which_lines_are_live(rt: HostRuntime) {
-    check_rows(&rt, rt.alloc(), &CONDITIONS);
+    check_texts(&rt, rt.alloc(), Form::Texts, &CONDITIONS);
 }
 
 #[test]
 fn repeats_give_their_rounds(rt: HostRuntime) {
-    check_rows(&rt, rt.alloc(), &REPEATS);
+    check_texts(&rt, rt.alloc(), Form::Texts, &REPEATS);
 }
 
 #[test]
 fn calls_give_their_bodies(rt: HostRuntime) {
-    check_rows(&rt, rt.alloc(), &CALLS);
+    check_texts(&rt, rt.alloc(), Form::Texts, &CALLS);
 }
 
 #[test]
 fn corners_are_unfolded_as_worked(rt: HostRuntime) {
-    check_rows(&rt, rt.alloc(), &CORNERS);
+    check_texts(&rt, rt.alloc(), Form::Texts, &CORNERS);
 }
