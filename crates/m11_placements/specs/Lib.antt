@@ -5,3 +5,4 @@ pub mod LimitRows
 pub mod DirectiveRows
 pub mod RelocationRows
 pub mod SourceRows
+pub mod ConditionRows

@@ -2,10 +2,12 @@
 //! and the definitions of placing give just that. Each law is the contract of a function that does nothing; no other crate names them.
 #![tactic(auto)]
 
+mod conditions;
 mod directives;
 mod instructions;
 mod relocations;
 
+pub use conditions::conditions_are_as_worked;
 pub use directives::{
     items_are_as_worked, listings_are_as_worked, places_are_as_worked, settings_are_as_worked,
     texts_are_as_worked, words_are_as_worked,
