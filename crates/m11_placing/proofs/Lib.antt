@@ -1,5 +1,6 @@
 pub mod Alike
 mod Assigning
+mod FirmCounters
 mod Gathering
 mod Labelling
 mod LinesAlike

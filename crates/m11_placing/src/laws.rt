@@ -1,20 +1,23 @@
 //! Laws of what a pass keeps. Each is the contract of a function that does nothing.
 
 ghost use Rattle.std.specs.Prelude.{◌≡◌, ℕ};
-ghost use Rattle.m11_statements.specs.Labels.{labels_at};
+ghost use Rattle.m11_arguments.specs.Directives.{every_name};
+ghost use Rattle.m11_statements.specs.Labels.{labels_at, labels_end};
+ghost use Rattle.m11_statements.specs.Statements.{body_of, label_letters};
 ghost use Rattle.m11_unfolding.specs.Unfolding.{Given};
 ghost use Rattle.m11_placement.specs.Changes.{changed};
 ghost use Rattle.m11_placement.specs.Labels.{labels_letters};
-ghost use Rattle.m11_placement.specs.Lines.{after_line, line_put, stands};
+ghost use Rattle.m11_placement.specs.Lines.{after_line, letters, line_put, stands};
 ghost use Rattle.m11_placement.specs.Meanings.{Map};
 ghost use Rattle.m11_placement.specs.Tables.{Table};
 ghost use Rattle.m11_placing.specs.Labels.{DefinesAll};
-ghost use Rattle.m11_placing.specs.Lines.{change_by, mentions_by, written_by};
+ghost use Rattle.m11_placing.specs.Lines.{change_by, letters_from, mentions_by, written_by};
 ghost use Rattle.m11_placing.specs.Passes.{Follows, Kept, Matches};
 
 /// A line goes through a pass in its calls: its labels are defined, and what its operator changes by the table that is kept then is
 /// taken. The pass then keeps what counts of the table after that line, and the letters of the labels are those of the line. What the line
-/// puts and mentions by the table that is kept is what it puts and mentions by the table of all definitions.
+/// puts and mentions by the table that is kept is what it puts and mentions by the table of all definitions, and its letters are those
+/// that `line_letters` joins.
 #[tactic(auto, using(crate::proofs::LinesTaken::line_written, crate::proofs::LinesTaken::line_mentioned))]
 pub fn a_line_goes_through_a_pass()
     ensures takes { (old stood new : Kept) (letters : ℕ) (map : Map) (told : Table) (given : Given) → Matches old told
@@ -26,4 +29,8 @@ pub fn a_line_goes_through_a_pass()
         → written_by map stood.table given ≡ line_put map (stands told given) given }
     ensures mentions { (stood : Kept) (told : Table) (given : Given) → Matches stood (stands told given)
         → mentions_by stood.table given ≡ mentions_by (stands told given) given }
+    ensures letters { (map : Map) (told : Table) (given : Given) → letters map told given
+        ≡ letters_from given.live.line.text (labels_end given.live.line.text) (body_of every_name given.live.line.text)
+        (label_letters given.live.line) (labels_letters given.live.line.text told (labels_at given.live.line.text))
+        (line_put map (stands told given) given).letters given.notes.letters }
 {}

@@ -1,0 +1,111 @@
+//! What a line changes and puts, and its letters, once its labels stand. (MACRO-11 Language Reference Manual, "Source program format".)
+
+ghost use Rattle.std.specs.Prelude.{◌≡◌, ◌<◌, ◌≤◌, IfOk, IsTrue, length};
+ghost use Rattle.m11_directives.specs.Changes.{change_seen};
+ghost use Rattle.m11_placement.specs.Contents.{followed_by};
+ghost use Rattle.m11_placement.specs.Lines as spec;
+ghost use Rattle.m11_placement.specs.Tables.{firm_table};
+ghost use Rattle.m11_placing.specs.Deeds.{IsWithin, deed_seen, is_listed};
+ghost use Rattle.m11_placing.specs.Lines.{letters_from};
+ghost use Rattle.m11_placement.specs.Assigning as assigning;
+ghost use Rattle.m11_scan.specs.Views.{bits_of};
+
+use crate::deeds::Deed;
+use m11_arguments::skip_letters;
+use m11_contents::Put;
+use m11_directives::{Change, assignment, assignment_letters, counter_change, counter_letters};
+use m11_operators::{operator_change, put_operator};
+use m11_scan::{Letters, Line};
+use m11_statements::{Assignment, Body};
+use m11_table::{Map, Table};
+use std::alloc::AllocError;
+
+/// What stands after the labels of a line changes for the lines after it. It is asked of firm names alone. A macro around the line has
+/// so many actuals.
+#[tactic(auto, using(crate::proofs::FirmCounters::counter_firm))]
+pub fn deed_change(table: &Table, line: &Line, arguments: Option<u16>, deed: &Deed) -> Change
+    requires within { IsWithin (length line.now.text) deed.now }
+    requires listed { table.now.settings.listed < u64.MAX }
+    requires unlisted { table.now.settings.unlisted < u64.MAX }
+    ensures { change_seen result ≡ spec.change_of (firm_table table.now) line.now.text arguments (deed_seen deed.now) }
+{
+    match *deed {
+        Deed::Rests => Change::Keeps,
+        Deed::Assigns(made) => assignment(line, made.name, made.is_global, made.value),
+        Deed::Sets(start) => counter_change(table, line, usize::from(start)),
+        Deed::Operates(operator, start) => {
+            operator_change(table, line, usize::from(start), arguments, operator)
+        }
+    }
+}
+
+/// What it puts at its places, with the letters of the operator and its arguments: under a map, what a whole source gives its names.
+pub fn put_deed(
+    put: &mut Put,
+    map: &Map<'_>,
+    table: &Table,
+    line: &Line,
+    arguments: Option<u16>,
+    deed: &Deed,
+) -> Result<(), AllocError>
+    requires within { IsWithin (length line.now.text) deed.now }
+    requires listed { IsTrue (is_listed deed.now) }
+    ensures { IfOk result (λ _. put.new
+        ≡ followed_by put.old (spec.put_by map.now table.now line.now.text arguments (deed_seen deed.now))) }
+{
+    match *deed {
+        Deed::Rests => {
+            put.add_letters(Letters::none());
+            Ok(())
+        }
+        Deed::Assigns(made) => {
+            put.add_letters(value_letters(map, table, line, made));
+            Ok(())
+        }
+        Deed::Sets(start) => {
+            put.add_letters(counter_letters(table, line, usize::from(start)));
+            Ok(())
+        }
+        Deed::Operates(operator, start) => {
+            put_operator(
+                put,
+                map,
+                table,
+                line,
+                usize::from(start),
+                arguments,
+                operator,
+            )
+        }
+    }
+}
+
+// The letters of an assignment.
+fn value_letters(map: &Map<'_>, table: &Table, line: &Line, made: Assignment) -> Letters
+    requires { made.value ≤ length line.now.text }
+    ensures { bits_of result
+        ≡ assigning.assignment_letters map.now table.now line.now.text made.name made.value }
+{
+    assignment_letters(map, table, line, made.name, usize::from(made.value))
+}
+
+/// The letters of a line: of itself and its labels, of what is skipped after them before the operator, of what it puts, and those that
+/// unfolding found. `own` are those that the line has whatever its body does, and `labels` those of labels that are defined again.
+pub fn line_letters(
+    line: &Line,
+    labels_end: usize,
+    body: Body,
+    own: Letters,
+    labels: Letters,
+    put: Letters,
+    noted: Letters,
+) -> Letters
+    ensures { bits_of result ≡ letters_from line.now.text labels_end body (bits_of own) (bits_of labels) (bits_of put) (bits_of noted) }
+{
+    let end = match body {
+        Body::Operates(name) => usize::from(name.start),
+        _ => line.text().len(),
+    };
+    let found = skip_letters(line, labels_end, end);
+    own.with(labels).with(found.with(put.with(noted)))
+}
