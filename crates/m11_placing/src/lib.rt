@@ -5,6 +5,7 @@
 mod changing;
 mod deeds;
 mod fault;
+mod items;
 mod labels;
 mod laws;
 mod lines;
@@ -14,6 +15,7 @@ mod pass;
 
 pub use deeds::{Deed, deed_after_labels};
 pub use fault::PlacingFault;
+pub use items::{add_content_items, number_item, value_item};
 pub use laws::a_line_goes_through_a_pass;
 pub use lines::{deed_change, line_letters, put_deed};
 pub use mentioned::Mentioned;
