@@ -1,6 +1,6 @@
 //! A source goes through two passes, and what its lines put and their letters are kept as a text.
 
-ghost use Rattle.std.specs.Prelude.{◌≡◌, false, [], true, Ok};
+ghost use Rattle.std.specs.Prelude.{◌≡◌, [], true, Ok};
 
 mod directives;
 mod flags;

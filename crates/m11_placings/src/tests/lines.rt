@@ -1,6 +1,6 @@
 //! One line goes through a pass.
 
-ghost use Rattle.std.specs.Prelude.{◌≡◌, ◌<◌, ◌≤◌, ◌+◌, ◌^◌, IsTrue, false, length};
+ghost use Rattle.std.specs.Prelude.{◌≡◌, ◌≤◌, IsTrue, false, length};
 ghost use Rattle.m11_arguments.specs.Directives.{every_name};
 ghost use Rattle.m11_placing.specs.Deeds.{IsWithin, is_listed};
 
