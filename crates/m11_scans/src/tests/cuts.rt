@@ -98,7 +98,7 @@ static NUMBERS: [Row; 5] = [
         tokens: &[(Sort::DecimalNumber, 0, 2), (Sort::Name, 2, 3)],
     },
     Row {
-        line: "^D10^o7^b1^C1",
+        line: "^d10^O7^b1^C1",
         place: 0,
         tokens: &[
             (Sort::DecimalRadix, 0, 2),

@@ -111,7 +111,7 @@ static PREFIXES: [Row; 20] = [
     ("^C1+1", 0o177777, From::Zero, ""),
     ("^c0", 0o177777, From::Zero, ""),
     ("-^C0", 1, From::Zero, ""),
-    ("^D10+10", 0o22, From::Zero, ""),
+    ("^d10+10", 0o22, From::Zero, ""),
     ("^d10", 10, From::Zero, ""),
     ("^B12", 12, From::Zero, "N"),
     ("^D<10+10>", 20, From::Zero, ""),
