@@ -1,6 +1,6 @@
 //! One line goes through a pass.
 
-ghost use Rattle.std.specs.Prelude.{◌≡◌, ◌≤◌, IsTrue, false, length};
+ghost use Rattle.std.specs.Prelude.{◌≡◌, IsTrue, false, length};
 ghost use Rattle.m11_arguments.specs.Directives.{every_name};
 ghost use Rattle.m11_placing.specs.Deeds.{IsWithin, is_listed};
 
@@ -8,12 +8,11 @@ use crate::tests::Refusal;
 use crate::tests::texts::put_line;
 use m11_base::Name;
 use m11_contents::Put;
-use m11_directives::{Change, assignment, assignment_letters, counter_change, counter_letters};
-use m11_operators::{operator_change, put_operator};
-use m11_placement::{Context, Operator};
-use m11_placing::{Deed, Mentioned, Pass, PlacingFault, deed_after_labels};
+use m11_directives::Change;
+use m11_placement::Context;
+use m11_placing::{Deed, Mentioned, Pass, PlacingFault, deed_after_labels, deed_change, put_deed};
 use m11_scan::{Letters, Line};
-use m11_statements::{Assignment, Label, Operators, statement};
+use m11_statements::{Label, Operators, statement};
 use m11_table::{FirmNames, Map, Table};
 use m11_unfold::{Act, Unfolder};
 use m11_unfolding::UnfoldFault;
@@ -123,49 +122,6 @@ fn operate(
     Ok(())
 }
 
-// What a line puts after its labels, with its letters.
-fn put_deed(
-    put: &mut Put,
-    map: &Map<'_>,
-    table: &Table,
-    line: &Line,
-    arguments: Option<u16>,
-    deed: &Deed,
-) -> Result<(), AllocError>
-    requires within { IsWithin (length line.now.text) deed.now }
-    requires listed { IsTrue (is_listed deed.now) }
-{
-    match *deed {
-        Deed::Rests => {}
-        Deed::Assigns(assignment) => {
-            put.add_letters(letters_of_assignment(map, table, line, assignment));
-        }
-        Deed::Sets(start) => put.add_letters(counter_letters(table, line, usize::from(start))),
-        Deed::Operates(operator, start) => put_operator(
-            put,
-            map,
-            table,
-            line,
-            usize::from(start),
-            arguments,
-            operator,
-        )?,
-    }
-    Ok(())
-}
-
-fn letters_of_assignment(
-    map: &Map<'_>,
-    table: &Table,
-    line: &Line,
-    assignment: Assignment,
-) -> Letters
-    requires { assignment.value ≤ length line.now.text }
-{
-    let start = usize::from(assignment.value);
-    assignment_letters(map, table, line, assignment.name, start)
-}
-
 // What a line changes after its labels.
 fn change_of(
     rt: &impl Abort,
@@ -176,31 +132,9 @@ fn change_of(
 ) -> Change
     requires { IsWithin (length line.now.text) deed.now }
 {
-    match *deed {
-        Deed::Rests => Change::Keeps,
-        Deed::Assigns(assigns) => {
-            assignment(line, assigns.name, assigns.is_global, assigns.value)
-        }
-        Deed::Sets(start) => counter_change(table, line, usize::from(start)),
-        Deed::Operates(operator, start) => {
-            change_by(rt, table, line, usize::from(start), arguments, operator)
-        }
-    }
-}
-
-fn change_by(
-    rt: &impl Abort,
-    table: &Table,
-    line: &Line,
-    start: usize,
-    arguments: Option<u16>,
-    operator: Operator,
-) -> Change
-    requires { start ≤ length line.now.text }
-{
     let settings = table.settings();
     assert!(rt; settings.listed < 1_000_000 && settings.unlisted < 1_000_000);
-    operator_change(table, line, start, arguments, operator)
+    deed_change(table, line, arguments, deed)
 }
 
 // The change is taken.
