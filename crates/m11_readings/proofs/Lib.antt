@@ -1,0 +1,6 @@
+pub mod Pieces
+pub mod Limits
+pub mod Passing
+pub mod Given
+pub mod Reached
+pub mod Feeds

@@ -1,0 +1,30 @@
+-- The reading of sources call by call: where the calls so far lead to, and what the sources are of which they read.
+-- (This project's own.)
+use Rattle.std.specs.Prelude.{◌≡◌, ℕ, ◌+◌, List, [], Option}
+use Rattle.m11_base.specs.Devices.{Bytes}
+use Rattle.m11_base.specs.Feed.{Text, GiveAll, NoneFailed}
+use Rattle.m11_lines.specs.Line.{SourceLine}
+use Rattle.m11_lines.specs.Lines.{RawLine, cut, bytes_in, lines_in, most_bytes, most_lines}
+use Rattle.m11_lines.specs.Reader.{Place, place_at, Gave}
+use Rattle.m11_readings.specs.Readings.{Reading, lines_of, reading_of}
+
+-- calls that were Ok returned these lines: the sources gave pieces, all of them whole and within the limits, and the
+-- lines are those among them
+pub record HasRead (first now : Place) (lines : List SourceLine) : Type 0 where
+  pub given : List (Option ℕ)
+  pub pieces : List RawLine
+  pub gave : Gave first.texts now.texts given
+  pub is_cut : cut given ≡ record { lines = pieces; unclosed = [] }
+  pub are : lines ≡ lines_of pieces
+  pub bytes_left : first.bytes_left ≡ bytes_in pieces + now.bytes_left
+  pub lines_left : first.lines_left ≡ lines_in pieces + now.lines_left
+  pub faults : now.faults ≡ first.faults
+
+-- the place of a new reader
+abbrev pub start : {F : Type 0} → (F → Option Text) → (F → ℕ) → List F → Place
+start text faults feeds = place_at text faults feeds 0 most_bytes most_lines
+
+-- no feed failed, and sources that they give have this reading
+abbrev pub HaveReading : {F : Type 0} → (F → Option Text) → (F → ℕ) → List F → List F → Reading → Type 0
+HaveReading text faults old new reading = NoneFailed faults old new
+    × (sources : List Bytes) × GiveAll text old sources × (reading_of sources ≡ reading)

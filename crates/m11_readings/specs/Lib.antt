@@ -1,0 +1,2 @@
+pub mod Readings
+pub mod Calls

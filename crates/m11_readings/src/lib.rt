@@ -1,0 +1,11 @@
+//! What the reading of whole sources gives: all lines in order, and where it stops before their end. Its laws lead from
+//! the lines that `LineReader::next` returns, call by call, to that reading. (MACRO-11 Language Reference Manual,
+//! "Source program format".)
+#![tactic(auto)]
+
+mod laws;
+
+pub use laws::{
+    calls_read_lines_in_order, lines_read_are_those_of_the_sources,
+    sources_after_a_line_feed_are_one_text,
+};
