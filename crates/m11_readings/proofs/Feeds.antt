@@ -9,8 +9,8 @@ use Rattle.m11_lines.specs.Lines.{input_of}
 use Rattle.m11_lines.specs.Reader.{Place, place_at, Gave, Fails, ReadsNext}
 use Rattle.m11_lines.proofs.Cuts.{bytes_of}
 use Rattle.m11_lines.proofs.Gaves.{gave_both}
-use Rattle.m11_readings.specs.Readings.{reading_of, reading_of_input}
-use Rattle.m11_readings.specs.Calls.{HasRead, HaveReading, start}
+use Rattle.m11_readings.specs.Readings.{reading_of_input}
+use Rattle.m11_readings.specs.Calls.{HasRead, HaveReading, BeginReading, FailReading, start}
 use Rattle.m11_readings.proofs.Given.{GiveParts, GiveSources, Whole, parts_of, whole_of, ended}
 use Rattle.m11_readings.proofs.Reached.{Reached, after_lines, after_more, lines_go_on, reading_so_far, stops_at_bytes, stops_at_lines}
 
@@ -98,9 +98,7 @@ module _ {F : Type 0} (text : F → Option Text) (faults : F → ℕ) where
     abbrev last : Place
     last = place_at text faults new source bytes_left lines_left
 
-    pub so_far : HasRead first last lines → NoneFailed faults old new
-        × (sources : List (List ℕ)) × GiveAll text old sources
-        × (more : List SourceLine) × ((reading_of sources).lines ≡ lines ++ more)
+    pub so_far : HasRead first last lines → BeginReading text faults old new lines
     so_far h =
         let r = after_lines first last lines h in
         let whole = whole_of (map text old) last.texts r.given r.gave in
@@ -168,8 +166,7 @@ module _ {F : Type 0} (text : F → Option Text) (faults : F → ℕ) where
 
       -- the place of the feed that failed is that of the reader
       pub failed : (read : ReadsNext middle last (Err Read)) → read.1.source ≡ source
-          → (sources : List (List ℕ)) × (beginning : List ℕ) × OneFailed text faults old new sources beginning
-          × (reading_of_input (input_of sources ++ bytes_of beginning) ≡ record { lines = lines; fault = None })
+          → FailReading text faults old new (record { lines = lines; fault = None })
       failed read at =
           let now : Place = read.1 in
           let r = after_more first middle now lines read.0 h read.2 in

@@ -1,14 +1,13 @@
 //! Laws of readings. Each is the contract of a function that does nothing.
 
-ghost use Rattle.std.specs.Prelude.{◌≡◌, ◌∷◌, ◌++◌, ℕ, List, [], map, Option, Some, None, Ok, Err};
+ghost use Rattle.std.specs.Prelude.{◌≡◌, ◌∷◌, ◌++◌, ℕ, List, [], Option, Some, None, Ok, Err};
 ghost use Rattle.m11_base.specs.Devices.{Bytes};
-ghost use Rattle.m11_base.specs.Feed.{Text, GiveAll, NoneFailed, OneFailed};
+ghost use Rattle.m11_base.specs.Feed.{Text};
 ghost use Rattle.m11_lines.specs.declared.fault.LineFault.TheVariants.{Read, TooMuchSource, TooManyLines};
 ghost use Rattle.m11_lines.specs.Line.{SourceLine};
-ghost use Rattle.m11_lines.specs.Lines.{input_of};
 ghost use Rattle.m11_lines.specs.Reader.{Place, place_at, ReadsNext};
-ghost use Rattle.m11_readings.specs.Calls.{HasRead, HaveReading, start};
-ghost use Rattle.m11_readings.specs.Readings.{reading_of, reading_of_input};
+ghost use Rattle.m11_readings.specs.Calls.{BeginReading, FailReading, HasRead, HaveReading, start};
+ghost use Rattle.m11_readings.specs.Readings.{reading_of};
 
 /// Before the first call no line was read, and each call that returns one adds it to those before.
 pub fn calls_read_lines_in_order()
@@ -26,13 +25,13 @@ pub fn sources_after_a_line_feed_are_one_text()
 /// What a new reader returns call by call is the reading of the sources that its feeds give. Where no more is read, the
 /// lines so far are its first lines, whatever comes after them. After the end of the last source they are all its lines.
 /// At a limit they are the lines before it, and the reading stops there with the fault that was returned. Where a feed
-/// failed, they are the lines of what had come till then, and no limit had been passed.
+/// failed, they are the lines of what had come till then, and no limit had been passed: there the caller has to show
+/// that it was the feed at the reader's source that failed, which the clause of `LineReader::next` doesn't say.
 pub fn lines_read_are_those_of_the_sources<F>()
     ensures so_far { (text : F → Option Text) (faults : F → ℕ) (old new : List F) (source bytes_left lines_left : ℕ)
         (lines : List SourceLine)
         → HasRead (start text faults old) (place_at text faults new source bytes_left lines_left) lines
-        → NoneFailed faults old new × (sources : List Bytes) × GiveAll text old sources
-        × (more : List SourceLine) × ((reading_of sources).lines ≡ lines ++ more) }
+        → BeginReading text faults old new lines }
     ensures all { (text : F → Option Text) (faults : F → ℕ) (old new : List F) (source bytes_left lines_left : ℕ)
         (lines : List SourceLine) (middle : Place) → HasRead (start text faults old) middle lines
         → ReadsNext middle (place_at text faults new source bytes_left lines_left) (Ok None)
@@ -49,7 +48,5 @@ pub fn lines_read_are_those_of_the_sources<F>()
         (lines : List SourceLine) (middle : Place) → HasRead (start text faults old) middle lines
         → (read : ReadsNext middle (place_at text faults new source bytes_left lines_left) (Err Read))
         → read.1.source ≡ source
-        → (sources : List Bytes) × (beginning : Bytes) × OneFailed text faults old new sources beginning
-        × (reading_of_input (input_of sources ++ map (λ byte. Some byte) beginning)
-        ≡ record { lines = lines; fault = None }) }
+        → FailReading text faults old new (record { lines = lines; fault = None }) }
 {}
