@@ -162,27 +162,3 @@ failed_symbol context [] symbol other old new fault result some first refuses is
 failed_symbol context (found ∷ symbols) symbol other old new fault result some first refuses is =
     let P : Symbol → Type 0 = λ s. Refuses fault (most_names < length (with_all (mention context s ∷ []) old).names) ⊥ in
     failed_first (mention context found ∷ []) (in_context context symbols) old new fault result (subst P (sym first) refuses) is
-
-pub name_then : (names : List (Option Name)) (name other : Option Name) (old middle new : Gathered)
-    (result : Result (Unit {0}) PlacingFault) → 1 ≤ length names → get_or names 0 other ≡ name
-    → (middle ≡ with_all (defined name) old) × StaysFew old middle
-    → Adds (map named (names_among (take (length names - 1) (drop 1 names)))) middle new result
-    → Adds (map named (names_among names)) old new result
-name_then [] name other old middle new result some first added rest = absurd (none_first some)
-name_then (found ∷ names) name other old middle new result some first added rest =
-    let P : List (Option Name) → Type 0 = λ l. Adds (map named (names_among l)) middle new result in
-    let Q : List Mention → Type 0 = λ l. Adds l old new result in
-    subst Q (defined_joined found names)
-    (added_then (defined found) (map named (names_among names)) old middle new result
-    (added.0 ∙ ap (λ (n : Option Name). with_all (defined n) old) (sym first), added.1) (subst P (others_all found names) rest))
-
-pub symbol_then : (context : Context) (symbols : List Symbol) (symbol other : Symbol) (old middle new : Gathered)
-    (result : Result (Unit {0}) PlacingFault) → 1 ≤ length symbols → get_or symbols 0 other ≡ symbol
-    → (middle ≡ with_all (mention context symbol ∷ []) old) × StaysFew old middle
-    → Adds (in_context context (take (length symbols - 1) (drop 1 symbols))) middle new result
-    → Adds (in_context context symbols) old new result
-symbol_then context [] symbol other old middle new result some first added rest = absurd (none_first some)
-symbol_then context (found ∷ symbols) symbol other old middle new result some first added rest =
-    let P : List Symbol → Type 0 = λ l. Adds (in_context context l) middle new result in
-    added_then (mention context found ∷ []) (in_context context symbols) old middle new result
-    (added.0 ∙ ap (λ (s : Symbol). with_all (mention context s ∷ []) old) (sym first), added.1) (subst P (others_all found symbols) rest)
