@@ -137,11 +137,11 @@ fn read_twice(
 }
 
 // A pass over each of two sources, the second one by what the first one left. The text is that of the second one's lines.
-fn read_changed(
+fn read_changed<'a>(
     rt: &impl Abort,
     alloc: Global,
-    before: &[&str],
-    source: &[&str],
+    before: &[&'a str],
+    source: &[&'a str],
     text: &mut Vec<u8>,
 ) -> Result<(), Refusal> {
     let mut first = Reading::new(alloc)?;
