@@ -1,20 +1,24 @@
 -- What assignments and lists of names do to what a pass keeps.
-use Rattle.std.proofs.Common.{◌≡◌, ◌∙◌, ◌≤◌, ℕ, ◌-◌, false, List, [], ◌∷◌, ◌++◌, drop, get_or, length, take, Option, Some, None, Result, Ok, Err, IfOk, sym, ap, subst, arith}
+use Rattle.std.proofs.Common.{◌≡◌, ◌∙◌, ◌≤◌, ℕ, ◌-◌, ◌&&◌, not, Bool, true, false, if◌then◌else◌, List, [], ◌∷◌, ◌++◌, drop, get_or, length, take, Option, Some, None, Result, Ok, Err, IfOk, sym, ap, subst, arith}
 use Rattle.std.proofs.lemmas.List.{append-nil, append_assoc, take_all}
 use Rattle.m11_arguments.specs.Expressions.{expression_in, symbols_in, value_in}
 use Rattle.m11_base.specs.Devices.{Bytes}
 use Rattle.m11_base.specs.Rad50.{Name}
 use Rattle.m11_directives.specs.Changes.{names_among}
 use Rattle.m11_placement.specs.Assignments.{all_firm, assigned, standing_of}
-use Rattle.m11_placement.specs.Changes.{with_globals}
-use Rattle.m11_placement.specs.Labels.{with_definition}
+use Rattle.m11_placement.specs.Changes.{numbered, with_globals, with_number, with_value}
+use Rattle.m11_placement.specs.Definitions.{is_labelled}
+use Rattle.m11_placement.specs.Labels.{global_if, with_definition, with_doubled, with_global}
 use Rattle.m11_placement.specs.Meanings.{Map, known_at}
 use Rattle.m11_placement.specs.Tables.{Table, place}
 use Rattle.m11_placement.specs.declared.definitions.Definition.{Definition}
 use Rattle.m11_placement.specs.declared.definitions.Key.{Key}
+use Rattle.m11_placement.specs.declared.definitions.Key.TheVariants.{Named}
 use Rattle.m11_placement.specs.declared.meanings.Context.TheVariants.{Knows}
 use Rattle.m11_scan.specs.Cutting.{Lexeme, tokens_from}
-use Rattle.m11_placing.proofs.Alike.{alike_assigned}
+use Rattle.m11_table.specs.Alike as tables
+use Rattle.m11_table.specs.Alike.{Alike}
+use Rattle.m11_placing.proofs.Alike.{alike_assigned, alike_labelled}
 use Rattle.m11_placing.specs.Passes.{Follows, Kept, Matches}
 use Rattle.m11_placing.specs.declared.fault.PlacingFault.{PlacingFault}
 
@@ -46,6 +50,81 @@ assigns map key line start within table old new definition (Ok value) is same e 
     (follows told matches)
 assigns map key line start within table old new definition (Err fault) is same e follows = tt
 
+pub assigns_so : {A : Type 0} (map : Map) (key : Key) (line : Bytes) (start within : ℕ) (table : Table) (old new : Kept)
+    (definition : Definition) (result : Result A PlacingFault) → old.table ≡ table
+    → tokens_from line within ≡ tokens_from line start → definition ≡ assigned map table key line within
+    → IfOk result (λ _. tables.Follows old.table new.table (with_definition definition))
+    → IfOk result (λ _. tables.Follows old.table new.table (λ told. with_definition (assigned map told key line start) told))
+assigns_so map key line start within table old new definition (Ok value) is same e follows = λ told alike.
+    let P : Definition → Type 0 = λ d. Alike new.table (with_definition d told) in
+    subst P
+    (e ∙ ap (λ (t : Table). assigned map t key line within) (sym is)
+    ∙ alike_assigned old.table told alike map key line within
+    ∙ starts_alike map told key line start within same)
+    (follows told alike)
+assigns_so map key line start within table old new definition (Err fault) is same e follows = tt
+
+-- ---- a label's name becomes doubled, and any other one is defined
+
+numbers_so : {A : Type 0} (name : Name) (number : ℕ) (is_known : Bool) (old new : Table) (result : Result A PlacingFault)
+    → is_labelled (Named name) old.definitions ≡ is_known
+    → IfOk result (λ _. tables.Follows old new
+    (λ told. if is_known then with_doubled (Named name) told else with_definition (numbered name number) told))
+    → IfOk result (λ _. tables.Follows old new (with_number name number))
+numbers_so name number is_known old new (Ok value) is follows = λ told alike.
+    let P : Bool → Type 0 = λ b.
+    Alike new (if b then with_doubled (Named name) told else with_definition (numbered name number) told) in
+    subst P (sym is ∙ alike_labelled old told alike (Named name)) (follows told alike)
+numbers_so name number is_known old new (Err fault) is follows = tt
+
+pub number_doubles : {A : Type 0} (name : Name) (number : ℕ) (old new : Table) (result : Result A PlacingFault)
+    → is_labelled (Named name) old.definitions ≡ true → IfOk result (λ _. tables.Follows old new (with_doubled (Named name)))
+    → IfOk result (λ _. tables.Follows old new (with_number name number))
+number_doubles name number old new result is follows = numbers_so name number true old new result is follows
+
+pub number_defines : {A : Type 0} (name : Name) (number : ℕ) (old new : Table) (result : Result A PlacingFault)
+    → is_labelled (Named name) old.definitions ≡ false
+    → IfOk result (λ _. tables.Follows old new (with_definition (numbered name number)))
+    → IfOk result (λ _. tables.Follows old new (with_number name number))
+number_defines name number old new result is follows = numbers_so name number false old new result is follows
+
+-- what an assignment makes of a table, where it is known whether the name is a label's
+abbrev valued : Map → Name → Bytes → ℕ → Bool → Bool → Table → Table
+valued map name line start is_global is_known told =
+    global_if (is_global && not is_known) name
+    (if is_known then with_doubled (Named name) told else with_definition (assigned map told (Named name) line start) told)
+
+module _ (map : Map) (name : Name) (line : Bytes) (start : ℕ) (old new : Table) where
+  values_so : (is_global is_known : Bool) → is_labelled (Named name) old.definitions ≡ is_known
+      → tables.Follows old new (valued map name line start is_global is_known)
+      → tables.Follows old new (with_value map name is_global line start)
+  values_so is_global is_known is follows told alike =
+      let P : Bool → Type 0 = λ b. Alike new (valued map name line start is_global b told) in
+      subst P (sym is ∙ alike_labelled old told alike (Named name)) (follows told alike)
+
+  doubles_only : (is_global : Bool) → tables.Follows old new (with_doubled (Named name))
+      → tables.Follows old new (valued map name line start is_global true)
+  doubles_only true follows = follows
+  doubles_only false follows = follows
+
+  pub value_doubles : {A : Type 0} (is_global : Bool) (result : Result A PlacingFault)
+      → is_labelled (Named name) old.definitions ≡ true → IfOk result (λ _. tables.Follows old new (with_doubled (Named name)))
+      → IfOk result (λ _. tables.Follows old new (with_value map name is_global line start))
+  value_doubles is_global (Ok value) is follows = values_so is_global true is (doubles_only is_global follows)
+  value_doubles is_global (Err fault) is follows = tt
+
+  pub value_defines : is_labelled (Named name) old.definitions ≡ false
+      → tables.Follows old new (λ told. with_definition (assigned map told (Named name) line start) told)
+      → tables.Follows old new (with_value map name false line start)
+  value_defines is follows = values_so false false is follows
+
+  pub value_exports : (middle : Table) → is_labelled (Named name) old.definitions ≡ false
+      → tables.Follows old middle (λ told. with_definition (assigned map told (Named name) line start) told)
+      → tables.Follows middle new (with_global name)
+      → tables.Follows old new (with_value map name true line start)
+  value_exports middle is defines exports = values_so true false is
+      (λ told alike. exports (with_definition (assigned map told (Named name) line start) told) (defines told alike))
+
 -- ---- names that become global
 
 globals_joined : (name : Option Name) (names : List (Option Name)) (told : Table)
@@ -76,3 +155,17 @@ exports_then (first ∷ names) name other old middle new (Ok value) some is one 
     subst R (globals_joined first names told)
     (subst P (others_all first names) rest (with_globals (names_among (first ∷ [])) told) (subst Q (sym is) one told matches))
 exports_then (first ∷ names) name other old middle new (Err fault) some is one rest = tt
+
+pub exports_so : {A : Type 0} (names : List (Option Name)) (name other : Option Name) (old middle new : Table)
+    (result : Result A PlacingFault) → 1 ≤ length names → get_or names 0 other ≡ name
+    → tables.Follows old middle (with_globals (names_among (name ∷ [])))
+    → IfOk result (λ _. tables.Follows middle new (with_globals (names_among (take (length names - 1) (drop 1 names)))))
+    → IfOk result (λ _. tables.Follows old new (with_globals (names_among names)))
+exports_so [] name other old middle new result some is one rest = absurd (none_first some)
+exports_so (first ∷ names) name other old middle new (Ok value) some is one rest = λ told alike.
+    let P : List (Option Name) → Type 0 = λ ns. tables.Follows middle new (with_globals (names_among ns)) in
+    let Q : Option Name → Type 0 = λ n. tables.Follows old middle (with_globals (names_among (n ∷ []))) in
+    let R : Table → Type 0 = λ t. Alike new t in
+    subst R (globals_joined first names told)
+    (subst P (others_all first names) rest (with_globals (names_among (first ∷ [])) told) (subst Q (sym is) one told alike))
+exports_so (first ∷ names) name other old middle new (Err fault) some is one rest = tt

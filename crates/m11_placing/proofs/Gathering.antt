@@ -7,7 +7,7 @@ use Rattle.m11_placement.specs.Limits.{is_counted, most_names, with_mentions, wi
 use Rattle.m11_placement.specs.Mentions.{Mention, defined, mention, named}
 use Rattle.m11_placement.specs.declared.meanings.Context.{Context}
 use Rattle.m11_placing.specs.Faults.{Refuses}
-use Rattle.m11_placing.specs.Mentioned.{Adds, Gathered, in_context, is_register, names_referred, noted, registers_mentioned, with_all, with_name, with_reference, with_register}
+use Rattle.m11_placing.specs.Mentioned.{Adds, Gathered, StaysFew, in_context, is_register, names_referred, noted, registers_mentioned, with_all, with_name, with_reference, with_register}
 use Rattle.m11_placing.specs.declared.fault.PlacingFault.{PlacingFault}
 use Rattle.m11_placing.specs.declared.fault.PlacingFault.TheVariants.{TooManySymbols, TooManySections, NoMemory}
 use Rattle.m11_values.specs.declared.names.Symbol.{Symbol}
@@ -75,12 +75,12 @@ mentions_more (mention ∷ mentions) names =
 -- ---- one part after another
 
 pub added_then : (first second : List Mention) (old middle new : Gathered) (result : Result (Unit {0}) PlacingFault)
-    → middle ≡ with_all first old → Adds second middle new result → Adds (first ++ second) old new result
-added_then first second old middle new (Ok _) e adds =
-    adds ∙ ap (with_all second) e ∙ sym (all_joined first second old)
-added_then first second old middle new (Err fault) e refuses =
+    → (middle ≡ with_all first old) × StaysFew old middle → Adds second middle new result → Adds (first ++ second) old new result
+added_then first second old middle new (Ok _) added adds =
+    (adds.0 ∙ ap (with_all second) added.0 ∙ sym (all_joined first second old), λ few. adds.1 (added.1 few))
+added_then first second old middle new (Err fault) added refuses =
     let P : Gathered → Type 0 = λ g. Refuses fault (most_names < length g.names) ⊥ in
-    subst P (ap (with_all second) e ∙ sym (all_joined first second old)) refuses
+    subst P (ap (with_all second) added.0 ∙ sym (all_joined first second old)) refuses
 
 refused_more : (fault : PlacingFault) (first second : List Mention) (old : Gathered)
     → Refuses fault (most_names < length (with_all first old).names) ⊥
@@ -123,7 +123,8 @@ module _ {A : Type 0} (mentions : A → List Mention) (items : List A) (item oth
           let P : A → Type 0 = λ i. Refuses fault (most_names < length (with_all (mentions i) old).names) ⊥ in
           failed_first (mentions found) (flat_map mentions rest) old new fault result (subst P (sym first) refuses) is
 
-  pub item_then : (middle new : Gathered) → 1 ≤ length items → get_or items 0 other ≡ item → middle ≡ with_all (mentions item) old
+  pub item_then : (middle new : Gathered) → 1 ≤ length items → get_or items 0 other ≡ item
+      → (middle ≡ with_all (mentions item) old) × StaysFew old middle
       → Adds (flat_map mentions (take (length items - 1) (drop 1 items))) middle new result
       → Adds (flat_map mentions items) old new result
   item_then middle new some first adds rest = by_items items some first rest
@@ -135,7 +136,7 @@ module _ {A : Type 0} (mentions : A → List Mention) (items : List A) (item oth
       by_items (found ∷ more) some first rest =
           let P : List A → Type 0 = λ l. Adds (flat_map mentions l) middle new result in
           added_then (mentions found) (flat_map mentions more) old middle new result
-          (adds ∙ ap (λ (i : A). with_all (mentions i) old) (sym first)) (subst P (others_all found more) rest)
+          (adds.0 ∙ ap (λ (i : A). with_all (mentions i) old) (sym first), adds.1) (subst P (others_all found more) rest)
 
 defined_joined : (name : Option Name) (names : List (Option Name))
     → defined name ++ map named (names_among names) ≡ map named (names_among (name ∷ names))

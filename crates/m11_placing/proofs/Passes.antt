@@ -124,6 +124,11 @@ module _ (table : Table) (locals : ℕ) (sizes : List ℕ) (old : Kept) (is : ke
   settings_kept new change follows same =
       settings_stay table new change follows same ∙ ap (λ (k : Kept). k.table.settings) is
 
+  pub table_kept : (new : Table) (change : Table → Table) → tables.Follows table new change → tables.Follows old.table new change
+  table_kept new change follows =
+      let P : Kept → Type 0 = λ k. tables.Follows k.table new change in
+      subst P is follows
+
   pub name_defined : (name : Name) (definition : Definition) (new : Table) → definition.key ≡ Named name
       → tables.Follows table new (with_definition definition)
       → Follows old (keeping new locals sizes) (with_definition definition)
@@ -171,6 +176,12 @@ module _ (table : Table) (locals : ℕ) (sizes : List ℕ) (old : Kept) (is : ke
   counter_moved move moved new follows e within =
       let P : Kept → Type 0 = λ k. Follows k new (with_move move) in
       subst P is (counts (keeping table locals sizes) moved new move follows e within)
+
+  pub counter_told : (move : Move) (moved : Table) (new : Kept) → tables.Follows table moved (with_move move)
+      → new ≡ with_size (keeping moved locals sizes) → tables.Follows old.table new.table (with_move move)
+  counter_told move moved new follows e =
+      let P : Table → Type 0 = λ t. tables.Follows old.table t (with_move move) in
+      subst P (sym (ap (λ (k : Kept). k.table) e)) (table_kept moved (with_move move) follows)
 
   pub section_stays : (move : Move) (moved : Table) → tables.Follows table moved (with_move move) → old.table.settings.section < 64
       → moved.settings.section < 64

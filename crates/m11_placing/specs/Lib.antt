@@ -4,4 +4,5 @@ pub mod Items
 pub mod Labels
 pub mod Lines
 pub mod Mentioned
+pub mod Moved
 pub mod Passes

@@ -12,6 +12,7 @@ ghost use Rattle.m11_placement.specs.Limits.{most_sections};
 ghost use Rattle.m11_placement.specs.Tables.{Table as Told};
 ghost use Rattle.m11_placing.specs.Faults.{Refuses};
 ghost use Rattle.m11_placing.specs.Passes.{Follows, Matches};
+ghost use Rattle.m11_table.specs.Alike as tables;
 ghost use Rattle.m11_placing.specs.declared.fault.PlacingFault.TheVariants.{NoMemory};
 ghost use Rattle.m11_placement.specs.declared.definitions.Key.TheVariants.{Named};
 ghost use Rattle.m11_values.specs.Quantities.{quantity};
@@ -37,6 +38,10 @@ impl Pass {
         requires section { self.old.table.settings.section < 64 }
         requires sections { length self.old.table.sections ≤ most_sections }
         ensures takes { IfOk result (λ _. Follows self.old self.new (λ told. changed map.now line.now.text (change_seen change.now) told)) }
+        ensures tables { IfOk result (λ _. tables.Follows self.old.table self.new.table
+            (λ told. changed map.now line.now.text (change_seen change.now) told)) }
+        ensures sections { IfOk result (λ _. length self.new.table.sections ≤ most_sections) }
+        ensures symbols { IfOk result (λ _. self.new.local_symbols ≡ self.old.local_symbols) }
         ensures refuses { IfErr result (λ fault. (told : Told) → Matches self.old told → Refuses fault ⊥
             (most_sections < length (changed map.now line.now.text (change_seen change.now) told).sections)) }
     {
@@ -71,6 +76,9 @@ impl Pass {
         start: u8,
     ) -> Result<(), PlacingFault>
         ensures assigns { IfOk result (λ _. Follows self.old self.new (with_value map.now name is_global line.now.text start)) }
+        ensures tables { IfOk result (λ _. tables.Follows self.old.table self.new.table
+            (with_value map.now name is_global line.now.text start)) }
+        ensures symbols { IfOk result (λ _. self.new.local_symbols ≡ self.old.local_symbols) }
         ensures refuses { IfErr result (λ fault. fault ≡ NoMemory) }
     {
         if self.table.is_labelled(&Key::Named(name)) {
@@ -93,6 +101,9 @@ impl Pass {
     ) -> Result<(), PlacingFault>
         ensures defines { IfOk result (λ _. Follows self.old self.new
             (λ told. with_definition (assignments.assigned map.now told (Named name) line.now.text start) told)) }
+        ensures tables { IfOk result (λ _. tables.Follows self.old.table self.new.table
+            (λ told. with_definition (assignments.assigned map.now told (Named name) line.now.text start) told)) }
+        ensures symbols { IfOk result (λ _. self.new.local_symbols ≡ self.old.local_symbols) }
         ensures refuses { IfErr result (λ fault. fault ≡ NoMemory) }
     {
         let start = within(line, start);
@@ -104,6 +115,8 @@ impl Pass {
     // A name is assigned a number.
     fn number(&mut self, name: Name, number: u16) -> Result<(), PlacingFault>
         ensures numbers { IfOk result (λ _. Follows self.old self.new (with_number name number)) }
+        ensures tables { IfOk result (λ _. tables.Follows self.old.table self.new.table (with_number name number)) }
+        ensures symbols { IfOk result (λ _. self.new.local_symbols ≡ self.old.local_symbols) }
         ensures refuses { IfErr result (λ fault. fault ≡ NoMemory) }
     {
         if self.table.is_labelled(&Key::Named(name)) {
@@ -116,6 +129,8 @@ impl Pass {
     // Names become global, in order. An element that is none is passed over.
     fn export_all(&mut self, names: &[Option<Name>]) -> Result<(), PlacingFault>
         ensures exports { IfOk result (λ _. Follows self.old self.new (with_globals (names_among names.now))) }
+        ensures tables { IfOk result (λ _. tables.Follows self.old.table self.new.table (with_globals (names_among names.now))) }
+        ensures symbols { IfOk result (λ _. self.new.local_symbols ≡ self.old.local_symbols) }
         ensures refuses { IfErr result (λ fault. fault ≡ NoMemory) }
     {
         match names {
@@ -129,6 +144,8 @@ impl Pass {
 
     fn export_one(&mut self, name: Option<Name>) -> Result<(), PlacingFault>
         ensures exports { IfOk result (λ _. Follows self.old self.new (with_globals (names_among (name ∷ [])))) }
+        ensures tables { IfOk result (λ _. tables.Follows self.old.table self.new.table (with_globals (names_among (name ∷ [])))) }
+        ensures symbols { IfOk result (λ _. self.new.local_symbols ≡ self.old.local_symbols) }
         ensures refuses { IfErr result (λ fault. fault ≡ NoMemory) }
     {
         match name {

@@ -8,35 +8,65 @@ ghost use Rattle.m11_placement.specs.Limits.{local_count, most_local_symbols};
 ghost use Rattle.m11_placement.specs.Tables.{Table as Told};
 ghost use Rattle.m11_placing.specs.Faults.{Refuses};
 ghost use Rattle.m11_placing.specs.Labels.{Defines, DefinesAll};
+ghost use Rattle.m11_placing.specs.Moved.{moved_letters};
 ghost use Rattle.m11_placing.specs.Passes.{Follows, Matches};
+ghost use Rattle.m11_table.specs.Alike as tables;
 ghost use Rattle.m11_placement.specs.declared.definitions.Key.TheVariants.{Named, Numbered};
 ghost use Rattle.m11_placing.specs.declared.fault.PlacingFault.TheVariants.{NoMemory};
 ghost use Rattle.m11_scan.specs.Views.{bits_of};
 
 use crate::fault::PlacingFault;
+use crate::moved::moved_letter;
 use crate::pass::Pass;
 use m11_base::Name;
 use m11_placement::{Definition, Key, Standing};
 use m11_scan::{Letters, Line, read_name};
 use m11_statements::{Label, LabelKind};
-use m11_table::Table;
+use m11_table::{Map, Table};
+
+/// The letters of the labels of a line.
+#[derive(Clone, Copy)]
+pub struct LabelLetters {
+    /// M for each that is defined before it.
+    pub doubled: Letters,
+    /// P for each other one whose place isn't the map's.
+    pub moved: Letters,
+}
 
 impl Pass {
-    /// Defines the labels of a line, one after the other. M for each whose name or local symbol is defined before it.
+    /// Defines the labels of a line, one after the other. M for each whose name or local symbol is defined before it, and P for each other
+    /// one whose last definition in the map isn't the place where it stands.
     ///
     /// Errors: `TooManySymbols` where more than 16,384 local symbols would be defined, and `NoMemory`.
-    pub fn define_labels(&mut self, line: &Line, labels: &[Label]) -> Result<Letters, PlacingFault>
+    pub fn define_labels(
+        &mut self,
+        map: &Map<'_>,
+        line: &Line,
+        labels: &[Label],
+    ) -> Result<LabelLetters, PlacingFault>
         requires { self.old.table.settings.block + length labels.now < 2 ^ 64 }
-        ensures defines { IfOk result (λ letters. DefinesAll line.now.text labels.now self.old self.new (bits_of letters)) }
+        ensures defines { IfOk result (λ letters. DefinesAll line.now.text labels.now self.old self.new (bits_of letters.doubled)) }
+        ensures moved { IfOk result (λ letters. (told : Told) → Matches self.old told
+            → bits_of letters.moved ≡ moved_letters map.now line.now.text told labels.now) }
+        ensures tables { IfOk result (λ _. tables.Follows self.old.table self.new.table
+            (λ told. spec.with_labels line.now.text told labels.now)) }
+        ensures few { IfOk result (λ _. self.old.local_symbols ≤ most_local_symbols → self.new.local_symbols ≤ most_local_symbols) }
         ensures refuses { IfErr result (λ fault. (told : Told) → Matches self.old told
             → Refuses fault (most_local_symbols < local_count (spec.with_labels line.now.text told labels.now)) ⊥) }
     {
         match labels {
-            [] => Ok(Letters::none()),
+            [] => Ok(LabelLetters {
+                doubled: Letters::none(),
+                moved: Letters::none(),
+            }),
             [label, others @ ..] => {
+                let moved = moved_letter(map, &self.table, line, label);
                 let letters = self.define_label(line, label)?;
-                let more = self.define_labels(line, others)?;
-                Ok(letters.with(more))
+                let more = self.define_labels(map, line, others)?;
+                Ok(LabelLetters {
+                    doubled: letters.with(more.doubled),
+                    moved: moved.with(more.moved),
+                })
             }
         }
     }
@@ -47,6 +77,9 @@ impl Pass {
         ensures defines { IfOk result (λ letters. Defines self.old self.new (bits_of letters)
             (λ told. spec.with_label line.now.text told label.now)
             (λ told. spec.kind_letters told (spec.label_name line.now.text label.now) label.now.kind)) }
+        ensures tables { IfOk result (λ _. tables.Follows self.old.table self.new.table
+            (λ told. spec.with_label line.now.text told label.now)) }
+        ensures few { IfOk result (λ _. self.old.local_symbols ≤ most_local_symbols → self.new.local_symbols ≤ most_local_symbols) }
         ensures block { IfOk result (λ _. self.new.table.settings.block ≤ self.old.table.settings.block + 1) }
         ensures refuses { IfErr result (λ fault. (told : Told) → Matches self.old told
             → Refuses fault (most_local_symbols < local_count (spec.with_label line.now.text told label.now)) ⊥) }
@@ -68,6 +101,9 @@ impl Pass {
         requires { self.old.table.settings.block + 1 < 2 ^ 64 }
         ensures defines { IfOk result (λ letters. Defines self.old self.new (bits_of letters)
             (λ told. spec.with_name is_global told name) (λ told. spec.name_letters told name)) }
+        ensures tables { IfOk result (λ _. tables.Follows self.old.table self.new.table
+            (λ told. spec.with_name is_global told name)) }
+        ensures few { IfOk result (λ _. self.old.local_symbols ≤ most_local_symbols → self.new.local_symbols ≤ most_local_symbols) }
         ensures block { IfOk result (λ _. self.new.table.settings.block ≤ self.old.table.settings.block + 1) }
         ensures refuses { IfErr result (λ fault. fault ≡ NoMemory) }
     {
@@ -89,6 +125,9 @@ impl Pass {
         requires { self.old.table.settings.block + 1 < 2 ^ 64 }
         ensures defines { IfOk result (λ _. Follows self.old self.new
             (λ told. spec.global_if is_global name (spec.with_block (with_definition (spec.labelled told (Named name)) told)))) }
+        ensures tables { IfOk result (λ _. tables.Follows self.old.table self.new.table
+            (λ told. spec.global_if is_global name (spec.with_block (with_definition (spec.labelled told (Named name)) told)))) }
+        ensures symbols { IfOk result (λ _. self.new.local_symbols ≡ self.old.local_symbols) }
         ensures block { IfOk result (λ _. self.new.table.settings.block ≤ self.old.table.settings.block + 1) }
         ensures refuses { IfErr result (λ fault. fault ≡ NoMemory) }
     {
@@ -106,6 +145,9 @@ impl Pass {
         ensures defines { IfOk result (λ letters. Defines self.old self.new (bits_of letters)
             (λ told. spec.with_key (Numbered told.settings.block number) told)
             (λ told. spec.key_letters told (Numbered told.settings.block number))) }
+        ensures tables { IfOk result (λ _. tables.Follows self.old.table self.new.table
+            (λ told. spec.with_key (Numbered told.settings.block number) told)) }
+        ensures few { IfOk result (λ _. self.old.local_symbols ≤ most_local_symbols → self.new.local_symbols ≤ most_local_symbols) }
         ensures block { IfOk result (λ _. self.new.table.settings.block ≤ self.old.table.settings.block) }
         ensures refuses { IfErr result (λ fault. (told : Told) → Matches self.old told
             → Refuses fault (most_local_symbols < local_count (spec.with_key (Numbered told.settings.block number) told)) ⊥) }

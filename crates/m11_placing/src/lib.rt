@@ -11,11 +11,13 @@ mod laws;
 mod lines;
 mod mentioned;
 mod mentions;
+mod moved;
 mod pass;
 
 pub use deeds::{Deed, deed_after_labels};
 pub use fault::PlacingFault;
 pub use items::{add_content_items, number_item, value_item};
+pub use labels::LabelLetters;
 pub use laws::a_line_goes_through_a_pass;
 pub use lines::{deed_change, line_letters, put_deed};
 pub use mentioned::Mentioned;

@@ -5,7 +5,7 @@ ghost use Rattle.m11_placement.specs.Limits.{most_names};
 ghost use Rattle.m11_placement.specs.Mentions.{mention};
 ghost use Rattle.m11_placing.specs.Faults.{Refuses};
 ghost use Rattle.m11_placing.specs.Mentioned as spec;
-ghost use Rattle.m11_placing.specs.Mentioned.{Adds, in_context, none_gathered, noted, with_referred};
+ghost use Rattle.m11_placing.specs.Mentioned.{Adds, StaysFew, in_context, none_gathered, noted, with_referred};
 
 use crate::fault::PlacingFault;
 use indexmap::IndexSet;
@@ -108,6 +108,7 @@ impl Mentioned {
     #[tactic(auto, using(crate::proofs::Gathering::noted_register, crate::proofs::Gathering::noted_other))]
     fn note_name(&mut self, name: Name) -> Result<(), PlacingFault>
         ensures notes { IfOk result (λ _. self.new ≡ noted name self.old) }
+        ensures few { IfOk result (λ _. StaysFew self.old self.new) }
         ensures refuses { IfErr result (λ fault. Refuses fault (most_names < length (noted name self.old).names) ⊥) }
     {
         if is_register(name) {
@@ -145,6 +146,7 @@ impl Mentioned {
     // A name that is none of a register's.
     fn count_name(&mut self, name: Name) -> Result<(), PlacingFault>
         ensures notes { IfOk result (λ _. self.new ≡ record self.old { names = spec.with_name name self.old.names }) }
+        ensures few { IfOk result (λ _. StaysFew self.old self.new) }
         ensures refuses { IfErr result (λ fault. Refuses fault
             (most_names < length (spec.with_name name self.old.names)) ⊥) }
     {

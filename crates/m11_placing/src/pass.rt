@@ -82,6 +82,8 @@ impl Pass {
     ) -> Result<(), PlacingFault>
         requires { definition.now.key ≡ Named name }
         ensures defines { IfOk result (λ _. Follows self.old self.new (with_definition definition.now)) }
+        ensures tables { IfOk result (λ _. tables.Follows self.old.table self.new.table (with_definition definition.now)) }
+        ensures symbols { IfOk result (λ _. self.new.local_symbols ≡ self.old.local_symbols) }
         ensures settings { IfOk result (λ _. self.new.table.settings ≡ self.old.table.settings) }
         ensures refuses { IfErr result (λ fault. fault ≡ NoMemory) }
     {
@@ -98,6 +100,8 @@ impl Pass {
     ) -> Result<(), PlacingFault>
         requires { definition.now.key ≡ Numbered block number }
         ensures defines { IfOk result (λ _. Follows self.old self.new (with_definition definition.now)) }
+        ensures tables { IfOk result (λ _. tables.Follows self.old.table self.new.table (with_definition definition.now)) }
+        ensures few { IfOk result (λ _. self.new.local_symbols ≤ most_local_symbols) }
         ensures settings { IfOk result (λ _. self.new.table.settings ≡ self.old.table.settings) }
         ensures refuses { IfErr result (λ fault. (told : Told) → Matches self.old told
             → Refuses fault (most_local_symbols < local_count (with_definition definition.now told)) ⊥) }
@@ -113,6 +117,8 @@ impl Pass {
     // A key is doubled from here on.
     pub(crate) fn double(&mut self, key: &Key) -> Result<(), PlacingFault>
         ensures doubles { IfOk result (λ _. Follows self.old self.new (with_doubled key.now)) }
+        ensures tables { IfOk result (λ _. tables.Follows self.old.table self.new.table (with_doubled key.now)) }
+        ensures symbols { IfOk result (λ _. self.new.local_symbols ≡ self.old.local_symbols) }
         ensures settings { IfOk result (λ _. self.new.table.settings ≡ self.old.table.settings) }
         ensures refuses { IfErr result (λ fault. fault ≡ NoMemory) }
     {
@@ -123,6 +129,8 @@ impl Pass {
     // A name is global from here on.
     pub(crate) fn export(&mut self, name: Name) -> Result<(), PlacingFault>
         ensures exports { IfOk result (λ _. Follows self.old self.new (with_global name)) }
+        ensures tables { IfOk result (λ _. tables.Follows self.old.table self.new.table (with_global name)) }
+        ensures symbols { IfOk result (λ _. self.new.local_symbols ≡ self.old.local_symbols) }
         ensures settings { IfOk result (λ _. self.new.table.settings ≡ self.old.table.settings) }
         ensures refuses { IfErr result (λ fault. fault ≡ NoMemory) }
     {
@@ -134,6 +142,8 @@ impl Pass {
     pub(crate) fn open_block(&mut self)
         requires { self.old.table.settings.block + 1 < 2 ^ 64 }
         ensures opens { Follows self.old self.new with_block }
+        ensures tables { tables.Follows self.old.table self.new.table with_block }
+        ensures symbols { self.new.local_symbols ≡ self.old.local_symbols }
         ensures settings { self.new.table.settings ≡ new_block self.old.table.settings }
     {
         self.table.open_block();
@@ -141,7 +151,9 @@ impl Pass {
 
     // Other settings hold from here on.
     pub(crate) fn set(&mut self, settings: Settings)
-        ensures { Follows self.old self.new (with_settings settings) }
+        ensures sets { Follows self.old self.new (with_settings settings) }
+        ensures tables { tables.Follows self.old.table self.new.table (with_settings settings) }
+        ensures symbols { self.new.local_symbols ≡ self.old.local_symbols }
     {
         self.table.set(settings);
     }
@@ -151,6 +163,9 @@ impl Pass {
         requires blocks { self.old.table.settings.block + 1 < 2 ^ 64 }
         requires sections { length self.old.table.sections ≤ most_sections }
         ensures selects { IfOk result (λ _. Follows self.old self.new (with_section name attributes)) }
+        ensures tables { IfOk result (λ _. tables.Follows self.old.table self.new.table (with_section name attributes)) }
+        ensures sections { IfOk result (λ _. length self.new.table.sections ≤ most_sections) }
+        ensures symbols { IfOk result (λ _. self.new.local_symbols ≡ self.old.local_symbols) }
         ensures refuses { IfErr result (λ fault. (told : Told) → Matches self.old told
             → Refuses fault ⊥ (most_sections < length (with_section name attributes told).sections)) }
     {
@@ -165,7 +180,9 @@ impl Pass {
     // The counter of the section goes on, or is set.
     pub(crate) fn count(&mut self, step: Move)
         requires { self.old.table.settings.section < 64 }
-        ensures { Follows self.old self.new (with_move (move_seen step)) }
+        ensures counts { Follows self.old self.new (with_move (move_seen step)) }
+        ensures tables { tables.Follows self.old.table self.new.table (with_move (move_seen step)) }
+        ensures symbols { self.new.local_symbols ≡ self.old.local_symbols }
     {
         move_counter(&mut self.table, step);
         self.note_size();

@@ -7,6 +7,7 @@ mod flags;
 mod instructions;
 mod limits;
 mod lines;
+mod moved;
 mod names;
 mod relocations;
 mod sizes;
@@ -132,8 +133,19 @@ fn read_twice(
     source: &[&str],
     text: &mut Vec<u8>,
 ) -> Result<(), Refusal> {
+    read_changed(rt, alloc, source, source, text)
+}
+
+// A pass over each of two sources, the second one by what the first one left. The text is that of the second one's lines.
+fn read_changed<'a>(
+    rt: &impl Abort,
+    alloc: Global,
+    before: &[&'a str],
+    source: &[&'a str],
+    text: &mut Vec<u8>,
+) -> Result<(), Refusal> {
     let mut first = Reading::new(alloc)?;
-    let outcome = match read(rt, alloc, &Map::none(), source, &mut first, text) {
+    let outcome = match read(rt, alloc, &Map::none(), before, &mut first, text) {
         Ok(()) => read_again(rt, alloc, source, &first, text),
         Err(refusal) => Err(refusal),
     };

@@ -62,7 +62,7 @@ pub(crate) fn place_line(
     let statement = statement(line, &EveryName);
     let letters = statement.label_letters.with(statement.body_letters);
     let labels = statement.labels.as_slice();
-    let label_letters = define_labels(rt, line, labels, reading)?;
+    let label_letters = define_labels(rt, map, line, labels, reading)?;
     let act = act_on(unfolder, line, reading.pass.table())?;
     let deed = deed_after_labels(act.is_own, line, statement.body);
     reading.put.clear();
@@ -73,18 +73,19 @@ pub(crate) fn place_line(
     Ok(())
 }
 
-// The labels of a line, with their letters.
+// The labels of a line, with the letters of both kinds.
 fn define_labels(
     rt: &impl Abort,
+    map: &Map<'_>,
     line: &Line,
     labels: &[Label],
     reading: &mut Reading,
 ) -> Result<Letters, PlacingFault> {
     let block = reading.pass.table().settings().block;
     assert!(rt; block < 1_000_000 && labels.len() < 1_000_000);
-    let letters = reading.pass.define_labels(line, labels)?;
+    let letters = reading.pass.define_labels(map, line, labels)?;
     reading.mentioned.add_labels(line, labels)?;
-    Ok(letters)
+    Ok(letters.doubled.with(letters.moved))
 }
 
 // What unfolding does of the line, once its labels stand.

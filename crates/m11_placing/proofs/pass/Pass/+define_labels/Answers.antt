@@ -1,11 +1,12 @@
-use Rattle.std.proofs.Common.{◌∙◌, ◌<◌}
+use Rattle.std.proofs.Common.{◌∙◌, ◌<◌, ap}
 use Rattle.m11_placement.specs.Labels.{with_labels}
 use Rattle.m11_placement.specs.Limits.{local_count, most_local_symbols}
 use Rattle.m11_placement.specs.Tables.{Table}
+use Rattle.m11_placing.proofs.LabelTables.{labels_then, moved_then}
 use Rattle.m11_placing.proofs.Labelling.{first_defined, first_refused}
 use Rattle.m11_placing.proofs.Refusals.{handed_on}
 use Rattle.m11_placing.specs.Faults.{Refuses}
-use Rattle.m11_placing.specs.Passes.{Matches}
+use Rattle.m11_placing.specs.Passes.{Kept, Matches}
 use Rattle.m11_placing.specs.declared.fault.PlacingFault.{PlacingFault}
 use Rattle.m11_placing.proofs.pass.Pass.+define_labels.Goals as goal
 
@@ -23,3 +24,15 @@ returns-in_ok-more-in-len1-up-clause-defines t c = λ told matches.
     let all = first_defined c.args.line.now.text c.args.labels.now _ c.args.self.now c.define_label.new.self c.define_labels.new.self _ _
     c.in-len1-up.len_at_least c.in_ok-letters-in-len1-up.ensures.defines c.in_ok-more-in-len1-up.ensures.defines told matches in
     (all.0, c.with.ensures ∙ all.1)
+
+pub returns-in_ok-more-in-len1-up-clause-tables : goal.returns-in_ok-more-in-len1-up-clause-tables
+returns-in_ok-more-in-len1-up-clause-tables t c =
+    labels_then c.args.line.now.text c.args.labels.now _ c.args.self.now.table c.define_label.new.self.table c.define_labels.new.self.table
+    c.in-len1-up.len_at_least c.in_ok-letters-in-len1-up.ensures.tables c.in_ok-more-in-len1-up.ensures.tables
+
+pub returns-in_ok-more-in-len1-up-clause-moved : goal.returns-in_ok-more-in-len1-up-clause-moved
+returns-in_ok-more-in-len1-up-clause-moved t c = λ told matches.
+    c.with-in-len1-up.ensures
+    ∙ moved_then c.args.map.now c.args.line.now.text c.args.labels.now _ c.self.inside.table c.args.self.now c.define_label.new.self _ _ _
+    c.in-len1-up.len_at_least (ap (λ (k : Kept). k.table) c.self.view_is) c.in_ok-letters-in-len1-up.ensures.defines
+    c.moved_letter-moved.ensures c.in_ok-more-in-len1-up.ensures.moved told matches

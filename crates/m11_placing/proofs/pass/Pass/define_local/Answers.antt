@@ -5,6 +5,7 @@ use Rattle.m11_placement.specs.Limits.{local_count, most_local_symbols}
 use Rattle.m11_placement.specs.Tables.{Table}
 use Rattle.m11_placement.specs.declared.definitions.Key.TheVariants.{Numbered}
 use Rattle.m11_placement.specs.declared.settings.Settings.{Settings}
+use Rattle.m11_placing.proofs.LabelTables.{block_begins, block_doubles}
 use Rattle.m11_placing.proofs.Labelling.{blocks_begin, blocks_double, blocks_refuse}
 use Rattle.m11_placing.proofs.Refusals.{handed_on}
 use Rattle.m11_placing.specs.Faults.{Refuses}
@@ -46,3 +47,22 @@ returns-in_ok-define_symbol-clause-defines c =
     (c.labelled-definition.ensures
     ∙ ap (λ (k : Kept). labelled k.table (Numbered c.settings-block.result.block c.args.number)) c.self.view_is)
     c.in_ok-define_symbol.ensures.defines
+
+pub returns-in_ok-double-clause-tables : goal.returns-in_ok-double-clause-tables
+returns-in_ok-double-clause-tables c =
+    block_doubles c.args.self.now.table c.double.new.self.table c.settings-block.result.block c.args.number
+    (ap (λ (s : Settings). s.block) c.settings-block.ensures ∙ ap (λ (k : Kept). k.table.settings.block) c.self.view_is)
+    (ap (λ (k : Kept). is_defined (Numbered c.settings-block.result.block c.args.number) k.table.definitions) (sym c.self.view_is)
+    ∙ sym c.if-is_defined.ensures)
+    c.in_ok-double.ensures.tables
+
+pub returns-in_ok-define_symbol-clause-tables : goal.returns-in_ok-define_symbol-clause-tables
+returns-in_ok-define_symbol-clause-tables c =
+    block_begins c.args.self.now.table c.define_symbol.new.self.table c.settings-block.result.block c.args.number
+    (ap (λ (s : Settings). s.block) c.settings-block.ensures ∙ ap (λ (k : Kept). k.table.settings.block) c.self.view_is)
+    c.labelled-definition.result
+    (ap (λ (k : Kept). is_defined (Numbered c.settings-block.result.block c.args.number) k.table.definitions) (sym c.self.view_is)
+    ∙ sym c.if-is_defined.ensures)
+    (c.labelled-definition.ensures
+    ∙ ap (λ (k : Kept). labelled k.table (Numbered c.settings-block.result.block c.args.number)) c.self.view_is)
+    c.in_ok-define_symbol.ensures.tables

@@ -1,6 +1,7 @@
 use Rattle.std.proofs.Common.{◌∙◌, Option, ap, sym, unwrap_or}
 use Rattle.m11_placement.specs.Definitions.{is_defined}
 use Rattle.m11_placement.specs.declared.definitions.Key.TheVariants.{Named}
+use Rattle.m11_placing.proofs.LabelTables.{name_doubles, name_opens}
 use Rattle.m11_placing.proofs.Labelling.{names_double, names_open}
 use Rattle.m11_base.specs.Rad50.{Name}
 use Rattle.m11_placing.specs.Passes.{Kept}
@@ -23,3 +24,20 @@ returns-in_ok-define_new_name-in-Some-2-clause-defines c =
     ∙ sym c.if-is_defined.ensures)
     c.none.ensures
     c.in_ok-define_new_name-in-Some-2.ensures.defines)
+
+pub returns-in_ok-double-in-Some-clause-tables : goal.returns-in_ok-double-in-Some-clause-tables
+returns-in_ok-double-in-Some-clause-tables c =
+    rw c.in-Some.is
+    (name_doubles c.args.self.now.table c.double.new.self.table c.in-Some.name c.args.is_global
+    (ap (λ (k : Kept). is_defined (Named c.in-Some.name) k.table.definitions) (sym c.self.view_is) ∙ sym c.if-is_defined.ensures)
+    c.in_ok-double-in-Some.ensures.tables)
+
+pub returns-in_ok-define_new_name-in-Some-2-clause-tables : goal.returns-in_ok-define_new_name-in-Some-2-clause-tables
+returns-in_ok-define_new_name-in-Some-2-clause-tables c =
+    rw c.in-Some-2.is
+    (name_opens c.args.self.now.table c.define_new_name.new.self.table c.in-Some-2.name c.args.is_global
+    (ap (λ (k : Kept). is_defined (Named c.in-Some-2.name) k.table.definitions) (sym c.self.view_is)
+    ∙ ap (λ (n : Name). is_defined (Named n) c.self.inside.table.definitions)
+    (ap (λ (o : Option Name). unwrap_or o (0, 0)) (sym c.in-Some-2.is ∙ c.in-Some.is))
+    ∙ sym c.if-is_defined.ensures)
+    c.in_ok-define_new_name-in-Some-2.ensures.tables)

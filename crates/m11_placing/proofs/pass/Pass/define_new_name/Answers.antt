@@ -1,6 +1,7 @@
 use Rattle.std.proofs.Common.{◌∙◌, ap}
 use Rattle.m11_placement.specs.Labels.{labelled}
 use Rattle.m11_placement.specs.declared.definitions.Key.TheVariants.{Named}
+use Rattle.m11_placing.proofs.LabelTables.{labels_so}
 use Rattle.m11_placing.proofs.Labelling.{labels_here}
 use Rattle.m11_placing.specs.Passes.{Kept}
 use Rattle.m11_placing.proofs.pass.Pass.define_new_name.Goals as goal
@@ -20,3 +21,19 @@ returns-else-is_global-clause-defines c = λ told matches.
     (labels_here c.args.self.now c.define_name.new.self (Named c.args.name) c.labelled-definition.result
     (c.labelled-definition.ensures ∙ ap (λ (k : Kept). labelled k.table (Named c.args.name)) c.self.view_is)
     c.in_ok-define_name.ensures.defines told matches))
+
+pub returns-in_ok-export-clause-tables : goal.returns-in_ok-export-clause-tables
+returns-in_ok-export-clause-tables c = λ told alike.
+    rw c.if-is_global.true
+    (c.in_ok-export.ensures.tables _ (c.open_block.ensures.tables _
+    (labels_so c.args.self.now.table c.define_name.new.self.table (Named c.args.name) c.labelled-definition.result
+    (c.labelled-definition.ensures ∙ ap (λ (k : Kept). labelled k.table (Named c.args.name)) c.self.view_is)
+    c.in_ok-define_name.ensures.tables told alike)))
+
+pub returns-else-is_global-clause-tables : goal.returns-else-is_global-clause-tables
+returns-else-is_global-clause-tables c = λ told alike.
+    rw c.if-is_global.false
+    (c.open_block.ensures.tables _
+    (labels_so c.args.self.now.table c.define_name.new.self.table (Named c.args.name) c.labelled-definition.result
+    (c.labelled-definition.ensures ∙ ap (λ (k : Kept). labelled k.table (Named c.args.name)) c.self.view_is)
+    c.in_ok-define_name.ensures.tables told alike))

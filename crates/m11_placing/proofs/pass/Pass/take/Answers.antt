@@ -1,0 +1,49 @@
+use Rattle.std.proofs.Common.{IfOk, List, Option, refl, subst}
+use Rattle.m11_base.specs.Rad50.{Name}
+use Rattle.m11_directives.specs.Changes.{move_seen, names_among}
+use Rattle.m11_placement.specs.Changes.{with_globals, with_move, with_number, with_settings, with_value}
+use Rattle.m11_table.specs.Alike.{Follows}
+use Rattle.m11_placing.proofs.SectionCounts.{number_sections, sections_kept, sections_stay, value_sections}
+use Rattle.m11_placing.proofs.pass.Pass.take.Goals as goal
+
+pub returns-in-Counts-clause-tables : goal.returns-in-Counts-clause-tables
+returns-in-Counts-clause-tables c = rw c.in-Counts.is c.count.ensures.tables
+
+pub returns-in-Counts-clause-sections : goal.returns-in-Counts-clause-sections
+returns-in-Counts-clause-sections c =
+    sections_stay c.args.self.now.table c.count.new.self.table (with_move (move_seen c.in-Counts.step)) c.count.ensures.tables refl
+    c.requires.sections
+
+pub returns-in-Assigns-clause-sections : goal.returns-in-Assigns-clause-sections
+returns-in-Assigns-clause-sections c =
+    sections_kept c.args.self.now.table c.assign.new.self.table
+    (with_value c.args.map.now c.in-Assigns.name c.in-Assigns.is_global c.args.line.now.text c.in-Assigns.start)
+    c.assign.result
+    (value_sections c.args.map.now c.in-Assigns.name c.in-Assigns.is_global c.args.line.now.text c.in-Assigns.start
+    c.args.self.now.table)
+    c.requires.sections c.assign.ensures.tables
+
+pub returns-in-Numbers-clause-sections : goal.returns-in-Numbers-clause-sections
+returns-in-Numbers-clause-sections c =
+    sections_kept c.args.self.now.table c.number.new.self.table (with_number c.in-Numbers.name c.in-Numbers.number)
+    c.number.result (number_sections c.in-Numbers.name c.in-Numbers.number c.args.self.now.table) c.requires.sections
+    c.number.ensures.tables
+
+pub returns-in-Exports-clause-tables : goal.returns-in-Exports-clause-tables
+returns-in-Exports-clause-tables c =
+    let P : List (Option Name) → Type 0 = λ names. IfOk c.export_all.result
+    (λ _. Follows c.args.self.now.table c.export_all.new.self.table (with_globals (names_among names))) in
+    rw c.in-Exports.is (subst P c.as_slice.ensures.value c.export_all.ensures.tables)
+
+pub returns-in-Exports-clause-sections : goal.returns-in-Exports-clause-sections
+returns-in-Exports-clause-sections c =
+    sections_kept c.args.self.now.table c.export_all.new.self.table (with_globals (names_among c.as_slice.result.now)) c.export_all.result
+    refl c.requires.sections c.export_all.ensures.tables
+
+pub returns-in-Sets-clause-tables : goal.returns-in-Sets-clause-tables
+returns-in-Sets-clause-tables c = rw c.in-Sets.is c.set.ensures.tables
+
+pub returns-in-Sets-clause-sections : goal.returns-in-Sets-clause-sections
+returns-in-Sets-clause-sections c =
+    sections_stay c.args.self.now.table c.set.new.self.table (with_settings c.in-Sets.settings) c.set.ensures.tables refl
+    c.requires.sections

@@ -1,0 +1,62 @@
+-- Labels that stand elsewhere than a map has them. (MACRO-11 Language Reference Manual, "Diagnostic error message summary", P: phase
+-- error. That place and section are compared is this project's own.)
+use Rattle.std.specs.Prelude.{ℕ, ◌==◌, ◌&&◌, not, Bool, false, true, List, [], ◌∷◌, Option, Some, None}
+use Rattle.std.specs.Int.RustNames.{bit_or}
+use Rattle.m11_base.specs.Devices.{Bytes}
+use Rattle.m11_base.specs.Rad50.{Name}
+use Rattle.m11_statements.specs.Statements.{letter_if}
+use Rattle.m11_statements.specs.declared.labels.Label.{Label}
+use Rattle.m11_statements.specs.declared.labels.LabelKind.{LabelKind}
+use Rattle.m11_statements.specs.declared.labels.LabelKind.TheVariants as label
+use Rattle.m11_values.specs.declared.kinds.Kind.{Kind}
+use Rattle.m11_values.specs.declared.kinds.Kind.TheVariants.{Absolute, Section}
+use Rattle.m11_placement.specs.Definitions.{is_defined, last_definition}
+use Rattle.m11_placement.specs.Labels.{label_name, with_label}
+use Rattle.m11_placement.specs.Meanings.{Map}
+use Rattle.m11_placement.specs.Tables.{Table, kind_here, place}
+use Rattle.m11_placement.specs.declared.definitions.Definition.{Definition}
+use Rattle.m11_placement.specs.declared.definitions.Key.{Key}
+use Rattle.m11_placement.specs.declared.definitions.Key.TheVariants.{Named, Numbered}
+use Rattle.m11_placement.specs.declared.definitions.Standing.{Standing}
+use Rattle.m11_placement.specs.declared.definitions.Standing.TheVariants.{Known, Unknown}
+
+-- the set of the letter P
+abbrev pub letter_P : ℕ
+letter_P = 512
+
+-- both count from 0, or from the beginning of one section
+abbrev pub is_same_kind : Kind → Kind → Bool
+is_same_kind Absolute Absolute = true
+is_same_kind (Section one) (Section other) = one == other
+is_same_kind one other = false
+
+-- what is known is the place of a section
+abbrev pub stands_at : ℕ → Kind → Standing → Bool
+stands_at place kind (Known number other) = (number == place) && is_same_kind other kind
+stands_at place kind Unknown = false
+
+-- a definition gives the place where the counter stands
+abbrev pub is_place_of : Table → Option Definition → Bool
+is_place_of table (Some definition) = stands_at (place table) (kind_here table) definition.standing
+is_place_of table None = false
+
+-- P where the map doesn't have the place of a key. One that is defined before has no place of its own
+abbrev pub moved_key : Map → Table → Key → ℕ
+moved_key map table key =
+    letter_if (not (is_defined key table.definitions) && not (is_place_of table (last_definition key map.definitions))) letter_P
+
+abbrev pub moved_name : Map → Table → Option Name → ℕ
+moved_name map table (Some name) = moved_key map table (Named name)
+moved_name map table None = 0
+
+abbrev pub moved_kind : Map → Table → Option Name → LabelKind → ℕ
+moved_kind map table name label.Ordinary = moved_name map table name
+moved_kind map table name label.Global = moved_name map table name
+moved_kind map table name (label.Local number) = moved_key map table (Numbered table.settings.block number)
+moved_kind map table name label.Outside = 0
+
+-- those of the labels of a line, each asked of the table before it
+abbrev pub moved_letters : Map → Bytes → Table → List Label → ℕ
+moved_letters map line table [] = 0
+moved_letters map line table (named ∷ labels) =
+    bit_or (moved_kind map table (label_name line named) named.kind) (moved_letters map line (with_label line table named) labels)
