@@ -1,0 +1,9 @@
+//! The faults and outputs of an assembly, and what is written to them: the records of the object, and the lines of the
+//! listing and of the messages. No source is read here, and no line is understood.
+#![tactic(auto)]
+
+mod fault;
+mod outputs;
+
+pub use fault::{AsmFault, AsmOutput};
+pub use outputs::{put_listing, put_message, put_record};
