@@ -8,7 +8,7 @@ use Rattle.m11_asm_outputs.specs.declared.fault.AsmOutput.TheVariants.{Object, L
 use Rattle.m11_writes.specs.Outputs.{Output, Puts, no_output}
 use Rattle.m11_writes.specs.Writes.{gained}
 use Rattle.m11_writes.proofs.Writing.{keeps, put_writes}
-use Rattle.m11_asm_outputs.specs.Outputs.{Writes, assembly, is_output, outputs, to_listing, to_messages, to_object}
+use Rattle.m11_asm_outputs.specs.Outputs.{Outputs, Writes, assembly, is_output, outputs, to_listing, to_messages, to_object}
 
 pub to_the_object : {A : Type 0} (a b listing messages : Output) (bytes : List ℕ) (result : Result A AsmFault)
     → Puts a b bytes (fault.Write Object) result
@@ -71,3 +71,9 @@ pub put_takes_none : {A : Type 0} (a b : Output) (bytes : List ℕ) (failed : As
 put_takes_none a b bytes failed (Ok done) h = tt
 put_takes_none a b bytes failed (Err stopped) h =
     let P : AsmFault → Type 0 = λ these. these ≢ fault.NoMemory in subst P (sym h.0) (λ e. cc)
+
+-- the same line by another name
+pub line_as : {A : Type 0} (a b : Outputs) (xs ys : List ℕ) (result : Result A AsmFault) → xs ≡ ys
+    → Writes a b (to_messages xs ∷ []) result → Writes a b (to_messages ys ∷ []) result
+line_as a b xs ys result e h =
+    let P : List ℕ → Type 0 = λ these. Writes a b (to_messages these ∷ []) result in subst P e h

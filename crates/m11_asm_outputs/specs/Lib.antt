@@ -1,2 +1,3 @@
 pub mod Fault
+pub mod Object
 pub mod Outputs

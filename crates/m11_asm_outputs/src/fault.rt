@@ -1,10 +1,11 @@
 //! What can go wrong in an assembly, each with its number and name.
 
 ghost use Rattle.std.specs.Prelude.{◌≡◌};
-ghost use Rattle.m11_asm_outputs.specs.Fault.{of_lines};
+ghost use Rattle.m11_asm_outputs.specs.Fault.{of_lines, of_unfolding};
 ghost use Rattle.m11_asm_outputs.specs.declared.fault.AsmFault.TheVariants.{NoMemory};
 
 use m11_lines::LineFault;
+use m11_unfolding::UnfoldFault;
 use std::alloc::{AllocError, AllocFailed};
 use thiserror::Error;
 
@@ -34,6 +35,9 @@ pub enum AsmFault {
     /// 4: more than 64 sections, with the two that each assembly has.
     #[error("too many sections")]
     TooManySections,
+    /// 5: a limit of macros, repeats and conditions was passed.
+    #[error("the source can't be unfolded")]
+    Unfold(UnfoldFault),
     /// 6: more source bytes than 4,194,304, or more source lines than 65,535.
     #[error("too much source")]
     TooMuchSource,
@@ -69,6 +73,7 @@ impl AsmFault {
             AsmFault::Write(_) => 2,
             AsmFault::TooManySymbols => 3,
             AsmFault::TooManySections => 4,
+            AsmFault::Unfold(_) => 5,
             AsmFault::TooMuchSource => 6,
             AsmFault::NoMemory => 90,
         }
@@ -84,6 +89,7 @@ impl AsmFault {
             AsmFault::Write(_) => "Write",
             AsmFault::TooManySymbols => "TooManySymbols",
             AsmFault::TooManySections => "TooManySections",
+            AsmFault::Unfold(_) => "Unfold",
             AsmFault::TooMuchSource => "TooMuchSource",
             AsmFault::NoMemory => "NoMemory",
         }
@@ -98,6 +104,17 @@ impl From<LineFault> for AsmFault {
             LineFault::Read => AsmFault::Read,
             LineFault::TooMuchSource => AsmFault::TooMuchSource,
             LineFault::TooManyLines => AsmFault::TooMuchSource,
+        }
+    }
+}
+
+impl From<UnfoldFault> for AsmFault {
+    ghost from_gives = { λ fault e. e ≡ of_unfolding fault };
+
+    fn from(fault: UnfoldFault) -> AsmFault {
+        match fault {
+            UnfoldFault::NoMemory => AsmFault::NoMemory,
+            _ => AsmFault::Unfold(fault),
         }
     }
 }

@@ -3,7 +3,11 @@
 #![tactic(auto)]
 
 mod fault;
+mod messages;
+mod object;
 mod outputs;
 
 pub use fault::{AsmFault, AsmOutput};
+pub use messages::{put_count, put_flagged};
+pub use object::{put_head, put_last, put_pieces};
 pub use outputs::{put_listing, put_message, put_record};
