@@ -4,7 +4,7 @@ use Rattle.std.specs.List.{flat_map}
 use Rattle.std.proofs.lemmas.Grind.{flat_map-append}
 use Rattle.std.proofs.lemmas.Bool.{cases_lt}
 use Rattle.std.proofs.lemmas.List.{append_cancel_left, map-append}
-use Rattle.m11_obj.specs.Records.{Content, Gsd}
+use Rattle.m11_obj.specs.Records.{Content, EndOfModule, Gsd}
 use Rattle.m11_obj.specs.declared.gsd.GsdEntry.{GsdEntry}
 use Rattle.m11_object_text.proofs.TextCuts.{begins, closes, goes_in}
 use Rattle.m11_object_text.proofs.RecordCuts.{row_closes, row_goes_in}
@@ -14,7 +14,7 @@ use Rattle.m11_object_text.specs.OpenText.{Stands, last_section, records_in, tak
 use Rattle.m11_object_text.specs.Texts.{TextParts, records_of, text_of, text_records, texts_after}
 use Rattle.m11_object_text.specs.declared.directory.DirectoryRow.{DirectoryRow}
 use Rattle.m11_object_text.specs.declared.pieces.Piece.{Piece}
-use Rattle.m11_asm_outputs.specs.Object.{IsOpenAfter, WaitsAfter, closed_records, full_records, last_records, records_closed_by, records_filled_by, rest_records, texts_of, without_last}
+use Rattle.m11_asm_outputs.specs.Object.{closed_records, full_records, head_contents, IsOpenAfter, last_records, object_contents, records_closed_by, records_filled_by, rest_records, texts_of, WaitsAfter, without_last}
 use Rattle.m11_asm_outputs.proofs.Growing as growing
 
 -- ---- texts
@@ -109,6 +109,17 @@ pub closed-append : (before pieces : List Piece)
     → closed_records (before ++ pieces) ≡ closed_records before ++ records_closed_by before pieces
 closed-append before pieces = growing.made-append closed_records closed-grows before pieces
 
+pub closed_by-nil : (before : List Piece) → records_closed_by before [] ≡ []
+closed_by-nil before = sym (growing.added-nil closed_records closed-grows before)
+
+pub closed_by-append : (before xs ys : List Piece)
+    → records_closed_by before (xs ++ ys) ≡ records_closed_by before xs ++ records_closed_by (before ++ xs) ys
+closed_by-append before xs ys = growing.added-append closed_records closed-grows before xs ys
+
+pub closed_from_nothing : (pieces : List Piece) → records_closed_by [] pieces ≡ closed_records pieces
+closed_from_nothing pieces =
+    sym (closed-append [] pieces ∙ ap (λ (t : List Content). t ++ records_closed_by [] pieces) no_closed_records)
+
 -- a piece that was taken
 module _ (pieces : List Piece) (p : Piece) (more : List Content) (text : Option TextParts)
     (h : Stands (pieces ++ p ∷ []) (closed_records pieces ++ more) text) where
@@ -131,6 +142,16 @@ all_records pieces =
 pub last_is : (pieces : List Piece) (more : List Content) → closed_records pieces ++ more ≡ text_records pieces
     → more ≡ last_records pieces
 last_is pieces more e = append_cancel_left (closed_records pieces) more (last_records pieces) (e ∙ sym (all_records pieces))
+
+-- the whole object in parts
+pub in_parts : (rows : List DirectoryRow) (pieces : List Piece) → object_contents rows pieces
+    ≡ head_contents rows ++ (records_closed_by [] pieces ++ (last_records pieces ++ EndOfModule ∷ []))
+in_parts rows pieces =
+    append_assoc (head_contents rows) (text_records pieces) (EndOfModule ∷ [])
+    ∙ ap (λ (t : List Content). head_contents rows ++ (t ++ EndOfModule ∷ []))
+    (sym (all_records pieces) ∙ ap (λ (t : List Content). t ++ last_records pieces) (sym (closed_from_nothing pieces)))
+    ∙ ap (λ (t : List Content). head_contents rows ++ t)
+    (append_assoc (records_closed_by [] pieces) (last_records pieces) (EndOfModule ∷ []))
 
 -- ---- directories
 

@@ -3,11 +3,13 @@
 #![tactic(auto)]
 
 mod fault;
+mod laws;
 mod messages;
 mod object;
 mod outputs;
 
 pub use fault::{AsmFault, AsmOutput};
+pub use laws::{pieces_close_texts_in_turn, the_parts_are_the_object};
 pub use messages::{put_count, put_flagged};
-pub use object::{put_head, put_last, put_pieces};
+pub use object::{open_text, put_head, put_last, put_pieces};
 pub use outputs::{put_listing, put_message, put_record};

@@ -111,6 +111,13 @@ fn put_if_full<S: Sink>(
     }
 }
 
+/// The text that is open before the first piece.
+pub fn open_text() -> OpenText
+    ensures { IsOpenAfter [] result }
+{
+    OpenText::new()
+}
+
 /// The texts that a line closes which puts these contents from a place of a section on: each text of which a content
 /// can't be a part too. The contents stay in the open text until more come, or the end.
 ///
