@@ -33,9 +33,11 @@ content_writes contents = map content_write contents
 
 -- ---- what further items can't change
 
+-- all items but the last one
 abbrev pub without_last : {A : Type 0} → List A → List A
 without_last items = take (length items - 1) items
 
+-- the last one alone, if there is one
 abbrev pub last_alone : {A : Type 0} → List A → List A
 last_alone items = drop (length items - 1) items
 

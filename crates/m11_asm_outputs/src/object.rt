@@ -118,8 +118,8 @@ pub fn open_text() -> OpenText
     OpenText::new()
 }
 
-/// The texts that a line closes which puts these contents from a place of a section on: each text of which a content
-/// can't be a part too. The contents stay in the open text until more come, or the end.
+/// Takes what a line puts from a place of a section on, and writes the texts that it closes: a text is closed once a
+/// content comes that it can't hold too. What isn't closed stays in the open text until more comes, or the end.
 ///
 /// Faults: `Write` of the object, and `NoMemory` before a record. After a fault the open text is of no use.
 pub fn put_pieces<S: Sink>(
