@@ -1,0 +1,6 @@
+pub mod Blocks
+pub mod Closing
+pub mod Growing
+pub mod Looping
+pub mod Taking
+pub mod Writing

@@ -1,0 +1,51 @@
+-- The faults of an assembly, each with its number and its name, and the names of the outputs. (This project's own: no
+-- manual speaks of them. The printed line of a fault is made of these.)
+use Rattle.std.specs.Prelude.{ℕ, List, codes}
+use Rattle.m11_lines.specs.declared.fault.LineFault.{LineFault}
+use Rattle.m11_lines.specs.declared.fault.LineFault.TheVariants as line
+use Rattle.m11_unfolding.specs.declared.fault.UnfoldFault.{UnfoldFault}
+use Rattle.m11_unfolding.specs.declared.fault.UnfoldFault.TheVariants as unfolded
+use Rattle.m11_asm_outputs.specs.declared.fault.AsmFault.{AsmFault}
+use Rattle.m11_asm_outputs.specs.declared.fault.AsmFault.TheVariants.{Read, Write, TooManySymbols, TooManySections, Unfold, TooMuchSource, NoMemory}
+use Rattle.m11_asm_outputs.specs.declared.fault.AsmOutput.{AsmOutput}
+use Rattle.m11_asm_outputs.specs.declared.fault.AsmOutput.TheVariants.{Object, Listing, Messages}
+
+-- the number of a fault
+abbrev pub number_of : AsmFault → ℕ
+number_of Read = 1
+number_of (Write output) = 2
+number_of TooManySymbols = 3
+number_of TooManySections = 4
+number_of (Unfold inner) = 5
+number_of TooMuchSource = 6
+number_of NoMemory = 90
+
+-- the name of a fault
+abbrev pub name_of : AsmFault → List ℕ
+name_of Read = codes "Read"
+name_of (Write output) = codes "Write"
+name_of TooManySymbols = codes "TooManySymbols"
+name_of TooManySections = codes "TooManySections"
+name_of (Unfold inner) = codes "Unfold"
+name_of TooMuchSource = codes "TooMuchSource"
+name_of NoMemory = codes "NoMemory"
+
+-- the name of an output
+abbrev pub output_name : AsmOutput → List ℕ
+output_name Object = codes "OBJECT"
+output_name Listing = codes "LISTING"
+output_name Messages = codes "MESSAGES"
+
+-- what a fault of reading lines is to an assembly: both limits of source are one
+abbrev pub of_lines : LineFault → AsmFault
+of_lines line.Read = Read
+of_lines line.TooMuchSource = TooMuchSource
+of_lines line.TooManyLines = TooMuchSource
+
+-- what a fault of unfolding is to an assembly: memory is refused alike everywhere
+abbrev pub of_unfolding : UnfoldFault → AsmFault
+of_unfolding unfolded.NoMemory = NoMemory
+of_unfolding unfolded.TooDeep = Unfold unfolded.TooDeep
+of_unfolding unfolded.TooManyLines = Unfold unfolded.TooManyLines
+of_unfolding unfolded.TooMuchText = Unfold unfolded.TooMuchText
+of_unfolding unfolded.TooManyMacros = Unfold unfolded.TooManyMacros

@@ -1,0 +1,3 @@
+pub mod Fault
+pub mod Object
+pub mod Outputs

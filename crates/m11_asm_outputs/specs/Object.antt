@@ -1,0 +1,85 @@
+-- The object that an assembly writes, and how much of it can be written while its pieces come. (RT-11 Volume and File
+-- Formats Manual, "Object file format", for the order of its records. That a text is written once a piece has come that
+-- it can't hold too, and the last one at the end, is this project's own.)
+use Rattle.std.specs.Prelude.{ℕ, ◌-◌, List, [], ◌∷◌, ◌++◌, length, take, drop, map, Option, None}
+use Rattle.std.specs.List.{flat_map}
+use Rattle.arrayvec.specs.ArrayVec.{ArrayVec}
+use Rattle.m11_blocks.specs.Frames.{block}
+use Rattle.m11_obj.specs.Records.{Content, EndOfGsd, EndOfModule, record_data}
+use Rattle.m11_obj.specs.declared.gsd.GsdEntry.{GsdEntry}
+use Rattle.m11_object_text.specs.Directory as directory
+use Rattle.m11_object_text.specs.OpenText as text
+use Rattle.m11_object_text.specs.Texts.{TextParts, cutting, texts_after, records_of, text_records}
+use Rattle.m11_object_text.specs.declared.directory.DirectoryRow.{DirectoryRow}
+use Rattle.m11_object_text.specs.declared.pieces.Piece.{Piece}
+use Rattle.m11_asm_outputs.specs.Outputs.{Write, to_object}
+
+-- ---- the whole object
+
+-- the records of the directory, and its end
+abbrev pub head_contents : List DirectoryRow → List Content
+head_contents rows = directory.directory_records rows ++ EndOfGsd ∷ []
+
+-- then the texts with their relocations, and the end of the module
+abbrev pub object_contents : List DirectoryRow → List Piece → List Content
+object_contents rows pieces = head_contents rows ++ text_records pieces ++ EndOfModule ∷ []
+
+-- each record is written as a block
+abbrev pub content_write : Content → Write
+content_write content = to_object (block (record_data content))
+
+unfoldable pub content_writes : List Content → List Write
+content_writes contents = map content_write contents
+
+-- ---- what further items can't change
+
+-- all items but the last one
+abbrev pub without_last : {A : Type 0} → List A → List A
+without_last items = take (length items - 1) items
+
+-- the last one alone, if there is one
+abbrev pub last_alone : {A : Type 0} → List A → List A
+last_alone items = drop (length items - 1) items
+
+-- what further items add to what was made of those before
+unfoldable pub added : {A C : Type 0} → (List A → List C) → List A → List A → List C
+added made before items = drop (length (made before)) (made (before ++ items))
+
+-- the texts that pieces make
+abbrev pub texts_of : List Piece → List TextParts
+texts_of pieces = texts_after None (cutting pieces)
+
+-- the records of all texts but the last one, which may still take pieces
+unfoldable pub closed_records : List Piece → List Content
+closed_records pieces = flat_map records_of (without_last (texts_of pieces))
+
+-- those of the last one, if there is a piece
+unfoldable pub last_records : List Piece → List Content
+last_records pieces = flat_map records_of (last_alone (texts_of pieces))
+
+-- the records of those texts that further pieces close
+abbrev pub records_closed_by : List Piece → List Piece → List Content
+records_closed_by before pieces = added closed_records before pieces
+
+-- the last text of pieces is open; the records of the texts before it are written
+abbrev pub IsOpenAfter : List Piece → Option TextParts → Type 0
+IsOpenAfter pieces last = text.Stands pieces (closed_records pieces) last
+
+-- the same of a directory: its records but the last one, which may still take entries
+unfoldable pub full_records : List DirectoryRow → List Content
+full_records rows = without_last (directory.directory_records rows)
+
+unfoldable pub rest_records : List DirectoryRow → List Content
+rest_records rows = last_alone (directory.directory_records rows)
+
+abbrev pub records_filled_by : List DirectoryRow → List DirectoryRow → List Content
+records_filled_by before rows = added full_records before rows
+
+abbrev pub WaitsAfter : List DirectoryRow → List GsdEntry → Type 0
+WaitsAfter rows waiting = directory.Stands rows (full_records rows) waiting
+
+-- ---- blocks
+
+-- contents as they stand in blocks
+unfoldable pub block_writes : List (ArrayVec ℕ) → List Write
+block_writes blocks = map (λ content. to_object (block content.items)) blocks

@@ -1,0 +1,136 @@
+//! What can go wrong in an assembly, each with its number and name.
+
+ghost use Rattle.std.specs.Prelude.{◌≡◌};
+ghost use Rattle.m11_asm_outputs.specs.Fault.{of_lines, of_unfolding};
+ghost use Rattle.m11_asm_outputs.specs.declared.fault.AsmFault.TheVariants.{NoMemory};
+
+use m11_lines::LineFault;
+use m11_unfolding::UnfoldFault;
+use std::alloc::{AllocError, AllocFailed};
+use thiserror::Error;
+
+/// An output of the assembler.
+#[derive(Clone, Copy, Debug, PartialEq, Eq)]
+pub enum AsmOutput {
+    /// The object module.
+    Object,
+    /// The listing.
+    Listing,
+    /// The messages.
+    Messages,
+}
+
+/// Why an assembly ended early.
+#[derive(Clone, Copy, Debug, PartialEq, Eq, Error)]
+pub enum AsmFault {
+    /// 1: a source could not be read.
+    #[error("a source could not be read")]
+    Read,
+    /// 2: an output could not be written.
+    #[error("an output could not be written")]
+    Write(AsmOutput),
+    /// 3: more than 4,096 names besides those of the registers, or more than 16,384 local symbols.
+    #[error("too many symbols")]
+    TooManySymbols,
+    /// 4: more than 64 sections, with the two that each assembly has.
+    #[error("too many sections")]
+    TooManySections,
+    /// 5: a limit of macros, repeats and conditions was passed.
+    #[error("the source can't be unfolded")]
+    Unfold(UnfoldFault),
+    /// 6: more source bytes than 4,194,304, or more source lines than 65,535.
+    #[error("too much source")]
+    TooMuchSource,
+    /// 90: memory was refused.
+    #[error("no memory")]
+    NoMemory,
+}
+
+impl AsmOutput {
+    ghost use Rattle.m11_asm_outputs.specs.Fault.{output_name};
+
+    /// The name that the line of a write fault has for this output.
+    pub fn name(self) -> &'static str
+        ensures { result.now ≡ output_name self }
+    {
+        match self {
+            AsmOutput::Object => "OBJECT",
+            AsmOutput::Listing => "LISTING",
+            AsmOutput::Messages => "MESSAGES",
+        }
+    }
+}
+
+impl AsmFault {
+    ghost use Rattle.m11_asm_outputs.specs.Fault.{name_of, number_of};
+
+    /// The fault's number, which its printed line shows.
+    pub fn number(self) -> u8
+        ensures { result ≡ number_of self }
+    {
+        match self {
+            AsmFault::Read => 1,
+            AsmFault::Write(_) => 2,
+            AsmFault::TooManySymbols => 3,
+            AsmFault::TooManySections => 4,
+            AsmFault::Unfold(_) => 5,
+            AsmFault::TooMuchSource => 6,
+            AsmFault::NoMemory => 90,
+        }
+    }
+
+    /// The fault's name, which its printed line shows. That of `Write` leaves the output out, and that of `Unfold` the
+    /// fault of the unfolding.
+    pub fn name(self) -> &'static str
+        ensures { result.now ≡ name_of self }
+    {
+        match self {
+            AsmFault::Read => "Read",
+            AsmFault::Write(_) => "Write",
+            AsmFault::TooManySymbols => "TooManySymbols",
+            AsmFault::TooManySections => "TooManySections",
+            AsmFault::Unfold(_) => "Unfold",
+            AsmFault::TooMuchSource => "TooMuchSource",
+            AsmFault::NoMemory => "NoMemory",
+        }
+    }
+}
+
+impl From<LineFault> for AsmFault {
+    ghost from_gives = { λ fault e. e ≡ of_lines fault };
+
+    fn from(fault: LineFault) -> AsmFault {
+        match fault {
+            LineFault::Read => AsmFault::Read,
+            LineFault::TooMuchSource => AsmFault::TooMuchSource,
+            LineFault::TooManyLines => AsmFault::TooMuchSource,
+        }
+    }
+}
+
+impl From<UnfoldFault> for AsmFault {
+    ghost from_gives = { λ fault e. e ≡ of_unfolding fault };
+
+    fn from(fault: UnfoldFault) -> AsmFault {
+        match fault {
+            UnfoldFault::NoMemory => AsmFault::NoMemory,
+            _ => AsmFault::Unfold(fault),
+        }
+    }
+}
+
+impl From<AllocError> for AsmFault {
+    ghost from_gives = { λ _ e. e ≡ NoMemory };
+
+    fn from(_error: AllocError) -> AsmFault {
+        AsmFault::NoMemory
+    }
+}
+
+impl<T: Drop> From<AllocFailed<T>> for AsmFault {
+    ghost from_gives = { λ _ e. e ≡ NoMemory };
+
+    fn from(_error: AllocFailed<T>) -> AsmFault {
+        AsmFault::NoMemory
+    }
+}

@@ -1,0 +1,23 @@
+//! Laws of an object that is written while its pieces come. Each is the contract of a function that does nothing.
+
+ghost use Rattle.std.specs.Prelude.{◌≡◌, List, [], ◌∷◌, ◌++◌};
+ghost use Rattle.m11_obj.specs.Records.{EndOfModule};
+ghost use Rattle.m11_object_text.specs.declared.directory.DirectoryRow.{DirectoryRow};
+ghost use Rattle.m11_object_text.specs.declared.pieces.Piece.{Piece};
+ghost use Rattle.m11_asm_outputs.specs.Object.{closed_records, head_contents, last_records, object_contents, records_closed_by};
+
+/// Pieces leave the closed texts as they are, and close others after them: no pieces none, and pieces one part after
+/// another the same as all at once.
+pub fn pieces_close_texts_in_turn()
+    ensures kept { (before pieces : List Piece)
+        → closed_records (before ++ pieces) ≡ closed_records before ++ records_closed_by before pieces }
+    ensures none { (before : List Piece) → records_closed_by before [] ≡ [] }
+    ensures in_turn { (before pieces more : List Piece) → records_closed_by before (pieces ++ more)
+        ≡ records_closed_by before pieces ++ records_closed_by (before ++ pieces) more }
+{}
+
+/// What stands before the texts, what all pieces close, and what stands after them, are the whole object.
+pub fn the_parts_are_the_object()
+    ensures { (rows : List DirectoryRow) (pieces : List Piece) → object_contents rows pieces
+        ≡ head_contents rows ++ (records_closed_by [] pieces ++ (last_records pieces ++ EndOfModule ∷ [])) }
+{}

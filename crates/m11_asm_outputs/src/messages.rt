@@ -1,0 +1,46 @@
+//! The lines of the messages.
+
+ghost use Rattle.std.specs.Prelude.{◌≤◌, ◌≢◌, [], ◌∷◌, length, IfErr};
+ghost use Rattle.m11_listing.specs.Messages.{count_line, message_line};
+ghost use Rattle.m11_scan.specs.Letters.{letters_text};
+ghost use Rattle.m11_scan.specs.Views.{bits_of};
+ghost use Rattle.m11_writes.specs.Outputs.{Output, output_of};
+ghost use Rattle.m11_asm_outputs.specs.Outputs.{Writes, outputs, to_messages};
+
+use crate::fault::AsmFault;
+use crate::outputs::put_message;
+use m11_base::Sink;
+use m11_listing::{count_line, message_line};
+use m11_scan::Letters;
+
+/// The message on a flagged line: its letters, its number and its text, which has at most 132 bytes.
+///
+/// Fault: `Write` of the messages.
+pub fn put_flagged<U: Sink>(
+    messages: &mut U,
+    letters: Letters,
+    number: u16,
+    text: &[u8],
+) -> Result<(), AsmFault>
+    requires { length text.now ≤ 132 }
+    ensures writes { (object listing : Output) → Writes
+        (outputs object listing (output_of U.Sink messages.old))
+        (outputs object listing (output_of U.Sink messages.new))
+        (to_messages (message_line (letters_text (bits_of letters)) number text.now) ∷ []) result }
+    ensures no_memory { IfErr result (λ fault. fault ≢ AsmFault.NoMemory) }
+{
+    let line = message_line(letters.text().as_slice(), number, text);
+    put_message(messages, line.as_slice())
+}
+
+/// The last line of the messages: how many lines are flagged.
+///
+/// Fault: `Write` of the messages.
+pub fn put_count<U: Sink>(messages: &mut U, count: u32) -> Result<(), AsmFault>
+    ensures writes { (object listing : Output) → Writes
+        (outputs object listing (output_of U.Sink messages.old))
+        (outputs object listing (output_of U.Sink messages.new)) (to_messages (count_line count) ∷ []) result }
+    ensures no_memory { IfErr result (λ fault. fault ≢ AsmFault.NoMemory) }
+{
+    put_message(messages, count_line(count).as_slice())
+}

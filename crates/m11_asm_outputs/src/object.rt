@@ -1,0 +1,233 @@
+//! Writes the object of an assembly, record by record. (RT-11 Volume and File Formats Manual, "Object file format".)
+
+ghost use Rattle.std.specs.Prelude.{◌≡◌, List, [], ◌∷◌, ◌++◌, OnOk};
+ghost use Rattle.std.specs.Option.{option_to_list};
+ghost use Rattle.m11_obj.specs.Records.{Content, EndOfGsd, EndOfModule};
+ghost use Rattle.m11_object_text.specs.Blocks.{AreRecords};
+ghost use Rattle.m11_object_text.specs.OpenText.{records_in};
+ghost use Rattle.m11_object_text.specs.Texts.{records_of};
+ghost use Rattle.m11_object_text.specs.declared.directory.DirectoryRow.{DirectoryRow};
+ghost use Rattle.m11_object_text.specs.declared.pieces.Piece.{Piece};
+ghost use Rattle.m11_placement.specs.Contents.{content_size, further, pieces_from};
+ghost use Rattle.m11_writes.specs.Outputs.{Output, output_of};
+ghost use Rattle.m11_asm_outputs.specs.Object.{IsOpenAfter, WaitsAfter, block_writes, content_writes, head_contents, last_records, records_closed_by, records_filled_by, rest_records};
+ghost use Rattle.m11_asm_outputs.specs.Outputs.{Writes, outputs};
+
+use crate::fault::AsmFault;
+use crate::outputs::put_record;
+use m11_base::{Name, Sink};
+use m11_obj::{Block, Record};
+use m11_object_text::{DirectoryRow, OpenDirectory, OpenText, Piece, PieceContent, Text};
+use std::alloc::Global;
+
+/// What stands before the texts: the records of a directory of these rows, and its end.
+///
+/// Faults: `Write` of the object, and `NoMemory` before a record.
+pub fn put_head<S: Sink>(
+    alloc: Global,
+    object: &mut S,
+    rows: &[DirectoryRow],
+) -> Result<(), AsmFault>
+    ensures { (listing messages : Output) → Writes
+        (outputs (output_of S.Sink object.old) listing messages)
+        (outputs (output_of S.Sink object.new) listing messages) (content_writes (head_contents rows.now)) result }
+{
+    let mut waiting = OpenDirectory::new();
+    put_rows(alloc, object, &mut waiting, rows)?;
+    put_directory_end(alloc, object, waiting)
+}
+
+// The records that rows fill.
+fn put_rows<S: Sink>(
+    alloc: Global,
+    object: &mut S,
+    waiting: &mut OpenDirectory,
+    rows: &[DirectoryRow],
+) -> Result<(), AsmFault>
+    ensures writes { (before : List DirectoryRow) → WaitsAfter before waiting.old → (listing messages : Output) → Writes
+        (outputs (output_of S.Sink object.old) listing messages)
+        (outputs (output_of S.Sink object.new) listing messages)
+        (content_writes (records_filled_by before rows.now)) result }
+    ensures waits { (before : List DirectoryRow) → WaitsAfter before waiting.old
+        → OnOk result (WaitsAfter (before ++ rows.now) waiting.new) }
+{
+    'rows: for row in rows {
+        match put_row(alloc, object, waiting, row) {
+            Ok(()) => {}
+            Err(fault) => return Err(fault),
+        }
+    }
+    Ok(())
+}
+
+// The record that was full before a row, if there was one.
+fn put_row<S: Sink>(
+    alloc: Global,
+    object: &mut S,
+    waiting: &mut OpenDirectory,
+    row: &DirectoryRow,
+) -> Result<(), AsmFault>
+    ensures writes { (before : List DirectoryRow) → WaitsAfter before waiting.old → (listing messages : Output) → Writes
+        (outputs (output_of S.Sink object.old) listing messages)
+        (outputs (output_of S.Sink object.new) listing messages)
+        (content_writes (records_filled_by before (row.now ∷ []))) result }
+    ensures waits { (before : List DirectoryRow) → WaitsAfter before waiting.old
+        → WaitsAfter (before ++ row.now ∷ []) waiting.new }
+{
+    let full = waiting.take(row);
+    put_if_full(alloc, object, &full)
+}
+
+// The last record of a directory, and its end.
+fn put_directory_end<S: Sink>(
+    alloc: Global,
+    object: &mut S,
+    waiting: OpenDirectory,
+) -> Result<(), AsmFault>
+    ensures { (rows : List DirectoryRow) → WaitsAfter rows waiting → (listing messages : Output) → Writes
+        (outputs (output_of S.Sink object.old) listing messages)
+        (outputs (output_of S.Sink object.new) listing messages)
+        (content_writes (rest_records rows ++ EndOfGsd ∷ [])) result }
+{
+    let last = waiting.end();
+    put_if_full(alloc, object, &last)?;
+    put_record(alloc, object, &Record::end_of_gsd())
+}
+
+// A record of a directory, if there is one.
+fn put_if_full<S: Sink>(
+    alloc: Global,
+    object: &mut S,
+    content: &Option<Block>,
+) -> Result<(), AsmFault>
+    ensures { (contents : List Content) → AreRecords (option_to_list content.now) contents
+        → (listing messages : Output) → Writes
+        (outputs (output_of S.Sink object.old) listing messages)
+        (outputs (output_of S.Sink object.new) listing messages) (content_writes contents) result }
+{
+    match content {
+        Some(content) => put_record(alloc, object, content),
+        None => Ok(()),
+    }
+}
+
+/// The text that is open before the first piece.
+pub fn open_text() -> OpenText
+    ensures { IsOpenAfter [] result }
+{
+    OpenText::new()
+}
+
+/// Takes what a line puts from a place of a section on, and writes the texts that it closes: a text is closed once a
+/// content comes that it can't hold too. What isn't closed stays in the open text until more comes, or the end.
+///
+/// Faults: `Write` of the object, and `NoMemory` before a record. After a fault the open text is of no use.
+pub fn put_pieces<S: Sink>(
+    alloc: Global,
+    object: &mut S,
+    text: &mut OpenText,
+    section: Name,
+    place: u16,
+    contents: &[PieceContent],
+) -> Result<(), AsmFault>
+    ensures writes { (before : List Piece) → IsOpenAfter before text.old → (listing messages : Output) → Writes
+        (outputs (output_of S.Sink object.old) listing messages)
+        (outputs (output_of S.Sink object.new) listing messages)
+        (content_writes (records_closed_by before (pieces_from section place contents.now))) result }
+    ensures opens { (before : List Piece) → IsOpenAfter before text.old
+        → OnOk result (IsOpenAfter (before ++ pieces_from section place contents.now) text.new) }
+{
+    let mut next = place;
+    'contents: for content in contents {
+        let piece = Piece {
+            section,
+            place: next,
+            content: *content,
+        };
+        match put_piece(alloc, object, text, &piece) {
+            Ok(()) => {}
+            Err(fault) => return Err(fault),
+        }
+        next = place_after(next, content);
+    }
+    Ok(())
+}
+
+// The place after a content, counted modulo 65536.
+fn place_after(place: u16, content: &PieceContent) -> u16
+    ensures { result ≡ further place (content_size content.now) }
+{
+    place.wrapping_add(content.byte_count() as u16)
+}
+
+// The text that a piece closes, if it closes one. The piece is in the open text also where the write failed.
+fn put_piece<S: Sink>(
+    alloc: Global,
+    object: &mut S,
+    text: &mut OpenText,
+    piece: &Piece,
+) -> Result<(), AsmFault>
+    ensures writes { (before : List Piece) → IsOpenAfter before text.old → (listing messages : Output) → Writes
+        (outputs (output_of S.Sink object.old) listing messages)
+        (outputs (output_of S.Sink object.new) listing messages)
+        (content_writes (records_closed_by before (piece.now ∷ []))) result }
+    ensures opens { (before : List Piece) → IsOpenAfter before text.old
+        → IsOpenAfter (before ++ piece.now ∷ []) text.new }
+{
+    let closed = text.take(piece);
+    put_if_closed(alloc, object, &closed)
+}
+
+/// What stands after all pieces: the last text, if there is a piece, and the end of the module.
+///
+/// Faults: `Write` of the object, and `NoMemory` before a record.
+pub fn put_last<S: Sink>(alloc: Global, object: &mut S, text: OpenText) -> Result<(), AsmFault>
+    ensures { (pieces : List Piece) → IsOpenAfter pieces text → (listing messages : Output) → Writes
+        (outputs (output_of S.Sink object.old) listing messages)
+        (outputs (output_of S.Sink object.new) listing messages)
+        (content_writes (last_records pieces ++ EndOfModule ∷ [])) result }
+{
+    let last = text.end();
+    put_if_closed(alloc, object, &last)?;
+    put_record(alloc, object, &Record::end_of_module())
+}
+
+// The records of a text, if there is one.
+fn put_if_closed<S: Sink>(
+    alloc: Global,
+    object: &mut S,
+    text: &Option<Text>,
+) -> Result<(), AsmFault>
+    ensures { (listing messages : Output) → Writes
+        (outputs (output_of S.Sink object.old) listing messages)
+        (outputs (output_of S.Sink object.new) listing messages) (content_writes (records_in text.now)) result }
+{
+    match text {
+        Some(text) => put_text(alloc, object, text),
+        None => Ok(()),
+    }
+}
+
+// The records of a text.
+fn put_text<S: Sink>(alloc: Global, object: &mut S, text: &Text) -> Result<(), AsmFault>
+    ensures { (listing messages : Output) → Writes
+        (outputs (output_of S.Sink object.old) listing messages)
+        (outputs (output_of S.Sink object.new) listing messages) (content_writes (records_of text.now)) result }
+{
+    put_blocks(alloc, object, text.records().as_slice())
+}
+
+// Contents, each as a block.
+fn put_blocks<S: Sink>(alloc: Global, object: &mut S, contents: &[Block]) -> Result<(), AsmFault>
+    ensures { (listing messages : Output) → Writes
+        (outputs (output_of S.Sink object.old) listing messages)
+        (outputs (output_of S.Sink object.new) listing messages) (block_writes contents.now) result }
+{
+    'contents: for content in contents {
+        match put_record(alloc, object, content) {
+            Ok(()) => {}
+            Err(fault) => return Err(fault),
+        }
+    }
+    Ok(())
+}
