@@ -1,12 +1,12 @@
 pub mod Alike
 mod Assigning
 mod FirmCounters
-mod Gathering
+pub mod Gathering
 mod LabelTables
 mod Labelling
-mod LinesAlike
-mod LinesTaken
-mod Passes
+pub mod LinesAlike
+pub mod LinesTaken
+pub mod Passes
 mod Refusals
 mod SectionCounts
 mod Sizes

@@ -14,7 +14,7 @@ use Rattle.m11_placing.specs.Lines.{change_by, mentions_by, written_by}
 use Rattle.m11_placing.specs.Passes.{Follows, Kept, Matches}
 
 -- what changes is what the definition says
-changes_as : (table told : Table) (given : Given) → Alike table told → change_by table given ≡ line_change (firm_table told) given
+pub changes_as : (table told : Table) (given : Given) → Alike table told → change_by table given ≡ line_change (firm_table told) given
 unfolding line_change
 changes_as table told given alike =
     changes_alike (firm_table table) (firm_table told) (firm_alike table told alike) given.live.line.text given.arguments

@@ -74,6 +74,13 @@ impl Pass {
         self.sizes[number]
     }
 
+    /// The sizes of sections by their numbers, in bytes.
+    pub fn sizes(&self) -> &[u16; 64]
+        ensures { result.now ≡ self.now.sizes }
+    {
+        &self.sizes
+    }
+
     // One more definition of a name.
     pub(crate) fn define_name(
         &mut self,

@@ -1,0 +1,265 @@
+-- A live line is placed as its definition says, or refused by its first limit.
+use Rattle.std.proofs.Common.{◌≡◌, ◌∙◌, ◌<◌, ◌≤◌, ℕ, ◌+◌, ◌*◌, List, [], length, Option, None, Result, Ok, Err, IsErrAnd, refl, sym, ap, subst, arith}
+use Rattle.std.specs.Prelude.{false}
+use Rattle.std.specs.Int.RustNames.{bit_or}
+use Rattle.m11_arguments.specs.Notes.{Notes}
+use Rattle.m11_arguments.specs.Directives.{every_name}
+use Rattle.m11_arguments.specs.Expressions.{known_by}
+use Rattle.m11_base.specs.Devices.{Bytes}
+use Rattle.m11_scan.specs.Views.{bits_of}
+use Rattle.m11_statements.specs.Labels.{labels_at, labels_end}
+use Rattle.m11_statements.specs.Statements.{body_of, label_letters}
+use Rattle.m11_unfold.specs.Unfolder.{Acts, Unfolding}
+use Rattle.m11_unfold.specs.declared.steps.Act.{Act as Acting}
+use Rattle.m11_unfolding.specs.Stages.{Stage, start}
+use Rattle.m11_unfolding.specs.Taking.{Live}
+use Rattle.m11_unfolding.specs.Unfolding.{Given}
+use Rattle.m11_unfolding.specs.declared.fault.UnfoldFault.{UnfoldFault}
+use Rattle.m11_placement.specs.Alignment.{place_for}
+use Rattle.m11_placement.specs.Changes.{Change, changed}
+use Rattle.m11_placement.specs.Contents.{Put}
+use Rattle.m11_placement.specs.Labels.{labels_letters, labels_stand}
+use Rattle.m11_placement.specs.Limits.{most_local_symbols, most_names, most_sections}
+use Rattle.m11_placement.specs.Lines.{Deed, Rests, Assigning, Setting, Operating, deed, line_put, put_by, put_place, section_name, stands}
+use Rattle.m11_placement.specs.Meanings.{Map, empty_map, stands_for}
+use Rattle.m11_placement.specs.declared.meanings.Context.TheVariants.{Knows}
+use Rattle.m11_placement.specs.Operators.{is_even}
+use Rattle.m11_placement.specs.Sections.{numbered}
+use Rattle.m11_placement.specs.Tables.{Table, firm_table, first_table, place}
+use Rattle.m11_placement.specs.Unfolded.{told}
+use Rattle.m11_placement.specs.declared.sections.Section.{Section}
+use Rattle.m11_placement.specs.declared.settings.Settings.{Settings}
+use Rattle.m11_placing.proofs.Alike.{alike_itself, alike_place}
+use Rattle.m11_placing.specs.Deeds.{deed_seen}
+use Rattle.m11_placing.specs.Lines.{letters_from}
+use Rattle.m11_placing.specs.Mentioned.{Gathered, with_all}
+use Rattle.m11_placing.specs.Moved.{moved_letters}
+use Rattle.m11_placing.specs.Passes.{Follows, Kept, Matches}
+use Rattle.m11_placing.specs.declared.labels.LabelLetters.{LabelLetters}
+use Rattle.m11_table.specs.Alike as tables
+use Rattle.m11_table.specs.Alike.{Alike}
+use Rattle.m11_table.specs.Asking.{FirmAsked, firm_asked}
+use Rattle.m11_passes.proofs.Placing.{Act, IsActOf, all_so, deed_so, line_fits, matches_so, mentions_refused, notes_so, puts, sections_refused, stage_so}
+use Rattle.m11_passes.proofs.Settling.{change_modest, changed_moves, labels_blocks}
+use Rattle.m11_passes.proofs.Turning.{first_sound}
+use Rattle.m11_passes.specs.Bounds.{HasRoom, IsSound, IsSoundUntil}
+use Rattle.m11_passes.specs.Faults.{Fails, Refuses}
+use Rattle.m11_passes.specs.Labelled.{Labels}
+use Rattle.m11_passes.specs.Lines.{PassLines}
+use Rattle.m11_passes.specs.Lines as lines
+use Rattle.m11_passes.specs.Operated.{change_after, mentions_after}
+use Rattle.m11_passes.specs.Placed.{live_in}
+use Rattle.m11_passes.specs.Refusals.{given_by, line_fault, mentions_of_labels}
+use Rattle.m11_passes.specs.States.{Going, GoesOnUntil, Stands}
+use Rattle.m11_passes.specs.Turns.{Places, PlacesAfter}
+use Rattle.m11_passes.specs.declared.fault.PassFault.{PassFault}
+use Rattle.m11_passes.specs.declared.fault.PassFault.TheVariants.{TooManySymbols, TooManySections, Unfold, NoMemory}
+use Rattle.m11_passes.specs.declared.placed.PlacedLine.{PlacedLine}
+
+-- ---- a new pass
+
+module _ (unfolder : Unfolding) (kept : Kept) (gathered mentioned : Gathered)
+    (is_fresh : unfolder ≡ record { stage = start []; has_statement = false; fault = None })
+    (matches : Matches kept first_table) (same : gathered ≡ mentioned) where
+  pub new_sound : (fault : Option PassFault) → fault ≡ None → length mentioned.names ≤ most_names
+      → IsSoundUntil fault unfolder.stage.taken kept gathered × GoesOnUntil fault unfolder.fault
+  new_sound fault none few =
+      let N : Gathered → Type 0 = λ g. length g.names ≤ most_names in
+      let S : Unfolding → Type 0 = λ u. IsSound u.stage.taken kept gathered in
+      let G : Unfolding → Type 0 = λ u. u.fault ≡ None in
+      let P : Option PassFault → Type 0 = λ f. IsSoundUntil f unfolder.stage.taken kept gathered × GoesOnUntil f unfolder.fault in
+      subst P (sym none)
+      (subst S (sym is_fresh) (first_sound kept gathered matches (subst N (sym same) few)), subst G (sym is_fresh) refl)
+
+  pub new_stands : (put : Put) (map_ : Map)
+      → Stands map_ mentioned [] [] (record { unfolder = unfolder; kept = kept; gathered = gathered; put = put })
+  new_stands put map_ =
+      let L : Unfolding → Type 0 = λ u. PassLines map_ mentioned.names [] [] u.stage in
+      record { lines_are = subst L (sym is_fresh) lines.PassLines.Begins; matches = matches; gathered = same }
+
+-- ---- what unfolding is told
+
+pub acts_told : (names : FirmAsked) (table : Table) (at : ℕ) (text : Bytes) (before after : Stage) (result : Result Acting UnfoldFault)
+    → names ≡ firm_asked table at → at ≡ place table
+    → Acts (known_by names.table.settings.radix (stands_for empty_map Knows (firm_table names.table) names.place)) text before after result
+    → Acts (told table) text before after result
+acts_told names table at text before after result is there acts =
+    let P : FirmAsked → Type 0 = λ n.
+    Acts (known_by n.table.settings.radix (stands_for empty_map Knows (firm_table n.table) n.place)) text before after result in
+    let Q : ℕ → Type 0 = λ p.
+    Acts (known_by table.settings.radix (stands_for empty_map Knows (firm_table table) p)) text before after result in
+    subst Q there (subst P is acts)
+
+-- ---- what is told of tables that are alike
+
+section_alike : (one other : Table) → Alike one other → section_name one ≡ section_name other
+section_alike one other alike =
+    ap (λ (s : Settings). (numbered s.section one.sections).name) alike.settings
+    ∙ ap (λ (l : List Section). (numbered other.settings.section l).name) alike.sections
+
+put_place_alike : (one other : Table) → Alike one other → (of : Deed) → put_place one of ≡ put_place other of
+put_place_alike one other alike Rests = alike_place one other alike
+put_place_alike one other alike (Assigning name is_global start) = alike_place one other alike
+put_place_alike one other alike (Setting start) = alike_place one other alike
+put_place_alike one other alike (Operating operator start) = ap (place_for (is_even operator)) (alike_place one other alike)
+
+-- ---- one line
+
+module _ (map_ : Map) (live : Live) (before : Stage) (old new : Going) (stood : Kept) (named : Gathered) (found : LabelLetters)
+    (done : Act) (of : Deed)
+    (labels : Labels map_ old.gathered.names live.line.text old.kept stood found)
+    (named_are : named ≡ with_all (mentions_of_labels live.line.text) old.gathered)
+    (acts : IsActOf (told stood.table) live.line.text before new.unfolder.stage done)
+    (deed_is : of ≡ deed done.is_own live.line.text) where
+  abbrev text : Bytes
+  text = live.line.text
+
+  -- mentions pass a limit
+  pub mention_fails : (fault : PassFault)
+      → Refuses fault (most_names < length (with_all (mentions_after stood.table text done.notes done.arguments of) named).names) ⊥
+      → (table : Table) → Matches old.kept table → Fails (line_fault map_ table old.gathered.names live before) fault
+  mention_fails TooManySymbols many table matches =
+      let here = labels table matches in
+      let P : Deed → Type 0 = λ d.
+      most_names < length (with_all (mentions_after stood.table text done.notes done.arguments d) named).names in
+      let Q : Gathered → Type 0 = λ g. most_names < length
+      (with_all (mentions_after stood.table text done.notes done.arguments (deed done.is_own text)) g).names in
+      mentions_refused map_ table live before new.unfolder.stage done stood old.gathered here.matches acts here.fits
+      (subst Q named_are (subst P deed_is many))
+  mention_fails TooManySections many table matches = absurd many
+  mention_fails (Unfold inner) many table matches = absurd many
+  mention_fails NoMemory many table matches = tt
+
+  module _ (all : Gathered) (all_are : all ≡ with_all (mentions_after stood.table text done.notes done.arguments of) named)
+      (few : length all.names ≤ most_names) where
+    all_told : all ≡ with_all (mentions_after stood.table text done.notes done.arguments (deed done.is_own text)) named
+    all_told = all_are ∙ ap (λ (d : Deed). with_all (mentions_after stood.table text done.notes done.arguments d) named) deed_is
+
+    -- the section of a line is one too many
+    pub change_fails : stood.local_symbols ≤ most_local_symbols → (fault : PassFault)
+        → ((table : Table) → Matches stood table → Refuses fault ⊥ (most_sections < length
+        (changed map_ text (change_after stood.table text done.arguments of) table).sections))
+        → (table : Table) → Matches old.kept table → Fails (line_fault map_ table old.gathered.names live before) fault
+    change_fails symbols TooManySymbols many table matches = absurd (many (labels_stand table text) (labels table matches).matches)
+    change_fails symbols TooManySections many table matches =
+        let here = labels table matches in
+        let P : Deed → Type 0 = λ d. most_sections < length
+        (changed map_ text (change_after stood.table text done.arguments d) (labels_stand table text)).sections in
+        sections_refused map_ table live before new.unfolder.stage done stood old.gathered here.matches acts here.fits named named_are
+        all all_told few symbols (subst P deed_is (many (labels_stand table text) here.matches))
+    change_fails symbols (Unfold inner) many table matches = absurd (many (labels_stand table text) (labels table matches).matches)
+    change_fails symbols NoMemory many table matches = tt
+
+    -- the line is placed
+    pub placed_after : (placed : PlacedLine) → live_in placed ≡ live → deed_seen placed.deed ≡ of
+        → new.put ≡ put_by map_ stood.table text done.arguments of → new.gathered ≡ all
+        → Follows stood new.kept (λ t. changed map_ text (change_after stood.table text done.arguments of) t)
+        → new.kept.local_symbols ≤ most_local_symbols → length new.kept.table.sections ≤ most_sections
+        → placed.section ≡ section_name stood.table → placed.place ≡ put_place stood.table of
+        → bits_of placed.letters ≡ bit_or (letters_from text (labels_end text) (body_of every_name text) (label_letters live.line)
+        (bits_of found.doubled) new.put.letters done.notes.letters) (bits_of found.moved)
+        → (table : Table) → Matches old.kept table → PlacesAfter map_ table live before old new placed
+    placed_after placed same deed_so_far put_is gathered_is follows symbols sections section_is place_is letters_are table matches =
+        let here = labels table matches in
+        let line : Given = given_by table live before in
+        let F : Deed → Type 0 = λ d. Follows stood new.kept
+        (λ t. changed map_ text (change_after stood.table text done.arguments d) t) in
+        let follows_so = subst F deed_is follows in
+        let own = deed_so map_ table live before new.unfolder.stage done stood old.gathered here.matches acts in
+        let put_so : new.put ≡ line_put map_ (stands table line) line
+        = puts map_ table live before new.unfolder.stage done stood old.gathered here.matches acts new.put
+        (put_is ∙ ap (λ (d : Deed). put_by map_ stood.table text done.arguments d) deed_is) in
+        let notes : done.notes ≡ line.notes
+        = notes_so map_ table live before new.unfolder.stage done stood old.gathered here.matches acts in
+        record {
+          fits = line_fits map_ table live before new.unfolder.stage done stood old.gathered here.matches acts here.fits named
+              named_are all all_told few new.kept follows_so symbols sections;
+          stage_is = stage_so map_ table live before new.unfolder.stage done stood old.gathered here.matches acts;
+          matches = matches_so map_ table live before new.unfolder.stage done stood old.gathered here.matches acts here.fits named
+              named_are all all_told few new.kept follows_so;
+          gathered = gathered_is ∙ all_so map_ table live before new.unfolder.stage done stood old.gathered here.matches acts here.fits
+              named named_are all all_told;
+          placed_so = record {
+            live_is = same;
+            deed_is = deed_so_far ∙ deed_is ∙ own;
+            letters_are = letters_are
+                ∙ ap (λ (n : ℕ). bit_or (letters_from text (labels_end text) (body_of every_name text) (label_letters live.line)
+                (bits_of found.doubled) new.put.letters done.notes.letters) n) here.moved
+                ∙ ap (λ (n : ℕ). bit_or n (moved_letters map_ text table (labels_at text)))
+                (ap (λ (n : ℕ). letters_from text (labels_end text) (body_of every_name text) (label_letters live.line)
+                n new.put.letters done.notes.letters) here.doubled
+                ∙ ap (λ (p : Put). letters_from text (labels_end text) (body_of every_name text) (label_letters live.line)
+                (labels_letters text table (labels_at text)) p.letters done.notes.letters) put_so
+                ∙ ap (λ (n : Notes). letters_from text (labels_end text) (body_of every_name text) (label_letters live.line)
+                (labels_letters text table (labels_at text)) (line_put map_ (stands table line) line).letters n.letters) notes);
+            section_is = section_is ∙ section_alike stood.table (labels_stand table text) here.matches.alike;
+            place_is = place_is ∙ put_place_alike stood.table (labels_stand table text) here.matches.alike of
+                ∙ ap (put_place (labels_stand table text)) (deed_is ∙ own);
+            contents_are = ap (λ (p : Put). p.contents) put_so;
+          };
+        }
+
+-- ---- a refusal that is handed on
+
+pub places_fails : (map_ : Map) (live : Live) (stage : Stage) (old new : Going) (fault : PassFault) (result : Result PlacedLine PassFault)
+    → ((table : Table) → Matches old.kept table → Fails (line_fault map_ table old.gathered.names live stage) fault)
+    → IsErrAnd result (λ f. f ≡ fault) → Places map_ live stage old new result
+places_fails map_ live stage old new fault (Ok placed) fails is = absurd is
+places_fails map_ live stage old new fault (Err other) fails is = λ table matches.
+    let P : PassFault → Type 0 = λ f. Fails (line_fault map_ table old.gathered.names live stage) f in
+    subst P (sym is) (fails table matches)
+
+-- ---- room
+
+pub stood_room : (taken : ℕ) (old stood : Table) (line : Bytes) → HasRoom taken 67 1 old
+    → tables.Follows old stood (λ t. labels_stand t line) → length (labels_at line) ≤ 66 → HasRoom taken 1 1 stood
+stood_room taken old stood line room follows few =
+    let alike = follows old (alike_itself old) in
+    let blocks = labels_blocks line old (labels_at line) in
+    let S : Settings → Type 0 = λ s. s.block + 1 ≤ 67 * taken in
+    let L : Settings → Type 0 = λ s. s.listed + 1 ≤ taken in
+    let U : Settings → Type 0 = λ s. s.unlisted + 1 ≤ taken in
+    let at : ℕ → Type 0 = λ n. n < length stood.sections in
+    let same : List Section → Type 0 = λ l. old.settings.section < length l in
+    let M : List Section → Type 0 = λ l. length l ≤ most_sections in
+    let sections : stood.sections ≡ old.sections = alike.sections ∙ blocks.sections in
+    let section : stood.settings.section ≡ old.settings.section = ap (λ (s : Settings). s.section) alike.settings ∙ blocks.section in
+    let more = blocks.block in
+    let had = room.block in
+    let listed = room.listed in
+    let unlisted = room.unlisted in
+    let listed_same = blocks.listed in
+    let unlisted_same = blocks.unlisted in
+    record {
+      block = subst S (sym alike.settings) (omega (arith, more, had, few));
+      listed = subst L (sym alike.settings) (omega (arith, listed, listed_same));
+      unlisted = subst U (sym alike.settings) (omega (arith, unlisted, unlisted_same));
+      section = subst at (sym section) (subst same (sym sections) room.section);
+      sections = subst M (sym sections) room.sections;
+    }
+
+pub changed_room : (taken : ℕ) (map_ : Map) (stood new : Table) (line : Bytes) (arguments : Option ℕ) (of : Deed)
+    → HasRoom taken 1 1 stood → tables.Follows stood new (λ t. changed map_ line (change_after stood line arguments of) t)
+    → length new.sections ≤ most_sections → HasRoom taken 0 0 new
+changed_room taken map_ stood new line arguments of room follows few =
+    let alike = follows stood (alike_itself stood) in
+    let change : Change = change_after stood line arguments of in
+    let moves = changed_moves map_ line change stood (change_modest (firm_table stood) line arguments of) in
+    let S : Settings → Type 0 = λ s. s.block + 0 ≤ 67 * taken in
+    let L : Settings → Type 0 = λ s. s.listed + 0 ≤ taken in
+    let U : Settings → Type 0 = λ s. s.unlisted + 0 ≤ taken in
+    let at : Settings → Type 0 = λ s. s.section < length new.sections in
+    let all : List Section → Type 0 = λ l. (changed map_ line change stood).settings.section < length l in
+    let block = moves.block in
+    let listed = moves.listed in
+    let unlisted = moves.unlisted in
+    let had_block = room.block in
+    let had_listed = room.listed in
+    let had_unlisted = room.unlisted in
+    record {
+      block = subst S (sym alike.settings) (omega (arith, block, had_block));
+      listed = subst L (sym alike.settings) (omega (arith, listed, had_listed));
+      unlisted = subst U (sym alike.settings) (omega (arith, unlisted, had_unlisted));
+      section = subst at (sym alike.settings) (subst all (sym alike.sections) (moves.section room.section));
+      sections = few;
+    }

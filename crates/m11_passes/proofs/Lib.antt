@@ -1,0 +1,6 @@
+mod Assembling
+mod Counting
+mod Placing
+mod Settling
+mod Standing
+mod Turning

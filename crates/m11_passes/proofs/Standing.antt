@@ -1,0 +1,170 @@
+-- A pass stands after the lines that its calls placed.
+use Rattle.std.proofs.Common.{◌≡◌, ◌∙◌, List, [], ◌∷◌, ◌++◌, length, Some, None, refl, sym, ap, subst}
+use Rattle.std.proofs.lemmas.List.{map-append}
+use Rattle.std.specs.Prelude.{false, Result, Ok, Err}
+use Rattle.m11_base.specs.Rad50.{Name}
+use Rattle.m11_lines.specs.Line.{SourceLine}
+use Rattle.m11_unfold.specs.Unfolder.{Comes, Stops}
+use Rattle.m11_unfolding.specs.Stages.{Stage}
+use Rattle.m11_unfolding.specs.Taking.{Live}
+use Rattle.m11_unfolding.specs.Unfolding.{Given}
+use Rattle.m11_unfolding.specs.declared.fault.UnfoldFault.{UnfoldFault}
+use Rattle.m11_unfolding.specs.declared.fault.UnfoldFault.TheVariants as limit
+use Rattle.m11_placement.specs.Limits.{names_after}
+use Rattle.m11_placement.specs.Lines.{after_line}
+use Rattle.m11_placement.specs.Meanings.{Map}
+use Rattle.m11_placement.specs.Mentions.{mentions}
+use Rattle.m11_placement.specs.Placements.{after_lines, table_after}
+use Rattle.m11_placement.specs.Tables.{Table, first_table}
+use Rattle.m11_placing.specs.Mentioned.{Gathered, with_all}
+use Rattle.m11_placing.specs.Passes.{Kept, Matches}
+use Rattle.m11_passes.specs.Faults.{Fails, of_unfolding}
+use Rattle.m11_passes.specs.Lines.{Numbered, PassLines, acted, givens, names_at, numbered, table_at, with_line}
+use Rattle.m11_passes.specs.Lines as lines
+use Rattle.m11_passes.specs.Placed.{live_in}
+use Rattle.m11_passes.specs.Reaching.{Exceeds, PlacesLine, Reaches, Refused}
+use Rattle.m11_passes.specs.Reaching as reaching
+use Rattle.m11_passes.specs.Refusals.{given_by, line_fault}
+use Rattle.m11_passes.specs.States.{Going, Stands, fed, gathered_after}
+use Rattle.m11_passes.specs.Turns.{FailsAt, IsUnplaced, PlacesAfter, PlacesNext, Turns}
+use Rattle.m11_passes.specs.Turns as turning
+use Rattle.m11_passes.specs.declared.fault.PassFault.{PassFault}
+use Rattle.m11_passes.specs.declared.fault.PassFault.TheVariants.{TooManySymbols, TooManySections, Unfold, NoMemory}
+use Rattle.m11_passes.specs.declared.placed.PlacedLine.{PlacedLine}
+use Rattle.m11_passes.specs.declared.turns.Turn.{Turn}
+use Rattle.m11_passes.specs.declared.turns.Turn.TheVariants.{NeedLine, End, Placed}
+
+-- ---- one line more
+
+givens_more : (all : List Numbered) (one : Numbered) → givens (all ++ one ∷ []) ≡ givens all ++ one.given ∷ []
+givens_more all one = map-append lines.given_in all (one ∷ [])
+
+tables_more : (map_ : Map) (table : Table) (all : List Given) (one : Given)
+    → after_lines map_ table (all ++ one ∷ []) ≡ after_line map_ (after_lines map_ table all) one
+tables_more map_ table [] one = refl
+tables_more map_ table (given ∷ all) one = tables_more map_ (after_line map_ table given) all one
+
+gathered_more : (map_ : Map) (table : Table) (all : List Given) (one : Given) (before : Gathered)
+    → gathered_after map_ table (all ++ one ∷ []) before
+    ≡ with_all (mentions (after_lines map_ table all) one) (gathered_after map_ table all before)
+gathered_more map_ table [] one before = refl
+gathered_more map_ table (given ∷ all) one before =
+    gathered_more map_ (after_line map_ table given) all one (with_all (mentions table given) before)
+
+-- the names among what is gathered
+names_gathered : (map_ : Map) (table : Table) (all : List Given) (before : Gathered)
+    → (gathered_after map_ table all before).names ≡ names_after map_ table all before.names
+names_gathered map_ table [] before = refl
+names_gathered map_ table (given ∷ all) before =
+    names_gathered map_ (after_line map_ table given) all (with_all (mentions table given) before)
+
+module _ (map_ : Map) (before : Gathered) where
+  table_more : (all : List Numbered) (one : Numbered) → table_at map_ (all ++ one ∷ []) ≡ after_line map_ (table_at map_ all) one.given
+  table_more all one =
+      ap (table_after map_) (givens_more all one) ∙ tables_more map_ first_table (givens all) one.given
+
+  all_more : (all : List Numbered) (one : Numbered)
+      → gathered_after map_ first_table (givens (all ++ one ∷ [])) before
+      ≡ with_all (mentions (table_at map_ all) one.given) (gathered_after map_ first_table (givens all) before)
+  all_more all one =
+      ap (λ (gs : List Given). gathered_after map_ first_table gs before) (givens_more all one)
+      ∙ gathered_more map_ first_table (givens all) one.given before
+
+  pub feeds : (source : List SourceLine) (all : List Numbered) (line : SourceLine) (going : Going)
+      → Stands map_ before source all going → going.unfolder.stage.left ≡ [] → going.unfolder.stage.has_ended ≡ false
+      → Stands map_ before (source ++ line ∷ []) all (fed line going)
+  feeds source all line going stands none goes = record {
+    lines_are = lines.PassLines.Reading source all going.unfolder.stage line stands.lines_are none goes;
+    matches = stands.matches;
+    gathered = stands.gathered;
+  }
+
+  module _ (source : List SourceLine) (all : List Numbered) (old : Going) (stands : Stands map_ before source all old) where
+    -- the names that were mentioned so far
+    names_so : old.gathered.names ≡ names_at map_ before.names all
+    names_so = ap (λ (g : Gathered). g.names) stands.gathered ∙ names_gathered map_ first_table (givens all) before
+
+    rests : (new : Going) → IsUnplaced old new → PassLines map_ before.names source all new.unfolder.stage
+        → Stands map_ before source all new
+    rests new unplaced lines_are =
+        let P : Kept → Type 0 = λ k. Matches k (table_at map_ all) in
+        record {
+          lines_are = lines_are;
+          matches = subst P (sym unplaced.kept) stands.matches;
+          gathered = unplaced.gathered ∙ stands.gathered;
+        }
+
+    passing : (after : Stage) (comes_none : lines.Passed old.unfolder.stage after) → PassLines map_ before.names source all after
+    passing after leads = lines.PassLines.Passing source all old.unfolder.stage after stands.lines_are leads
+
+    module _ (live : Live) (stage : Stage) (comes : Comes old.unfolder.stage live stage) where
+      fault_so : line_fault map_ (table_at map_ all) old.gathered.names live stage
+          ≡ line_fault map_ (table_at map_ all) (names_at map_ before.names all) live stage
+      fault_so = ap (λ (ns : List Name). line_fault map_ (table_at map_ all) ns live stage) names_so
+
+      placing : line_fault map_ (table_at map_ all) old.gathered.names live stage ≡ None
+          → PassLines map_ before.names source (all ++ numbered (length source) (given_by (table_at map_ all) live stage) ∷ [])
+          (acted (table_at map_ all) live stage)
+      placing fits =
+          lines.PassLines.Placing source all comes.middle stage live (passing comes.middle comes.passing) comes.is_within comes.gives
+          (sym fault_so ∙ fits)
+
+      pub exceeds : (fault : PassFault) → line_fault map_ (table_at map_ all) old.gathered.names live stage ≡ Some fault
+          → Exceeds map_ before.names source all fault
+      exceeds fault refused =
+          reaching.Exceeds.AtLine comes.middle stage live (passing comes.middle comes.passing) comes.is_within comes.gives
+          (sym fault_so ∙ refused)
+
+      fails_so : (fault : PassFault) → Fails (line_fault map_ (table_at map_ all) old.gathered.names live stage) fault
+          → Refused map_ before.names source all fault
+      fails_so TooManySymbols fails = exceeds TooManySymbols fails
+      fails_so TooManySections fails = exceeds TooManySections fails
+      fails_so (Unfold inner) fails = exceeds (Unfold inner) fails
+      fails_so NoMemory fails = tt
+
+    places : (new : Going) (placed : PlacedLine) → PlacesNext map_ old new placed → PlacesLine map_ before source all new placed
+    places new placed next =
+        let live = live_in placed in
+        let one = given_by (table_at map_ all) live next.stage in
+        let here : PlacesAfter map_ (table_at map_ all) live next.stage old new placed = next.places (table_at map_ all) stands.matches in
+        let P : Stage → Type 0 = λ s. PassLines map_ before.names source (all ++ numbered (length source) one ∷ []) s in
+        let Q : Table → Type 0 = λ t. Matches new.kept t in
+        record {
+          stage = next.stage;
+          stands = record {
+            lines_are = subst P (sym here.stage_is) (placing live next.stage next.comes here.fits);
+            matches = subst Q (sym (table_more all (numbered (length source) one))) here.matches;
+            gathered = here.gathered ∙ ap (with_all (mentions (table_at map_ all) one)) stands.gathered
+                ∙ sym (all_more all (numbered (length source) one));
+          };
+          placed_so = here.placed_so;
+        }
+
+    before_line : (fault : UnfoldFault) → Stops old.unfolder.stage fault → Refused map_ before.names source all (of_unfolding fault)
+    before_line limit.TooDeep stops =
+        reaching.Exceeds.BeforeLine stops.middle limit.TooDeep (passing stops.middle stops.passing) stops.passes refl
+    before_line limit.TooManyLines stops =
+        reaching.Exceeds.BeforeLine stops.middle limit.TooManyLines (passing stops.middle stops.passing) stops.passes refl
+    before_line limit.TooMuchText stops =
+        reaching.Exceeds.BeforeLine stops.middle limit.TooMuchText (passing stops.middle stops.passing) stops.passes refl
+    before_line limit.TooManyMacros stops =
+        reaching.Exceeds.BeforeLine stops.middle limit.TooManyMacros (passing stops.middle stops.passing) stops.passes refl
+    before_line limit.NoMemory stops = tt
+
+    refused : (fault : PassFault) → FailsAt map_ old fault → Refused map_ before.names source all fault
+    refused fault (turning.FailsAt.BeforeLine inner is stops) =
+        let P : PassFault → Type 0 = λ f. Refused map_ before.names source all f in subst P (sym is) (before_line inner stops)
+    refused fault (turning.FailsAt.AtLine live stage comes fails) =
+        fails_so live stage comes fault (fails (table_at map_ all) stands.matches)
+
+    turned : (new : Going) (result : Result Turn PassFault) → Turns map_ old new result → Reaches map_ before source all new result
+    turned new (Ok NeedLine) (stepped, unplaced) =
+        (rests new unplaced (passing new.unfolder.stage stepped.0), stepped.1, stepped.2)
+    turned new (Ok End) (stepped, unplaced) = (rests new unplaced (passing new.unfolder.stage stepped.0), stepped.1)
+    turned new (Ok (Placed placed)) next = places new placed next
+    turned new (Err fault) fails = refused fault fails
+
+pub turns : (map_ : Map) (before : Gathered) (source : List SourceLine) (all : List Numbered) (old new : Going)
+    (result : Result Turn PassFault) → Stands map_ before source all old → Turns map_ old new result
+    → Reaches map_ before source all new result
+turns map_ before source all old new result stands turned_so = turned map_ before source all old stands new result turned_so

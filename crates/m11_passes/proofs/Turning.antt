@@ -1,0 +1,175 @@
+-- What the calls below a pass's own come to.
+use Rattle.std.proofs.Common.{◌≡◌, ◌∙◌, ◌<◌, ◌≤◌, ℕ, ◌+◌, ◌*◌, List, [], ◌++◌, length, Result, Ok, Err, IfErr, IsErrAnd, refl, sym, ap, subst, arith}
+use Rattle.m11_unfold.specs.Unfolder.{Comes, Steps, Stops, live_of}
+use Rattle.m11_unfold.specs.declared.steps.LiveLine.{LiveLine}
+use Rattle.m11_unfold.specs.declared.steps.Step.{Step}
+use Rattle.m11_unfold.specs.declared.steps.Step.TheVariants as step
+use Rattle.m11_unfolding.specs.Stages.{Stage}
+use Rattle.m11_unfolding.specs.Taking.{Live}
+use Rattle.m11_unfolding.specs.declared.fault.UnfoldFault.{UnfoldFault}
+use Rattle.m11_placement.specs.Limits.{most_names}
+use Rattle.m11_placement.specs.Meanings.{Map}
+use Rattle.m11_placement.specs.Mentions.{Mention, mentions}
+use Rattle.m11_placement.specs.Tables.{Table, first_table}
+use Rattle.m11_placement.specs.declared.sections.Section.{Section}
+use Rattle.m11_placement.specs.declared.settings.Settings.{Settings}
+use Rattle.m11_placing.proofs.Gathering.{added_then, failed_first}
+use Rattle.m11_placing.specs.Faults as placing
+use Rattle.m11_placing.specs.Mentioned.{Gathered, StaysFew, with_all}
+use Rattle.m11_placing.specs.Passes.{Kept, Matches}
+use Rattle.m11_placing.specs.declared.fault.PlacingFault.{PlacingFault}
+use Rattle.m11_placing.specs.declared.fault.PlacingFault.TheVariants as limit
+use Rattle.m11_passes.proofs.Counting.{leads_takes}
+use Rattle.m11_passes.specs.Bounds.{HasRoom, IsSound}
+use Rattle.m11_passes.specs.Faults.{Fails, Refuses, of_placing, of_unfolding}
+use Rattle.m11_passes.specs.Placed.{live_in}
+use Rattle.m11_passes.specs.Refusals.{given_by, line_fault}
+use Rattle.m11_passes.specs.States.{Going}
+use Rattle.m11_passes.specs.Turns.{FailsAt, Places, PlacesAfter, PlacesNext, Turns}
+use Rattle.m11_passes.specs.Turns as turning
+use Rattle.m11_passes.specs.declared.fault.PassFault.{PassFault}
+use Rattle.m11_passes.specs.declared.placed.PlacedLine.{PlacedLine}
+use Rattle.m11_passes.specs.declared.turns.Turn.{Turn}
+
+-- a fault that is handed on as another one
+pub handed_on : {A : Type 0} (P : PassFault → Type 0) (fault : PassFault) (result : Result A PassFault) → P fault
+    → IsErrAnd result (λ f. f ≡ fault) → IfErr result P
+handed_on P fault (Ok value) holds is = tt
+handed_on P fault (Err other) holds is = subst P (sym is) holds
+
+-- ---- mentions
+
+as_placing : (fault : PlacingFault) (symbols : Type 0) → placing.Refuses fault symbols ⊥ → Refuses (of_placing fault) symbols ⊥
+as_placing limit.TooManySymbols symbols refuses = refuses
+as_placing limit.TooManySections symbols refuses = refuses
+as_placing limit.NoMemory symbols refuses = tt
+
+module _ {A : Type 0} (first second : List Mention) (old : Gathered) (fault : PlacingFault) (result : Result A PassFault)
+    (is : IsErrAnd result (λ f. f ≡ of_placing fault)) where
+  abbrev Past : PassFault → Type 0
+  Past f = Refuses f (most_names < length (with_all (first ++ second) old).names) ⊥
+
+  pub first_refused : placing.Refuses fault (most_names < length (with_all first old).names) ⊥ → IfErr result Past
+  first_refused refuses =
+      handed_on Past (of_placing fault) result
+      (as_placing fault (most_names < length (with_all (first ++ second) old).names)
+      (failed_first first second old old fault (Err fault) refuses refl)) is
+
+  pub second_refused : (middle : Gathered) → (middle ≡ with_all first old) × StaysFew old middle
+      → placing.Refuses fault (most_names < length (with_all second middle).names) ⊥ → IfErr result Past
+  second_refused middle e refuses =
+      handed_on Past (of_placing fault) result
+      (as_placing fault (most_names < length (with_all (first ++ second) old).names)
+      (added_then first second old middle middle (Err fault) e refuses)) is
+
+-- ---- room
+
+pub room_more : (table : Table) (before after : ℕ) → before + 1 ≤ after → HasRoom before 0 0 table → HasRoom after 67 1 table
+room_more table before after more room =
+    let block = room.block in
+    let listed = room.listed in
+    let unlisted = room.unlisted in
+    record {
+      block = omega (arith, block, more);
+      listed = omega (arith, listed, more);
+      unlisted = omega (arith, unlisted, more);
+      section = room.section;
+      sections = room.sections;
+    }
+
+pub sound_more : (before after : ℕ) (kept : Kept) (gathered : Gathered) → before ≤ after → IsSound before kept gathered
+    → IsSound after kept gathered
+sound_more before after kept gathered more sound =
+    let block = sound.room.block in
+    let listed = sound.room.listed in
+    let unlisted = sound.room.unlisted in
+    record {
+      room = record {
+        block = omega (arith, block, more);
+        listed = omega (arith, listed, more);
+        unlisted = omega (arith, unlisted, more);
+        section = sound.room.section;
+        sections = sound.room.sections;
+      };
+      few = sound.few;
+    }
+
+pub first_sound : (kept : Kept) (gathered : Gathered) → Matches kept first_table → length gathered.names ≤ most_names
+    → IsSound 0 kept gathered
+first_sound kept gathered matches few =
+    let B : Settings → Type 0 = λ s. s.block + 0 ≤ 67 * 0 in
+    let L : Settings → Type 0 = λ s. s.listed + 0 ≤ 0 in
+    let U : Settings → Type 0 = λ s. s.unlisted + 0 ≤ 0 in
+    let same = sym matches.alike.settings in
+    let S : List Section → Type 0 = λ l. kept.table.settings.section < length l in
+    let N : Settings → Type 0 = λ s. s.section < length first_table.sections in
+    let M : List Section → Type 0 = λ l. length l ≤ 64 in
+    record {
+      room = record {
+        block = subst B same (omega arith);
+        listed = subst L same (omega arith);
+        unlisted = subst U same (omega arith);
+        section = subst S (sym matches.alike.sections) (subst N same (omega arith));
+        sections = subst M (sym matches.alike.sections) (omega arith);
+      };
+      few = record {
+        symbols = let P : ℕ → Type 0 = λ n. n ≤ 16384 in subst P (sym matches.local_symbols) (omega arith);
+        names = few;
+      };
+    }
+
+-- ---- what comes of a step of unfolding
+
+pub comes_of : (before after : Stage) (next : Step) (live : LiveLine) → next ≡ step.Line live → Steps before after (Ok next)
+    → Comes before (live_of live) after
+comes_of before after next live is stepped = let P : Step → Type 0 = λ s. Steps before after (Ok s) in subst P is stepped
+
+pub taken_rests : (before after : Stage) (next : Step) → next ≡ step.NeedLine → Steps before after (Ok next)
+    → before.taken ≤ after.taken
+taken_rests before after next is stepped =
+    let P : Step → Type 0 = λ s. Steps before after (Ok s) in
+    let rests : Steps before after (Ok step.NeedLine) = subst P is stepped in leads_takes before after [] rests.0
+
+pub taken_ends : (before after : Stage) (next : Step) → next ≡ step.End → Steps before after (Ok next)
+    → before.taken ≤ after.taken
+taken_ends before after next is stepped =
+    let P : Step → Type 0 = λ s. Steps before after (Ok s) in
+    let ends : Steps before after (Ok step.End) = subst P is stepped in leads_takes before after [] ends.0
+
+-- ---- turns
+
+module _ (map_ : Map) (old new : Going) where
+  pub unfolding_fails : (fault : UnfoldFault) (result : Result Turn PassFault) → Stops old.unfolder.stage fault
+      → IsErrAnd result (λ f. f ≡ of_unfolding fault) → Turns map_ old new result
+  unfolding_fails fault (Ok turn) stops is = absurd is
+  unfolding_fails fault (Err other) stops is = turning.FailsAt.BeforeLine fault is stops
+
+  pub line_fails : (live : Live) (stage : Stage) (fault : PassFault) (result : Result Turn PassFault)
+      → Comes old.unfolder.stage live stage
+      → ((table : Table) → Matches old.kept table → Fails (line_fault map_ table old.gathered.names live stage) fault)
+      → IsErrAnd result (λ f. f ≡ fault) → Turns map_ old new result
+  line_fails live stage fault (Ok turn) comes fails is = absurd is
+  line_fails live stage fault (Err other) comes fails is =
+      let P : PassFault → Type 0 = λ f. FailsAt map_ old f in
+      subst P (sym is) (turning.FailsAt.AtLine live stage comes fails)
+
+  pub line_places : (middle : Going) (live : Live) (stage : Stage) (placed : PlacedLine) → live_in placed ≡ live
+      → middle.kept ≡ old.kept → middle.gathered ≡ old.gathered
+      → Comes old.unfolder.stage live stage → Places map_ live stage middle new (Ok placed) → PlacesNext map_ old new placed
+  line_places middle live stage placed same kept gathered comes places =
+      let C : Live → Type 0 = λ l. Comes old.unfolder.stage l stage in
+      record {
+        stage = stage;
+        comes = subst C (sym same) comes;
+        places = λ table matches.
+            let K : Kept → Type 0 = λ k. Matches k table in
+            let here : PlacesAfter map_ table live stage middle new placed = places table (subst K (sym kept) matches) in
+            let L : Live → Type 0 = λ l. PlacesAfter map_ table l stage old new placed in
+            subst L (sym same) (record {
+              fits = ap (λ (g : Gathered). line_fault map_ table g.names live stage) (sym gathered) ∙ here.fits;
+              stage_is = here.stage_is;
+              matches = here.matches;
+              gathered = here.gathered ∙ ap (with_all (mentions table (given_by table live stage))) gathered;
+              placed_so = here.placed_so;
+            });
+      }

@@ -1,0 +1,25 @@
+-- What the labels of a line leave. (MACRO-11 Language Reference Manual, "Label field", "Local symbols" and "Diagnostic error message
+-- summary", M and P.)
+use Rattle.std.specs.Prelude.{◌≡◌, List, None}
+use Rattle.m11_base.specs.Devices.{Bytes}
+use Rattle.m11_base.specs.Rad50.{Name}
+use Rattle.m11_scan.specs.Views.{bits_of}
+use Rattle.m11_statements.specs.Labels.{labels_at}
+use Rattle.m11_placement.specs.Labels.{labels_letters, labels_stand}
+use Rattle.m11_placement.specs.Meanings.{Map}
+use Rattle.m11_placement.specs.Tables.{Table}
+use Rattle.m11_placing.specs.Moved.{moved_letters}
+use Rattle.m11_placing.specs.Passes.{Kept, Matches}
+use Rattle.m11_placing.specs.declared.labels.LabelLetters.{LabelLetters}
+use Rattle.m11_passes.specs.Refusals.{labels_fault}
+
+pub record LabelsStand (map : Map) (names : List Name) (line : Bytes) (table : Table) (new : Kept) (letters : LabelLetters) : Type 0 where
+  pub fits : labels_fault names table line ≡ None
+  pub matches : Matches new (labels_stand table line)
+  pub doubled : bits_of letters.doubled ≡ labels_letters line table (labels_at line)
+  pub moved : bits_of letters.moved ≡ moved_letters map line table (labels_at line)
+
+-- whatever the lines before it are
+abbrev pub Labels : Map → List Name → Bytes → Kept → Kept → LabelLetters → Type 0
+Labels map names line old new letters =
+    (table : Table) → Matches old table → LabelsStand map names line table new letters

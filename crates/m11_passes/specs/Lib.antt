@@ -1,0 +1,10 @@
+pub mod Bounds
+pub mod Faults
+pub mod Labelled
+pub mod Lines
+pub mod Operated
+pub mod Placed
+pub mod Reaching
+pub mod Refusals
+pub mod States
+pub mod Turns

@@ -1,0 +1,68 @@
+-- The live lines of a source in one pass over it. Lines are read one after the other; each is unfolded as far as it goes before the next
+-- one is read, and what is asked at a live line is told by the lines before it. No line passes a limit. (MACRO-11 Language Reference
+-- Manual, "Source program format", "Macro directives" and "Symbols and expressions".)
+use Rattle.std.specs.Prelude.{◌≡◌, ℕ, false, List, [], ◌∷◌, ◌++◌, length, map, None}
+use Rattle.m11_base.specs.Rad50.{Name}
+use Rattle.m11_expansions.specs.Left.{Line}
+use Rattle.m11_lines.specs.Line.{SourceLine}
+use Rattle.m11_unfolding.specs.Acting.{act}
+use Rattle.m11_unfolding.specs.Limits.{next_fault}
+use Rattle.m11_unfolding.specs.Stages.{Stage, start}
+use Rattle.m11_unfolding.specs.Taking.{Gives, Live, move}
+use Rattle.m11_unfolding.specs.Unfolding.{Given, Leads}
+use Rattle.m11_placement.specs.Limits.{names_after}
+use Rattle.m11_placement.specs.Meanings.{Map}
+use Rattle.m11_placement.specs.Placements.{table_after}
+use Rattle.m11_placement.specs.Tables.{Table, first_table}
+use Rattle.m11_passes.specs.Refusals.{given_by, line_fault}
+
+-- a live line, and the number of lines of the source that were read when it became live
+pub record Numbered : Type 0 where
+  pub number : ℕ
+  pub given : Given
+
+abbrev pub numbered : ℕ → Given → Numbered
+numbered number given = record { number = number; given = given }
+
+abbrev pub given_in : Numbered → Given
+given_in line = line.given
+
+abbrev pub givens : List Numbered → List Given
+givens lines = map given_in lines
+
+-- the table after some lines, and the names that they mention after others
+abbrev pub table_at : Map → List Numbered → Table
+table_at map lines = table_after map (givens lines)
+
+abbrev pub names_at : Map → List Name → List Numbered → List Name
+names_at map names lines = names_after map first_table (givens lines) names
+
+-- one more line of the source is there to be taken
+abbrev pub with_line : SourceLine → Stage → Stage
+with_line line stage = record stage { left = Line line ∷ [] }
+
+-- the stage after the operator of a live line is done
+abbrev pub acted : Table → Live → Stage → Stage
+acted table live stage = (act (given_by table live stage).known stage live.line.text).after
+
+-- moves that give no line
+abbrev pub Passed : Stage → Stage → Type 0
+Passed before after = Leads before [] after
+
+-- the live lines of a source, under a map and after the names of an earlier pass, up to a stage of its unfolding
+pub data PassLines (map : Map) (names : List Name) : List SourceLine → List Numbered → Stage → Type 0 where
+  Begins : PassLines map names [] [] (start [])
+  -- the next line of the source is read where nothing is left to take, and `.END` didn't come
+  Reading : (source : List SourceLine) (lines : List Numbered) (stage : Stage) (line : SourceLine)
+      → PassLines map names source lines stage → stage.left ≡ [] → stage.has_ended ≡ false
+      → PassLines map names (source ++ line ∷ []) lines (with_line line stage)
+  -- something is taken, and no line becomes live
+  Passing : (source : List SourceLine) (lines : List Numbered) (before after : Stage)
+      → PassLines map names source lines before → Passed before after → PassLines map names source lines after
+  -- a line becomes live, and is placed
+  Placing : (source : List SourceLine) (lines : List Numbered) (before after : Stage) (live : Live)
+      → PassLines map names source lines before → next_fault before ≡ None → move before ≡ Gives live after
+      → line_fault map (table_at map lines) (names_at map names lines) live after ≡ None
+      → PassLines map names source
+      (lines ++ numbered (length source) (given_by (table_at map lines) live after) ∷ [])
+      (acted (table_at map lines) live after)

@@ -1,0 +1,31 @@
+-- A live line as a pass places it. (MACRO-11 Language Reference Manual, "Source program format" and "Diagnostic error message summary".)
+use Rattle.std.specs.Prelude.{◌≡◌, ℕ}
+use Rattle.std.specs.Int.RustNames.{bit_or}
+use Rattle.m11_scan.specs.Views.{bits_of}
+use Rattle.m11_statements.specs.Labels.{labels_at}
+use Rattle.m11_unfolding.specs.Taking.{Live}
+use Rattle.m11_unfolding.specs.Unfolding.{Given}
+use Rattle.m11_placement.specs.Contents.{Put}
+use Rattle.m11_placement.specs.Lines.{deed, letters, line_put, put_place, section_name, stands}
+use Rattle.m11_placement.specs.Meanings.{Map}
+use Rattle.m11_placement.specs.Tables.{Table}
+use Rattle.m11_placing.specs.Deeds.{deed_seen}
+use Rattle.m11_placing.specs.Moved.{moved_letters}
+use Rattle.m11_passes.specs.declared.placed.PlacedLine.{PlacedLine}
+
+abbrev pub live_in : PlacedLine → Live
+live_in placed = record { line = placed.line; is_expanded = placed.is_expanded }
+
+-- the letters of a line, and P where a label of it has another place than the map says
+abbrev pub all_letters : Map → Table → Given → ℕ
+all_letters map table given =
+    bit_or (letters map table given) (moved_letters map given.live.line.text table (labels_at given.live.line.text))
+
+-- it is this line after a table, and this is what it put
+pub record IsPlaced (map : Map) (table : Table) (given : Given) (placed : PlacedLine) (put : Put) : Type 0 where
+  pub live_is : live_in placed ≡ given.live
+  pub deed_is : deed_seen placed.deed ≡ deed given.is_own given.live.line.text
+  pub letters_are : bits_of placed.letters ≡ all_letters map table given
+  pub section_is : placed.section ≡ section_name (stands table given)
+  pub place_is : placed.place ≡ put_place (stands table given) (deed given.is_own given.live.line.text)
+  pub contents_are : put.contents ≡ (line_put map (stands table given) given).contents

@@ -1,0 +1,60 @@
+-- The first limit that a live line passes: its labels come first, then what unfolding does of it, then what its operator mentions and
+-- changes. (MACRO-11 Language Reference Manual, "Symbols", "Local symbols", "Program section directives" and "Macro calls". The limits and
+-- their order are this project's own.)
+use Rattle.std.specs.Prelude.{◌||◌, nat_lt, if◌then◌else◌, List, length, Option, Some, None}
+use Rattle.std.specs.List.{flat_map}
+use Rattle.std.specs.Option.{option_or}
+use Rattle.m11_base.specs.Devices.{Bytes}
+use Rattle.m11_base.specs.Rad50.{Name}
+use Rattle.m11_statements.specs.Labels.{labels_at}
+use Rattle.m11_unfolding.specs.Acting.{act_fault}
+use Rattle.m11_unfolding.specs.Stages.{Stage}
+use Rattle.m11_unfolding.specs.Taking.{Live}
+use Rattle.m11_unfolding.specs.Unfolding.{Given, given}
+use Rattle.m11_unfolding.specs.declared.fault.UnfoldFault.{UnfoldFault}
+use Rattle.m11_placement.specs.Labels.{labels_stand}
+use Rattle.m11_placement.specs.Limits as limits
+use Rattle.m11_placement.specs.Limits.{LimitFault, limit_fault, local_count, most_local_symbols, most_names, with_mentions}
+use Rattle.m11_placement.specs.Lines.{after_line}
+use Rattle.m11_placement.specs.Meanings.{Map}
+use Rattle.m11_placement.specs.Mentions.{Mention, label_mentions, mentions}
+use Rattle.m11_placement.specs.Tables.{Table}
+use Rattle.m11_placement.specs.Unfolded.{told}
+use Rattle.m11_passes.specs.Faults.{of_unfolding}
+use Rattle.m11_passes.specs.declared.fault.PassFault.{PassFault}
+use Rattle.m11_passes.specs.declared.fault.PassFault.TheVariants.{TooManySymbols, TooManySections}
+
+abbrev pub act_refused : Option UnfoldFault → Option PassFault
+act_refused (Some fault) = Some (of_unfolding fault)
+act_refused None = None
+
+abbrev pub of_limit : Option LimitFault → Option PassFault
+of_limit (Some limits.TooManySymbols) = Some TooManySymbols
+of_limit (Some limits.TooManySections) = Some TooManySections
+of_limit None = None
+
+-- ---- labels
+
+abbrev pub mentions_of_labels : Bytes → List Mention
+mentions_of_labels line = flat_map (label_mentions line) (labels_at line)
+
+abbrev pub labels_fault : List Name → Table → Bytes → Option PassFault
+labels_fault names table line =
+    if nat_lt most_names (length (with_mentions (mentions_of_labels line) names))
+    || nat_lt most_local_symbols (local_count (labels_stand table line)) then Some TooManySymbols else None
+
+-- ---- a line
+
+-- a live line, told what the table before it says once the labels of the line stand
+abbrev pub given_by : Table → Live → Stage → Given
+given_by table live stage = given (told (labels_stand table live.line.text)) live stage
+
+abbrev pub placing_fault : Map → Table → List Name → Given → Option PassFault
+placing_fault map table names given =
+    of_limit (limit_fault (with_mentions (mentions table given) names) (after_line map table given))
+
+-- of a line that became live, after a table and after names
+abbrev pub line_fault : Map → Table → List Name → Live → Stage → Option PassFault
+line_fault map table names live stage =
+    option_or (labels_fault names table live.line.text)
+    (option_or (act_refused (act_fault stage live.line.text)) (placing_fault map table names (given_by table live stage)))

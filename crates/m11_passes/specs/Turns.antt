@@ -1,0 +1,70 @@
+-- What the calls of a pass do. (This project's own.)
+use Rattle.std.specs.Prelude.{◌≡◌, ◌<◌, ◌≤◌, ℕ, [], None, Result, Ok, Err}
+use Rattle.m11_unfold.specs.Unfolder.{Comes, Steps, Stops}
+use Rattle.m11_unfold.specs.declared.steps.Step.TheVariants as step
+use Rattle.m11_unfolding.specs.Limits.{most_lines}
+use Rattle.m11_unfolding.specs.Stages.{Stage}
+use Rattle.m11_unfolding.specs.Taking.{Live}
+use Rattle.m11_unfolding.specs.declared.fault.UnfoldFault.{UnfoldFault}
+use Rattle.m11_placement.specs.Lines.{after_line}
+use Rattle.m11_placement.specs.Meanings.{Map}
+use Rattle.m11_placement.specs.Mentions.{mentions}
+use Rattle.m11_placement.specs.Tables.{Table}
+use Rattle.m11_placing.specs.Mentioned.{with_all}
+use Rattle.m11_placing.specs.Passes.{Matches}
+use Rattle.m11_passes.specs.Faults.{Fails, of_unfolding}
+use Rattle.m11_passes.specs.Lines.{acted}
+use Rattle.m11_passes.specs.Placed.{IsPlaced, live_in}
+use Rattle.m11_passes.specs.Refusals.{given_by, line_fault}
+use Rattle.m11_passes.specs.States.{Going}
+use Rattle.m11_passes.specs.declared.fault.PassFault.{PassFault}
+use Rattle.m11_passes.specs.declared.placed.PlacedLine.{PlacedLine}
+use Rattle.m11_passes.specs.declared.turns.Turn.{Turn}
+use Rattle.m11_passes.specs.declared.turns.Turn.TheVariants.{NeedLine, End, Placed}
+
+-- a line that became live, up to a stage, is placed after a table
+pub record PlacesAfter (map : Map) (table : Table) (live : Live) (stage : Stage) (old new : Going) (placed : PlacedLine) : Type 0 where
+  pub fits : line_fault map table old.gathered.names live stage ≡ None
+  pub stage_is : new.unfolder.stage ≡ acted table live stage
+  pub matches : Matches new.kept (after_line map table (given_by table live stage))
+  pub gathered : new.gathered ≡ with_all (mentions table (given_by table live stage)) old.gathered
+  pub placed_so : IsPlaced map table (given_by table live stage) placed new.put
+
+-- whatever table it is of which the pass keeps what counts; or the line passes a limit
+abbrev pub Places : Map → Live → Stage → Going → Going → Result PlacedLine PassFault → Type 0
+Places map live stage old new (Ok placed) =
+    (table : Table) → Matches old.kept table → PlacesAfter map table live stage old new placed
+Places map live stage old new (Err fault) =
+    (table : Table) → Matches old.kept table → Fails (line_fault map table old.gathered.names live stage) fault
+
+-- nothing is placed
+pub record IsUnplaced (old new : Going) : Type 0 where
+  pub kept : new.kept ≡ old.kept
+  pub gathered : new.gathered ≡ old.gathered
+
+-- a line becomes live, and is placed
+pub record PlacesNext (map : Map) (old new : Going) (placed : PlacedLine) : Type 0 where
+  pub stage : Stage
+  pub comes : Comes old.unfolder.stage (live_in placed) stage
+  pub places : Places map (live_in placed) stage old new (Ok placed)
+
+-- a limit is passed before a line becomes live, or at one that becomes live
+pub data FailsAt (map : Map) (old : Going) (fault : PassFault) : Type 0 where
+  BeforeLine : (inner : UnfoldFault) → fault ≡ of_unfolding inner → Stops old.unfolder.stage inner → FailsAt map old fault
+  AtLine : (live : Live) (stage : Stage) → Comes old.unfolder.stage live stage
+      → ((table : Table) → Matches old.kept table → Fails (line_fault map table old.gathered.names live stage) fault)
+      → FailsAt map old fault
+
+-- from one placed line to the next, or to the end of what is left
+abbrev pub Turns : Map → Going → Going → Result Turn PassFault → Type 0
+Turns map old new (Ok NeedLine) = Steps old.unfolder.stage new.unfolder.stage (Ok step.NeedLine) × IsUnplaced old new
+Turns map old new (Ok End) = Steps old.unfolder.stage new.unfolder.stage (Ok step.End) × IsUnplaced old new
+Turns map old new (Ok (Placed placed)) = PlacesNext map old new placed
+Turns map old new (Err fault) = FailsAt map old fault
+
+-- a line is needed only where nothing is left; at a placed line more lines were taken than before, within the limit
+abbrev pub IsNext : ℕ → Stage → Result Turn PassFault → Type 0
+IsNext taken after (Ok NeedLine) = after.left ≡ []
+IsNext taken after (Ok End) = Unit {0}
+IsNext taken after (Ok (Placed placed)) = (taken < after.taken) × (after.taken ≤ most_lines)
+IsNext taken after (Err fault) = Unit {0}

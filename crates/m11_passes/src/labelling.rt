@@ -1,0 +1,42 @@
+//! The labels of a live line. (MACRO-11 Language Reference Manual, "Label field" and "Local symbols".)
+
+ghost use Rattle.std.specs.Prelude.{◌≡◌, ◌<◌, ◌≤◌, ◌+◌, ◌^◌, IfOk, IfErr, length};
+ghost use Rattle.m11_placement.specs.Labels.{labels_stand};
+ghost use Rattle.m11_placement.specs.Tables.{Table as Told};
+ghost use Rattle.m11_placing.specs.Mentioned.{with_all};
+ghost use Rattle.m11_placing.specs.Passes.{Matches};
+ghost use Rattle.m11_statements.specs.Labels.{labels_at};
+ghost use Rattle.m11_table.specs.Alike as tables;
+ghost use Rattle.m11_passes.specs.Bounds.{IsFew};
+ghost use Rattle.m11_passes.specs.Faults.{Fails};
+ghost use Rattle.m11_passes.specs.Labelled.{Labels};
+ghost use Rattle.m11_passes.specs.Refusals.{labels_fault, mentions_of_labels};
+
+use crate::fault::PassFault;
+use m11_placing::{LabelLetters, Mentioned, Pass};
+use m11_scan::Line;
+use m11_statements::Label;
+use m11_table::Map;
+
+// Defines the labels of a line, and notes their names.
+pub(crate) fn define_labels(
+    pass: &mut Pass,
+    mentioned: &mut Mentioned,
+    map: &Map<'_>,
+    line: &Line,
+    labels: &[Label],
+) -> Result<LabelLetters, PassFault>
+    requires are { labels.now ≡ labels_at line.now.text }
+    requires blocks { pass.old.table.settings.block + length labels.now < 2 ^ 64 }
+    requires few { IsFew pass.old mentioned.old }
+    ensures stand { IfOk result (λ letters. Labels map.now mentioned.old.names line.now.text pass.old pass.new letters) }
+    ensures mentions { IfOk result (λ _. mentioned.new ≡ with_all (mentions_of_labels line.now.text) mentioned.old) }
+    ensures tables { IfOk result (λ _. tables.Follows pass.old.table pass.new.table (λ told. labels_stand told line.now.text)) }
+    ensures few { IfOk result (λ _. IsFew pass.new mentioned.new) }
+    ensures refuses { IfErr result (λ fault. (told : Told) → Matches pass.old told
+        → Fails (labels_fault mentioned.old.names told line.now.text) fault) }
+{
+    let letters = pass.define_labels(map, line, labels)?;
+    mentioned.add_labels(line, labels)?;
+    Ok(letters)
+}

@@ -1,0 +1,25 @@
+//! That the calls of a pass place the lines of a source. It is the contract of a function that does nothing.
+
+ghost use Rattle.std.specs.Prelude.{◌≡◌, ◌++◌, ◌∷◌, List, [], Result, false};
+ghost use Rattle.m11_lines.specs.Line.{SourceLine};
+ghost use Rattle.m11_placement.specs.Meanings.{Map};
+ghost use Rattle.m11_placing.specs.Mentioned.{Gathered};
+ghost use Rattle.m11_passes.specs.Lines.{Numbered};
+ghost use Rattle.m11_passes.specs.Reaching.{Reaches};
+ghost use Rattle.m11_passes.specs.States.{Going, Stands, fed};
+ghost use Rattle.m11_passes.specs.Turns.{Turns};
+ghost use Rattle.m11_passes.specs.declared.fault.PassFault.{PassFault};
+ghost use Rattle.m11_passes.specs.declared.turns.Turn.{Turn};
+
+/// A pass that stands after the live lines of a source stands for a source of one line more once that is fed; and after `next` it stands
+/// after the line too that was placed, which is the next one of the source, or the fault is that of the first limit that the source
+/// passes.
+#[tactic(auto, using(crate::proofs::Standing::feeds, crate::proofs::Standing::turns))]
+pub fn the_calls_place_the_lines_of_a_source()
+    ensures feeds { (map : Map) (before : Gathered) (source : List SourceLine) (lines : List Numbered) (line : SourceLine) (going : Going)
+        → Stands map before source lines going → going.unfolder.stage.left ≡ [] → going.unfolder.stage.has_ended ≡ false
+        → Stands map before (source ++ line ∷ []) lines (fed line going) }
+    ensures turns { (map : Map) (before : Gathered) (source : List SourceLine) (lines : List Numbered) (old new : Going)
+        (result : Result Turn PassFault) → Stands map before source lines old → Turns map old new result
+        → Reaches map before source lines new result }
+{}

@@ -1,0 +1,134 @@
+//! What stands after the labels of a live line. (MACRO-11 Language Reference Manual, "Operator field" and "Symbols".)
+
+ghost use Rattle.std.specs.Prelude.{◌≡◌, ◌<◌, ◌≤◌, ◌+◌, ◌^◌, IfOk, IfErr, IsTrue, length, map};
+ghost use Rattle.m11_placement.specs.Changes.{changed};
+ghost use Rattle.m11_placement.specs.Limits.{most_names, most_sections};
+ghost use Rattle.m11_placement.specs.Lines.{put_by, put_place, section_name};
+ghost use Rattle.m11_placement.specs.Tables.{Table as Told};
+ghost use Rattle.m11_placing.specs.Deeds.{IsWithin, deed_seen, is_listed};
+ghost use Rattle.m11_placement.specs.Mentions.{deed_mentions, mention};
+ghost use Rattle.m11_placement.specs.declared.meanings.Context.TheVariants.{Knows};
+ghost use Rattle.m11_placing.specs.Mentioned.{Adds, with_all};
+ghost use Rattle.m11_placing.specs.Passes.{Follows, Matches};
+ghost use Rattle.m11_table.specs.Alike as tables;
+ghost use Rattle.m11_passes.specs.Faults.{Refuses};
+ghost use Rattle.m11_passes.specs.Operated.{change_after, mentions_after};
+
+use crate::fault::PassFault;
+use m11_arguments::Notes;
+use m11_base::Name;
+use m11_contents::Put;
+use m11_fields::is_even;
+use m11_operators::place_for;
+use m11_placement::Context;
+use m11_placing::{Deed, Mentioned, Pass, PlacingFault, deed_change, put_deed};
+use m11_scan::Line;
+use m11_table::Map;
+
+// What a line puts, in place of what the line before it put.
+pub(crate) fn put_line(
+    put: &mut Put,
+    map: &Map<'_>,
+    pass: &Pass,
+    line: &Line,
+    arguments: Option<u16>,
+    deed: &Deed,
+) -> Result<(), PassFault>
+    requires within { IsWithin (length line.now.text) deed.now }
+    requires listed { IsTrue (is_listed deed.now) }
+    ensures puts { IfOk result (λ _. put.new ≡ put_by map.now pass.now.table line.now.text arguments (deed_seen deed.now)) }
+    ensures refuses { IfErr result (λ fault. Refuses fault ⊥ ⊥) }
+{
+    put.clear();
+    put_deed(put, map, pass.table(), line, arguments, deed)?;
+    Ok(())
+}
+
+// The symbols that unfolding read.
+fn mention_read(mentioned: &mut Mentioned, notes: &Notes) -> Result<(), PlacingFault>
+    ensures { Adds (map (mention Knows) notes.now.symbols) mentioned.old mentioned.new result }
+{
+    mentioned.add_all(notes.symbols(), Context::Knows)
+}
+
+// What stands after the labels of a line mentions.
+fn mention_deed(
+    mentioned: &mut Mentioned,
+    pass: &Pass,
+    line: &Line,
+    arguments: Option<u16>,
+    deed: &Deed,
+) -> Result<(), PlacingFault>
+    requires { IsWithin (length line.now.text) deed.now }
+    ensures { Adds (deed_mentions pass.now.table line.now.text arguments (deed_seen deed.now)) mentioned.old mentioned.new result }
+{
+    mentioned.add_deed(pass.table(), line, arguments, deed)
+}
+
+// The symbols that unfolding read, and those that the operator mentions.
+pub(crate) fn mention_line(
+    mentioned: &mut Mentioned,
+    pass: &Pass,
+    line: &Line,
+    notes: &Notes,
+    arguments: Option<u16>,
+    deed: &Deed,
+) -> Result<(), PassFault>
+    requires within { IsWithin (length line.now.text) deed.now }
+    ensures mentions { IfOk result (λ _. mentioned.new
+        ≡ with_all (mentions_after pass.now.table line.now.text notes.now arguments (deed_seen deed.now)) mentioned.old) }
+    ensures few { IfOk result (λ _. length mentioned.old.names ≤ most_names → length mentioned.new.names ≤ most_names) }
+    ensures refuses { IfErr result (λ fault. Refuses fault (most_names < length
+        (with_all (mentions_after pass.now.table line.now.text notes.now arguments (deed_seen deed.now)) mentioned.old).names) ⊥) }
+{
+    mention_read(mentioned, notes)?;
+    mention_deed(mentioned, pass, line, arguments, deed)?;
+    Ok(())
+}
+
+// What a line changes for the lines after it.
+pub(crate) fn change_line(
+    pass: &mut Pass,
+    map: &Map<'_>,
+    line: &Line,
+    arguments: Option<u16>,
+    deed: &Deed,
+) -> Result<(), PassFault>
+    requires within { IsWithin (length line.now.text) deed.now }
+    requires listed { pass.old.table.settings.listed + 1 < 2 ^ 64 }
+    requires unlisted { pass.old.table.settings.unlisted + 1 < 2 ^ 64 }
+    requires block { pass.old.table.settings.block + 1 < 2 ^ 64 }
+    requires section { pass.old.table.settings.section < 64 }
+    requires sections { length pass.old.table.sections ≤ most_sections }
+    ensures changes { IfOk result (λ _. Follows pass.old pass.new (λ told. changed map.now line.now.text
+        (change_after pass.old.table line.now.text arguments (deed_seen deed.now)) told)) }
+    ensures tables { IfOk result (λ _. tables.Follows pass.old.table pass.new.table (λ told. changed map.now line.now.text
+        (change_after pass.old.table line.now.text arguments (deed_seen deed.now)) told)) }
+    ensures sections { IfOk result (λ _. length pass.new.table.sections ≤ most_sections) }
+    ensures symbols { IfOk result (λ _. pass.new.local_symbols ≡ pass.old.local_symbols) }
+    ensures refuses { IfErr result (λ fault. (told : Told) → Matches pass.old told → Refuses fault ⊥ (most_sections < length
+        (changed map.now line.now.text (change_after pass.old.table line.now.text arguments (deed_seen deed.now)) told).sections)) }
+{
+    let change = deed_change(pass.table(), line, arguments, deed);
+    pass.take(map, line, &change)?;
+    Ok(())
+}
+
+// The name of the section that lines go into.
+pub(crate) fn section_name(pass: &Pass) -> Name
+    ensures { result ≡ section_name pass.now.table }
+{
+    let table = pass.table();
+    table.section(table.settings().section).name
+}
+
+// Where the operator of a line puts what it puts.
+pub(crate) fn put_place(pass: &Pass, deed: &Deed) -> u16
+    ensures { result ≡ put_place pass.now.table (deed_seen deed.now) }
+{
+    let place = pass.table().place();
+    match *deed {
+        Deed::Operates(operator, _) => place_for(is_even(operator), place),
+        _ => place,
+    }
+}

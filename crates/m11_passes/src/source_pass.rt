@@ -1,0 +1,106 @@
+//! One pass over a source. (MACRO-11 Language Reference Manual, "Source program format" and "Symbols and expressions".)
+
+ghost use Rattle.std.specs.Prelude.{◌≡◌, ◌<◌, ◌≤◌, [], None, Some, Err, IfOk, length};
+ghost use Rattle.std.specs.Result.{result_err};
+ghost use Rattle.m11_placement.specs.Limits.{most_names};
+ghost use Rattle.m11_placing.specs.Passes.{size_at};
+ghost use Rattle.m11_passes.specs.States.{Stands, fed};
+ghost use Rattle.m11_passes.specs.Turns.{IsNext, Turns};
+ghost use Rattle.m11_placement.specs.Meanings.{Map as Meanings};
+
+use crate::fault::PassFault;
+use crate::state::State;
+use crate::turns::Turn;
+use m11_base::Latch;
+use m11_object_text::PieceContent;
+use m11_placing::Mentioned;
+use m11_scan::Line;
+use m11_table::{Map, Table};
+use std::alloc::{AllocError, Global};
+use std::marker::Model;
+
+/// One pass over a source: lines are fed in order, and `next` gives each live line as it is placed. It keeps at most 4,096 names besides
+/// those of the registers, 16,384 local symbols, 64 sections, and what an unfolder keeps. After a fault each call returns it again.
+#[derive(Drop)]
+pub struct SourcePass {
+    state: State,
+    fault: Latch<PassFault>,
+}
+
+impl Model for SourcePass {
+    ghost use Rattle.m11_passes.specs.Bounds.{IsSoundUntil};
+    ghost use Rattle.m11_passes.specs.States.{GoesOnUntil, PassState, going_of};
+
+    ghost Value = { PassState };
+
+    ghost view = { λ p. record { going = going_of p.state; fault = p.fault } };
+
+    ghost invariant = { λ p. IsSoundUntil p.fault p.state.unfolder.stage.taken p.state.pass p.state.mentioned
+        × GoesOnUntil p.fault p.state.unfolder.fault };
+}
+
+impl SourcePass {
+    /// Before the first line. The names that an earlier pass mentioned count with those of this one.
+    pub fn new(alloc: Global, mentioned: Mentioned) -> Result<SourcePass, AllocError>
+        requires { length mentioned.names ≤ most_names }
+        ensures stands { IfOk result (λ pass. (map : Meanings) → Stands map mentioned [] [] pass.going) }
+        ensures goes_on { IfOk result (λ pass. pass.fault ≡ None) }
+    {
+        Ok(SourcePass {
+            state: State::new(alloc, mentioned)?,
+            fault: Latch::new(),
+        })
+    }
+
+    /// The next line of the source, where nothing is left to take: at the start, and after `NeedLine`.
+    pub fn feed(&mut self, line: Line)
+        requires { self.old.going.unfolder.stage.left ≡ [] }
+        ensures { self.new ≡ record { going = fed line self.old.going; fault = self.old.fault } }
+    {
+        self.state.unfolder.feed(line);
+    }
+
+    /// What comes next, under what the whole source gives its names: nothing in a first pass.
+    ///
+    /// Errors: `Unfold` where a limit of unfolding is passed, `TooManySymbols`, `TooManySections`, the first one in the order of the lines,
+    /// and within a line in that of labels, operator and arguments; and `NoMemory`.
+    pub fn next(&mut self, map: &Map<'_>) -> Result<Turn, PassFault>
+        ensures turns { self.old.fault ≡ None → Turns map.now self.old.going self.new.going result }
+        ensures again { (fault : PassFault) → self.old.fault ≡ Some fault → result ≡ Err fault }
+        ensures fault { self.new.fault ≡ result_err result }
+        ensures next { self.old.fault ≡ None → IsNext self.old.going.unfolder.stage.taken self.new.going.unfolder.stage result }
+    {
+        self.fault.check()?;
+        let turn = self.state.next(map);
+        self.fault.keep(turn)
+    }
+
+    /// What the lines so far tell the next one.
+    pub fn table(&self) -> &Table
+        ensures { result.now ≡ self.now.going.kept.table }
+    {
+        self.state.pass.table()
+    }
+
+    /// The size of the section of a number, in bytes.
+    pub fn size(&self, number: usize) -> u16
+        requires { number < 64 }
+        ensures { result ≡ size_at self.now.going.kept.sizes number }
+    {
+        self.state.pass.size(number)
+    }
+
+    /// The names that the lines so far mention.
+    pub fn mentioned(&self) -> &Mentioned
+        ensures { result.now ≡ self.now.going.gathered }
+    {
+        &self.state.mentioned
+    }
+
+    /// What the last placed line puts.
+    pub fn contents(&self) -> &[PieceContent]
+        ensures { result.now ≡ self.now.going.put.contents }
+    {
+        self.state.put.contents()
+    }
+}

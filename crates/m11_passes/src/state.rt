@@ -1,0 +1,174 @@
+//! What a pass keeps from line to line, and how a live line goes through it. (MACRO-11 Language Reference Manual, "Source program format".)
+
+ghost use Rattle.std.specs.Prelude.{◌≡◌, [], IfOk, false, None};
+ghost use Rattle.std.specs.Int.RustNames.{bit_or};
+ghost use Rattle.m11_arguments.specs.Directives.{every_name};
+ghost use Rattle.m11_placement.specs.Tables.{first_table};
+ghost use Rattle.m11_placement.specs.Unfolded.{told};
+ghost use Rattle.m11_placing.specs.Lines.{letters_from};
+ghost use Rattle.m11_placing.specs.Passes.{Matches};
+ghost use Rattle.m11_scan.specs.Views.{bits_of};
+ghost use Rattle.m11_unfold.specs.Kept.{IsKept};
+ghost use Rattle.m11_unfold.specs.Unfolder as steps;
+ghost use Rattle.m11_unfolding.specs.Stages.{start};
+ghost use Rattle.m11_passes.specs.Bounds.{HasRoom, IsFew, IsSound};
+ghost use Rattle.m11_passes.specs.Placed.{live_in};
+ghost use Rattle.m11_passes.specs.States.{going_of};
+ghost use Rattle.m11_passes.specs.Turns.{IsNext, Places, Turns};
+
+use crate::fault::PassFault;
+use crate::labelling::define_labels;
+use crate::operating::{change_line, mention_line, put_line, put_place, section_name};
+use crate::placed::PlacedLine;
+use crate::turns::Turn;
+use m11_arguments::Notes;
+use m11_base::Name;
+use m11_contents::Put;
+use m11_placing::{LabelLetters, Mentioned, Pass, deed_after_labels, line_letters};
+use m11_scan::{Letters, Line};
+use m11_statements::{Operators, Statement, statement};
+use m11_table::{FirmNames, Map, Table};
+use m11_unfold::{Act, LiveLine, Step, Unfolder};
+use m11_unfolding::UnfoldFault;
+use std::alloc::{AllocError, Global};
+
+// What a pass keeps from line to line.
+#[derive(Drop)]
+pub struct State {
+    pub(crate) unfolder: Unfolder,
+    pub(crate) pass: Pass,
+    pub(crate) mentioned: Mentioned,
+    // What the last line put.
+    pub(crate) put: Put,
+}
+
+// Each name is that of an operator: what is none of them is told by its place.
+struct EveryName;
+
+impl Operators for EveryName {
+    ghost known = { λ _. every_name };
+
+    fn is_known(&self, _name: Name) -> bool {
+        true
+    }
+}
+
+impl State {
+    // Before the first line, after names that an earlier pass mentioned.
+    pub(crate) fn new(alloc: Global, mentioned: Mentioned) -> Result<State, AllocError>
+        ensures unfolder { IfOk result (λ state. state.unfolder ≡ record { stage = start []; has_statement = false; fault = None }) }
+        ensures pass { IfOk result (λ state. Matches state.pass first_table) }
+        ensures mentioned { IfOk result (λ state. state.mentioned ≡ mentioned) }
+    {
+        Ok(State {
+            unfolder: Unfolder::new(alloc),
+            pass: Pass::new(alloc)?,
+            mentioned,
+            put: Put::new(alloc),
+        })
+    }
+
+    // What comes next.
+    pub(crate) fn next(&mut self, map: &Map<'_>) -> Result<Turn, PassFault>
+        requires goes_on { self.old.unfolder.fault ≡ None }
+        requires sound { IsSound self.old.unfolder.stage.taken self.old.pass self.old.mentioned }
+        ensures turns { Turns map.now (going_of self.old) (going_of self.new) result }
+        ensures next { IsNext self.old.unfolder.stage.taken self.new.unfolder.stage result }
+        ensures goes_on { IfOk result (λ _. self.new.unfolder.fault ≡ None) }
+        ensures sound { IfOk result (λ _. IsSound self.new.unfolder.stage.taken self.new.pass self.new.mentioned) }
+    {
+        match self.unfolder.next()? {
+            Step::NeedLine => Ok(Turn::NeedLine),
+            Step::End => Ok(Turn::End),
+            Step::Line(live) => Ok(Turn::Placed(self.place(map, live)?)),
+        }
+    }
+
+    // Places a line that became live.
+    fn place(&mut self, map: &Map<'_>, live: LiveLine) -> Result<PlacedLine, PassFault>
+        requires goes_on { self.old.unfolder.fault ≡ None }
+        requires kept { IsKept self.old.unfolder.stage }
+        requires free { self.old.unfolder.has_statement ≡ false }
+        requires room { HasRoom self.old.unfolder.stage.taken 67 1 self.old.pass.table }
+        requires few { IsFew self.old.pass self.old.mentioned }
+        ensures same { IfOk result (λ placed. live_in placed ≡ steps.live_of live) }
+        ensures places { Places map.now (steps.live_of live) self.old.unfolder.stage (going_of self.old) (going_of self.new) result }
+        ensures taken { IfOk result (λ _. self.new.unfolder.stage.taken ≡ self.old.unfolder.stage.taken) }
+        ensures kept { IfOk result (λ _. IsKept self.new.unfolder.stage) }
+        ensures goes_on { IfOk result (λ _. self.new.unfolder.fault ≡ None) }
+        ensures sound { IfOk result (λ _. IsSound self.new.unfolder.stage.taken self.new.pass self.new.mentioned) }
+    {
+        let line = &live.line;
+        let statement = statement(line, &EveryName);
+        let labels = statement.labels.as_slice();
+        let found = define_labels(&mut self.pass, &mut self.mentioned, map, line, labels)?;
+        let act = act_on(&mut self.unfolder, line, &self.pass)?;
+        let deed = deed_after_labels(act.is_own, line, statement.body);
+        let section = section_name(&self.pass);
+        let place = put_place(&self.pass, &deed);
+        put_line(&mut self.put, map, &self.pass, line, act.arguments, &deed)?;
+        mention_line(
+            &mut self.mentioned,
+            &self.pass,
+            line,
+            &act.notes,
+            act.arguments,
+            &deed,
+        )?;
+        change_line(&mut self.pass, map, line, act.arguments, &deed)?;
+        let letters = all_letters(line, &statement, found, &self.put, &act.notes);
+        Ok(PlacedLine {
+            line: live.line,
+            is_expanded: live.is_expanded,
+            deed,
+            letters,
+            section,
+            place,
+        })
+    }
+}
+
+// What unfolding does of a line, once its labels stand.
+fn act_on(unfolder: &mut Unfolder, line: &Line, pass: &Pass) -> Result<Act, UnfoldFault>
+    requires free { unfolder.old.has_statement ≡ false }
+    requires goes_on { unfolder.old.fault ≡ None }
+    ensures acts { steps.Acts (told pass.now.table) line.now.text unfolder.old.stage unfolder.new.stage result }
+    ensures goes_on { IfOk result (λ _. unfolder.new.fault ≡ None) }
+    ensures kept { IfOk result (λ _. IsKept unfolder.new.stage) }
+{
+    act_under(unfolder, line, pass.table())
+}
+
+// Under the firm names of a table.
+fn act_under(unfolder: &mut Unfolder, line: &Line, table: &Table) -> Result<Act, UnfoldFault>
+    requires free { unfolder.old.has_statement ≡ false }
+    requires goes_on { unfolder.old.fault ≡ None }
+    ensures acts { steps.Acts (told table.now) line.now.text unfolder.old.stage unfolder.new.stage result }
+    ensures goes_on { IfOk result (λ _. unfolder.new.fault ≡ None) }
+    ensures kept { IfOk result (λ _. IsKept unfolder.new.stage) }
+{
+    unfolder.act(line, &FirmNames::new(table, table.place()))
+}
+
+// The letters of a line: those that the line's definition has, and P where a label of it has moved.
+fn all_letters(
+    line: &Line,
+    statement: &Statement,
+    found: LabelLetters,
+    put: &Put,
+    notes: &Notes,
+) -> Letters
+    ensures { bits_of result ≡ bit_or (letters_from line.now.text statement.now.labels_end statement.now.body
+        (bits_of statement.now.label_letters) (bits_of found.doubled) put.now.letters notes.now.letters) (bits_of found.moved) }
+{
+    let letters = line_letters(
+        line,
+        usize::from(statement.labels_end),
+        statement.body,
+        statement.label_letters,
+        found.doubled,
+        put.letters(),
+        notes.letters(),
+    );
+    letters.with(found.moved)
+}
