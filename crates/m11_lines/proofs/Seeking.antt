@@ -237,6 +237,7 @@ module _ {F : Type 0} (text : F → Option Text) (faults : F → ℕ) (feeds : L
         is = gone;
         gives = subst P (counted Read s) s.last.0;
         rises = subst Q (counted Read s) s.last.1;
+        source = refl;
         faults = faults_set text faults feeds i within d x z x-is;
       }
   faulty TooMuchSource s =

@@ -89,6 +89,7 @@ pub record Fails (old new : Place) : Type 0 where
   pub is : new.texts ≡ text' ∷ texts
   pub gives : GivesFailure text text' (slice_index old.faults old.source)
   pub rises : Rises (slice_index old.faults old.source) count
+  pub source : new.source ≡ old.source
   pub faults : new.faults ≡ slice_set old.faults old.source count
 
 -- a fault came, after what has no line: a failure, the byte past the limit on bytes, or the first byte of a line past

@@ -165,12 +165,13 @@ module _ {F : Type 0} (text : F → Option Text) (faults : F → ℕ) where
           )
 
       -- the place of the feed that failed is that of the reader
-      pub failed : (read : ReadsNext middle last (Err Read)) → read.1.source ≡ source
+      pub failed : ReadsNext middle last (Err Read)
           → FailReading text faults old new (record { lines = lines; fault = None })
-      failed read at =
+      failed read =
           let now : Place = read.1 in
           let r = after_more first middle now lines read.0 h read.2 in
           let fails : Fails now last = read.3 in
+          let at : now.source ≡ source = sym fails.source in
           let parts = parts_of (map text old) now.texts r.given r.gave in
           let changed : map faults new ≡ set (map faults old) source fails.count =
           fails.faults ∙ ap (λ (l : List ℕ). set l now.source fails.count) r.faults

@@ -25,8 +25,7 @@ pub fn sources_after_a_line_feed_are_one_text()
 /// What a new reader returns call by call is the reading of the sources that its feeds give. Where no more is read, the
 /// lines so far are its first lines, whatever comes after them. After the end of the last source they are all its lines.
 /// At a limit they are the lines before it, and the reading stops there with the fault that was returned. Where a feed
-/// failed, they are the lines of what had come till then, and no limit had been passed: there the caller has to show
-/// that it was the feed at the reader's source that failed, which the clause of `LineReader::next` doesn't say.
+/// failed, they are the lines of what had come till then, and no limit had been passed.
 pub fn lines_read_are_those_of_the_sources<F>()
     ensures so_far { (text : F → Option Text) (faults : F → ℕ) (old new : List F) (source bytes_left lines_left : ℕ)
         (lines : List SourceLine)
@@ -46,7 +45,6 @@ pub fn lines_read_are_those_of_the_sources<F>()
         → HaveReading text faults old new (record { lines = lines; fault = Some TooManyLines }) }
     ensures failed { (text : F → Option Text) (faults : F → ℕ) (old new : List F) (source bytes_left lines_left : ℕ)
         (lines : List SourceLine) (middle : Place) → HasRead (start text faults old) middle lines
-        → (read : ReadsNext middle (place_at text faults new source bytes_left lines_left) (Err Read))
-        → read.1.source ≡ source
+        → ReadsNext middle (place_at text faults new source bytes_left lines_left) (Err Read)
         → FailReading text faults old new (record { lines = lines; fault = None }) }
 {}
