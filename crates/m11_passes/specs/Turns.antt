@@ -62,9 +62,16 @@ Turns map old new (Ok End) = Steps old.unfolder.stage new.unfolder.stage (Ok ste
 Turns map old new (Ok (Placed placed)) = PlacesNext map old new placed
 Turns map old new (Err fault) = FailsAt map old fault
 
--- a line is needed only where nothing is left; at a placed line more lines were taken than before, within the limit
+-- a line is needed only where nothing is left
+abbrev pub IsEmpty : Stage → Result Turn PassFault → Type 0
+IsEmpty after (Ok NeedLine) = after.left ≡ []
+IsEmpty after (Ok End) = Unit {0}
+IsEmpty after (Ok (Placed placed)) = Unit {0}
+IsEmpty after (Err fault) = Unit {0}
+
+-- at a placed line more lines were taken than before, within the limit
 abbrev pub IsNext : ℕ → Stage → Result Turn PassFault → Type 0
-IsNext taken after (Ok NeedLine) = after.left ≡ []
+IsNext taken after (Ok NeedLine) = Unit {0}
 IsNext taken after (Ok End) = Unit {0}
 IsNext taken after (Ok (Placed placed)) = (taken < after.taken) × (after.taken ≤ most_lines)
 IsNext taken after (Err fault) = Unit {0}

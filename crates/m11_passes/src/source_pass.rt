@@ -5,7 +5,7 @@ ghost use Rattle.std.specs.Result.{result_err};
 ghost use Rattle.m11_placement.specs.Limits.{most_names};
 ghost use Rattle.m11_placing.specs.Passes.{size_at};
 ghost use Rattle.m11_passes.specs.States.{Stands, fed};
-ghost use Rattle.m11_passes.specs.Turns.{IsNext, Turns};
+ghost use Rattle.m11_passes.specs.Turns.{IsEmpty, IsNext, Turns};
 ghost use Rattle.m11_placement.specs.Meanings.{Map as Meanings};
 
 use crate::fault::PassFault;
@@ -44,6 +44,7 @@ impl SourcePass {
     pub fn new(alloc: Global, mentioned: Mentioned) -> Result<SourcePass, AllocError>
         requires { length mentioned.names ≤ most_names }
         ensures stands { IfOk result (λ pass. (map : Meanings) → Stands map mentioned [] [] pass.going) }
+        ensures empty { IfOk result (λ pass. pass.going.unfolder.stage.left ≡ []) }
         ensures goes_on { IfOk result (λ pass. pass.fault ≡ None) }
     {
         Ok(SourcePass {
@@ -68,6 +69,7 @@ impl SourcePass {
         ensures turns { self.old.fault ≡ None → Turns map.now self.old.going self.new.going result }
         ensures again { (fault : PassFault) → self.old.fault ≡ Some fault → result ≡ Err fault }
         ensures fault { self.new.fault ≡ result_err result }
+        ensures empty { IsEmpty self.new.going.unfolder.stage result }
         ensures next { self.old.fault ≡ None → IsNext self.old.going.unfolder.stage.taken self.new.going.unfolder.stage result }
     {
         self.fault.check()?;

@@ -14,7 +14,7 @@ ghost use Rattle.m11_unfolding.specs.Stages.{start};
 ghost use Rattle.m11_passes.specs.Bounds.{HasRoom, IsFew, IsSound};
 ghost use Rattle.m11_passes.specs.Placed.{live_in};
 ghost use Rattle.m11_passes.specs.States.{going_of};
-ghost use Rattle.m11_passes.specs.Turns.{IsNext, Places, Turns};
+ghost use Rattle.m11_passes.specs.Turns.{IsEmpty, IsNext, Places, Turns};
 
 use crate::fault::PassFault;
 use crate::labelling::define_labels;
@@ -73,6 +73,7 @@ impl State {
         requires goes_on { self.old.unfolder.fault ≡ None }
         requires sound { IsSound self.old.unfolder.stage.taken self.old.pass self.old.mentioned }
         ensures turns { Turns map.now (going_of self.old) (going_of self.new) result }
+        ensures empty { IsEmpty self.new.unfolder.stage result }
         ensures next { IsNext self.old.unfolder.stage.taken self.new.unfolder.stage result }
         ensures goes_on { IfOk result (λ _. self.new.unfolder.fault ≡ None) }
         ensures sound { IfOk result (λ _. IsSound self.new.unfolder.stage.taken self.new.pass self.new.mentioned) }

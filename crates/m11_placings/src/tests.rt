@@ -6,70 +6,34 @@ mod directives;
 mod flags;
 mod instructions;
 mod limits;
-mod lines;
 mod moved;
 mod names;
 mod relocations;
 mod sizes;
 mod texts;
 
-use crate::tests::lines::{Reading, place_line};
-use crate::tests::texts::put_number;
-use m11_placing::{Pass, PlacingFault};
+use crate::tests::texts::{put_line, put_number};
+use m11_passes::{PassFault, SourcePass, Turn};
+use m11_placing::Mentioned;
 use m11_scan::Line;
 use m11_table::Map;
-use m11_unfold::{Step, Unfolder};
-use m11_unfolding::UnfoldFault;
-use std::alloc::{AllocError, AllocFailed, Global};
+use std::alloc::Global;
 use std::process::Abort;
 
-// Why a source is refused.
-#[derive(Clone, Copy, Debug, PartialEq, Eq)]
-enum Refusal {
-    Places(PlacingFault),
-    Unfolds(UnfoldFault),
-    NoMemory,
-}
-
-impl From<PlacingFault> for Refusal {
-    fn from(fault: PlacingFault) -> Refusal {
-        Refusal::Places(fault)
-    }
-}
-
-impl From<UnfoldFault> for Refusal {
-    fn from(fault: UnfoldFault) -> Refusal {
-        Refusal::Unfolds(fault)
-    }
-}
-
-impl From<AllocError> for Refusal {
-    fn from(_error: AllocError) -> Refusal {
-        Refusal::NoMemory
-    }
-}
-
-impl<T: Drop> From<AllocFailed<T>> for Refusal {
-    fn from(_error: AllocFailed<T>) -> Refusal {
-        Refusal::NoMemory
-    }
-}
-
-// Takes what is left. Returns whether the next line of the source is needed.
+// Takes what is left. Returns whether the next line of the source is needed. The letters of placed lines and what they put are added to a
+// text.
 fn take_rest(
-    rt: &impl Abort,
-    unfolder: &mut Unfolder,
+    pass: &mut SourcePass,
     map: &Map<'_>,
-    reading: &mut Reading,
     text: &mut Vec<u8>,
-) -> Result<bool, Refusal>
-    ensures { result ≡ Ok true → unfolder.new.stage.left ≡ [] }
+) -> Result<bool, PassFault>
+    ensures { result ≡ Ok true → pass.new.going.unfolder.stage.left ≡ [] }
 {
-    'steps: for _ in 0..300_000 {
-        match unfolder.next()? {
-            Step::NeedLine => return Ok(true),
-            Step::End => return Ok(false),
-            Step::Line(live) => place_line(rt, unfolder, map, &live.line, reading, text)?,
+    'turns: for _ in 0..300_000 {
+        match pass.next(map)? {
+            Turn::NeedLine => return Ok(true),
+            Turn::End => return Ok(false),
+            Turn::Placed(line) => put_line(line.letters, pass.contents(), text)?,
         }
     }
     Ok(false)
@@ -77,18 +41,16 @@ fn take_rest(
 
 // Goes over a source in one pass.
 fn go_over(
-    rt: &impl Abort,
-    unfolder: &mut Unfolder,
+    pass: &mut SourcePass,
     map: &Map<'_>,
     source: &[&str],
-    reading: &mut Reading,
     text: &mut Vec<u8>,
-) -> Result<(), Refusal>
-    requires { unfolder.old.stage.left ≡ [] }
+) -> Result<(), PassFault>
+    requires { pass.old.going.unfolder.stage.left ≡ [] }
 {
     'source: for line in source {
-        unfolder.feed(Line::from_bytes(line.as_bytes()));
-        if !take_rest(rt, unfolder, map, reading, text)? {
+        pass.feed(Line::from_bytes(line.as_bytes()));
+        if !take_rest(pass, map, text)? {
             return Ok(());
         }
     }
@@ -97,80 +59,51 @@ fn go_over(
 
 // One pass over a source. The text is that of its lines.
 fn read(
-    rt: &impl Abort,
     alloc: Global,
     map: &Map<'_>,
     source: &[&str],
-    reading: &mut Reading,
     text: &mut Vec<u8>,
-) -> Result<(), Refusal> {
-    let mut unfolder = Unfolder::new(alloc);
+) -> Result<SourcePass, PassFault> {
     text.clear();
-    let outcome = go_over(rt, &mut unfolder, map, source, reading, text);
-    drop(unfolder);
-    outcome
+    let mut pass = SourcePass::new(alloc, Mentioned::new(alloc))?;
+    match go_over(&mut pass, map, source, text) {
+        Ok(()) => Ok(pass),
+        Err(fault) => {
+            drop(pass);
+            Err(fault)
+        }
+    }
 }
 
-// The second pass over a source, by the table that the first one left.
-fn read_again(
-    rt: &impl Abort,
+// A pass over a source, and a pass over another one by the table that the first pass left. The text is that of the lines of the other one.
+fn read_changed(
     alloc: Global,
-    source: &[&str],
-    first: &Reading,
-    text: &mut Vec<u8>,
-) -> Result<(), Refusal> {
-    let mut second = Reading::new(alloc)?;
-    let map = Map::of(first.pass.table());
-    let outcome = read(rt, alloc, &map, source, &mut second, text);
-    drop(second);
-    outcome
-}
-
-// Both passes over a source. The text is that of the lines in the second one.
-fn read_twice(
-    rt: &impl Abort,
-    alloc: Global,
+    before: &[&str],
     source: &[&str],
     text: &mut Vec<u8>,
-) -> Result<(), Refusal> {
-    read_changed(rt, alloc, source, source, text)
-}
-
-// A pass over each of two sources, the second one by what the first one left. The text is that of the second one's lines.
-fn read_changed<'a>(
-    rt: &impl Abort,
-    alloc: Global,
-    before: &[&'a str],
-    source: &[&'a str],
-    text: &mut Vec<u8>,
-) -> Result<(), Refusal> {
-    let mut first = Reading::new(alloc)?;
-    let outcome = match read(rt, alloc, &Map::none(), before, &mut first, text) {
-        Ok(()) => read_again(rt, alloc, source, &first, text),
-        Err(refusal) => Err(refusal),
-    };
+) -> Result<(), PassFault> {
+    let first = read(alloc, &Map::none(), before, text)?;
+    let outcome = read(alloc, &Map::of(first.table()), source, text);
     drop(first);
-    outcome
+    match outcome {
+        Ok(second) => {
+            drop(second);
+            Ok(())
+        }
+        Err(fault) => Err(fault),
+    }
 }
 
 // The first pass over a source. The text is that of the sizes that it leaves.
-fn read_sizes(
-    rt: &impl Abort,
-    alloc: Global,
-    source: &[&str],
-    text: &mut Vec<u8>,
-) -> Result<(), Refusal> {
-    let mut first = Reading::new(alloc)?;
-    let outcome = match read(rt, alloc, &Map::none(), source, &mut first, text) {
-        Ok(()) => put_sizes(&first.pass, text),
-        Err(refusal) => Err(refusal),
-    };
+fn read_sizes(alloc: Global, source: &[&str], text: &mut Vec<u8>) -> Result<(), PassFault> {
+    let first = read(alloc, &Map::none(), source, text)?;
+    let outcome = put_sizes(&first, text);
     drop(first);
     outcome
 }
 
 // The sizes of all sections, in the order of their numbers, each with a blank after it.
-fn put_sizes(pass: &Pass, text: &mut Vec<u8>) -> Result<(), Refusal> {
+fn put_sizes(pass: &SourcePass, text: &mut Vec<u8>) -> Result<(), PassFault> {
     text.clear();
     'sections: for number in 0..64 {
         if number < pass.table().section_count() {
@@ -188,7 +121,7 @@ type Row = (&'static [&'static str], &'static str);
 fn check_lines(rt: &impl Abort, alloc: Global, rows: &[Row]) {
     let mut text = Vec::new(alloc);
     'rows: for (source, wanted) in rows {
-        let outcome = read_twice(rt, alloc, source, &mut text);
+        let outcome = read_changed(alloc, source, source, &mut text);
         check_text(rt, outcome, text.as_slice(), wanted);
     }
 }
@@ -197,12 +130,12 @@ fn check_lines(rt: &impl Abort, alloc: Global, rows: &[Row]) {
 fn check_sizes(rt: &impl Abort, alloc: Global, rows: &[Row]) {
     let mut text = Vec::new(alloc);
     'rows: for (source, wanted) in rows {
-        let outcome = read_sizes(rt, alloc, source, &mut text);
+        let outcome = read_sizes(alloc, source, &mut text);
         check_text(rt, outcome, text.as_slice(), wanted);
     }
 }
 
-fn check_text(rt: &impl Abort, outcome: Result<(), Refusal>, text: &[u8], wanted: &str) {
+fn check_text(rt: &impl Abort, outcome: Result<(), PassFault>, text: &[u8], wanted: &str) {
     assert!(rt; outcome == Ok(()), "{wanted}");
     assert_eq!(rt; str::from_utf8(text), Ok(wanted), "{wanted}");
 }

@@ -1,12 +1,12 @@
 //! Each limit of names, local symbols and sections at its last accepted value, and one past it.
 
-use super::{Refusal, read_sizes};
-use m11_placing::PlacingFault;
+use super::read_sizes;
+use m11_passes::PassFault;
 use std::alloc::Global;
 use std::process::Abort;
 
 // A source, and what becomes of it.
-type Row = (&'static [&'static str], Result<(), Refusal>);
+type Row = (&'static [&'static str], Result<(), PassFault>);
 
 // Each round names one more, and X is one.
 static NAMES: [Row; 2] = [
@@ -34,7 +34,7 @@ static NAMES: [Row; 2] = [
             "X=X+1",
             ".ENDR",
         ],
-        Err(Refusal::Places(PlacingFault::TooManySymbols)),
+        Err(PassFault::TooManySymbols),
     ),
 ];
 
@@ -55,7 +55,7 @@ static LOCAL_SYMBOLS: [Row; 2] = [
             ".ENDR",
             "1$:",
         ],
-        Err(Refusal::Places(PlacingFault::TooManySymbols)),
+        Err(PassFault::TooManySymbols),
     ),
 ];
 
@@ -85,14 +85,14 @@ static SECTIONS: [Row; 2] = [
             "X=X+1",
             ".ENDR",
         ],
-        Err(Refusal::Places(PlacingFault::TooManySections)),
+        Err(PassFault::TooManySections),
     ),
 ];
 
 fn check_limits(rt: &impl Abort, alloc: Global, rows: &[Row]) {
     let mut text = Vec::new(alloc);
     'rows: for (source, wanted) in rows {
-        let outcome = read_sizes(rt, alloc, source, &mut text);
+        let outcome = read_sizes(alloc, source, &mut text);
         assert_eq!(rt; outcome, *wanted);
     }
 }

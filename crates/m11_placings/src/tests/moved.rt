@@ -44,7 +44,7 @@ fn labels_have_p_where_they_stand_elsewhere_than_before(rt: HostRuntime) {
     let alloc = rt.alloc();
     let mut text = Vec::new(alloc);
     'rows: for (before, source, wanted) in &ROWS {
-        let outcome = read_changed(&rt, alloc, before, source, &mut text);
+        let outcome = read_changed(alloc, before, source, &mut text);
         check_text(&rt, outcome, text.as_slice(), wanted);
     }
 }

@@ -1,14 +1,18 @@
 //! Texts of what lines put.
 
 use m11_base::{Name, octal6};
-use m11_contents::Put;
 use m11_object_text::{PieceContent, RelocationKind, Stored};
+use m11_scan::Letters;
 use std::alloc::AllocError;
 
 // The letters of a line and what it puts, each after a blank, and `;`.
-pub(crate) fn put_line(put: &Put, text: &mut Vec<u8>) -> Result<(), AllocError> {
-    text.extend_from_slice(&put.letters().text())?;
-    'contents: for content in put.contents() {
+pub(crate) fn put_line(
+    letters: Letters,
+    contents: &[PieceContent],
+    text: &mut Vec<u8>,
+) -> Result<(), AllocError> {
+    text.extend_from_slice(&letters.text())?;
+    'contents: for content in contents {
         text.push(b' ')?;
         put_content(content, text)?;
     }
