@@ -69,9 +69,9 @@ IsEmpty after (Ok End) = Unit {0}
 IsEmpty after (Ok (Placed placed)) = Unit {0}
 IsEmpty after (Err fault) = Unit {0}
 
--- at a placed line more lines were taken than before, within the limit
+-- and at a placed line more lines were taken than before, within the limit
 abbrev pub IsNext : ℕ → Stage → Result Turn PassFault → Type 0
-IsNext taken after (Ok NeedLine) = Unit {0}
+IsNext taken after (Ok NeedLine) = after.left ≡ []
 IsNext taken after (Ok End) = Unit {0}
 IsNext taken after (Ok (Placed placed)) = (taken < after.taken) × (after.taken ≤ most_lines)
 IsNext taken after (Err fault) = Unit {0}
