@@ -22,11 +22,7 @@ use std::process::Abort;
 
 // Takes what is left. Returns whether the next line of the source is needed. The letters of placed lines and what they put are added to a
 // text.
-fn take_rest(
-    pass: &mut SourcePass,
-    map: &Map<'_>,
-    text: &mut Vec<u8>,
-) -> Result<bool, PassFault>
+fn take_rest(pass: &mut SourcePass, map: &Map<'_>, text: &mut Vec<u8>) -> Result<bool, PassFault>
     ensures { result ≡ Ok true → pass.new.going.unfolder.stage.left ≡ [] }
 {
     'turns: for _ in 0..300_000 {
