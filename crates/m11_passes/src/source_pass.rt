@@ -4,6 +4,7 @@ ghost use Rattle.std.specs.Prelude.{◌≡◌, ◌<◌, ◌≤◌, [], None, Som
 ghost use Rattle.std.specs.Result.{result_err};
 ghost use Rattle.m11_placement.specs.Limits.{most_names};
 ghost use Rattle.m11_placing.specs.Passes.{size_at};
+ghost use Rattle.m11_unfolding.specs.Stages.{start};
 ghost use Rattle.m11_passes.specs.States.{Stands, fed};
 ghost use Rattle.m11_passes.specs.Turns.{IsNext, Turns};
 ghost use Rattle.m11_placement.specs.Meanings.{Map as Meanings};
@@ -44,6 +45,7 @@ impl SourcePass {
     pub fn new(alloc: Global, mentioned: Mentioned) -> Result<SourcePass, AllocError>
         requires { length mentioned.names ≤ most_names }
         ensures stands { IfOk result (λ pass. (map : Meanings) → Stands map mentioned [] [] pass.going) }
+        ensures begins { IfOk result (λ pass. pass.going.unfolder.stage ≡ start []) }
         ensures goes_on { IfOk result (λ pass. pass.fault ≡ None) }
     {
         Ok(SourcePass {
@@ -88,6 +90,13 @@ impl SourcePass {
         ensures { result ≡ size_at self.now.going.kept.sizes number }
     {
         self.state.pass.size(number)
+    }
+
+    /// The sizes of sections by their numbers, in bytes.
+    pub fn sizes(&self) -> &[u16; 64]
+        ensures { result.now ≡ self.now.going.kept.sizes }
+    {
+        self.state.pass.sizes()
     }
 
     /// The names that the lines so far mention.
