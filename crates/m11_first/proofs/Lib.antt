@@ -1,0 +1,3 @@
+mod Naming
+mod Noting
+mod Telling
