@@ -4,5 +4,9 @@
 #![tactic(auto)]
 
 mod facts;
+mod first;
+mod symbols;
 
 pub use facts::Facts;
+pub use first::First;
+pub use symbols::Symbols;
