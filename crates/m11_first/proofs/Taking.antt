@@ -82,14 +82,16 @@ module _ (turn : TurnsSo) (source : List SourceLine) (old new : Going) (facts : 
         let here : PlacesLine empty_map none_gathered source some.0 new placed = subst P is reached in
         let one = numbered (length source) (given_by (table_at empty_map some.0) (live_in placed) here.stage) in
         let A : Table → Type 0 = λ t. Alike new.kept.table t in
-        let B : Table → Type 0 = λ t. Alike t (after_line empty_map (table_at empty_map some.0) one.given) in
-        (some.0 ++ one ∷ [], record {
-          stands = here.stands;
-          facts_are = notes (table_at empty_map some.0) one.given new.put here.placed_so
-              (subst B (sym table_is) (subst A (table_more some.0 one) here.stands.matches.alike))
-              ∙ ap (with_line (table_at empty_map some.0) one.given) some.1.facts_are
-              ∙ sym (facts_more some.0 one);
-        })
+        let B : Table → Type 0 = λ t. Alike t (after_line empty_map (table_at empty_map some.0) one.given) in (
+          some.0 ++ one ∷ [],
+          record {
+            stands = here.stands;
+            facts_are = notes (table_at empty_map some.0) one.given new.put here.placed_so
+                (subst B (sym table_is) (subst A (table_more some.0 one) here.stands.matches.alike))
+                ∙ ap (with_line (table_at empty_map some.0) one.given) some.1.facts_are
+                ∙ sym (facts_more some.0 one);
+          },
+        )
 
     pub rests_all : came ≡ NeedLine → TakesAll source new facts false
     rests_all is =
@@ -109,9 +111,11 @@ module _ (turn : TurnsSo) (source : List SourceLine) (old new : Going) (facts : 
   fails_all fault later (Ok ended) turned is = absurd is
   fails_all fault later (Err other) turned is =
       let M : Map → Type 0 = λ m. Turns m old new (Err fault) in
-      let P : PassFault → Type 0 = λ f. Refused empty_map [] source some.0 f in
-      (some.0, subst P (sym is)
-      (turn empty_map none_gathered source some.0 old new (Err fault) some.1.stands (subst M none turned)))
+      let P : PassFault → Type 0 = λ f. Refused empty_map [] source some.0 f in (
+        some.0,
+        subst P (sym is)
+            (turn empty_map none_gathered source some.0 old new (Err fault) some.1.stands (subst M none turned)),
+      )
 
 -- ---- a line of the source
 
@@ -178,11 +182,14 @@ module _ (feeds : Feeds) (source : List SourceLine) (line : SourceLine) (pass re
       let P : Result Bool PassFault → Type 0 = λ r. TakesLeft (source ++ line ∷ []) new_going new_facts r in
       let N : Result Bool PassFault → Type 0 = λ r. IfOk r (λ e. e ≡ false → new_going.unfolder.stage.left ≡ []) in
       let here : TakesAll (source ++ line ∷ []) new_going new_facts ended = subst P (sym same) left in
-      inr (goes_so, record {
-        lines = here.lines;
-        taken = here.taken;
-        ended = here.ended;
-        needs = subst N (sym same) needs;
-        goes_on = kept_is ∙ ap (λ (f : Option PassFault). option_or f (result_err outcome)) none
-            ∙ ap (λ (r : Result Bool PassFault). result_err r) (sym same);
-      })
+      inr (
+        goes_so,
+        record {
+          lines = here.lines;
+          taken = here.taken;
+          ended = here.ended;
+          needs = subst N (sym same) needs;
+          goes_on = kept_is ∙ ap (λ (f : Option PassFault). option_or f (result_err outcome)) none
+              ∙ ap (λ (r : Result Bool PassFault). result_err r) (sym same);
+        },
+      )
