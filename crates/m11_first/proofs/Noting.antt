@@ -20,7 +20,6 @@ use Rattle.m11_placement.specs.Contents.{Put, has_expression}
 use Rattle.m11_placement.specs.Exports.{transfer}
 use Rattle.m11_placement.specs.Lines.{Assigning, Deed, Operating, Rests, Setting, after_line, change_of, deed, deed_of, line_change, operating, stands}
 use Rattle.m11_placement.specs.Meanings.{empty_map, known_at}
-use Rattle.m11_placement.specs.Operators.{operator_named}
 use Rattle.m11_placement.specs.Sources.{Directed, directed, directed_by, directed_in, identification_by, identification_in, last_or, title_by, title_in, transfer_by, transfer_in, weak_by, weak_in}
 use Rattle.m11_placement.specs.Tables.{Table, firm_table, place}
 use Rattle.m11_placement.specs.declared.meanings.Context.TheVariants.{Knows}

@@ -1,5 +1,5 @@
 -- What lines tell is what they tell one after the other.
-use Rattle.std.proofs.Common.{◌≡◌, ◌∙◌, List, [], ◌∷◌, ◌++◌, map, flat_map, append-nil, Option, Some, None, refl, sym, ap}
+use Rattle.std.proofs.Common.{◌≡◌, ◌∙◌, List, [], ◌∷◌, ◌++◌, map, flat_map, append-nil, Option, Some, None, refl, ap}
 use Rattle.std.proofs.lemmas.List.{map-append}
 use Rattle.std.proofs.lemmas.List.Concat.{flat_map-append}
 use Rattle.indexmap.specs.IndexSet.{insert_key}
@@ -7,11 +7,11 @@ use Rattle.m11_base.specs.Rad50.{Name, is_same_name}
 use Rattle.m11_unfolding.specs.Unfolding.{Given}
 use Rattle.m11_values.specs.Quantities.{Quantity}
 use Rattle.m11_placement.specs.Lines.{after_line}
-use Rattle.m11_placement.specs.Meanings.{Map, empty_map}
+use Rattle.m11_placement.specs.Meanings.{empty_map}
 use Rattle.m11_placement.specs.Placements.{after_lines, table_after}
 use Rattle.m11_placement.specs.Sources.{last_of, last_or, line_identification, line_title, line_transfer, line_weak_names, transfer_after}
 use Rattle.m11_placement.specs.Tables.{Table, first_table}
-use Rattle.m11_first.specs.Facts.{Facts, each_once, facts_of, with_line}
+use Rattle.m11_first.specs.Facts.{each_once, facts_of, with_line}
 
 or_none : {A : Type 0} (found : Option A) → last_or None found ≡ found
 or_none found = refl

@@ -1,7 +1,7 @@
 -- What the lines of a source tell of its module beside names and places, line by line: the last title and identification, the names that
 -- are made weak, and where the program begins. (MACRO-11 Language Reference Manual, ".TITLE directive", ".IDENT directive", ".WEAK
 -- directive" and ".END directive".)
-use Rattle.std.specs.Prelude.{ℕ, List, [], ◌∷◌, ◌++◌, Option, Some, None}
+use Rattle.std.specs.Prelude.{List, [], ◌∷◌, Option, None}
 use Rattle.indexmap.specs.IndexSet.{insert_key}
 use Rattle.m11_base.specs.Rad50.{Name, is_same_name}
 use Rattle.m11_unfolding.specs.Unfolding.{Given}
