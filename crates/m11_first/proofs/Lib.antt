@@ -1,0 +1,4 @@
+mod Naming
+mod Noting
+mod Taking
+mod Telling

@@ -1,0 +1,195 @@
+-- What follows from a line of the source is taken: live lines, and what they tell.
+use Rattle.std.proofs.Common.{◌≡◌, ◌∙◌, Bool, true, false, List, [], ◌∷◌, ◌++◌, length, Option, None, Result, Ok, Err, IfOk, IsErrAnd, refl, sym, ap, subst, inr}
+use Rattle.std.proofs.lemmas.List.{map-append}
+use Rattle.std.specs.Prelude.{◌⊎◌}
+use Rattle.std.specs.Option.{option_or}
+use Rattle.std.specs.Result.{result_err}
+use Rattle.m11_lines.specs.Line.{SourceLine}
+use Rattle.m11_unfolding.specs.Stages.{Stage, start}
+use Rattle.m11_unfolding.specs.Unfolding.{Given}
+use Rattle.m11_placement.specs.Contents.{Put}
+use Rattle.m11_placement.specs.Lines.{after_line}
+use Rattle.m11_placement.specs.Meanings.{Map, empty_map}
+use Rattle.m11_placement.specs.Placements.{after_lines, table_after}
+use Rattle.m11_placement.specs.Tables.{Table, first_table}
+use Rattle.m11_placing.specs.Mentioned.{Gathered, none_gathered}
+use Rattle.m11_table.specs.Alike.{Alike}
+use Rattle.m11_passes.specs.Lines as lines
+use Rattle.m11_passes.specs.Lines.{Numbered, givens, numbered, table_at}
+use Rattle.m11_passes.specs.Placed.{IsPlaced, live_in}
+use Rattle.m11_passes.specs.Reaching.{PlacesLine, Reaches, Refused}
+use Rattle.m11_passes.specs.Refusals.{given_by}
+use Rattle.m11_passes.specs.States.{Going, PassState, Stands, fed}
+use Rattle.m11_passes.specs.Turns.{Turns}
+use Rattle.m11_passes.specs.declared.fault.PassFault.{PassFault}
+use Rattle.m11_passes.specs.declared.placed.PlacedLine.{PlacedLine}
+use Rattle.m11_passes.specs.declared.turns.Turn.{Turn}
+use Rattle.m11_passes.specs.declared.turns.Turn.TheVariants.{NeedLine, End, Placed}
+use Rattle.m11_first.specs.Facts.{Facts, facts_of, no_facts, with_line}
+use Rattle.m11_first.specs.First.{FirstStands, FirstState, FirstTakes, GoesOn, Taken, TakesAll, TakesLeft}
+use Rattle.m11_first.proofs.Telling.{tells_more}
+
+-- the law of the calls of a pass
+abbrev pub Feeds : Type 0
+Feeds = (map : Map) (before : Gathered) (source : List SourceLine) (lines : List Numbered) (line : SourceLine) (going : Going)
+    → Stands map before source lines going → going.unfolder.stage.left ≡ [] → going.unfolder.stage.has_ended ≡ false
+    → Stands map before (source ++ line ∷ []) lines (fed line going)
+
+abbrev pub TurnsSo : Type 0
+TurnsSo = (map : Map) (before : Gathered) (source : List SourceLine) (lines : List Numbered) (old new : Going)
+    (result : Result Turn PassFault) → Stands map before source lines old → Turns map old new result
+    → Reaches map before source lines new result
+
+-- ---- one line more
+
+givens_more : (all : List Numbered) (one : Numbered) → givens (all ++ one ∷ []) ≡ givens all ++ one.given ∷ []
+givens_more all one = map-append lines.given_in all (one ∷ [])
+
+tables_more : (table : Table) (all : List Given) (one : Given)
+    → after_lines empty_map table (all ++ one ∷ []) ≡ after_line empty_map (after_lines empty_map table all) one
+tables_more table [] one = refl
+tables_more table (given ∷ all) one = tables_more (after_line empty_map table given) all one
+
+table_more : (all : List Numbered) (one : Numbered)
+    → table_at empty_map (all ++ one ∷ []) ≡ after_line empty_map (table_at empty_map all) one.given
+table_more all one = ap (table_after empty_map) (givens_more all one) ∙ tables_more first_table (givens all) one.given
+
+facts_more : (all : List Numbered) (one : Numbered)
+    → facts_of (givens (all ++ one ∷ [])) ≡ with_line (table_at empty_map all) one.given (facts_of (givens all))
+facts_more all one = ap facts_of (givens_more all one) ∙ tells_more (givens all) one.given
+
+-- ---- one call
+
+-- some lines were taken, whichever
+abbrev pub SomeTaken : List SourceLine → Going → Facts → Type 0
+SomeTaken source going facts = (lines : List Numbered) × Taken source lines going facts
+
+module _ (turn : TurnsSo) (source : List SourceLine) (old new : Going) (facts : Facts) (some : SomeTaken source old facts)
+    (map_ : Map) (none : map_ ≡ empty_map) where
+  module _ (came : Turn) (turned : Turns map_ old new (Ok came)) where
+    reached : Reaches empty_map none_gathered source some.0 new (Ok came)
+    reached =
+        let P : Map → Type 0 = λ m. Turns m old new (Ok came) in
+        turn empty_map none_gathered source some.0 old new (Ok came) some.1.stands (subst P none turned)
+
+    -- what is noted of a placed line is what it tells
+    pub placed_more : (placed : PlacedLine) → came ≡ Placed placed → (later : Facts) (table : Table) → table ≡ new.kept.table
+        → ((before : Table) (given : Given) (put : Put) → IsPlaced empty_map before given placed put
+        → Alike table (after_line empty_map before given) → later ≡ with_line before given facts)
+        → SomeTaken source new later
+    placed_more placed is later table table_is notes =
+        let P : Turn → Type 0 = λ t. Reaches empty_map none_gathered source some.0 new (Ok t) in
+        let here : PlacesLine empty_map none_gathered source some.0 new placed = subst P is reached in
+        let one = numbered (length source) (given_by (table_at empty_map some.0) (live_in placed) here.stage) in
+        let A : Table → Type 0 = λ t. Alike new.kept.table t in
+        let B : Table → Type 0 = λ t. Alike t (after_line empty_map (table_at empty_map some.0) one.given) in (
+          some.0 ++ one ∷ [],
+          record {
+            stands = here.stands;
+            facts_are = notes (table_at empty_map some.0) one.given new.put here.placed_so
+                (subst B (sym table_is) (subst A (table_more some.0 one) here.stands.matches.alike))
+                ∙ ap (with_line (table_at empty_map some.0) one.given) some.1.facts_are
+                ∙ sym (facts_more some.0 one);
+          },
+        )
+
+    pub rests_all : came ≡ NeedLine → TakesAll source new facts false
+    rests_all is =
+        let P : Turn → Type 0 = λ t. Reaches empty_map none_gathered source some.0 new (Ok t) in
+        let here : Reaches empty_map none_gathered source some.0 new (Ok NeedLine) = subst P is reached in
+        record { lines = some.0; taken = record { stands = here.0; facts_are = some.1.facts_are }; ended = sym here.2 }
+
+    pub ends_all : came ≡ End → TakesAll source new facts true
+    ends_all is =
+        let P : Turn → Type 0 = λ t. Reaches empty_map none_gathered source some.0 new (Ok t) in
+        let here : Reaches empty_map none_gathered source some.0 new (Ok End) = subst P is reached in
+        record { lines = some.0; taken = record { stands = here.0; facts_are = some.1.facts_are }; ended = sym here.1 }
+
+  -- a fault of the pass, which is handed on
+  pub fails_all : (fault : PassFault) (later : Facts) (result : Result Bool PassFault) → Turns map_ old new (Err fault)
+      → IsErrAnd result (λ f. f ≡ fault) → TakesLeft source new later result
+  fails_all fault later (Ok ended) turned is = absurd is
+  fails_all fault later (Err other) turned is =
+      let M : Map → Type 0 = λ m. Turns m old new (Err fault) in
+      let P : PassFault → Type 0 = λ f. Refused empty_map [] source some.0 f in (
+        some.0,
+        subst P (sym is)
+            (turn empty_map none_gathered source some.0 old new (Err fault) some.1.stands (subst M none turned)),
+      )
+
+-- ---- a line of the source
+
+-- before the first one
+pub begins : (going : Going) (gathered : Gathered) (facts : Facts) (fault : Option PassFault)
+    → ((map : Map) → Stands map gathered [] [] going) → gathered ≡ none_gathered → going.unfolder.stage ≡ start []
+    → facts ≡ no_facts → fault ≡ None
+    → FirstStands [] (record { going = going; facts = facts; has_ended = false; fault = fault })
+begins going gathered facts fault stands none first untold goes =
+    let P : Gathered → Type 0 = λ g. Stands empty_map g [] [] going in
+    record {
+      lines = [];
+      taken = record { stands = subst P none (stands empty_map); facts_are = untold };
+      ended = sym (ap (λ (s : Stage). s.has_ended) first);
+      needs = λ is. ap (λ (s : Stage). s.left) first;
+      goes_on = goes;
+    }
+
+pub begins_so : (pass : PassState) (fault : Option PassFault) → pass.going.unfolder.stage ≡ start [] → pass.fault ≡ None
+    → GoesOn fault false pass
+begins_so pass fault first goes = record {
+  goes_on = λ none. goes;
+  needs = λ none is. ap (λ (s : Stage). s.left) first;
+}
+
+module _ (feeds : Feeds) (source : List SourceLine) (line : SourceLine) (pass read : PassState) (facts : Facts) (has_ended : Bool)
+    (fault : Option PassFault) (old : FirstState)
+    (view_is : record { going = pass.going; facts = facts; has_ended = has_ended; fault = fault } ≡ old)
+    (goes : has_ended ≡ false) (read_is : read ≡ record { going = fed line pass.going; fault = pass.fault })
+    (outcome : Result Bool PassFault) (new_going : Going) (new_facts : Facts)
+    (takes : (source : List SourceLine) (lines : List Numbered) → Taken source lines read.going facts
+    → TakesLeft source new_going new_facts outcome)
+    (stands : FirstStands source old) where
+  goes_so : old.has_ended ≡ false
+  goes_so = sym (ap (λ (s : FirstState). s.has_ended) view_is) ∙ goes
+
+  left : TakesLeft (source ++ line ∷ []) new_going new_facts outcome
+  left =
+      let S : FirstState → Type 0 = λ s. FirstStands source s in
+      let here = subst S (sym view_is) stands in
+      let G : Going → Type 0 = λ g. Taken (source ++ line ∷ []) here.lines g facts in
+      takes (source ++ line ∷ []) here.lines (subst G (sym (ap (λ (p : PassState). p.going) read_is)) (record {
+        stands = feeds empty_map none_gathered source here.lines line pass.going here.taken.stands (here.needs goes)
+            (sym here.ended ∙ goes);
+        facts_are = here.taken.facts_are;
+      }))
+
+  pub line_fails : (came : PassFault) (new : FirstState) (result : Result (Unit {0}) PassFault) → Err came ≡ outcome
+      → IsErrAnd result (λ f. f ≡ came) → FirstTakes source line old new result
+  line_fails came new (Ok done) same is = absurd is
+  line_fails came new (Err other) same is =
+      let P : Result Bool PassFault → Type 0 = λ r. TakesLeft (source ++ line ∷ []) new_going new_facts r in
+      let here : TakesLeft (source ++ line ∷ []) new_going new_facts (Err came) = subst P (sym same) left in
+      let Q : PassFault → Type 0 = λ f. Refused empty_map [] (source ++ line ∷ []) here.0 f in
+      record { reads = goes_so; lines = here.0; refused = subst Q (sym is) here.1 }
+
+  pub line_takes : (ended : Bool) (kept : Option PassFault) → Ok ended ≡ outcome
+      → IfOk outcome (λ e. e ≡ false → new_going.unfolder.stage.left ≡ [])
+      → kept ≡ option_or fault (result_err outcome) → fault ≡ None
+      → ((old.has_ended ≡ true) × (record { going = new_going; facts = new_facts; has_ended = ended; fault = kept } ≡ old))
+      ⊎ ((old.has_ended ≡ false) × FirstStands (source ++ line ∷ [])
+      (record { going = new_going; facts = new_facts; has_ended = ended; fault = kept }))
+  line_takes ended kept same needs kept_is none =
+      let P : Result Bool PassFault → Type 0 = λ r. TakesLeft (source ++ line ∷ []) new_going new_facts r in
+      let N : Result Bool PassFault → Type 0 = λ r. IfOk r (λ e. e ≡ false → new_going.unfolder.stage.left ≡ []) in
+      let here : TakesAll (source ++ line ∷ []) new_going new_facts ended = subst P (sym same) left in
+      inr (
+        goes_so,
+        record {
+          lines = here.lines;
+          taken = here.taken;
+          ended = here.ended;
+          needs = subst N (sym same) needs;
+          goes_on = kept_is ∙ ap (λ (f : Option PassFault). option_or f (result_err outcome)) none
+              ∙ ap (λ (r : Result Bool PassFault). result_err r) (sym same);
+        },
+      )

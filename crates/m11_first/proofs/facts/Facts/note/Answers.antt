@@ -1,0 +1,7 @@
+use Rattle.m11_first.proofs.Noting.{notes}
+use Rattle.m11_first.proofs.facts.Facts.note.Goals as goal
+
+pub returns : goal.returns
+returns c =
+    notes c.labels_and_body_stand_in_order.ensures.body c.args.table.now c.args.line.now c.args.self.now c.note_deed.new.self
+    c.note_deed.result c.note_deed.ensures

@@ -1,0 +1,10 @@
+use Rattle.m11_first.proofs.Taking.{begins, begins_so}
+use Rattle.m11_first.proofs.first.First.new.Goals as goal
+
+pub invariant_of-result : goal.invariant_of-result
+invariant_of-result c = begins_so c.in_ok-new.field-0 c.new-4.result c.in_ok-new.ensures.begins c.in_ok-new.ensures.goes_on
+
+pub returns : goal.returns
+returns c =
+    begins c.in_ok-new.field-0.going c.new.result c.new-3.result c.new-4.result c.in_ok-new.ensures.stands c.new.ensures
+    c.in_ok-new.ensures.begins c.new-3.ensures c.new-4.ensures

@@ -1,0 +1,35 @@
+-- What is noted of a line once it is placed. (MACRO-11 Language Reference Manual, ".TITLE directive", ".IDENT directive", ".WEAK directive"
+-- and ".END directive".)
+use Rattle.std.specs.Prelude.{ℕ, min, length}
+use Rattle.m11_base.specs.Devices.{Bytes}
+use Rattle.m11_placement.specs.Exports.{identification, listed_names, title, transfer}
+use Rattle.m11_placement.specs.Meanings.{empty_map}
+use Rattle.m11_placement.specs.Sources.{last_or}
+use Rattle.m11_placement.specs.Tables.{Table}
+use Rattle.m11_placement.specs.declared.operators.Directive.{Directive}
+use Rattle.m11_placement.specs.declared.operators.Directive.TheVariants as word
+use Rattle.m11_placement.specs.declared.operators.Operator.{Operator}
+use Rattle.m11_placement.specs.declared.operators.Operator.TheVariants.{Instruction, Directs}
+use Rattle.m11_placing.specs.declared.deeds.Deed.{Deed}
+use Rattle.m11_placing.specs.declared.deeds.Deed.TheVariants.{Rests, Assigns, Sets, Operates}
+use Rattle.m11_first.specs.Facts.{Facts, each_once}
+
+-- of a directive, with the table that stands, and the place after the name
+abbrev pub with_directive : Table → Bytes → Directive → ℕ → Facts → Facts
+with_directive table line word.Title start facts = record facts { title = last_or (title line start) facts.title }
+with_directive table line word.Identification start facts =
+    record facts { identification = last_or (identification line start) facts.identification }
+with_directive table line word.Weak start facts = record facts { weak = each_once facts.weak (listed_names line start) }
+with_directive table line word.End start facts =
+    record facts { transfer = last_or (transfer empty_map table line start) facts.transfer }
+with_directive table line other start facts = facts
+
+abbrev pub with_operator : Table → Bytes → Operator → ℕ → Facts → Facts
+with_operator table line (Directs directive) start facts = with_directive table line directive (min start (length line)) facts
+with_operator table line (Instruction operation) start facts = facts
+
+abbrev pub with_deed : Table → Bytes → Deed → Facts → Facts
+with_deed table line (Operates operator start) facts = with_operator table line operator start facts
+with_deed table line Rests facts = facts
+with_deed table line (Assigns assignment) facts = facts
+with_deed table line (Sets value) facts = facts

@@ -1,0 +1,115 @@
+//! The first pass of a source, line by line. (MACRO-11 Language Reference Manual, "Source program format", "Symbols and expressions" and
+//! ".END directive".)
+
+ghost use Rattle.std.specs.Prelude.{◌≡◌, [], List, None, Some, Err, IfOk, false};
+ghost use Rattle.std.specs.Result.{result_err};
+ghost use Rattle.m11_lines.specs.Line.{SourceLine};
+ghost use Rattle.m11_passes.specs.Lines.{Numbered};
+ghost use Rattle.m11_first.specs.First.{FirstStands, FirstTakes, Taken, TakesLeft, symbols_of};
+
+use crate::facts::Facts;
+use crate::symbols::Symbols;
+use m11_base::Latch;
+use m11_passes::{PassFault, SourcePass, Turn, the_calls_place_the_lines_of_a_source};
+use m11_placing::Mentioned;
+use m11_scan::Line;
+use m11_table::Map;
+use std::alloc::{AllocError, Global};
+use std::marker::Model;
+
+/// The first pass of a source: its lines go in one after the other, up to the one in which `.END` becomes live. After a fault each call
+/// returns it again.
+#[derive(Drop)]
+pub struct First {
+    pass: SourcePass,
+    facts: Facts,
+    has_ended: bool,
+    fault: Latch<PassFault>,
+}
+
+impl Model for First {
+    ghost use Rattle.m11_first.specs.First.{FirstState, GoesOn};
+
+    ghost Value = { FirstState };
+
+    ghost view = { λ f. record { going = f.pass.going; facts = f.facts; has_ended = f.has_ended; fault = f.fault } };
+
+    ghost invariant = { λ f. GoesOn f.fault f.has_ended f.pass };
+}
+
+impl First {
+    /// Before the first line.
+    pub fn new(alloc: Global) -> Result<First, AllocError>
+        ensures { IfOk result (λ first. FirstStands [] first) }
+    {
+        Ok(First {
+            pass: SourcePass::new(alloc, Mentioned::new(alloc))?,
+            facts: Facts::new(alloc),
+            has_ended: false,
+            fault: Latch::new(),
+        })
+    }
+
+    /// The next line of the source. After `.END` became live it is not read.
+    ///
+    /// Errors: `Unfold` where a limit of unfolding is passed, `TooManySymbols`, `TooManySections`, the first one in the order of the lines,
+    /// and within a line in that of labels, operator and arguments; and `NoMemory`.
+    pub fn line(&mut self, line: Line) -> Result<(), PassFault>
+        ensures takes { (source : List SourceLine) → FirstStands source self.old → FirstTakes source line self.old self.new result }
+        ensures again { (fault : PassFault) → self.old.fault ≡ Some fault → (result ≡ Err fault) × (self.new ≡ self.old) }
+        ensures fault { self.new.fault ≡ result_err result }
+    {
+        the_calls_place_the_lines_of_a_source();
+        self.fault.check()?;
+        if self.has_ended {
+            return Ok(());
+        }
+        self.pass.feed(line);
+        let taken = take_left(&mut self.pass, &mut self.facts);
+        self.has_ended = self.fault.keep(taken)?;
+        Ok(())
+    }
+
+    /// Whether `.END` became live.
+    pub fn has_ended(&self) -> bool
+        ensures { result ≡ self.now.has_ended }
+    {
+        self.has_ended
+    }
+
+    /// What the lines gave, after the last one.
+    ///
+    /// Errors: the fault that came, if one did.
+    pub fn end(self) -> Result<Symbols, PassFault>
+        ensures symbols { IfOk result (λ symbols. symbols ≡ symbols_of self) }
+        ensures fault { result_err result ≡ self.fault }
+    {
+        match self.fault.check() {
+            Ok(()) => Ok(Symbols::new(self.pass, self.facts, self.has_ended)),
+            Err(fault) => {
+                // by a call, which is proved sooner
+                drop(self);
+                Err(fault)
+            }
+        }
+    }
+}
+
+// Places what is left to take, and notes what it tells: whether `.END` became live.
+fn take_left(pass: &mut SourcePass, facts: &mut Facts) -> Result<bool, PassFault>
+    requires { pass.old.fault ≡ None }
+    ensures takes { (source : List SourceLine) (lines : List Numbered) → Taken source lines pass.old.going facts.old
+        → TakesLeft source pass.new.going facts.new result }
+    ensures goes_on { IfOk result (λ _. pass.new.fault ≡ None) }
+    ensures needs { IfOk result (λ has_ended. has_ended ≡ false → pass.new.going.unfolder.stage.left ≡ []) }
+{
+    the_calls_place_the_lines_of_a_source();
+    let map = Map::none();
+    'lines: loop {
+        match pass.next(&map)? {
+            Turn::NeedLine => return Ok(false),
+            Turn::End => return Ok(true),
+            Turn::Placed(line) => facts.note(&line, pass.table())?,
+        }
+    }
+}
