@@ -104,7 +104,7 @@ fn put_sizes(pass: &SourcePass, text: &mut Vec<u8>) -> Result<(), PassFault> {
     'sections: for number in 0..64 {
         if number < pass.table().section_count() {
             put_number(pass.size(number), text)?;
-            text.push(b' ')?;
+            text.extend_from_slice(b" ")?;
         }
     }
     Ok(())
