@@ -3,7 +3,8 @@
 use Rattle.std.specs.Prelude.{◌≡◌, ◌⊎◌, Bool, true, false, List, [], ◌∷◌, ◌++◌, Option, None, Result, Ok, Err}
 use Rattle.m11_lines.specs.Line.{SourceLine}
 use Rattle.m11_placement.specs.Meanings.{empty_map}
-use Rattle.m11_placing.specs.Mentioned.{none_gathered}
+use Rattle.m11_placing.specs.Mentioned.{Gathered, none_gathered}
+use Rattle.m11_placing.specs.Passes.{Kept}
 use Rattle.m11_passes.specs.Lines.{Numbered, givens}
 use Rattle.m11_passes.specs.Reaching.{Refused}
 use Rattle.m11_passes.specs.States.{Going, PassState, Stands}
@@ -61,10 +62,11 @@ TakesLeft source new facts (Err fault) = (lines : List Numbered) × Refused empt
 
 -- ---- what the pass gives
 
+-- the table after the last line with the sizes of sections, the names that the lines mention, and what they tell beside that
 pub record Symbols : Type 0 where
-  pub going : Going
+  pub kept : Kept
+  pub gathered : Gathered
   pub facts : Facts
-  pub has_ended : Bool
 
 abbrev pub symbols_of : FirstState → Symbols
-symbols_of state = record { going = state.going; facts = state.facts; has_ended = state.has_ended }
+symbols_of state = record { kept = state.going.kept; gathered = state.going.gathered; facts = state.facts }

@@ -1,73 +1,54 @@
 //! What the first pass of a source gives. (MACRO-11 Language Reference Manual, "Symbols and expressions" and ".END directive".)
 
-ghost use Rattle.std.specs.Prelude.{◌≡◌};
+ghost use Rattle.std.specs.Prelude.{◌≡◌, ◌≤◌, length};
+ghost use Rattle.m11_placement.specs.Limits.{most_names, most_sections};
 
 use crate::facts::Facts;
-use m11_passes::SourcePass;
-use m11_placing::Mentioned;
-use m11_table::Table;
+use m11_placing::{Mentioned, Pass};
 use std::marker::Model;
 
-/// What the first pass of a source gives.
+/// What the first pass of a source gives: what its lines give their names, which names they mention, and what they tell of their module.
 #[derive(Drop)]
 pub struct Symbols {
-    pass: SourcePass,
+    pass: Pass,
+    mentioned: Mentioned,
     facts: Facts,
-    has_ended: bool,
 }
 
 impl Model for Symbols {
+    ghost use Rattle.std.specs.Prelude.{◌≤◌, length};
     ghost use Rattle.m11_first.specs.First as spec;
+    ghost use Rattle.m11_placement.specs.Limits.{most_names, most_sections};
 
     ghost Value = { spec.Symbols };
 
-    ghost view = { λ s. record { going = s.pass.going; facts = s.facts; has_ended = s.has_ended } };
+    ghost view = { λ s. record { kept = s.pass; gathered = s.mentioned; facts = s.facts } };
+
+    ghost invariant = { λ s. (length s.pass.table.sections ≤ most_sections) × (length s.mentioned.names ≤ most_names) };
 }
 
 impl Symbols {
     // Of a pass that took its lines.
-    pub(crate) fn new(pass: SourcePass, facts: Facts, has_ended: bool) -> Symbols
-        ensures { result ≡ record { going = pass.going; facts = facts; has_ended = has_ended } }
+    pub(crate) fn new(pass: Pass, mentioned: Mentioned, facts: Facts) -> Symbols
+        requires sections { length pass.table.sections ≤ most_sections }
+        requires names { length mentioned.names ≤ most_names }
+        ensures { result ≡ record { kept = pass; gathered = mentioned; facts = facts } }
     {
         Symbols {
             pass,
+            mentioned,
             facts,
-            has_ended,
         }
     }
 
-    /// The table after the last line.
-    pub fn table(&self) -> &Table
-        ensures { result.now ≡ self.now.going.kept.table }
+    /// The table after the last line with the sizes of sections, the names that the lines mention, and what they tell beside that.
+    pub fn into_parts(self) -> (Pass, Mentioned, Facts)
+        ensures pass { result.0 ≡ self.kept }
+        ensures mentioned { result.1 ≡ self.gathered }
+        ensures facts { result.2 ≡ self.facts }
+        ensures sections { length result.0.table.sections ≤ most_sections }
+        ensures names { length result.1.names ≤ most_names }
     {
-        self.pass.table()
-    }
-
-    /// The sizes of sections by their numbers, in bytes.
-    pub fn sizes(&self) -> &[u16; 64]
-        ensures { result.now ≡ self.now.going.kept.sizes }
-    {
-        self.pass.sizes()
-    }
-
-    /// The names that the lines mention.
-    pub fn mentioned(&self) -> &Mentioned
-        ensures { result.now ≡ self.now.going.gathered }
-    {
-        self.pass.mentioned()
-    }
-
-    /// What the lines tell beside names and places.
-    pub fn facts(&self) -> &Facts
-        ensures { result.now ≡ self.now.facts }
-    {
-        &self.facts
-    }
-
-    /// Whether `.END` became live.
-    pub fn has_ended(&self) -> bool
-        ensures { result ≡ self.now.has_ended }
-    {
-        self.has_ended
+        (self.pass, self.mentioned, self.facts)
     }
 }

@@ -24,7 +24,7 @@ Takes taken Rests = Unit {0}
 Takes taken (Passes after) = taken ≤ after.taken
 Takes taken (Gives live after) = taken + 1 ≤ after.taken
 
-used_takes : (purpose : Purpose) (taken : HalfTaken) (text : Bytes) (depth : Option ℕ) (stage : Stage)
+pub used_takes : (purpose : Purpose) (taken : HalfTaken) (text : Bytes) (depth : Option ℕ) (stage : Stage)
     → (into_body purpose taken text depth stage).taken ≡ stage.taken
 used_takes (Defines name formals) taken text None stage = refl
 used_takes (Repeats formals rounds) taken text None stage = refl

@@ -1,5 +1,5 @@
 mod Assembling
-mod Counting
+pub mod Counting
 mod Placing
 mod Settling
 mod Standing

@@ -2,7 +2,7 @@
 
 ghost use Rattle.std.specs.Prelude.{◌≡◌, ◌<◌, ◌≤◌, [], None, Some, Err, IfOk, length};
 ghost use Rattle.std.specs.Result.{result_err};
-ghost use Rattle.m11_placement.specs.Limits.{most_names};
+ghost use Rattle.m11_placement.specs.Limits.{most_names, most_sections};
 ghost use Rattle.m11_placing.specs.Passes.{size_at};
 ghost use Rattle.m11_unfolding.specs.Stages.{start};
 ghost use Rattle.m11_passes.specs.States.{Stands, fed};
@@ -14,7 +14,7 @@ use crate::state::State;
 use crate::turns::Turn;
 use m11_base::Latch;
 use m11_object_text::PieceContent;
-use m11_placing::Mentioned;
+use m11_placing::{Mentioned, Pass};
 use m11_scan::Line;
 use m11_table::{Map, Table};
 use std::alloc::{AllocError, Global};
@@ -105,6 +105,18 @@ impl SourcePass {
         ensures { result.now ≡ self.now.going.gathered }
     {
         &self.state.mentioned
+    }
+
+    /// What the pass leaves: its table with the sizes of sections, and the names that its lines mention. No limit is passed, where no fault
+    /// came.
+    pub fn end(self) -> (Pass, Mentioned)
+        ensures pass { result.0 ≡ self.going.kept }
+        ensures mentioned { result.1 ≡ self.going.gathered }
+        ensures sections { self.fault ≡ None → length result.0.table.sections ≤ most_sections }
+        ensures names { self.fault ≡ None → length result.1.names ≤ most_names }
+    {
+        let state = self.state;
+        (state.pass, state.mentioned)
     }
 
     /// What the last placed line puts.
