@@ -1,0 +1,2 @@
+pub mod LiveLines
+pub mod MapsAlike
