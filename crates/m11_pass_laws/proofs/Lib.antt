@@ -1,0 +1,14 @@
+pub mod Counting
+pub mod EachEnds
+pub mod Ending
+pub mod Falling
+pub mod Fitting
+pub mod Freely
+pub mod Growing
+pub mod Labelled
+pub mod Named
+pub mod Onward
+pub mod Stepping
+pub mod Told
+pub mod Unmoved
+pub mod Within

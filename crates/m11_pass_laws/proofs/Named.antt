@@ -1,0 +1,205 @@
+-- Names that lines mention are among the names after them, and mentioning them once more adds none.
+use Rattle.std.proofs.Common.{◌≡◌, ◌∙◌, ◌||◌, Bool, true, false, List, [], ◌∷◌, ◌++◌, map, refl, sym, ap, subst}
+use Rattle.std.proofs.lemmas.List.Folds.{list_any-append}
+use Rattle.std.specs.List.{flat_map, list_any}
+use Rattle.std.specs.Prelude.{ℕ, if◌then◌else◌, Option}
+use Rattle.m11_base.proofs.SameNames.{same_name_itself}
+use Rattle.m11_base.specs.Devices.{Bytes}
+use Rattle.m11_base.specs.Rad50.{Name, is_same_name}
+use Rattle.m11_placement.specs.Alignment.{place_for}
+use Rattle.m11_placement.specs.Definitions.{is_defined, registers}
+use Rattle.m11_placement.specs.Fields.{fields_at}
+use Rattle.m11_placement.specs.Limits.{is_counted, names_after, with_mentions, with_symbol}
+use Rattle.m11_placement.specs.Lines.{Assigning, Deed, Operating, Rests, Setting, after_line, deed, stands}
+use Rattle.m11_placement.specs.Meanings.{Map, empty_map, known_at}
+use Rattle.m11_placement.specs.Mentions.{Mention, deed_mentions, field_mentions, label_mentions, mention, mentions}
+use Rattle.m11_placement.specs.Placements.{after_lines, table_after}
+use Rattle.m11_placement.specs.Tables.{Table, firm_table, first_table, place}
+use Rattle.m11_placement.specs.declared.definitions.Key.TheVariants.{Named}
+use Rattle.m11_placement.specs.declared.meanings.Context.TheVariants.{Knows}
+use Rattle.m11_placement.specs.declared.operators.Operator.TheVariants.{Instruction, Directs}
+use Rattle.m11_statements.specs.Labels.{labels_at}
+use Rattle.m11_unfolding.specs.Unfolding.{Given}
+use Rattle.m11_values.specs.declared.names.Symbol.{Symbol}
+use Rattle.m11_values.specs.declared.names.Symbol.TheVariants.{Ordinary, Local, Counter}
+use Rattle.m11_pass_laws.proofs.Told.{PlaceAlike, after_both, stands_alike}
+
+-- ---- one name
+
+stays_by : (is_register is_there is_new : Bool) → (is_register || is_there) ≡ true → (is_register || (is_there || is_new)) ≡ true
+stays_by true is_there is_new there = refl
+stays_by false true is_new there = refl
+stays_by false false is_new there = absurd (cc)
+
+counts_by : (is_register is_there is_new : Bool) → is_new ≡ true → (is_register || (is_there || (is_new || false))) ≡ true
+counts_by true is_there is_new same = refl
+counts_by false true is_new same = refl
+counts_by false false true same = refl
+counts_by false false false same = absurd (cc)
+
+module _ (name : Name) where
+  counted_with : (names more : List Name) → is_counted name (names ++ more)
+      ≡ (is_defined (Named name) registers
+      || (list_any (λ other. is_same_name other name) names || list_any (λ other. is_same_name other name) more))
+  counted_with names more =
+      ap (λ (b : Bool). is_defined (Named name) registers || b) (list_any-append (λ other. is_same_name other name) names more)
+
+  counted_more : (names more : List Name) → is_counted name names ≡ true → is_counted name (names ++ more) ≡ true
+  counted_more names more there =
+      counted_with names more
+      ∙ stays_by (is_defined (Named name) registers) (list_any (λ other. is_same_name other name) names)
+      (list_any (λ other. is_same_name other name) more) there
+
+  counted_now : (names : List Name) → is_counted name (names ++ name ∷ []) ≡ true
+  counted_now names =
+      counted_with names (name ∷ [])
+      ∙ counts_by (is_defined (Named name) registers) (list_any (λ other. is_same_name other name) names) (is_same_name name name)
+      (same_name_itself name)
+
+  name_stays : (is_known : Bool) (other : Name) (names : List Name) → is_counted name names ≡ true
+      → is_counted name (if is_known then names else names ++ other ∷ []) ≡ true
+  name_stays true other names there = there
+  name_stays false other names there = counted_more names (other ∷ []) there
+
+  symbol_stays : (symbol : Symbol) (names : List Name) → is_counted name names ≡ true → is_counted name (with_symbol symbol names) ≡ true
+  symbol_stays (Ordinary other) names there = name_stays (is_counted other names) other names there
+  symbol_stays (Local number) names there = there
+  symbol_stays Counter names there = there
+
+  now_there : (is_known : Bool) (names : List Name) → is_counted name names ≡ is_known
+      → is_counted name (if is_known then names else names ++ name ∷ []) ≡ true
+  now_there true names there = there
+  now_there false names there = counted_now names
+
+-- ---- mentions whose names are all there
+
+abbrev IsThere : Symbol → List Name → Type 0
+IsThere (Ordinary name) names = is_counted name names ≡ true
+IsThere (Local number) names = Unit {0}
+IsThere Counter names = Unit {0}
+
+abbrev pub AreThere : List Mention → List Name → Type 0
+AreThere [] names = Unit {0}
+AreThere (mention ∷ mentions) names = IsThere mention.symbol names × AreThere mentions names
+
+none_by : (symbol : Symbol) (names : List Name) → IsThere symbol names → with_symbol symbol names ≡ names
+none_by (Ordinary name) names there = ap (λ (b : Bool). if b then names else names ++ name ∷ []) there
+none_by (Local number) names there = refl
+none_by Counter names there = refl
+
+-- they add none
+pub adds_none : (some : List Mention) (names : List Name) → AreThere some names → with_mentions some names ≡ names
+adds_none [] names there = refl
+adds_none (mention ∷ some) names there =
+    ap (with_mentions some) (none_by mention.symbol names there.0) ∙ adds_none some names there.1
+
+-- they are there after further mentions
+there_by : (symbol other : Symbol) (names : List Name) → IsThere symbol names → IsThere symbol (with_symbol other names)
+there_by (Ordinary name) other names there = symbol_stays name other names there
+there_by (Local number) other names there = tt
+there_by Counter other names there = tt
+
+one_stays : (symbol : Symbol) (some : List Mention) (names : List Name) → IsThere symbol names
+    → IsThere symbol (with_mentions some names)
+one_stays symbol [] names there = there
+one_stays symbol (mention ∷ some) names there =
+    one_stays symbol some (with_symbol mention.symbol names) (there_by symbol mention.symbol names there)
+
+all_stay : (some others : List Mention) (names : List Name) → AreThere some names → AreThere some (with_mentions others names)
+all_stay [] others names there = tt
+all_stay (mention ∷ some) others names there =
+    (one_stays mention.symbol others names there.0, all_stay some others names there.1)
+
+lines_keep : (map : Map) (table : Table) (lines : List Given) (some : List Mention) (names : List Name) → AreThere some names
+    → AreThere some (names_after map table lines names)
+lines_keep map table [] some names there = there
+lines_keep map table (given ∷ lines) some names there =
+    lines_keep map (after_line map table given) lines some (with_mentions (mentions table given) names)
+    (all_stay some (mentions table given) names there)
+
+-- and after they were mentioned
+one_there : (symbol : Symbol) (names : List Name) → IsThere symbol (with_symbol symbol names)
+one_there (Ordinary name) names = now_there name (is_counted name names) names refl
+one_there (Local number) names = tt
+one_there Counter names = tt
+
+mentioned : (some : List Mention) (names : List Name) → AreThere some (with_mentions some names)
+mentioned [] names = tt
+mentioned (mention ∷ some) names = (
+  one_stays mention.symbol some (with_symbol mention.symbol names) (one_there mention.symbol names),
+  mentioned some (with_symbol mention.symbol names),
+)
+
+pub first_there : (some others : List Mention) (names : List Name) → AreThere (some ++ others) names → AreThere some names
+first_there [] others names there = tt
+first_there (mention ∷ some) others names there = (there.0, first_there some others names there.1)
+
+-- ---- lines whose names are all there
+
+abbrev pub AllThere : Map → Table → List Given → List Name → Type 0
+AllThere map table [] names = Unit {0}
+AllThere map table (given ∷ lines) names =
+    AreThere (mentions table given) names × AllThere map (after_line map table given) lines names
+
+pub lines_there : (map : Map) (table : Table) (lines : List Given) (names : List Name)
+    → AllThere map table lines (names_after map table lines names)
+lines_there map table [] names = tt
+lines_there map table (given ∷ lines) names = (
+  lines_keep map (after_line map table given) lines (mentions table given) (with_mentions (mentions table given) names)
+      (mentioned (mentions table given) names),
+  lines_there map (after_line map table given) lines (with_mentions (mentions table given) names),
+)
+
+pub lines_add_none : (map : Map) (table : Table) (lines : List Given) (names : List Name) → AllThere map table lines names
+    → names_after map table lines names ≡ names
+lines_add_none map table [] names there = refl
+lines_add_none map table (given ∷ lines) names there =
+    ap (names_after map (after_line map table given) lines) (adds_none (mentions table given) names there.0)
+    ∙ lines_add_none map (after_line map table given) lines names there.1
+
+pub lines_before : (map : Map) (table : Table) (first second : List Given) (names : List Name)
+    → AllThere map table (first ++ second) names → AllThere map table first names
+lines_before map table [] second names there = tt
+lines_before map table (given ∷ first) second names there =
+    (there.0, lines_before map (after_line map table given) first second names there.1)
+
+pub last_there : (map : Map) (table : Table) (lines : List Given) (one : Given) (names : List Name)
+    → AllThere map table (lines ++ one ∷ []) names → AreThere (mentions (after_lines map table lines) one) names
+last_there map table [] one names there = there.0
+last_there map table (given ∷ lines) one names there = last_there map (after_line map table given) lines one names there.1
+
+-- ---- the same under every map
+
+deeds_alike : (line : Bytes) (arguments : Option ℕ) (of : Deed) (first second : Table) → firm_table first ≡ firm_table second
+    → deed_mentions first line arguments of ≡ deed_mentions second line arguments of
+deeds_alike line arguments Rests first second same = refl
+deeds_alike line arguments (Assigning name is_global start) first second same = refl
+deeds_alike line arguments (Setting start) first second same = refl
+deeds_alike line arguments (Operating (Directs directive) start) first second same = refl
+deeds_alike line arguments (Operating (Instruction operation) start) first second same =
+    ap (λ (t : Table). flat_map (field_mentions line)
+    (fields_at (known_at empty_map Knows t (place_for true (place t))) line start operation).list) same
+
+module _ (alike : PlaceAlike) (one other : Map) where
+  mentions_alike : (done : List Given) (given : Given)
+      → mentions (table_after one done) given ≡ mentions (table_after other done) given
+  mentions_alike done given =
+      ap (λ (l : List Mention). flat_map (label_mentions given.live.line.text) (labels_at given.live.line.text)
+      ++ map (mention Knows) given.notes.symbols ++ l)
+      (deeds_alike given.live.line.text given.arguments (deed given.is_own given.live.line.text) (stands (table_after one done) given)
+      (stands (table_after other done) given) (stands_alike alike one other done given))
+
+  there_after : (names : List Name) (lines done : List Given) (first second : Table) → first ≡ table_after one done
+      → second ≡ table_after other done → AllThere one first lines names → AllThere other second lines names
+  there_after names [] done first second is is' there = tt
+  there_after names (given ∷ lines) done first second is is' there = (
+    subst (λ (l : List Mention). AreThere l names)
+        (ap (λ (t : Table). mentions t given) is ∙ mentions_alike done given ∙ ap (λ (t : Table). mentions t given) (sym is')) there.0,
+    there_after names lines (done ++ given ∷ []) (after_line one first given) (after_line other second given)
+        (ap (λ (t : Table). after_line one t given) is ∙ sym (after_both one done (given ∷ []) first_table))
+        (ap (λ (t : Table). after_line other t given) is' ∙ sym (after_both other done (given ∷ []) first_table)) there.1,
+  )
+
+  pub there_alike : (names : List Name) (lines : List Given) → AllThere one first_table lines names
+      → AllThere other first_table lines names
+  there_alike names lines there = there_after names lines [] first_table first_table refl refl there

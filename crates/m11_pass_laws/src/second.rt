@@ -1,0 +1,61 @@
+//! Laws of a second pass over the lines that a first one read. Each is the contract of a function that does nothing but to call the laws
+//! that its own follows from.
+
+ghost use Rattle.std.specs.Prelude.{◌≡◌, ◌⊎◌, ◌++◌, ◌∷◌, List};
+ghost use Rattle.m11_base.specs.Rad50.{Name};
+ghost use Rattle.m11_lines.specs.Line.{SourceLine};
+ghost use Rattle.m11_pass_laws.specs.Beginnings.{BeginWith};
+ghost use Rattle.m11_pass_laws.specs.Ends.{EndsAfter, ExceedsAfter};
+ghost use Rattle.m11_pass_laws.specs.Second.{map_from, moved_after};
+ghost use Rattle.m11_passes.specs.Lines.{Numbered, PassLines, names_at};
+ghost use Rattle.m11_passes.specs.declared.fault.PassFault.{PassFault};
+ghost use Rattle.m11_placement.specs.Meanings.{Map};
+ghost use Rattle.m11_unfolding.specs.Stages.{Stage};
+
+use m11_placement::{placements_are_the_same_under_every_map, the_map_of_a_source_solves_it};
+
+/// Any two passes read the same lines alike, whatever their maps are and whatever names came before them: no map tells what a live line
+/// is, what is known there, and what unfolding notes of it. Of two passes over beginnings of one source, the live lines of one begin with
+/// those of the other. Where one is at its end, its lines begin with those of the other; and where both are, they have read the same lines,
+/// have the same live lines, and stand at the same stage.
+pub fn the_same_lines_are_read_alike()
+    ensures goes_on { (one other : Map) (names others : List Name) (all source more read rest : List SourceLine)
+        (lines later : List Numbered) (stage after : Stage) → PassLines one names source lines stage
+        → PassLines other others read later after → source ++ more ≡ all → read ++ rest ≡ all
+        → BeginWith later lines ⊎ BeginWith lines later }
+    ensures begins { (one other : Map) (names others : List Name) (all source read rest : List SourceLine) (lines later : List Numbered)
+        (stage after : Stage) → EndsAfter one names all source lines stage → PassLines other others read later after
+        → read ++ rest ≡ all → BeginWith lines later }
+    ensures ends { (one other : Map) (names others : List Name) (all source read : List SourceLine) (lines later : List Numbered)
+        (stage after : Stage) → EndsAfter one names all source lines stage → EndsAfter other others all read later after
+        → (source ≡ read) × (lines ≡ later) × (stage ≡ after) }
+{
+    placements_are_the_same_under_every_map();
+}
+
+/// In a second pass over the lines that a first one read to its end, under the map that these give, no label has moved, so that none has
+/// the letter P: each label whose key isn't defined before it defines the place that the map has of the key, since no later line gives the
+/// key of a label another definition.
+pub fn no_label_has_moved_in_a_second_pass_over_the_same_lines()
+    ensures { (one : Map) (names others : List Name) (all source read rest : List SourceLine)
+        (lines later before more : List Numbered) (this : Numbered) (stage after : Stage)
+        → EndsAfter one names all source lines stage → PassLines (map_from lines) others read later after
+        → read ++ rest ≡ all → later ≡ before ++ this ∷ more → moved_after (map_from lines) before this ≡ 0 }
+{
+    placements_are_the_same_under_every_map();
+    the_map_of_a_source_solves_it();
+}
+
+/// A second pass over the lines that a first one read to its end passes no limit, where the names of both count together and whatever its
+/// map is: it mentions no name that the first one didn't, and has the same local symbols and sections.
+pub fn a_second_pass_over_the_same_lines_passes_no_limit()
+    ensures limits { (one other : Map) (names : List Name) (all source read : List SourceLine) (lines later : List Numbered) (stage : Stage)
+        (fault : PassFault) → EndsAfter one names all source lines stage
+        → ExceedsAfter other (names_at one names lines) all read later fault → ⊥ }
+    ensures names { (one other : Map) (names : List Name) (all source read rest : List SourceLine) (lines later : List Numbered)
+        (stage after : Stage) → EndsAfter one names all source lines stage
+        → PassLines other (names_at one names lines) read later after → read ++ rest ≡ all
+        → names_at other (names_at one names lines) later ≡ names_at one names lines }
+{
+    placements_are_the_same_under_every_map();
+}
