@@ -1,0 +1,5 @@
+mod Finishing
+mod LineTaken
+mod LinesWritten
+mod Passing
+mod Putting

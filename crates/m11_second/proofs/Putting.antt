@@ -1,0 +1,243 @@
+-- What a line writes, part by part, and what is kept after it.
+use Rattle.std.proofs.Common.{◌≡◌, ◌∙◌, ◌≤◌, ℕ, ◌+◌, min, Bool, true, false, not, if◌then◌else◌, List, [], ◌∷◌, ◌++◌, length, option_map, Option, Result, Ok, Err, IfOk, refl, sym, ap, subst, arith}
+use Rattle.std.specs.Prelude.{◌==◌}
+use Rattle.std.specs.Int.RustNames.{bit_or}
+use Rattle.std.proofs.Math.Nat.{min-eq_left}
+use Rattle.m11_asm_outputs.specs.Object.{IsOpenAfter, content_writes, head_contents, last_records, records_closed_by}
+use Rattle.m11_asm_outputs.specs.Outputs.{Gains, Outputs, Stops, Write, Writes, assembly, to_messages}
+use Rattle.m11_asm_outputs.specs.declared.fault.AsmFault.{AsmFault}
+use Rattle.m11_base.specs.Devices.{Bytes}
+use Rattle.m11_base.specs.Rad50.{Name}
+use Rattle.m11_listing.specs.Messages.{count_line, message_line}
+use Rattle.m11_obj.specs.Records.{EndOfModule}
+use Rattle.m11_object_text.specs.Texts.{TextParts}
+use Rattle.m11_object_text.specs.declared.directory.DirectoryRow.{DirectoryRow}
+use Rattle.m11_object_text.specs.declared.pieces.Piece.{Piece}
+use Rattle.m11_object_text.specs.declared.pieces.PieceContent.{PieceContent}
+use Rattle.m11_passes.specs.Lines.{Numbered, table_at}
+use Rattle.m11_passes.specs.Placed.{IsPlaced, all_letters}
+use Rattle.m11_passes.specs.declared.placed.PlacedLine.{PlacedLine}
+use Rattle.m11_placement.specs.Contents.{Put, pieces_from}
+use Rattle.m11_placement.specs.Exports.{transfer_letters}
+use Rattle.m11_placement.specs.Lines.{Deed, deed, pieces, put_place, section_name, stands}
+use Rattle.m11_placement.specs.Sources.{directed_in, end_in}
+use Rattle.m11_placement.specs.Tables.{Table}
+use Rattle.m11_placing.specs.Deeds.{deed_seen}
+use Rattle.m11_scan.specs.Letters.{letters_text}
+use Rattle.m11_scan.specs.Views.{bits_of}
+use Rattle.m11_unfolding.specs.Taking.{Live}
+use Rattle.m11_values.specs.Quantities.{Quantity}
+use Rattle.m11_writes.proofs.Writing.{gains_nothing, stops_after, stops_before, writes_then}
+use Rattle.m11_second.specs.Program.{Program}
+use Rattle.m11_second.specs.Writing.{Writing, WritingStands, begun, counted, is_some_line, most_counted, opened}
+use Rattle.m11_second.specs.Written.{added_letters, flagged_count, flagged_in, head_before, is_flagged, letters_at, line_writes, message_writes, pieces_in}
+use Rattle.m11_second.proofs.LinesWritten.{flagged_more, none_flagged, pieces_more}
+
+-- ---- writes
+
+pub writes_nothing : (a : Outputs) (ws : List Write) → ws ≡ [] → Gains a a ws
+writes_nothing a ws none = let P : List Write → Type 0 = λ w. Gains a a w in subst P (sym none) (gains_nothing assembly a)
+
+pub writes_as : {A : Type 0} (a b : Outputs) (xs ys : List Write) (result : Result A AsmFault) → xs ≡ ys
+    → Writes a b xs result → Writes a b ys result
+writes_as a b xs ys result e h = let P : List Write → Type 0 = λ these. Writes a b these result in subst P e h
+
+pub gains_as : (a b : Outputs) (xs ys : List Write) → xs ≡ ys → Gains a b xs → Gains a b ys
+gains_as a b xs ys e h = let P : List Write → Type 0 = λ these. Gains a b these in subst P e h
+
+pub stops_as : (a b : Outputs) (xs ys : List Write) (stopped : AsmFault) → xs ≡ ys → Stops a b xs stopped → Stops a b ys stopped
+stops_as a b xs ys stopped e h = let P : List Write → Type 0 = λ these. Stops a b these stopped in subst P e h
+
+-- ---- the head
+
+true_false : {b : Bool} → b ≡ true → b ≡ false → ⊥
+true_false is other = no (sym is ∙ other)
+  where
+    no : true ≡ false → ⊥
+    no e = cc
+
+-- where some line was written, the head was
+head_stays_by : (program : Program) (lines : List Numbered) → is_some_line lines ≡ true → head_before program lines ≡ []
+head_stays_by program [] is = absurd (true_false is refl)
+head_stays_by program (line ∷ lines) is = refl
+
+head_is_by : (program : Program) (lines : List Numbered) → is_some_line lines ≡ false
+    → head_before program lines ≡ content_writes (head_contents program.rows)
+head_is_by program [] is = refl
+head_is_by program (line ∷ lines) is = absurd (true_false refl is)
+
+module _ (program : Program) (lines : List Numbered) (writing : Writing) (stands : WritingStands program lines writing) where
+  pub head_stays : writing.has_begun ≡ true → head_before program lines ≡ []
+  head_stays is = head_stays_by program lines (sym stands.begun ∙ is)
+
+  pub head_is : writing.has_begun ≡ false → content_writes (head_contents writing.rows) ≡ head_before program lines
+  head_is is =
+      ap (λ (rows : List DirectoryRow). content_writes (head_contents rows)) stands.rows
+      ∙ sym (head_is_by program lines (sym stands.begun ∙ is))
+
+-- ---- messages
+
+pub unflagged : (letters number : ℕ) (text : Bytes) → true ≡ (letters == 0) → message_writes letters number text ≡ []
+unflagged letters number text none =
+    ap (λ (b : Bool). if not b then to_messages (message_line (letters_text letters) number text) ∷ [] else []) (sym none)
+
+pub flagged : (letters number : ℕ) (text : Bytes) → false ≡ (letters == 0)
+    → to_messages (message_line (letters_text letters) number text) ∷ [] ≡ message_writes letters number text
+flagged letters number text some =
+    sym (ap (λ (b : Bool). if not b then to_messages (message_line (letters_text letters) number text) ∷ [] else []) (sym some))
+
+pub counts_none : (letters count : ℕ) → true ≡ (letters == 0) → count ≡ counted letters count
+counts_none letters count none = sym (ap (λ (b : Bool). if not b then min (count + 1) most_counted else count) (sym none))
+
+pub counts_one : (letters count : ℕ) → false ≡ (letters == 0) → min (count + 1) most_counted ≡ counted letters count
+counts_one letters count some = sym (ap (λ (b : Bool). if not b then min (count + 1) most_counted else count) (sym some))
+
+-- ---- counts
+
+least_by : (b : Bool) (count : ℕ) → (if b then min (min count most_counted + 1) most_counted else min count most_counted)
+    ≡ min (count + (if b then 1 else 0)) most_counted
+least_by true count = omega arith
+least_by false count = omega arith
+
+counted_least : (letters count : ℕ) → counted letters (min count most_counted)
+    ≡ min (count + (if is_flagged letters then 1 else 0)) most_counted
+counted_least letters count = least_by (is_flagged letters) count
+
+pub counted_exactly : (program : Program) (lines : List Numbered) (has_end : Bool) → flagged_count program lines has_end ≤ most_counted
+    → counted (added_letters has_end) (min (flagged_in program lines) most_counted) ≡ flagged_count program lines has_end
+counted_exactly program lines true few = counted_least 0 (flagged_in program lines) ∙ min-eq_left few
+counted_exactly program lines false few = counted_least 8 (flagged_in program lines) ∙ min-eq_left few
+
+-- ---- a placed line
+
+pub line_parts : (program : Program) (lines : List Numbered) (one : Numbered)
+    → content_writes (records_closed_by (pieces_in program.map lines) (pieces program.map (table_at program.map lines) one.given))
+    ++ message_writes (letters_at program lines one) one.number one.given.live.line.text ≡ line_writes program lines one
+unfolding line_writes
+line_parts program lines one = refl
+
+module _ (program : Program) (lines : List Numbered) (one : Numbered) (placed : PlacedLine) (put : Put) (contents : List PieceContent)
+    (is : IsPlaced program.map (table_at program.map lines) one.given placed put) (same : put.contents ≡ contents) where
+  pub pieces_so : pieces_from placed.section placed.place contents ≡ pieces program.map (table_at program.map lines) one.given
+  pieces_so =
+      let stood : Table = stands (table_at program.map lines) one.given in
+      let place : ℕ = put_place stood (deed one.given.is_own one.given.live.line.text) in
+      ap (λ (s : Name). pieces_from s placed.place contents) is.section_is
+      ∙ ap (λ (p : ℕ). pieces_from (section_name stood) p contents) is.place_is
+      ∙ ap (pieces_from (section_name stood) place) (sym same ∙ is.contents_are)
+
+  pub text_so : placed.line.text ≡ one.given.live.line.text
+  text_so = ap (λ (l : Live). l.line.text) is.live_is
+
+  pub letters_so : (transfer : Option Quantity) → transfer ≡ program.transfer
+      → bit_or (bits_of placed.letters) (end_in (transfer_letters transfer) (directed_in (deed_seen placed.deed)))
+      ≡ letters_at program lines one
+  letters_so transfer told =
+      let own : ℕ = all_letters program.map (table_at program.map lines) one.given in
+      ap (λ (l : ℕ). bit_or l (end_in (transfer_letters transfer) (directed_in (deed_seen placed.deed)))) is.letters_are
+      ∙ ap (λ (t : Option Quantity). bit_or own (end_in (transfer_letters t) (directed_in (deed_seen placed.deed)))) told
+      ∙ ap (λ (d : Deed). bit_or own (end_in (transfer_letters program.transfer) (directed_in d))) is.deed_is
+
+-- the writes of a line's parts, one after the other
+module _ (program : Program) (lines : List Numbered) (one : Numbered) (a b c : Outputs) where
+  abbrev pub texts : List Piece → List Write
+  texts ps = content_writes (records_closed_by (pieces_in program.map lines) ps)
+
+  abbrev pub message : List Write
+  message = message_writes (letters_at program lines one) one.number one.given.live.line.text
+
+  abbrev pub here : List Piece
+  here = pieces program.map (table_at program.map lines) one.given
+
+  pub line_stops : (ps : List Piece) (stopped : AsmFault) → ps ≡ here → Gains a b (head_before program lines)
+      → Stops b c (texts ps) stopped
+      → Stops a c (head_before program lines ++ line_writes program lines one) stopped
+  line_stops ps stopped are head stops =
+      let P : List Write → Type 0 = λ ws. Stops a c (head_before program lines ++ ws) stopped in
+      let Q : List Piece → Type 0 = λ these. Stops b c (texts these) stopped in
+      subst P (line_parts program lines one)
+      (stops_after assembly a b c (head_before program lines) (texts here ++ message) stopped head
+      (stops_before assembly b c (texts here) message stopped (subst Q are stops)))
+
+  pub line_writes_all : {A : Type 0} (d : Outputs) (ps : List Piece) (letters number : ℕ) (text : Bytes) (result : Result A AsmFault) → ps ≡ here
+      → letters ≡ letters_at program lines one → number ≡ one.number → text ≡ one.given.live.line.text
+      → Gains a b (head_before program lines) → Gains b c (texts ps)
+      → Writes c d (message_writes letters number text) result
+      → Writes a d (head_before program lines ++ line_writes program lines one) result
+  line_writes_all d ps letters number text result are letters_are number_is text_is head put reported =
+      let P : List Write → Type 0 = λ ws. Writes a d (head_before program lines ++ ws) result in
+      let Q : List Piece → Type 0 = λ these. Gains b c (texts these) in
+      let same : message_writes letters number text ≡ message =
+      ap (λ (l : ℕ). message_writes l number text) letters_are
+      ∙ ap (λ (n : ℕ). message_writes (letters_at program lines one) n text) number_is
+      ∙ ap (message_writes (letters_at program lines one) one.number) text_is in
+      subst P (line_parts program lines one)
+      (writes_then assembly a b d (head_before program lines) (texts here ++ message) result head
+      (writes_then assembly b c d (texts here) message result (subst Q are put) (writes_as c d _ _ result same reported)))
+
+-- what is kept after it
+module _ (program : Program) (lines : List Numbered) (one : Numbered) (old : Writing) (stands : WritingStands program lines old) where
+  some_more : (all : List Numbered) → true ≡ is_some_line (all ++ one ∷ [])
+  some_more [] = refl
+  some_more (line ∷ all) = refl
+
+  pub stands_more : (text : Option TextParts) (more : List Piece) (letters : ℕ)
+      → more ≡ pieces program.map (table_at program.map lines) one.given → letters ≡ letters_at program lines one
+      → IsOpenAfter (pieces_in program.map lines ++ more) text
+      → WritingStands program (lines ++ one ∷ [])
+      (record { rows = old.rows; transfer = old.transfer; text = text; has_begun = true; flagged = counted letters old.flagged })
+  stands_more text more letters more_is letters_is opens = record {
+    rows = stands.rows;
+    transfer = stands.transfer;
+    text = subst (λ (ps : List Piece). IsOpenAfter ps text)
+        (ap (λ (ps : List Piece). pieces_in program.map lines ++ ps) more_is ∙ sym (pieces_more program.map lines one)) opens;
+    begun = some_more lines;
+    flagged = ap (counted letters) stands.flagged ∙ counted_least letters (flagged_in program lines)
+        ∙ ap (λ (l : ℕ). min (flagged_in program lines + (if is_flagged l then 1 else 0)) most_counted) letters_is
+        ∙ ap (λ (n : ℕ). min n most_counted) (sym (flagged_more program lines one));
+  }
+
+none_put : (program : Program) → pieces_in program.map [] ≡ []
+unfolding pieces_in
+none_put program = refl
+
+pub keeps_more : {E : Type 0} (program : Program) (lines : List Numbered) (one : Numbered) (old : Writing)
+    → WritingStands program lines old → (began put new : Writing) (more : List Piece) (letters : ℕ) (result : Result (Unit {0}) E)
+    → began ≡ begun old → put ≡ opened put.text began → more ≡ pieces program.map (table_at program.map lines) one.given
+    → letters ≡ letters_at program lines one → IsOpenAfter (pieces_in program.map lines ++ more) put.text
+    → IfOk result (λ _. new ≡ record put { flagged = counted letters put.flagged })
+    → IfOk result (λ _. WritingStands program (lines ++ one ∷ []) new)
+keeps_more program lines one old stands began put new more letters (Err stopped) begins opens more_is letters_is open_after so = tt
+keeps_more program lines one old stands began put new more letters (Ok done) begins opens more_is letters_is open_after so =
+    let whole = so ∙ ap (λ (w : Writing). record w { flagged = counted letters w.flagged }) (opens ∙ ap (opened put.text) begins) in
+    subst (λ (w : Writing). WritingStands program (lines ++ one ∷ []) w) (sym whole)
+    (stands_more program lines one old stands put.text more letters more_is letters_is open_after)
+
+-- ---- the end
+
+-- the text that is open after all lines, and the count with the line that is added
+module _ (program : Program) (lines : List Numbered) (old begun_ new : Writing) (stands : WritingStands program lines old)
+    (has_end : Bool) (letters : ℕ) (begins : begun_ ≡ begun old) (letters_are : letters ≡ added_letters has_end)
+    (counts : new ≡ record begun_ { flagged = counted letters begun_.flagged }) where
+  pub last_open : IsOpenAfter (pieces_in program.map lines) new.text
+  last_open =
+      subst (λ (t : Option TextParts). IsOpenAfter (pieces_in program.map lines) t)
+      (sym (ap (λ (w : Writing). w.text) counts ∙ ap (λ (w : Writing). w.text) begins)) stands.text
+
+  pub last_count : flagged_count program lines has_end ≤ most_counted → new.flagged ≡ flagged_count program lines has_end
+  last_count few =
+      ap (λ (w : Writing). w.flagged) counts ∙ ap (λ (w : Writing). counted letters w.flagged) begins
+      ∙ ap (counted letters) stands.flagged ∙ ap (λ (l : ℕ). counted l (min (flagged_in program lines) most_counted)) letters_are
+      ∙ counted_exactly program lines has_end few
+
+-- before the first line
+pub stands_first : (program : Program) (rows : List DirectoryRow) (transfer : Option Quantity) (text : Option TextParts)
+    → program.rows ≡ rows → program.transfer ≡ transfer → IsOpenAfter [] text
+    → WritingStands program [] (record { rows = rows; transfer = transfer; text = text; has_begun = false; flagged = 0 })
+stands_first program rows transfer text rows_are told opens = record {
+  rows = sym rows_are;
+  transfer = sym told;
+  text = subst (λ (ps : List Piece). IsOpenAfter ps text) (sym (none_put program)) opens;
+  begun = refl;
+  flagged = sym (ap (λ (n : ℕ). min n most_counted) (none_flagged program));
+}

@@ -1,0 +1,42 @@
+-- What is kept of what was written. (This project's own.)
+use Rattle.std.specs.Prelude.{◌≡◌, ℕ, ◌+◌, min, Bool, true, false, if◌then◌else◌, List, [], ◌∷◌, ◌++◌, Option}
+use Rattle.m11_object_text.specs.Texts.{TextParts}
+use Rattle.m11_object_text.specs.declared.directory.DirectoryRow.{DirectoryRow}
+use Rattle.m11_values.specs.Quantities.{Quantity}
+use Rattle.m11_asm_outputs.specs.Object.{IsOpenAfter}
+use Rattle.m11_passes.specs.Lines.{Numbered}
+use Rattle.m11_second.specs.Program.{Program}
+use Rattle.m11_second.specs.Written.{flagged_in, is_flagged, pieces_in}
+
+-- the rows and the value that the first pass told, the text that is open, whether the head is written, and the count of flagged lines
+pub record Writing : Type 0 where
+  pub rows : List DirectoryRow
+  pub transfer : Option Quantity
+  pub text : Option TextParts
+  pub has_begun : Bool
+  pub flagged : ℕ
+
+abbrev pub begun : Writing → Writing
+begun writing = record writing { has_begun = true }
+
+abbrev pub opened : Option TextParts → Writing → Writing
+opened text writing = record writing { text = text }
+
+-- the count goes up to 4294967295
+abbrev pub most_counted : ℕ
+most_counted = 4294967295
+
+abbrev pub counted : ℕ → ℕ → ℕ
+counted letters count = if is_flagged letters then min (count + 1) most_counted else count
+
+abbrev pub is_some_line : List Numbered → Bool
+is_some_line [] = false
+is_some_line (line ∷ lines) = true
+
+-- it is what is kept after these lines
+pub record WritingStands (program : Program) (lines : List Numbered) (writing : Writing) : Type 0 where
+  pub rows : writing.rows ≡ program.rows
+  pub transfer : writing.transfer ≡ program.transfer
+  pub text : IsOpenAfter (pieces_in program.map lines) writing.text
+  pub begun : writing.has_begun ≡ is_some_line lines
+  pub flagged : writing.flagged ≡ min (flagged_in program lines) most_counted

@@ -1,0 +1,50 @@
+//! Places what follows from one line of the source, and writes it.
+
+ghost use Rattle.std.specs.Prelude.{◌≡◌, None, [], List, IfOk, false, length};
+ghost use Rattle.m11_asm_outputs.specs.Outputs.{Outputs, outputs};
+ghost use Rattle.m11_lines.specs.Line.{SourceLine};
+ghost use Rattle.m11_passes.specs.Lines.{Numbered};
+ghost use Rattle.m11_second.specs.Program.{Program};
+ghost use Rattle.m11_second.specs.Second.{Taken, TakesLeft};
+ghost use Rattle.m11_writes.specs.Outputs.{Output, output_of};
+
+use crate::faults::of_pass;
+use crate::writing::Writing;
+use m11_asm_outputs::AsmFault;
+use m11_base::Sink;
+use m11_passes::{SourcePass, Turn, the_calls_place_the_lines_of_a_source};
+use m11_table::Map;
+
+/// Places what is left to take, and writes it: whether `.END` became live. The number is that of the last line that was read.
+///
+/// Errors: those of the pass, `Write` of an output, and `NoMemory` between two writes.
+pub fn take_left<S: Sink, U: Sink>(
+    pass: &mut SourcePass,
+    map: &Map<'_>,
+    writing: &mut Writing,
+    number: u16,
+    object: &mut S,
+    messages: &mut U,
+) -> Result<bool, AsmFault>
+    requires { pass.old.fault ≡ None }
+    ensures takes { (program : Program) (source : List SourceLine) (lines : List Numbered) (first : Outputs) (listing : Output)
+        → map.now ≡ program.map → number ≡ length source
+        → Taken program source lines first (outputs (output_of S.Sink object.old) listing (output_of U.Sink messages.old))
+        pass.old.going writing.old
+        → TakesLeft program source first (outputs (output_of S.Sink object.new) listing (output_of U.Sink messages.new))
+        pass.new.going writing.new result }
+    ensures goes_on { IfOk result (λ _. pass.new.fault ≡ None) }
+    ensures needs { IfOk result (λ has_ended. has_ended ≡ false → pass.new.going.unfolder.stage.left ≡ []) }
+{
+    the_calls_place_the_lines_of_a_source();
+    'lines: loop {
+        match pass.next(map) {
+            Ok(Turn::NeedLine) => return Ok(false),
+            Ok(Turn::End) => return Ok(true),
+            Ok(Turn::Placed(line)) => {
+                writing.put_line(&line, number, pass.contents(), object, messages)?
+            }
+            Err(fault) => return Err(of_pass(fault)),
+        }
+    }
+}

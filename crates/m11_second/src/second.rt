@@ -1,0 +1,195 @@
+//! The second pass of a source, line by line. (MACRO-11 Language Reference Manual, "Source program format", "Symbols" and ".END directive".)
+
+ghost use Rattle.std.specs.Prelude.{◌≡◌, [], ◌≤◌, ◌+◌, List, Some, Err, IfOk, IfErr, length};
+ghost use Rattle.std.specs.Result.{result_err};
+ghost use Rattle.m11_asm_outputs.specs.Outputs.{Gains, Outputs, outputs_of};
+ghost use Rattle.m11_asm_outputs.specs.declared.fault.AsmFault.TheVariants as fault;
+ghost use Rattle.m11_directory.specs.Rows.{directory_rows};
+ghost use Rattle.m11_lines.specs.Line.{SourceLine};
+ghost use Rattle.m11_lines.specs.Lines.{most_lines};
+ghost use Rattle.m11_placement.specs.Limits.{most_sections};
+ghost use Rattle.m11_second.specs.Program.{Program, program_in, told_in};
+ghost use Rattle.m11_second.specs.Second.{SecondEnds, SecondStands, SecondTakes};
+
+use crate::done::AsmDone;
+use crate::lines::take_left;
+use crate::writing::Writing;
+use m11_asm_outputs::AsmFault;
+use m11_base::{Latch, Sink};
+use m11_directory::{FirstPass, directory_rows};
+use m11_first::{Facts, Symbols};
+use m11_object_text::DirectoryRow;
+use m11_passes::{SourcePass, the_calls_place_the_lines_of_a_source};
+use m11_placing::{Mentioned, Pass};
+use m11_scan::Line;
+use m11_table::Map;
+use std::alloc::{AllocError, Global};
+use std::marker::Model;
+
+/// The most lines of all sources.
+const MOST_LINES: u16 = 65535;
+
+/// The second pass of a source, under what the first one gave: its lines go in one after the other, up to the one in which `.END` becomes
+/// live, and what each of them writes is written before the next one. Of the object only the text that is open is kept. After a fault each
+/// call returns it again and writes nothing.
+#[derive(Drop)]
+pub struct Second {
+    // The first pass, whose table is the map of this one.
+    first: Pass,
+    pass: SourcePass,
+    writing: Writing,
+    // How many lines were read.
+    read: u16,
+    has_ended: bool,
+    fault: Latch<AsmFault>,
+}
+
+impl Model for Second {
+    ghost use Rattle.m11_placement.specs.Meanings.{map_of};
+    ghost use Rattle.m11_second.specs.Second.{GoesOn, SecondState};
+
+    ghost Value = { SecondState };
+
+    ghost view = { λ s. record {
+      map = map_of s.first.table;
+      going = s.pass.going;
+      writing = s.writing;
+      read = s.read;
+      has_ended = s.has_ended;
+      fault = s.fault;
+    } };
+
+    ghost invariant = { λ s. GoesOn s.fault s.has_ended s.pass };
+}
+
+impl Second {
+    /// Before the first line.
+    pub fn new(alloc: Global, symbols: Symbols) -> Result<Second, AllocError>
+        ensures { IfOk result (λ second. (first now : Outputs) → Gains first now []
+            → SecondStands (program_in symbols) [] first now second) }
+    {
+        let (first, mentioned, facts) = symbols.into_parts();
+        let rows = rows_of(alloc, &first, &mentioned, &facts)?;
+        Ok(Second {
+            pass: SourcePass::new(alloc, mentioned)?,
+            writing: Writing::new(alloc, rows, facts.transfer()),
+            first,
+            read: 0,
+            has_ended: false,
+            fault: Latch::new(),
+        })
+    }
+
+    /// The next line of the source, and what follows from it is written. After `.END` became live it is not read.
+    ///
+    /// Errors: `TooMuchSource` at a line past the 65,535th; `Unfold` where a limit of unfolding is passed, `TooManySymbols`,
+    /// `TooManySections`, the first one in the order of the lines, and within a line in that of labels, operator and arguments; `Write` of
+    /// an output, after which nothing more is written; and `NoMemory` between two writes.
+    pub fn line<S: Sink, T: Sink, U: Sink>(
+        &mut self,
+        line: Line,
+        object: &mut S,
+        listing: &mut Option<T>,
+        messages: &mut U,
+    ) -> Result<(), AsmFault>
+        ensures takes { (program : Program) (source : List SourceLine) (first : Outputs) → SecondStands program source first
+            (outputs_of S.Sink T.Sink U.Sink object.old listing.old messages.old) self.old
+            → SecondTakes program source line first
+            (outputs_of S.Sink T.Sink U.Sink object.old listing.old messages.old)
+            (outputs_of S.Sink T.Sink U.Sink object.new listing.new messages.new) self.old self.new result }
+        ensures again { (fault : AsmFault) → self.old.fault ≡ Some fault → (result ≡ Err fault) × (self.new ≡ self.old)
+            × (object.new ≡ object.old) × (messages.new ≡ messages.old) }
+        ensures fault { self.new.fault ≡ result_err result }
+        ensures listing { listing.new ≡ listing.old }
+    {
+        the_calls_place_the_lines_of_a_source();
+        self.fault.check()?;
+        if self.has_ended {
+            return Ok(());
+        }
+        let read = self.fault.keep(number_after(self.read))?;
+        self.read = read;
+        self.pass.feed(line);
+        let map = Map::of(self.first.table());
+        let taken = take_left(
+            &mut self.pass,
+            &map,
+            &mut self.writing,
+            read,
+            object,
+            messages,
+        );
+        self.has_ended = self.fault.keep(taken)?;
+        Ok(())
+    }
+
+    /// Whether `.END` became live.
+    pub fn has_ended(&self) -> bool
+        ensures { result ≡ self.now.has_ended }
+    {
+        self.has_ended
+    }
+
+    /// What is written after the last line.
+    ///
+    /// Errors: the fault that came, if one did; `Write` of an output, after which nothing more is written; and `NoMemory` between two
+    /// writes.
+    pub fn end<S: Sink, T: Sink, U: Sink>(
+        self,
+        object: &mut S,
+        listing: &mut Option<T>,
+        messages: &mut U,
+    ) -> Result<AsmDone, AsmFault>
+        ensures ends { (program : Program) (source : List SourceLine) (first : Outputs) → SecondStands program source first
+            (outputs_of S.Sink T.Sink U.Sink object.old listing.old messages.old) self
+            → SecondEnds program source first (outputs_of S.Sink T.Sink U.Sink object.new listing.new messages.new) self result }
+        ensures again { (fault : AsmFault) → self.fault ≡ Some fault → (result ≡ Err fault)
+            × (object.new ≡ object.old) × (messages.new ≡ messages.old) }
+        ensures listing { listing.new ≡ listing.old }
+    {
+        match self.fault.check() {
+            Ok(()) => self
+                .writing
+                .end(self.has_ended, self.read, object, messages),
+            Err(fault) => {
+                // by a call, which is proved sooner
+                drop(self);
+                Err(fault)
+            }
+        }
+    }
+}
+
+// The number of the line after that of a number.
+fn number_after(read: u16) -> Result<u16, AsmFault>
+    ensures counts { IfOk result (λ number. number ≡ read + 1) }
+    ensures refuses { IfErr result (λ stopped. (stopped ≡ fault.TooMuchSource) × (read ≡ most_lines)) }
+{
+    if read < MOST_LINES {
+        Ok(read + 1)
+    } else {
+        Err(AsmFault::TooMuchSource)
+    }
+}
+
+// The rows of the directory of what a first pass gave.
+fn rows_of(
+    alloc: Global,
+    first: &Pass,
+    mentioned: &Mentioned,
+    facts: &Facts,
+) -> Result<Vec<DirectoryRow>, AllocError>
+    requires { length first.now.table.sections ≤ most_sections }
+    ensures { IfOk result (λ rows. rows.items ≡ directory_rows (told_in first.now mentioned.now facts.now)) }
+{
+    let told = FirstPass {
+        table: first.table(),
+        sizes: first.sizes(),
+        referred: mentioned.referred(),
+        weak: facts.weak(),
+        title: facts.title(),
+        identification: facts.identification(),
+        transfer: facts.transfer(),
+    };
+    directory_rows(alloc, &told)
+}
