@@ -1,13 +1,6 @@
-pub mod Outcomes
-pub mod Readings
-pub mod Cutting
-pub mod Feeds
-pub mod Joined
-pub mod LongestFronts
-pub mod MessageLines
-pub mod Names
-pub mod Steps
-pub mod Sizes
-pub mod Texts
-pub mod Whole
-pub mod Writing
+mod FirstLines
+mod Joined
+mod LinesRead
+mod ProgramsAlike
+mod ProgramsTold
+mod SecondLines

@@ -1,14 +1,5 @@
-pub mod Fault
-pub mod Held
-pub mod Messages
-pub mod Object
-pub mod OpenText
+pub mod First
 pub mod Outcome
-pub mod Outputs
-pub mod Parsing
-pub mod Placement
-pub mod Program
-pub mod ReaderView
-pub mod Reading
+pub mod Passes
 pub mod Run
-pub mod Statement
+pub mod Second

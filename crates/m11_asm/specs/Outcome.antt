@@ -1,30 +1,65 @@
--- The outcome of source texts: the first refusal, or all that is written, in order. (This project's
--- own. A source without `.END` has an empty line added, which is flagged E.)
-use Rattle.std.specs.Prelude.{ℕ, List, [], ◌∷◌, ◌++◌, length, map, codes}
-use Rattle.m11_asm.specs.declared.fault.AsmFault.{AsmFault}
-use Rattle.m11_lines.specs.Lines.{RawLine, input_of, lines_in}
-use Rattle.m11_asm.specs.Reading as reading
-use Rattle.m11_asm.specs.Object.{contents_before_end, contents_at_end, content_writes}
-use Rattle.m11_asm.specs.Messages.{flagged_line, count_line}
-use Rattle.m11_asm.specs.Outputs.{Write, to_messages}
+-- The outcome of source texts: the first refusal in the order of the input, or all that is written, in order. (MACRO-11 Language Reference
+-- Manual, "Source program format", "Symbols" and ".END directive". That sources are one text after the other, read twice, and the limits,
+-- are this project's own.)
+use Rattle.std.specs.Prelude.{◌≡◌, ℕ, true, false, List, [], ◌++◌, length, None, Some}
+use Rattle.m11_asm_outputs.specs.Fault.{of_lines}
+use Rattle.m11_asm_outputs.specs.Outputs.{Write}
+use Rattle.m11_asm_outputs.specs.declared.fault.AsmFault.{AsmFault}
+use Rattle.m11_base.specs.Rad50.{Name}
+use Rattle.m11_lines.specs.Line.{SourceLine}
+use Rattle.m11_lines.specs.declared.fault.LineFault.{LineFault}
+use Rattle.m11_passes.specs.Lines.{Numbered, PassLines, givens}
+use Rattle.m11_passes.specs.Reaching.{Exceeds}
+use Rattle.m11_passes.specs.declared.fault.PassFault.{PassFault}
+use Rattle.m11_placement.specs.Meanings.{Map, empty_map}
+use Rattle.m11_readings.specs.Readings.{Reading}
+use Rattle.m11_second.specs.Faults.{of_pass}
+use Rattle.m11_second.specs.Program.{Program, program_of}
+use Rattle.m11_second.specs.Written.{Ended, flagged_count, program_writes, written}
+use Rattle.m11_unfolding.specs.Stages.{Stage}
+
+-- ---- the live lines of a source, under a map and after names that were mentioned before
+
+-- all lines were read, nothing is left of them, and `.END` didn't become live
+pub record Unended (map : Map) (names : List Name) (source : List SourceLine) (lines : List Numbered) : Type 0 where
+  pub stage : Stage
+  pub live : PassLines map names source lines stage
+  pub left : stage.left ≡ []
+  pub goes_on : stage.has_ended ≡ false
+
+-- these are its live lines: up to the line in which `.END` becomes live, or up to the end
+pub data Ends (map : Map) (names : List Name) (reading : Reading) (lines : List Numbered) (ended : Ended) : Type 0 where
+  AtEnd : (source more : List SourceLine) (stage : Stage) → reading.lines ≡ source ++ more → PassLines map names source lines stage
+      → stage.has_ended ≡ true → ended ≡ record { read = length source; has_end = true } → Ends map names reading lines ended
+  WithoutEnd : Unended map names reading.lines lines → reading.fault ≡ None
+      → ended ≡ record { read = length reading.lines; has_end = false } → Ends map names reading lines ended
+
+-- it is refused after these live lines: where reading stops, or at the first limit that is passed
+pub data Refuses (map : Map) (names : List Name) (reading : Reading) (lines : List Numbered) (stopped : AsmFault) : Type 0 where
+  AtReading : (fault : LineFault) → reading.fault ≡ Some fault → stopped ≡ of_lines fault → Unended map names reading.lines lines
+      → Refuses map names reading lines stopped
+  AtLimit : (source more : List SourceLine) (limit : PassFault) → reading.lines ≡ source ++ more
+      → Exceeds map names source lines limit → stopped ≡ of_pass limit → Refuses map names reading lines stopped
+
+-- ---- the outcome
 
 pub data Outcome : Type 0 where
-  Refuses : AsmFault → Outcome
-  -- the writes, and the count of flagged lines
-  Writes : List Write → ℕ → Outcome
+  -- a refusal, and what was written before it
+  Refused : AsmFault → List Write → Outcome
+  -- all that is written, and the count of flagged lines
+  Assembled : List Write → ℕ → Outcome
 
--- the writes of a program with these lines, the messages of its flagged lines being those
-abbrev pub writes_of : List RawLine → List (List ℕ) → List Write
-writes_of lines flagged = content_writes (contents_before_end lines) ++ map to_messages flagged
-    ++ content_writes (contents_at_end lines) ++ to_messages (count_line (length flagged)) ∷ []
-
-abbrev pub missing_end : List RawLine → List ℕ
-missing_end lines = flagged_line (codes "E") (lines_in lines) []
-
-abbrev pub outcome_of_reading : reading.SourceReading → Outcome
-outcome_of_reading (reading.Refused fault) = Refuses fault
-outcome_of_reading (reading.Ended lines) = Writes (writes_of lines []) 0
-outcome_of_reading (reading.Unended lines) = Writes (writes_of lines (missing_end lines ∷ [])) 1
-
-abbrev pub outcome_of : List (List ℕ) → Outcome
-outcome_of sources = outcome_of_reading (reading.reading_of (input_of sources))
+-- the outcome of two readings. Those of one source are the same
+pub data HasOutcome (first second : Reading) : Outcome → Type 0 where
+  -- a refusal of the first one has written nothing
+  FirstRefuses : (lines : List Numbered) (fault : AsmFault) → Refuses empty_map [] first lines fault
+      → HasOutcome first second (Refused fault [])
+  -- one of the second one has written what the live lines before it write
+  SecondRefuses : (lines : List Numbered) (ended : Ended) (program : Program) (others : List Numbered) (fault : AsmFault)
+      → Ends empty_map [] first lines ended → program ≡ program_of (givens lines)
+      → Refuses program.map program.mentioned.names second others fault
+      → HasOutcome first second (Refused fault (written program others))
+  Assembles : (lines : List Numbered) (ended : Ended) (program : Program) (others : List Numbered) (end : Ended)
+      → Ends empty_map [] first lines ended → program ≡ program_of (givens lines)
+      → Ends program.map program.mentioned.names second others end
+      → HasOutcome first second (Assembled (program_writes program others end) (flagged_count program others end.has_end))

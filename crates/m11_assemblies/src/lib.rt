@@ -1,4 +1,5 @@
-//! Tests alone, of what the cases of the suite can't show of an assembly: devices that fail, and its faults.
+//! Whole assemblies, with what no command shows: faults, devices that fail, sources at their limits, two readings that differ, and what
+//! is written line by line. Tests alone. Expected bytes were worked by hand from the manuals of the language and of the file formats.
 #![tactic(auto)]
 
 #[cfg(test)]

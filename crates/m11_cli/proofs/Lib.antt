@@ -1,3 +1,4 @@
+pub mod Assembled
 pub mod Decimals
 pub mod Linked
 pub mod Sources

@@ -6,11 +6,11 @@ use Rattle.m11_base.specs.Devices.{Bytes, Rises}
 use Rattle.m11_base.specs.Feed as feed
 use Rattle.m11_base.specs.Sink.{AppendsBeginning}
 use Rattle.m11_base.specs.declared.sink.Sink.{Ghosts}
-use Rattle.m11_asm.specs.Outputs as assembling
+use Rattle.m11_asm.specs.Passes as assembling
 use Rattle.m11_asm.specs.Run.{AsmRuns}
-use Rattle.m11_asm.specs.declared.fault.AsmFault.{AsmFault}
-use Rattle.m11_asm.specs.declared.fault.AsmFault.TheVariants as asm-fault
-use Rattle.m11_asm.specs.declared.run.AsmDone.{AsmDone}
+use Rattle.m11_asm_outputs.specs.Outputs as assembled
+use Rattle.m11_asm_outputs.specs.declared.fault.AsmFault.{AsmFault}
+use Rattle.m11_asm_outputs.specs.declared.fault.AsmFault.TheVariants as asm-fault
 use Rattle.m11_cpu.specs.Dialogue.{Input, Output, both, input_of, output_of}
 use Rattle.m11_cpu.specs.Simulation.{Simulates, request_of, run_devices}
 use Rattle.m11_cpu.specs.declared.fault.SimFault.{SimFault}
@@ -21,6 +21,7 @@ use Rattle.m11_layout.specs.declared.fault.LinkFault.TheVariants as link-fault
 use Rattle.m11_link.specs.SecondPass as linking
 use Rattle.m11_link.specs.Outputs.{Outputs, outputs_of}
 use Rattle.m11_link.specs.declared.emit.LinkDone.{LinkDone}
+use Rattle.m11_second.specs.declared.done.AsmDone.{AsmDone}
 use Rattle.m11_cli.specs.FaultLines.{line_of, open_line}
 use Rattle.m11_files.specs.Opens.{Files, AreFiles, Holds, IsEmptied, IsEmptiedSome, creating, keeping, keeping_some}
 use Rattle.m11_tasks.specs.Opened.{CreatesSome, StopsAt, asm_inputs, asm_outputs, link_inputs, link_outputs, sim_inputs}
@@ -95,20 +96,24 @@ abbrev pub known : Ghosts Output
 known = record { text = λ output. output.text; faults = λ output. output.faults }
 
 -- the object and the messages of an assembly, which has no listing
-abbrev pub asm_outputs_of : Output → Output → assembling.Outputs
-asm_outputs_of object reported = assembling.outputs_of {T = Output} known known known object None reported
+abbrev pub asm_outputs_of : Output → Output → assembled.Outputs
+asm_outputs_of object reported = assembled.outputs_of {T = Output} known known known object None reported
 
--- the sources are the files of their paths. By their texts the object, which is empty at first, and what is reported
--- become what an assembly makes of them; the object is created, and kept under its path
+-- the sources are the files of their paths, in both passes. By their texts the object, which is empty at first, and what
+-- is reported become what an assembly makes of them; the object is created, and kept under its path
 pub record Assembles (asm : AsmTask) (old new : Store) (reported reported' : Output) (answer : Result AsmDone AsmFault)
     : Type 0 where
-  pub sources : List Input
-  pub sources' : List Input
+  pub first : List Input
+  pub first' : List Input
+  pub second : List Input
+  pub second' : List Input
   pub object : Output
   pub object' : Output
-  pub read : AreFiles (λ s. s.text) old.files (asm_inputs asm) sources
+  pub read : AreFiles (λ s. s.text) old.files (asm_inputs asm) first
+  pub read-again : AreFiles (λ s. s.text) old.files (asm_inputs asm) second
   pub emptied : IsEmptied old.files object.text
-  pub runs : AsmRuns (λ s. s.text) (λ s. s.faults) sources sources'
+  pub runs : AsmRuns (assembling.pass_of (λ s. s.text) (λ s. s.faults) first first')
+      (assembling.pass_of (λ s. s.text) (λ s. s.faults) second second')
       (asm_outputs_of object reported) (asm_outputs_of object' reported') answer
   pub kept : new.files ≡ keeping asm.object.now object'.text (creating (asm_outputs asm) old.files)
   pub opened : new.refusals ≡ old.refusals

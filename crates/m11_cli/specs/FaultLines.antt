@@ -5,9 +5,9 @@ use Rattle.std.specs.Prelude.{List, [], ◌∷◌, ◌++◌, ℕ, Ok, Err, codes
 use Rattle.std.specs.List.{join_with_byte}
 use Rattle.std.specs.Fmt.{decimal}
 use Rattle.m11_base.specs.Devices.{Bytes}
-use Rattle.m11_asm.specs.Fault.{name_of, number_of, output_name}
-use Rattle.m11_asm.specs.declared.fault.AsmFault.{AsmFault}
-use Rattle.m11_asm.specs.declared.fault.AsmFault.TheVariants as asm
+use Rattle.m11_asm_outputs.specs.Fault.{name_of, number_of, output_name}
+use Rattle.m11_asm_outputs.specs.declared.fault.AsmFault.{AsmFault}
+use Rattle.m11_asm_outputs.specs.declared.fault.AsmFault.TheVariants as asm
 use Rattle.m11_cpu.specs.Fault.{sim_fault_name, sim_fault_number}
 use Rattle.m11_cpu.specs.declared.fault.SimFault.{SimFault}
 use Rattle.m11_cpu.specs.declared.fault.SimFault.TheVariants as sim
@@ -23,6 +23,7 @@ use Rattle.m11_cli.specs.declared.outcome.Outcome.{Outcome}
 use Rattle.m11_cli.specs.declared.outcome.Outcome.TheVariants.{Usage, Asm, Link, Sim, NotOpened}
 use Rattle.m11_tasks.specs.declared.usage.UsageFault.{UsageFault}
 use Rattle.m11_tasks.specs.declared.usage.UsageFault.TheVariants.{Help, Words}
+use Rattle.m11_unfolding.specs.Fault as unfolded
 
 -- a line of words: a blank is 32, a line feed 10
 abbrev pub line : List Bytes → Bytes
@@ -33,12 +34,15 @@ abbrev pub line_for : Bytes → ℕ → Bytes → List Bytes → Bytes
 line_for command number name more =
     line (codes "?M11" ∷ command ∷ decimal number ∷ name ∷ more)
 
--- what a fault of an assembly adds: the output that could not be written
+-- what a fault of an assembly adds: the output that could not be written, or the number and the name
+-- of the limit of unfolding that was passed
 abbrev pub added : AsmFault → List Bytes
-added (asm.Write output) = output_name output ∷ []
 added asm.Read = []
+added (asm.Write output) = output_name output ∷ []
+added asm.TooManySymbols = []
+added asm.TooManySections = []
+added (asm.Unfold inner) = decimal (unfolded.number_of inner) ∷ unfolded.name_of inner ∷ []
 added asm.TooMuchSource = []
-added asm.NotYet = []
 added asm.NoMemory = []
 
 -- the line of a fault of an assembly

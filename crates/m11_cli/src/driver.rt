@@ -196,6 +196,7 @@ fn run_asm<F: Opens, E: Sink>(
     task: &AsmTask<'_>,
 ) -> Result<AsmDone, AsmFault>
     ensures { (before : Store) → AreFiles F.Input.text before.files (asm_inputs task.now) opened.sources.first.items
+        → AreFiles F.Input.text before.files (asm_inputs task.now) opened.sources.second.items
         → IsEmptied before.files (F.Output.text opened.object)
         → F.files files.old ≡ creating (asm_outputs task.now) before.files → F.refusals files.old ≡ before.refusals
         → Assembles task.now before (store (F.files files.new) (F.refusals files.new))

@@ -2,6 +2,7 @@
 
 ghost use Rattle.std.specs.Prelude.{◌≡◌, OnErr, OnOk};
 ghost use Rattle.std.specs.Io.KnownBytes.{Appends};
+ghost use Rattle.m11_asm_outputs.specs.declared.fault.AsmFault.TheVariants.{Unfold};
 ghost use Rattle.m11_base.specs.Devices.{Rises};
 ghost use Rattle.m11_base.specs.Sink.{AppendsBeginning};
 ghost use Rattle.m11_cpu.specs.declared.fault.LoadFault.TheVariants.{Tape};
@@ -16,11 +17,13 @@ use m11_cpu::{LoadFault, SimFault};
 use m11_link::{LinkFault, LinkOutput};
 use m11_obj::{BlockFault, RecordFault, TapeFault};
 use m11_tasks::UsageFault;
+use m11_unfolding::UnfoldFault;
 
 /// Puts the line of the outcome's fault: `?M11`, the command, the fault's number and its name, and
-/// for a write the output's name, as `?M11 ASM 2 Write OBJECT`, or for a block or a record of an
-/// object what is wrong with it, as `?M11 LINK 3 Block 3 BadSum`. Nothing where there is no fault,
-/// and nothing for help, refused words and a file that does not open, which have texts of their own.
+/// for a write the output's name, as `?M11 ASM 2 Write OBJECT`, for an unfolding the limit that was
+/// passed, as `?M11 ASM 5 Unfold 1 TooDeep`, or for a block or a record of an object what is wrong
+/// with it, as `?M11 LINK 3 Block 3 BadSum`. Nothing where there is no fault, and nothing for help,
+/// refused words and a file that does not open, which have texts of their own.
 ///
 /// `Device` where the sink fails; it has then taken a beginning of the line. No memory is taken.
 pub fn fault_line<S: Sink>(outcome: &Outcome, sink: &mut S) -> Result<(), PutFault>
@@ -86,9 +89,25 @@ fn asm_text(fault: AsmFault) -> &'static str
         AsmFault::Write(AsmOutput::Object) => "?M11 ASM 2 Write OBJECT\n",
         AsmFault::Write(AsmOutput::Listing) => "?M11 ASM 2 Write LISTING\n",
         AsmFault::Write(AsmOutput::Messages) => "?M11 ASM 2 Write MESSAGES\n",
+        AsmFault::TooManySymbols => "?M11 ASM 3 TooManySymbols\n",
+        AsmFault::TooManySections => "?M11 ASM 4 TooManySections\n",
+        AsmFault::Unfold(fault) => unfold_text(fault),
         AsmFault::TooMuchSource => "?M11 ASM 6 TooMuchSource\n",
-        AsmFault::NotYet => "?M11 ASM 7 NotYet\n",
         AsmFault::NoMemory => "?M11 ASM 90 NoMemory\n",
+    }
+}
+
+// The line of a fault of an unfolding.
+#[tactic(auto, unfolding(crate::proofs::Decimals::decimals))]
+fn unfold_text(fault: UnfoldFault) -> &'static str
+    ensures { result.now ≡ asm_line (Unfold fault) }
+{
+    match fault {
+        UnfoldFault::TooDeep => "?M11 ASM 5 Unfold 1 TooDeep\n",
+        UnfoldFault::TooManyLines => "?M11 ASM 5 Unfold 2 TooManyLines\n",
+        UnfoldFault::TooMuchText => "?M11 ASM 5 Unfold 3 TooMuchText\n",
+        UnfoldFault::TooManyMacros => "?M11 ASM 5 Unfold 4 TooManyMacros\n",
+        UnfoldFault::NoMemory => "?M11 ASM 5 Unfold 90 NoMemory\n",
     }
 }
 

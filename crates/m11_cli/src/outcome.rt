@@ -1,7 +1,7 @@
 //! The outcome of a command, and the status that it leaves.
 
 ghost use Rattle.std.specs.Prelude.{◌≡◌};
-ghost use Rattle.m11_cli.specs.Outcome.{link_status, sim_status, status_of, stop_status};
+ghost use Rattle.m11_cli.specs.Outcome.{asm_status, link_status, sim_status, status_of, stop_status};
 
 use m11_asm::{AsmDone, AsmFault};
 use m11_cpu::{LoadFault, SimDone, SimFault, Stop};
@@ -41,15 +41,27 @@ pub fn status(outcome: &Outcome) -> u8
         Outcome::Usage(UsageFault::NoMemory) => 5,
         Outcome::Asm(Ok(done)) if done.flagged == 0 => 0,
         Outcome::Asm(Ok(_)) => 1,
-        Outcome::Asm(Err(AsmFault::Read | AsmFault::Write(_))) => 3,
-        Outcome::Asm(Err(AsmFault::TooMuchSource | AsmFault::NotYet)) => 6,
-        Outcome::Asm(Err(AsmFault::NoMemory)) => 5,
+        Outcome::Asm(Err(fault)) => asm_status(*fault),
         Outcome::Link(Ok(done)) if done.messages == 0 => 0,
         Outcome::Link(Ok(_)) => 1,
         Outcome::Link(Err(fault)) => link_status(*fault),
         Outcome::Sim(Ok(done)) => stop_status(done.stop),
         Outcome::Sim(Err(fault)) => sim_status(*fault),
         Outcome::NotOpened => 3,
+    }
+}
+
+// The status of an assembly that ended early.
+fn asm_status(fault: AsmFault) -> u8
+    ensures { result ≡ asm_status fault }
+{
+    match fault {
+        AsmFault::Read | AsmFault::Write(_) => 3,
+        AsmFault::NoMemory => 5,
+        AsmFault::TooManySymbols
+        | AsmFault::TooManySections
+        | AsmFault::Unfold(_)
+        | AsmFault::TooMuchSource => 6,
     }
 }
 

@@ -6,11 +6,12 @@ use m11_cli::{Outcome, WordsFault, command_without_words, fault_line, status};
 use m11_cpu::{LoadFault, SimFault};
 use m11_link::{LinkFault, LinkOutput};
 use m11_obj::{BlockFault, TapeFault};
+use m11_unfolding::UnfoldFault;
 use std::process::Abort;
 use std::test::Fail;
 
 // The faults of an assembly, the status that each leaves, and its line.
-static ASSEMBLIES: [(AsmFault, u8, &str); 7] = [
+static ASSEMBLIES: [(AsmFault, u8, &str); 12] = [
     (AsmFault::Read, 3, "?M11 ASM 1 Read\n"),
     (
         AsmFault::Write(AsmOutput::Object),
@@ -27,8 +28,29 @@ static ASSEMBLIES: [(AsmFault, u8, &str); 7] = [
         3,
         "?M11 ASM 2 Write MESSAGES\n",
     ),
+    (AsmFault::TooManySymbols, 6, "?M11 ASM 3 TooManySymbols\n"),
+    (AsmFault::TooManySections, 6, "?M11 ASM 4 TooManySections\n"),
+    (
+        AsmFault::Unfold(UnfoldFault::TooDeep),
+        6,
+        "?M11 ASM 5 Unfold 1 TooDeep\n",
+    ),
+    (
+        AsmFault::Unfold(UnfoldFault::TooManyLines),
+        6,
+        "?M11 ASM 5 Unfold 2 TooManyLines\n",
+    ),
+    (
+        AsmFault::Unfold(UnfoldFault::TooMuchText),
+        6,
+        "?M11 ASM 5 Unfold 3 TooMuchText\n",
+    ),
+    (
+        AsmFault::Unfold(UnfoldFault::TooManyMacros),
+        6,
+        "?M11 ASM 5 Unfold 4 TooManyMacros\n",
+    ),
     (AsmFault::TooMuchSource, 6, "?M11 ASM 6 TooMuchSource\n"),
-    (AsmFault::NotYet, 6, "?M11 ASM 7 NotYet\n"),
     (AsmFault::NoMemory, 5, "?M11 ASM 90 NoMemory\n"),
 ];
 

@@ -1,23 +1,22 @@
-use Rattle.std.proofs.Common.{[]}
-use Rattle.m11_writes.specs.Outputs.{optional_output}
-use Rattle.m11_writes.proofs.Writing.{gains_nothing}
-use Rattle.m11_asm.specs.Outputs.{assembly, outputs_of}
-use Rattle.m11_asm.specs.ReaderView.{held_of}
-use Rattle.m11_asm.proofs.Outcomes.{at_first, runs_of, refused_of}
+use Rattle.m11_asm_outputs.specs.Outputs.{outputs_of}
+use Rattle.m11_asm.specs.Passes.{pass_of}
+use Rattle.m11_asm.proofs.Joined.{asm_runs}
 use Rattle.m11_asm.proofs.run.asm_run.Goals as goal
 
 pub returns-in-Ok-clause-runs : goal.returns-in-Ok-clause-runs
 returns-in-Ok-clause-runs g c =
-    let r = c.in-Ok.ensures [] [] (at_first (held_of c.new-reader.result) c.new-reader.ensures) in
-    runs_of g.F.Feed.text g.F.Feed.faults c.args.first.now c.read_sources.new.feeds
+    asm_runs _ (pass_of g.F.Feed.text g.F.Feed.faults c.args.first.now c.read_first.new.feeds)
+    (pass_of g.F.Feed.text g.F.Feed.faults c.args.second.now c.read_second.new.feeds)
     (outputs_of g.S.Sink g.T.Sink g.U.Sink c.args.object.now c.args.listing.now c.args.messages.now)
-    (outputs_of g.S.Sink g.T.Sink g.U.Sink c.write_program.new.object c.args.listing.now c.write_program.new.messages)
-    r.1 (held_of c.read_sources.new.reader) c.in-Ok.progress r.0 r.2 r.3 c.write_program.result
-    (c.write_program.ensures (optional_output g.T.Sink c.args.listing.now))
+    (outputs_of g.S.Sink g.T.Sink g.U.Sink c.read_second.new.object c.read_second.new.listing c.read_second.new.messages)
+    c.first_passes_that_tell_the_same_have_the_same_rows.ensures c.in-Ok.symbols c.in-Ok.ensures c.read_second.result
+    c.read_second.ensures.reads
 
-pub returns-clause-runs : goal.returns-clause-runs
-returns-clause-runs g c =
-    let now = outputs_of g.S.Sink g.T.Sink g.U.Sink c.args.object.now c.args.listing.now c.args.messages.now in
-    refused_of g.F.Feed.text g.F.Feed.faults c.args.first.now c.read_sources.new.feeds now now
-    (held_of c.read_sources.new.reader) c.in-Err.fault
-    (c.in-Err.ensures [] [] (at_first (held_of c.new-reader.result) c.new-reader.ensures)) (gains_nothing assembly now)
+pub returns-in-Ok-clause-untouched : goal.returns-in-Ok-clause-untouched
+returns-in-Ok-clause-untouched g c =
+    asm_runs _ (pass_of g.F.Feed.text g.F.Feed.faults c.args.first.now c.read_first.new.feeds)
+    (pass_of g.F.Feed.text g.F.Feed.faults c.args.second.now c.read_second.new.feeds)
+    (outputs_of g.S.Sink g.T.Sink g.U.Sink c.args.object.now c.args.listing.now c.args.messages.now)
+    (outputs_of g.S.Sink g.T.Sink g.U.Sink c.read_second.new.object c.read_second.new.listing c.read_second.new.messages)
+    c.first_passes_that_tell_the_same_have_the_same_rows.ensures c.in-Ok.symbols c.in-Ok.ensures c.read_second.result
+    c.read_second.ensures.reads

@@ -1,10 +1,12 @@
 use Rattle.std.proofs.Common.{◌∙◌, ap}
+use Rattle.m11_asm.specs.Passes.{pass_of}
 use Rattle.m11_asm.specs.Run.{AsmRuns}
-use Rattle.m11_cpu.specs.Dialogue.{output_of}
-use Rattle.m11_cli.specs.Driver.{asm_outputs_of}
 use Rattle.m11_files.specs.Opens.{keeping}
+use Rattle.m11_cli.specs.Driver.{asm_outputs_of}
 use Rattle.m11_tasks.specs.Opened.{asm_inputs}
-use Rattle.m11_cli.proofs.Sources.{are, runs, seen}
+use Rattle.m11_cli.proofs.Assembled.{asm_runs}
+use Rattle.m11_cli.proofs.Linked.{seen_sink}
+use Rattle.m11_cli.proofs.Sources.{are, seen}
 use Rattle.m11_cli.proofs.driver.run_asm.Goals as goal
 
 pub returns : goal.returns
@@ -12,23 +14,33 @@ returns g c =
     let text = g.F.Input.Feed.text in
     let faults = g.F.Input.Feed.faults in
     let sink = g.F.Output.Sink in
-    let sources = c.args.opened.sources.first.items in
-    let object = output_of (sink.text c.args.opened.object) (sink.faults c.args.opened.object) in
-    let object' = output_of (sink.text c.asm_run-answer.new.object) (sink.faults c.asm_run-answer.new.object) in
-    let reported = output_of (g.E.Sink.text c.args.err.now) (g.E.Sink.faults c.args.err.now) in
-    let reported' = output_of (g.E.Sink.text c.asm_run-answer.new.messages) (g.E.Sink.faults c.asm_run-answer.new.messages) in
-    let ran : AsmRuns text faults sources c.asm_run-answer.new.first
+    let task = c.args.task.now in
+    let first = c.args.opened.sources.first.items in
+    let second = c.args.opened.sources.second.items in
+    let object = seen_sink sink c.args.opened.object in
+    let object' = seen_sink sink c.asm_run-answer.new.object in
+    let reported = seen_sink g.E.Sink c.args.err.now in
+    let reported' = seen_sink g.E.Sink c.asm_run-answer.new.messages in
+    let ran : AsmRuns (pass_of text faults first c.asm_run-answer.new.first)
+    (pass_of text faults second c.asm_run-answer.new.second)
     (asm_outputs_of object reported) (asm_outputs_of object' reported') c.asm_run-answer.result =
-    rw (c.as_mut_slice.ensures.value, c.asm_run-answer.ensures.listing_kept) at c.asm_run-answer.ensures.runs in
-    λ before read emptied created same. record {
-      sources = seen text faults sources;
-      sources' = seen text faults c.asm_run-answer.new.first;
+    rw (
+      c.as_mut_slice.ensures.value,
+      c.as_mut_slice-2.ensures.value,
+      c.asm_run-answer.ensures.listing,
+    ) at c.asm_run-answer.ensures.runs in
+    λ before read again emptied created same. record {
+      first = seen text faults first;
+      first' = seen text faults c.asm_run-answer.new.first;
+      second = seen text faults second;
+      second' = seen text faults c.asm_run-answer.new.second;
       object = object;
       object' = object';
-      read = are text faults before.files (asm_inputs c.args.task.now) sources read;
+      read = are text faults before.files (asm_inputs task) first read;
+      read-again = are text faults before.files (asm_inputs task) second again;
       emptied = emptied;
-      runs = runs text faults _ _ _ _ c.asm_run-answer.result ran;
+      runs = asm_runs text faults _ _ _ _ _ _ c.asm_run-answer.result ran;
       kept = c.keep.ensures.keeps
-          ∙ ap (λ files. keeping c.args.task.now.object.now (sink.text c.asm_run-answer.new.object) files) created;
+          ∙ ap (λ files. keeping task.object.now (sink.text c.asm_run-answer.new.object) files) created;
       opened = c.keep.ensures.counts ∙ same;
     }

@@ -1,0 +1,183 @@
+-- The first pass over feeds, from line to line.
+use Rattle.std.proofs.Common.{◌≡◌, ◌∙◌, Bool, true, false, List, [], ◌∷◌, ◌++◌, ℕ, length, Option, Some, None, Result, Ok, Err, IsErrAnd, refl, sym, ap, subst, inl, inr}
+use Rattle.std.specs.Prelude.{◌⊎◌}
+use Rattle.m11_asm_outputs.specs.Fault.{of_lines}
+use Rattle.m11_asm_outputs.specs.declared.fault.AsmFault.{AsmFault}
+use Rattle.m11_asm_outputs.specs.declared.fault.AsmFault.TheVariants as fault
+use Rattle.m11_base.specs.Feed.{NoneFailed, Text}
+use Rattle.m11_first.specs.First.{FirstFails, FirstStands, FirstState, FirstTakes, Symbols}
+use Rattle.m11_lines.specs.Line.{SourceLine}
+use Rattle.m11_lines.specs.Reader.{LineReading, ReadsNext, place}
+use Rattle.m11_lines.specs.declared.fault.LineFault.{LineFault}
+use Rattle.m11_lines.specs.declared.fault.LineFault.TheVariants.{Read, TooMuchSource, TooManyLines}
+use Rattle.m11_passes.specs.Reaching.{Refused}
+use Rattle.m11_passes.specs.declared.fault.PassFault.{PassFault}
+use Rattle.m11_passes.specs.declared.fault.PassFault.TheVariants as pass
+use Rattle.m11_placement.specs.Meanings.{empty_map}
+use Rattle.m11_readings.specs.Readings.{Reading}
+use Rattle.m11_second.specs.Faults.{of_pass}
+use Rattle.m11_second.specs.Written.{Ended}
+use Rattle.m11_asm.specs.First.{EndsWith, FirstTaken, GivesSymbols, IsTakenUp}
+use Rattle.m11_asm.specs.Outcome as outcome
+use Rattle.m11_asm.specs.Outcome.{Ends, Refuses, Unended}
+use Rattle.m11_asm.specs.Passes.{Pass, ReadsFirst, pass_of}
+use Rattle.m11_asm.proofs.LinesRead.{Begun, SoFar, all_read, begun, failed, one_more, too_many, too_much}
+
+-- where `.END` isn't live, nothing is left of the lines
+pub first_unended : (source : List SourceLine) (first : FirstState) → (stands : FirstStands source first) → first.has_ended ≡ false
+    → Unended empty_map [] source stands.lines
+first_unended source first stands goes = record {
+  stage = first.going.unfolder.stage;
+  live = stands.taken.stands.lines_are;
+  left = stands.needs goes;
+  goes_on = sym stands.ended ∙ goes;
+}
+
+-- the pass stands after the lines that the reader returned
+pub record FirstSoFar {F : Type 0} (text : F → Option Text) (faults : F → ℕ) (initial here : List F) (reader : LineReading)
+    (first : FirstState) : Type 0 where
+  pub source : List SourceLine
+  pub read : SoFar text faults initial here reader source
+  pub stands : FirstStands source first
+
+module _ {F : Type 0} (text : F → Option Text) (faults : F → ℕ) (initial here : List F) (reader : LineReading) (first : FirstState)
+    (so : FirstSoFar text faults initial here reader first) where
+  -- `.END` is live
+  pub first_ended : first.has_ended ≡ true → FirstTaken (pass_of text faults initial here) first
+  first_ended ends =
+      let b = begun text faults initial here reader so.source so.read in
+      let P : Bool → Type 0 = λ e. IsTakenUp b.reading so.source e in
+      record { reading = b.reading; reads = b.reads; source = so.source; stands = so.stands; taken_up = subst P (sym ends) (b.more, b.are) }
+
+  module _ (goes : first.has_ended ≡ false) (later : List F) (reader' : LineReading) where
+    unended : Unended empty_map [] so.source so.stands.lines
+    unended = first_unended so.source first so.stands goes
+
+    pub first_read : ReadsNext (place text faults here reader) (place text faults later reader') (Ok None)
+        → FirstTaken (pass_of text faults initial later) first
+    first_read next =
+        let reading : Reading = record { lines = so.source; fault = None } in
+        let P : Bool → Type 0 = λ e. IsTakenUp reading so.source e in
+        record {
+          reading = reading;
+          reads = all_read text faults initial here reader so.source so.read later reader' next;
+          source = so.source;
+          stands = so.stands;
+          taken_up = subst P (sym goes) (refl, refl);
+        }
+
+    stops_so : (fault : LineFault) → ReadsNext (place text faults here reader) (place text faults later reader') (Err fault)
+        → ReadsFirst (pass_of text faults initial later) (Err (of_lines fault))
+    stops_so Read next =
+        (so.source, failed text faults initial here reader so.source so.read later reader' next, so.stands.lines, unended)
+    stops_so TooMuchSource next = (
+      record { lines = so.source; fault = Some TooMuchSource },
+      too_much text faults initial here reader so.source so.read later reader' next,
+      so.stands.lines,
+      outcome.Refuses.AtReading TooMuchSource refl refl unended,
+    )
+    stops_so TooManyLines next = (
+      record { lines = so.source; fault = Some TooManyLines },
+      too_many text faults initial here reader so.source so.read later reader' next,
+      so.stands.lines,
+      outcome.Refuses.AtReading TooManyLines refl refl unended,
+    )
+
+    pub first_stops : (came : LineFault) (stopped : AsmFault) → stopped ≡ of_lines came
+        → ReadsNext (place text faults here reader) (place text faults later reader') (Err came)
+        → ReadsFirst (pass_of text faults initial later) (Err stopped)
+    first_stops came stopped is next =
+        let P : AsmFault → Type 0 = λ f. ReadsFirst (pass_of text faults initial later) (Err f) in
+        subst P (sym is) (stops_so came next)
+
+    module _ (line : SourceLine) (next : ReadsNext (place text faults here reader) (place text faults later reader') (Ok (Some line)))
+        (sound : reader'.fault ≡ None) where
+      more : SoFar text faults initial later reader' (so.source ++ line ∷ [])
+      more = one_more text faults initial here reader so.source so.read later reader' line next sound
+
+      begun_more : Begun (pass_of text faults initial later) (so.source ++ line ∷ [])
+      begun_more = begun text faults initial later reader' (so.source ++ line ∷ []) more
+
+      pub first_goes_on : (first' : FirstState) → FirstTakes so.source line first first' (Ok tt)
+          → FirstSoFar text faults initial later reader' first'
+      first_goes_on first' (inl idle) = absurd (true_false (sym idle.0 ∙ goes))
+        where
+          true_false : true ≡ false → ⊥
+          true_false e = cc
+      first_goes_on first' (inr took) = record { source = so.source ++ line ∷ []; read = more; stands = took.1 }
+
+      refused_so : (limit : PassFault) → FirstFails (so.source ++ line ∷ []) first limit
+          → ReadsFirst (pass_of text faults initial later) (Err (of_pass limit))
+      refused_so pass.TooManySymbols fails = (
+        begun_more.reading,
+        begun_more.reads,
+        fails.lines,
+        outcome.Refuses.AtLimit (so.source ++ line ∷ []) begun_more.more pass.TooManySymbols begun_more.are fails.refused refl,
+      )
+      refused_so pass.TooManySections fails = (
+        begun_more.reading,
+        begun_more.reads,
+        fails.lines,
+        outcome.Refuses.AtLimit (so.source ++ line ∷ []) begun_more.more pass.TooManySections begun_more.are fails.refused refl,
+      )
+      refused_so (pass.Unfold inner) fails = (
+        begun_more.reading,
+        begun_more.reads,
+        fails.lines,
+        outcome.Refuses.AtLimit (so.source ++ line ∷ []) begun_more.more (pass.Unfold inner) begun_more.are fails.refused refl,
+      )
+      refused_so pass.NoMemory fails = begun_more.reads.0
+
+      pub first_refuses : (first' : FirstState) (limit : PassFault) (stopped : AsmFault) → stopped ≡ of_pass limit
+          → FirstTakes so.source line first first' (Err limit) → ReadsFirst (pass_of text faults initial later) (Err stopped)
+      first_refuses first' limit stopped is fails =
+          let P : AsmFault → Type 0 = λ f. ReadsFirst (pass_of text faults initial later) (Err f) in
+          subst P (sym is) (refused_so limit fails)
+
+-- ---- before the first line, and after the last one
+
+none_failed : {F : Type 0} (faults : F → ℕ) (feeds : List F) → NoneFailed faults feeds feeds
+none_failed faults [] = tt
+none_failed faults (feed ∷ feeds) = (refl, none_failed faults feeds)
+
+-- memory was refused before the first line
+pub none_given : {F : Type 0} (text : F → Option Text) (faults : F → ℕ) (feeds : List F) (result : Result Symbols AsmFault)
+    → IsErrAnd result (λ e. e ≡ fault.NoMemory) → GivesSymbols (pass_of text faults feeds feeds) result
+none_given text faults feeds (Ok symbols) is = absurd is
+none_given text faults feeds (Err stopped) is =
+    let P : AsmFault → Type 0 = λ f. ReadsFirst (pass_of text faults feeds feeds) (Err f) in
+    subst P (sym is) (none_failed faults feeds)
+
+no_fault : (first : FirstState) (came : PassFault) → first.fault ≡ None → first.fault ≡ Some came → ⊥
+no_fault first came none some = none_some (sym none ∙ some)
+  where
+    none_some : None ≡ Some came → ⊥
+    none_some e = cc
+
+pub all_given : {F : Type 0} (pass : Pass F) (first : FirstState) → FirstTaken pass first → (result : Result Symbols AsmFault)
+    → EndsWith first result → GivesSymbols pass result
+all_given pass first taken (Ok symbols) is = (first, taken, is.0, is.1)
+all_given pass first taken (Err stopped) (came, some, is) = absurd (no_fault first came taken.stands.goes_on some)
+
+abbrev ended_at : List SourceLine → Ended
+ended_at source = record { read = length source; has_end = false }
+
+-- the live lines of the source
+module _ {F : Type 0} (pass : Pass F) (first : FirstState) (taken : FirstTaken pass first) where
+  ends_by : (has_ended : Bool) → first.has_ended ≡ has_ended → IsTakenUp taken.reading taken.source has_ended
+      → Ends empty_map [] taken.reading taken.stands.lines (record { read = length taken.source; has_end = has_ended })
+  ends_by true is up =
+      outcome.Ends.AtEnd taken.source up.0 first.going.unfolder.stage up.1 taken.stands.taken.stands.lines_are
+      (sym taken.stands.ended ∙ is) refl
+  ends_by false is up =
+      let P : List SourceLine → Type 0 = λ s. Unended empty_map [] s taken.stands.lines in
+      outcome.Ends.WithoutEnd (subst P (sym up.0) (first_unended taken.source first taken.stands is)) up.1
+      (ap ended_at (sym up.0))
+
+  pub first_reads : ReadsFirst pass (Ok taken.stands.lines)
+  first_reads = (
+    taken.reading,
+    taken.reads,
+    record { read = length taken.source; has_end = first.has_ended },
+    ends_by first.has_ended refl taken.taken_up,
+  )

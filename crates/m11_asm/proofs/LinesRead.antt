@@ -1,0 +1,86 @@
+-- The lines that a reader returned so far, and the readings of which they are.
+use Rattle.std.proofs.Common.{◌≡◌, ◌∙◌, ◌≤◌, ℕ, List, [], ◌∷◌, ◌++◌, length, map, filter, Option, Some, None, Ok, Err, refl, sym, ap, subst, arith}
+use Rattle.std.proofs.lemmas.List.{length-map}
+use Rattle.std.proofs.lemmas.List.Sums.{length-filter}
+use Rattle.m11_asm_outputs.specs.declared.fault.AsmFault.{AsmFault}
+use Rattle.m11_base.specs.Feed.{Text}
+use Rattle.m11_lines.specs.Line.{SourceLine, line_of}
+use Rattle.m11_lines.specs.Lines.{RawLine, is_line, line_text, lines_in, most_bytes, most_lines}
+use Rattle.m11_lines.specs.Reader.{LineReading, ReadsNext, place}
+use Rattle.m11_lines.specs.declared.fault.LineFault.{LineFault}
+use Rattle.m11_lines.specs.declared.fault.LineFault.TheVariants.{Read, TooMuchSource, TooManyLines}
+use Rattle.m11_readings.specs.Calls.{BeginReading, HasRead, start}
+use Rattle.m11_readings.specs.Readings.{Reading, lines_of, reading_of}
+use Rattle.m11_readings.proofs.Feeds as feeds
+use Rattle.m11_readings.proofs.Reached.{begins, goes_on}
+use Rattle.m11_asm.specs.Passes.{Pass, Reads, ReadsTill, pass_of}
+
+-- the lines begin a reading of what the feeds give
+pub record Begun {F : Type 0} (pass : Pass F) (lines : List SourceLine) : Type 0 where
+  pub reading : Reading
+  pub reads : Reads pass reading
+  pub more : List SourceLine
+  pub are : reading.lines ≡ lines ++ more
+
+-- a reader has returned these lines
+pub record SoFar {F : Type 0} (text : F → Option Text) (faults : F → ℕ) (initial here : List F) (reader : LineReading)
+    (lines : List SourceLine) : Type 0 where
+  pub has : HasRead (start text faults initial) (place text faults here reader) lines
+  pub sound : reader.fault ≡ None
+
+lines_counted : (pieces : List RawLine) → length (lines_of pieces) ≡ lines_in pieces
+lines_counted pieces =
+    length-map (filter is_line pieces) (λ piece. line_of (line_text piece)) ∙ length-filter is_line pieces
+
+module _ {F : Type 0} (text : F → Option Text) (faults : F → ℕ) where
+  pub reader_begins : (initial : List F) (reader : LineReading)
+      → reader ≡ record { source = 0; bytes_left = most_bytes; lines_left = most_lines; fault = None }
+      → SoFar text faults initial initial reader []
+  reader_begins initial reader is =
+      let P : LineReading → Type 0 = λ r. SoFar text faults initial initial r [] in
+      subst P (sym is) (record { has = begins (start text faults initial); sound = refl })
+
+  module _ (initial here : List F) (reader : LineReading) (lines : List SourceLine) (so : SoFar text faults initial here reader lines) where
+    pub begun : Begun (pass_of text faults initial here) lines
+    begun =
+        let b : BeginReading text faults initial here lines =
+        feeds.so_far text faults initial here reader.source reader.bytes_left reader.lines_left lines so.has in
+        record { reading = reading_of b.1; reads = (b.0, b.1, b.2, refl); more = b.3; are = b.4 }
+
+    -- no more of them than the limit
+    pub few_read : length lines ≤ most_lines
+    few_read =
+        let count = ap (λ (l : List SourceLine). length l) so.has.are ∙ lines_counted so.has.pieces in
+        omega (arith, count, so.has.lines_left)
+
+    module _ (later : List F) (reader' : LineReading) where
+      pub one_more : (line : SourceLine) → ReadsNext (place text faults here reader) (place text faults later reader') (Ok (Some line))
+          → reader'.fault ≡ None → SoFar text faults initial later reader' (lines ++ line ∷ [])
+      one_more line next sound = record {
+        has = goes_on (start text faults initial) (place text faults here reader) (place text faults later reader') lines line so.has next;
+        sound = sound;
+      }
+
+      pub all_read : ReadsNext (place text faults here reader) (place text faults later reader') (Ok None)
+          → Reads (pass_of text faults initial later) (record { lines = lines; fault = None })
+      all_read next =
+          feeds.all text faults initial later reader'.source reader'.bytes_left reader'.lines_left lines
+          (place text faults here reader) so.has next
+
+      pub too_much : ReadsNext (place text faults here reader) (place text faults later reader') (Err TooMuchSource)
+          → Reads (pass_of text faults initial later) (record { lines = lines; fault = Some TooMuchSource })
+      too_much next =
+          feeds.too_much text faults initial later reader'.source reader'.bytes_left reader'.lines_left lines
+          (place text faults here reader) so.has next
+
+      pub too_many : ReadsNext (place text faults here reader) (place text faults later reader') (Err TooManyLines)
+          → Reads (pass_of text faults initial later) (record { lines = lines; fault = Some TooManyLines })
+      too_many next =
+          feeds.too_many text faults initial later reader'.source reader'.bytes_left reader'.lines_left lines
+          (place text faults here reader) so.has next
+
+      pub failed : ReadsNext (place text faults here reader) (place text faults later reader') (Err Read)
+          → ReadsTill (pass_of text faults initial later) lines
+      failed next =
+          feeds.failed text faults initial later reader'.source reader'.bytes_left reader'.lines_left lines
+          (place text faults here reader) so.has next

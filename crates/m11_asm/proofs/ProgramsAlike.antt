@@ -1,0 +1,184 @@
+-- Programs whose maps tell the same, and which are else the same, write the same.
+use Rattle.std.proofs.Common.{◌≡◌, ◌∙◌, ℕ, ◌+◌, Bool, if◌then◌else◌, count_by, List, [], ◌∷◌, ◌++◌, Option, Result, Ok, Err, refl, sym, ap, subst}
+use Rattle.std.specs.Int.RustNames.{bit_or}
+use Rattle.std.specs.List.{flat_map}
+use Rattle.m11_asm_outputs.specs.Object.{content_writes, head_contents, records_closed_by}
+use Rattle.m11_asm_outputs.specs.Outputs.{Gains, Outputs, StopsBetween, StopsIn, Write}
+use Rattle.m11_asm_outputs.specs.declared.fault.AsmFault.{AsmFault}
+use Rattle.m11_asm_outputs.specs.declared.fault.AsmFault.TheVariants as fault
+use Rattle.m11_base.specs.Rad50.{Name}
+use Rattle.m11_lines.specs.Line.{SourceLine}
+use Rattle.m11_maps.specs.Maps.{TellTheSame}
+use Rattle.m11_maps.proofs.LiveLines.{exceeds_same, pass_lines_same, table_at_same}
+use Rattle.m11_maps.proofs.MapsAlike.{after_line_same, all_letters_same, pieces_same}
+use Rattle.m11_object_text.specs.declared.directory.DirectoryRow.{DirectoryRow}
+use Rattle.m11_object_text.specs.declared.pieces.Piece.{Piece}
+use Rattle.m11_passes.specs.Lines.{Numbered, PassLines, givens, table_at}
+use Rattle.m11_passes.specs.Placed.{all_letters}
+use Rattle.m11_passes.specs.Reaching.{Exceeds}
+use Rattle.m11_placement.specs.Exports.{transfer_letters}
+use Rattle.m11_placement.specs.Lines.{after_line, pieces}
+use Rattle.m11_placement.specs.Meanings.{Map}
+use Rattle.m11_placement.specs.Placements.{Placed, placed_from, placement}
+use Rattle.m11_placement.specs.Sources.{directed, end_in}
+use Rattle.m11_placement.specs.Tables.{Table, first_table}
+use Rattle.m11_placing.specs.Mentioned.{Gathered}
+use Rattle.m11_readings.specs.Readings.{Reading}
+use Rattle.m11_second.specs.Program.{Program}
+use Rattle.m11_second.specs.Written.{Ended, flagged_count, flagged_in, head_before, is_flagged, last_writes, letters_after, letters_at, line_writes, message_writes, pieces_in, pieces_of, program_writes, reported_letters, written, written_after}
+use Rattle.m11_second.specs.declared.done.AsmDone.{AsmDone}
+use Rattle.m11_unfolding.specs.Stages.{Stage}
+use Rattle.m11_unfolding.specs.Unfolding.{Given}
+use Rattle.m11_values.specs.Quantities.{Quantity}
+use Rattle.m11_asm.specs.Outcome as outcome
+use Rattle.m11_asm.specs.Outcome.{Ends, Refuses, Unended}
+use Rattle.m11_asm.specs.Passes as passes
+use Rattle.m11_asm.specs.Passes.{AreWrites, Pass, ReadsSecond, StopsAmongWrites}
+
+pub record AlikePrograms (one other : Program) : Type 0 where
+  pub maps : TellTheSame one.map other.map
+  pub mentioned : one.mentioned ≡ other.mentioned
+  pub rows : one.rows ≡ other.rows
+  pub transfer : one.transfer ≡ other.transfer
+
+module _ (one other : Program) (alike : AlikePrograms one other) where
+  -- ---- pieces
+
+  placed_same : (table : Table) (all : List Given)
+      → flat_map pieces_of (placed_from one.map table all) ≡ flat_map pieces_of (placed_from other.map table all)
+  placed_same table [] = refl
+  placed_same table (given ∷ all) =
+      ap (λ (p : List Piece). p ++ flat_map pieces_of (placed_from one.map (after_line one.map table given) all))
+      (pieces_same one.map other.map alike.maps table given)
+      ∙ ap (λ (t : Table). pieces other.map table given ++ flat_map pieces_of (placed_from one.map t all))
+      (after_line_same one.map other.map alike.maps table given)
+      ∙ ap (λ (p : List Piece). pieces other.map table given ++ p) (placed_same (after_line other.map table given) all)
+
+  pieces_alike : (all : List Numbered) → pieces_in one.map all ≡ pieces_in other.map all
+  unfolding pieces_in
+  pieces_alike all = placed_same first_table (givens all)
+
+  -- ---- letters
+
+  letters_alike : (before : List Numbered) (line : Numbered) → letters_at one before line ≡ letters_at other before line
+  letters_alike before line =
+      let end : Option Quantity → ℕ = λ transfer. end_in (transfer_letters transfer) (directed line.given) in
+      ap (λ (t : Table). bit_or (all_letters one.map t line.given) (end one.transfer)) (table_at_same one.map other.map alike.maps before)
+      ∙ ap (λ (l : ℕ). bit_or l (end one.transfer))
+      (all_letters_same one.map other.map alike.maps (table_at other.map before) line.given)
+      ∙ ap (λ (q : Option Quantity). bit_or (all_letters other.map (table_at other.map before) line.given) (end q)) alike.transfer
+
+  all_letters_alike : (before all : List Numbered) → letters_after one before all ≡ letters_after other before all
+  all_letters_alike before [] = refl
+  all_letters_alike before (line ∷ all) =
+      ap (λ (l : ℕ). l ∷ letters_after one (before ++ line ∷ []) all) (letters_alike before line)
+      ∙ ap (λ (ls : List ℕ). letters_at other before line ∷ ls) (all_letters_alike (before ++ line ∷ []) all)
+
+  flagged_alike : (all : List Numbered) → flagged_in one all ≡ flagged_in other all
+  unfolding flagged_in
+  flagged_alike all = ap (λ (ls : List ℕ). count_by is_flagged ls) (all_letters_alike [] all)
+
+  pub counts_alike : (all : List Numbered) (has_end : Bool) → flagged_count one all has_end ≡ flagged_count other all has_end
+  counts_alike all has_end = ap (λ (n : ℕ). n + (if has_end then 0 else 1)) (flagged_alike all)
+
+  -- ---- writes
+
+  head_alike : (before : List Numbered) → head_before one before ≡ head_before other before
+  head_alike [] = ap (λ (rows : List DirectoryRow). content_writes (head_contents rows)) alike.rows
+  head_alike (line ∷ before) = refl
+
+  line_alike : (before : List Numbered) (line : Numbered) → line_writes one before line ≡ line_writes other before line
+  unfolding line_writes
+  line_alike before line =
+      let text = line.given.live.line.text in
+      let of : List Piece → List Piece → ℕ → List Write = λ done more letters.
+      content_writes (records_closed_by done more) ++ message_writes letters line.number text in
+      ap (λ (p : List Piece). of p (pieces one.map (table_at one.map before) line.given) (letters_at one before line)) (pieces_alike before)
+      ∙ ap (λ (t : Table). of (pieces_in other.map before) (pieces one.map t line.given) (letters_at one before line))
+      (table_at_same one.map other.map alike.maps before)
+      ∙ ap (λ (p : List Piece). of (pieces_in other.map before) p (letters_at one before line))
+      (pieces_same one.map other.map alike.maps (table_at other.map before) line.given)
+      ∙ ap (of (pieces_in other.map before) (pieces other.map (table_at other.map before) line.given)) (letters_alike before line)
+
+  after_alike : (before all : List Numbered) → written_after one before all ≡ written_after other before all
+  after_alike before [] = refl
+  after_alike before (line ∷ all) =
+      ap (λ (h : List Write). (h ++ line_writes one before line) ++ written_after one (before ++ line ∷ []) all) (head_alike before)
+      ∙ ap (λ (l : List Write). (head_before other before ++ l) ++ written_after one (before ++ line ∷ []) all) (line_alike before line)
+      ∙ ap (λ (w : List Write). (head_before other before ++ line_writes other before line) ++ w) (after_alike (before ++ line ∷ []) all)
+
+  pub written_alike : (all : List Numbered) → written one all ≡ written other all
+  unfolding written
+  written_alike all = after_alike [] all
+
+  last_alike : (all : List Numbered) (ended : Ended) → last_writes one all ended ≡ last_writes other all ended
+  last_alike all ended = rw (head_alike all, pieces_alike all, flagged_alike all) refl
+
+  pub program_alike : (all : List Numbered) (ended : Ended) → program_writes one all ended ≡ program_writes other all ended
+  program_alike all ended = rw (written_alike all, last_alike all ended) refl
+
+  -- ---- passes
+
+  names_alike : one.mentioned.names ≡ other.mentioned.names
+  names_alike = ap (λ (g : Gathered). g.names) alike.mentioned
+
+  lines_alike : (source : List SourceLine) (all : List Numbered) (stage : Stage)
+      → PassLines one.map one.mentioned.names source all stage → PassLines other.map other.mentioned.names source all stage
+  lines_alike source all stage live =
+      let P : List Name → Type 0 = λ ns. PassLines other.map ns source all stage in
+      subst P names_alike (pass_lines_same one.map other.map alike.maps one.mentioned.names source all stage live)
+
+  unended_alike : (source : List SourceLine) (all : List Numbered) → Unended one.map one.mentioned.names source all
+      → Unended other.map other.mentioned.names source all
+  unended_alike source all u =
+      record { stage = u.stage; live = lines_alike source all u.stage u.live; left = u.left; goes_on = u.goes_on }
+
+  module _ (reading : Reading) where
+    ends_alike : (all : List Numbered) (ended : Ended) → Ends one.map one.mentioned.names reading all ended
+        → Ends other.map other.mentioned.names reading all ended
+    ends_alike all ended (outcome.Ends.AtEnd source more stage are live ends is) =
+        outcome.Ends.AtEnd source more stage are (lines_alike source all stage live) ends is
+    ends_alike all ended (outcome.Ends.WithoutEnd u none is) =
+        outcome.Ends.WithoutEnd (unended_alike reading.lines all u) none is
+
+    refuses_alike : (all : List Numbered) (stopped : AsmFault) → Refuses one.map one.mentioned.names reading all stopped
+        → Refuses other.map other.mentioned.names reading all stopped
+    refuses_alike all stopped (outcome.Refuses.AtReading fault some is u) =
+        outcome.Refuses.AtReading fault some is (unended_alike reading.lines all u)
+    refuses_alike all stopped (outcome.Refuses.AtLimit source more limit are exceeds is) =
+        let P : List Name → Type 0 = λ ns. Exceeds other.map ns source all limit in
+        outcome.Refuses.AtLimit source more limit are
+        (subst P names_alike (exceeds_same one.map other.map alike.maps one.mentioned.names source all limit exceeds)) is
+
+    writes_alike : (writes : List Write) → AreWrites one reading writes → AreWrites other reading writes
+    writes_alike _ (passes.AreWrites.SoFar source more all stage are live) =
+        let P : List Write → Type 0 = λ ws. AreWrites other reading ws in
+        subst P (sym (written_alike all)) (passes.AreWrites.SoFar source more all stage are (lines_alike source all stage live))
+    writes_alike _ (passes.AreWrites.All all ended ends) =
+        let P : List Write → Type 0 = λ ws. AreWrites other reading ws in
+        subst P (sym (program_alike all ended)) (passes.AreWrites.All all ended (ends_alike all ended ends))
+
+    among_alike : (Stop : List Write → Type 0) → StopsAmongWrites Stop one reading → StopsAmongWrites Stop other reading
+    among_alike Stop s = record { writes = s.writes; are = writes_alike s.writes s.are; stops = s.stops }
+
+  gains_alike : (old new : Outputs) (all : List Numbered) → Gains old new (written one all) → Gains old new (written other all)
+  gains_alike old new all gains = let P : List Write → Type 0 = λ ws. Gains old new ws in subst P (written_alike all) gains
+
+  module _ {F : Type 0} (pass : Pass F) (old new : Outputs) where
+    pub reads_alike : (result : Result AsmDone AsmFault) → ReadsSecond pass one old new result → ReadsSecond pass other old new result
+    reads_alike (Ok done) s =
+        let P : List Write → Type 0 = λ ws. Gains old new ws in (
+          s.0,
+          s.1,
+          record {
+            lines = s.2.lines;
+            ended = s.2.ended;
+            ends = ends_alike s.0 s.2.lines s.2.ended s.2.ends;
+            gains = subst P (program_alike s.2.lines s.2.ended) s.2.gains;
+            count = s.2.count ∙ counts_alike s.2.lines s.2.ended.has_end;
+          },
+        )
+    reads_alike (Err fault.Read) s = (s.0, s.1, s.2, unended_alike s.0 s.2 s.3, gains_alike old new s.2 s.4)
+    reads_alike (Err fault.NoMemory) s = (s.0, s.1, among_alike s.0 (StopsBetween old new) s.2)
+    reads_alike (Err (fault.Write output)) s = (s.0, s.1, among_alike s.0 (StopsIn output old new) s.2)
+    reads_alike (Err stopped) s = (s.0, s.1, s.2, refuses_alike s.0 s.2 stopped s.3, gains_alike old new s.2 s.4)

@@ -1,0 +1,41 @@
+-- What a first pass keeps of a source tells the same as the source's lines.
+use Rattle.std.proofs.Common.{◌≡◌, ◌∙◌, ◌≤◌, ◌<◌, ℕ, length, List, refl, sym, ap, arith}
+use Rattle.m11_base.specs.Rad50.{Name}
+use Rattle.m11_directory.specs.FirstPass.{Told}
+use Rattle.m11_directory.specs.Laws as directory
+use Rattle.m11_directory.specs.Names.{has_name}
+use Rattle.m11_directory.specs.Rows.{directory_rows}
+use Rattle.m11_first.specs.Facts.{Facts, facts_of}
+use Rattle.m11_first.specs.First.{FirstState, Taken, symbols_of}
+use Rattle.m11_lines.specs.Line.{SourceLine}
+use Rattle.m11_maps.proofs.MapsAlike.{maps_same}
+use Rattle.m11_passes.specs.Lines.{Numbered, givens}
+use Rattle.m11_placement.specs.Limits.{most_sections}
+use Rattle.m11_placing.specs.Mentioned.{Gathered}
+use Rattle.m11_second.specs.Program.{mentioned_in, program_in, program_of, told_in, told_of}
+use Rattle.m11_asm.proofs.ProgramsAlike.{AlikePrograms}
+
+module _ (source : List SourceLine) (lines : List Numbered) (first : FirstState) (taken : Taken source lines first.going first.facts)
+    (few : length first.going.kept.table.sections ≤ most_sections)
+    (law : (one other : Told) → directory.TellTheSame one other → directory_rows one ≡ directory_rows other) where
+  referred_same : first.going.gathered ≡ mentioned_in (givens lines)
+  referred_same = taken.stands.gathered
+
+  told_same : directory.TellTheSame (told_in first.going.kept first.going.gathered first.facts) (told_of (givens lines))
+  told_same = record {
+    tables = taken.stands.matches.alike;
+    sizes = λ number within. taken.stands.matches.sizes number (omega (arith, within, few));
+    referred = λ name. ap (λ (g : Gathered). has_name name g.referred) referred_same;
+    weak = λ name. ap (λ (f : Facts). has_name name f.weak) taken.facts_are;
+    title = ap (λ (f : Facts). f.title) taken.facts_are;
+    identification = ap (λ (f : Facts). f.identification) taken.facts_are;
+    transfer = ap (λ (f : Facts). f.transfer) taken.facts_are;
+  }
+
+  pub programs_alike : AlikePrograms (program_in (symbols_of first)) (program_of (givens lines))
+  programs_alike = record {
+    maps = maps_same _ _ taken.stands.matches.alike;
+    mentioned = referred_same;
+    rows = law _ _ told_same;
+    transfer = ap (λ (f : Facts). f.transfer) taken.facts_are;
+  }

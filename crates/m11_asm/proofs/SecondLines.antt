@@ -1,0 +1,218 @@
+-- The second pass over feeds, from line to line.
+use Rattle.std.proofs.Common.{◌≡◌, ◌∙◌, ◌≤◌, ℕ, ◌+◌, Bool, true, false, List, [], ◌∷◌, ◌++◌, length, Option, Some, None, Result, Ok, Err, IfOk, IsErrAnd, refl, sym, ap, subst, inl, inr, arith}
+use Rattle.std.specs.Prelude.{◌⊎◌}
+use Rattle.m11_asm_outputs.specs.Fault.{of_lines}
+use Rattle.m11_asm_outputs.specs.Outputs.{Outputs, StopsBetween, StopsIn, Write, Writes, assembly}
+use Rattle.m11_asm_outputs.specs.declared.fault.AsmFault.{AsmFault}
+use Rattle.m11_asm_outputs.specs.declared.fault.AsmFault.TheVariants as fault
+use Rattle.m11_base.specs.Feed.{Text}
+use Rattle.m11_lines.specs.Line.{SourceLine}
+use Rattle.m11_lines.specs.Lines.{most_bytes, most_lines}
+use Rattle.m11_lines.specs.Reader.{LineReading, ReadsNext, place}
+use Rattle.m11_lines.specs.declared.fault.LineFault.{LineFault}
+use Rattle.m11_lines.specs.declared.fault.LineFault.TheVariants.{Read, TooMuchSource, TooManyLines}
+use Rattle.m11_passes.specs.Lines as lines
+use Rattle.m11_readings.specs.Readings.{Reading}
+use Rattle.m11_second.specs.Faults.{of_pass}
+use Rattle.m11_second.specs.Program.{Program}
+use Rattle.m11_second.specs.Second.{SecondEnds, SecondFails, SecondStands, SecondState, SecondTakes, StopsAmong, StopsAtLimit, ended_with}
+use Rattle.m11_second.specs.Written.{Ended, flagged_count, program_writes, written}
+use Rattle.m11_second.specs.declared.done.AsmDone.{AsmDone}
+use Rattle.m11_unfolding.specs.Stages.{start}
+use Rattle.m11_writes.proofs.Writing.{refused_between}
+use Rattle.m11_asm.specs.First.{IsTakenUp}
+use Rattle.m11_asm.specs.Outcome as outcome
+use Rattle.m11_asm.specs.Outcome.{Ends, Unended}
+use Rattle.m11_asm.specs.Passes as passes
+use Rattle.m11_asm.specs.Passes.{Pass, ReadsSecond, StopsAmongWrites, pass_of}
+use Rattle.m11_asm.specs.Second.{SecondTaken}
+use Rattle.m11_asm.proofs.LinesRead.{Begun, SoFar, all_read, begun, failed, few_read, one_more, reader_begins, too_many, too_much}
+
+-- where `.END` isn't live, nothing is left of the lines
+second_unended : (program : Program) (source : List SourceLine) (old now : Outputs) (second : SecondState)
+    → (stands : SecondStands program source old now second) → second.has_ended ≡ false
+    → Unended program.map program.mentioned.names source stands.lines
+second_unended program source old now second stands goes = record {
+  stage = second.going.unfolder.stage;
+  live = stands.taken.stands.lines_are;
+  left = stands.needs goes;
+  goes_on = sym stands.ended ∙ goes;
+}
+
+-- the pass stands after the lines that the reader returned
+pub record SecondSoFar {F : Type 0} (text : F → Option Text) (faults : F → ℕ) (initial here : List F) (reader : LineReading)
+    (program : Program) (old now : Outputs) (second : SecondState) : Type 0 where
+  pub source : List SourceLine
+  pub read : SoFar text faults initial here reader source
+  pub stands : SecondStands program source old now second
+
+module _ {F : Type 0} (text : F → Option Text) (faults : F → ℕ) (program : Program) (old : Outputs) where
+  -- memory was refused before the first line
+  none_begins : (feeds : List F) → ReadsSecond (pass_of text faults feeds feeds) program old old (Err fault.NoMemory)
+  none_begins feeds =
+      let reader : LineReading = record { source = 0; bytes_left = most_bytes; lines_left = most_lines; fault = None } in
+      let b = begun text faults feeds feeds reader [] (reader_begins text faults feeds reader refl) in (
+        b.reading,
+        b.reads,
+        record {
+          writes = written program [];
+          are = passes.AreWrites.SoFar [] b.more [] (start []) b.are lines.PassLines.Begins;
+          stops = refused_between assembly old (written program []);
+        },
+      )
+
+  pub none_read : (feeds : List F) (result : Result AsmDone AsmFault) → IsErrAnd result (λ e. e ≡ fault.NoMemory)
+      → ReadsSecond (pass_of text faults feeds feeds) program old old result
+  none_read feeds (Ok done) is = absurd is
+  none_read feeds (Err stopped) is =
+      let P : AsmFault → Type 0 = λ f. ReadsSecond (pass_of text faults feeds feeds) program old old (Err f) in
+      subst P (sym is) (none_begins feeds)
+
+  module _ (initial here : List F) (reader : LineReading) (now : Outputs) (second : SecondState)
+      (so : SecondSoFar text faults initial here reader program old now second) where
+    -- `.END` is live
+    pub second_ended : second.has_ended ≡ true → SecondTaken (pass_of text faults initial here) program old now second
+    second_ended ends =
+        let b = begun text faults initial here reader so.source so.read in
+        let P : Bool → Type 0 = λ e. IsTakenUp b.reading so.source e in
+        record { reading = b.reading; reads = b.reads; source = so.source; stands = so.stands; taken_up = subst P (sym ends) (b.more, b.are) }
+
+    module _ (goes : second.has_ended ≡ false) (later : List F) (reader' : LineReading) where
+      unended : Unended program.map program.mentioned.names so.source so.stands.lines
+      unended = second_unended program so.source old now second so.stands goes
+
+      pub second_read : ReadsNext (place text faults here reader) (place text faults later reader') (Ok None)
+          → SecondTaken (pass_of text faults initial later) program old now second
+      second_read next =
+          let reading : Reading = record { lines = so.source; fault = None } in
+          let P : Bool → Type 0 = λ e. IsTakenUp reading so.source e in
+          record {
+            reading = reading;
+            reads = all_read text faults initial here reader so.source so.read later reader' next;
+            source = so.source;
+            stands = so.stands;
+            taken_up = subst P (sym goes) (refl, refl);
+          }
+
+      stops_so : (stopped : LineFault)
+          → ReadsNext (place text faults here reader) (place text faults later reader') (Err stopped)
+          → ReadsSecond (pass_of text faults initial later) program old now (Err (of_lines stopped))
+      stops_so Read next = (
+        so.source,
+        failed text faults initial here reader so.source so.read later reader' next,
+        so.stands.lines,
+        unended,
+        so.stands.taken.gains,
+      )
+      stops_so TooMuchSource next = (
+        record { lines = so.source; fault = Some TooMuchSource },
+        too_much text faults initial here reader so.source so.read later reader' next,
+        so.stands.lines,
+        outcome.Refuses.AtReading TooMuchSource refl refl unended,
+        so.stands.taken.gains,
+      )
+      stops_so TooManyLines next = (
+        record { lines = so.source; fault = Some TooManyLines },
+        too_many text faults initial here reader so.source so.read later reader' next,
+        so.stands.lines,
+        outcome.Refuses.AtReading TooManyLines refl refl unended,
+        so.stands.taken.gains,
+      )
+
+      pub second_stops : (came : LineFault) (stopped : AsmFault) → stopped ≡ of_lines came
+          → ReadsNext (place text faults here reader) (place text faults later reader') (Err came)
+          → ReadsSecond (pass_of text faults initial later) program old now (Err stopped)
+      second_stops came stopped is next =
+          let P : AsmFault → Type 0 = λ f. ReadsSecond (pass_of text faults initial later) program old now (Err f) in
+          subst P (sym is) (stops_so came next)
+
+      module _ (line : SourceLine) (next : ReadsNext (place text faults here reader) (place text faults later reader') (Ok (Some line)))
+          (sound : reader'.fault ≡ None) (new : Outputs) (second' : SecondState) where
+        abbrev all : List SourceLine
+        all = so.source ++ line ∷ []
+
+        more : SoFar text faults initial later reader' all
+        more = one_more text faults initial here reader so.source so.read later reader' line next sound
+
+        begun_more : Begun (pass_of text faults initial later) all
+        begun_more = begun text faults initial later reader' all more
+
+        pub second_goes_on : SecondTakes program so.source line old now new second second' (Ok tt)
+            → SecondSoFar text faults initial later reader' program old new second'
+        second_goes_on (inl idle) = absurd (true_false (sym idle.ended ∙ goes))
+          where
+            true_false : true ≡ false → ⊥
+            true_false e = cc
+        second_goes_on (inr took) = record { source = all; read = more; stands = took.1 }
+
+        among : (Stop : List Write → Type 0) → StopsAmong Stop program all → StopsAmongWrites Stop program begun_more.reading
+        among Stop s = record {
+          writes = written program s.lines;
+          are = passes.AreWrites.SoFar all begun_more.more s.lines s.stage begun_more.are s.live;
+          stops = s.stops;
+        }
+
+        too_long : length all ≡ most_lines + 1 → ⊥
+        too_long many = let few = few_read text faults initial later reader' all more in omega (arith, many, few)
+
+        fails_so : (stopped : AsmFault) → SecondFails program all old new stopped
+            → ReadsSecond (pass_of text faults initial later) program old new (Err stopped)
+        fails_so fault.Read s = absurd s
+        fails_so (fault.Write output) s = (begun_more.reading, begun_more.reads, among (StopsIn output old new) s)
+        fails_so fault.NoMemory s = (begun_more.reading, begun_more.reads, among (StopsBetween old new) s)
+        fails_so fault.TooMuchSource s = absurd (too_long s.too_many)
+        fails_so stopped s = (
+          begun_more.reading,
+          begun_more.reads,
+          s.lines,
+          outcome.Refuses.AtLimit all begun_more.more s.limit begun_more.are s.exceeds s.fault_is,
+          s.gains,
+        )
+
+        pub second_refuses : (stopped : AsmFault) → SecondTakes program so.source line old now new second second' (Err stopped)
+            → ReadsSecond (pass_of text faults initial later) program old new (Err stopped)
+        second_refuses stopped s = fails_so stopped s.1
+
+  -- ---- the end
+
+  module _ (pass : Pass F) (now new : Outputs) (second : SecondState) (taken : SecondTaken pass program old now second)
+      (result : Result AsmDone AsmFault) (ends : SecondEnds program taken.source old new second result) where
+    ended_so : (has_ended : Bool) → second.has_ended ≡ has_ended → IsTakenUp taken.reading taken.source has_ended
+        → Ends program.map program.mentioned.names taken.reading ends.lines (ended_with second)
+    ended_so true is up =
+        let at : ℕ → Bool → Ended = λ n b. record { read = n; has_end = b } in
+        outcome.Ends.AtEnd taken.source up.0 ends.stage up.1 ends.live (sym ends.ended ∙ is)
+        (ap (λ (n : ℕ). at n second.has_ended) ends.read ∙ ap (at (length taken.source)) is)
+    ended_so false is up =
+        let at : ℕ → Bool → Ended = λ n b. record { read = n; has_end = b } in
+        let P : List SourceLine → Type 0 = λ s. Unended program.map program.mentioned.names s ends.lines in
+        outcome.Ends.WithoutEnd
+        (subst P (sym up.0) (record { stage = ends.stage; live = ends.live; left = ends.needs is; goes_on = sym ends.ended ∙ is })) up.1
+        (ap (λ (n : ℕ). at n second.has_ended) ends.read ∙ ap (at (length taken.source)) is
+        ∙ ap (λ (s : List SourceLine). at (length s) false) (sym up.0))
+
+    all_ends : Ends program.map program.mentioned.names taken.reading ends.lines (ended_with second)
+    all_ends = ended_so second.has_ended refl taken.taken_up
+
+    among_all : (Stop : List Write → Type 0) → Stop (program_writes program ends.lines (ended_with second))
+        → StopsAmongWrites Stop program taken.reading
+    among_all Stop s = record {
+      writes = program_writes program ends.lines (ended_with second);
+      are = passes.AreWrites.All ends.lines (ended_with second) all_ends;
+      stops = s;
+    }
+
+    ends_so : (result : Result AsmDone AsmFault) → Writes old new (program_writes program ends.lines (ended_with second)) result
+        → IfOk result (λ done. done.flagged ≡ flagged_count program ends.lines second.has_ended)
+        → ReadsSecond pass program old new result
+    ends_so (Ok done) gains count = (
+      taken.reading,
+      taken.reads,
+      record { lines = ends.lines; ended = ended_with second; ends = all_ends; gains = gains; count = count },
+    )
+    ends_so (Err (fault.Write output)) stops count = (taken.reading, taken.reads, among_all (StopsIn output old new) stops)
+    ends_so (Err fault.NoMemory) stops count = (taken.reading, taken.reads, among_all (StopsBetween old new) stops)
+    ends_so (Err other) stops count = absurd stops
+
+    pub second_ends : ReadsSecond pass program old new result
+    second_ends = ends_so result ends.writes ends.count

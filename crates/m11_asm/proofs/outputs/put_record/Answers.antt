@@ -1,8 +1,0 @@
-use Rattle.std.proofs.Common.{refl}
-use Rattle.m11_asm.specs.declared.fault.AsmFault.TheVariants.{NoMemory}
-use Rattle.m11_asm.specs.Outputs.{assembly}
-use Rattle.m11_writes.proofs.Writing.{refused_first}
-use Rattle.m11_asm.proofs.outputs.put_record.Goals as goal
-
-pub returns-in_err-block : goal.returns-in_err-block
-returns-in_err-block g c = λ listing messages. refused_first assembly _ _ NoMemory _ refl c.from_residual.ensures.1

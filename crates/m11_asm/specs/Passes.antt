@@ -1,0 +1,88 @@
+-- Passes over feeds: what their texts yield, and where a pass ends early. (This project's own.)
+use Rattle.std.specs.Prelude.{◌≡◌, List, [], ◌++◌, None, Option, ℕ, Result, Ok, Err}
+use Rattle.m11_asm_outputs.specs.Outputs.{Gains, Outputs, StopsBetween, StopsIn, Write}
+use Rattle.m11_asm_outputs.specs.declared.fault.AsmFault.{AsmFault}
+use Rattle.m11_asm_outputs.specs.declared.fault.AsmFault.TheVariants as fault
+use Rattle.m11_base.specs.Feed.{NoneFailed, Text}
+use Rattle.m11_lines.specs.Line.{SourceLine}
+use Rattle.m11_passes.specs.Lines.{Numbered, PassLines}
+use Rattle.m11_placement.specs.Meanings.{empty_map}
+use Rattle.m11_readings.specs.Calls.{FailReading, HaveReading}
+use Rattle.m11_readings.specs.Readings.{Reading}
+use Rattle.m11_second.specs.Program.{Program}
+use Rattle.m11_second.specs.Written.{Ended, flagged_count, program_writes, written}
+use Rattle.m11_second.specs.declared.done.AsmDone.{AsmDone}
+use Rattle.m11_unfolding.specs.Stages.{Stage}
+use Rattle.m11_asm.specs.Outcome.{Ends, Refuses, Unended}
+
+-- the feeds of a pass, before it and after it: what is known of the text of each, and its count of failures
+pub record Pass (F : Type 0) : Type 0 where
+  pub text : F → Option Text
+  pub faults : F → ℕ
+  pub old : List F
+  pub new : List F
+
+abbrev pub pass_of : {F : Type 0} → (F → Option Text) → (F → ℕ) → List F → List F → Pass F
+pass_of text faults old new = record { text = text; faults = faults; old = old; new = new }
+
+-- no feed failed, and this is the reading of what they give
+abbrev pub Reads : {F : Type 0} → Pass F → Reading → Type 0
+Reads pass reading = HaveReading pass.text pass.faults pass.old pass.new reading
+
+-- a feed failed, and these are the lines of what had come till then
+abbrev pub ReadsTill : {F : Type 0} → Pass F → List SourceLine → Type 0
+ReadsTill pass lines = FailReading pass.text pass.faults pass.old pass.new (record { lines = lines; fault = None })
+
+-- ---- the first pass
+
+-- the live lines of the source; or the source is refused; or a feed failed, and what had come till then isn't; or memory was refused
+abbrev pub ReadsFirst : {F : Type 0} → Pass F → Result (List Numbered) AsmFault → Type 0
+ReadsFirst pass (Ok lines) = (reading : Reading) × Reads pass reading × (ended : Ended) × Ends empty_map [] reading lines ended
+ReadsFirst pass (Err fault.Read) =
+    (source : List SourceLine) × ReadsTill pass source × (lines : List Numbered) × Unended empty_map [] source lines
+ReadsFirst pass (Err fault.NoMemory) = NoneFailed pass.faults pass.old pass.new
+ReadsFirst pass (Err (fault.Write output)) = ⊥
+ReadsFirst pass (Err stopped) =
+    (reading : Reading) × Reads pass reading × (lines : List Numbered) × Refuses empty_map [] reading lines stopped
+
+-- ---- the second pass
+
+-- these are the writes of some first live lines of the source, or all writes
+pub data AreWrites (program : Program) (reading : Reading) : List Write → Type 0 where
+  SoFar : (source more : List SourceLine) (lines : List Numbered) (stage : Stage) → reading.lines ≡ source ++ more
+      → PassLines program.map program.mentioned.names source lines stage → AreWrites program reading (written program lines)
+  All : (lines : List Numbered) (ended : Ended) → Ends program.map program.mentioned.names reading lines ended
+      → AreWrites program reading (program_writes program lines ended)
+
+-- it stops among such writes
+pub record StopsAmongWrites (Stop : List Write → Type 0) (program : Program) (reading : Reading) : Type 0 where
+  pub writes : List Write
+  pub are : AreWrites program reading writes
+  pub stops : Stop writes
+
+-- all is written
+pub record WritesAll (program : Program) (reading : Reading) (old new : Outputs) (done : AsmDone) : Type 0 where
+  pub lines : List Numbered
+  pub ended : Ended
+  pub ends : Ends program.map program.mentioned.names reading lines ended
+  pub gains : Gains old new (program_writes program lines ended)
+  pub count : done.flagged ≡ flagged_count program lines ended.has_end
+
+-- exactly what these live lines write is written
+abbrev pub WritesLines : Program → List Numbered → Outputs → Outputs → Type 0
+WritesLines program lines old new = Gains old new (written program lines)
+
+-- by its result: all is written; or a feed failed, or the source is refused, and exactly what the live lines before that write is
+-- written; or an output failed in one of the writes, or memory was refused between two, and nothing was written after that
+abbrev pub ReadsSecond : {F : Type 0} → Pass F → Program → Outputs → Outputs → Result AsmDone AsmFault → Type 0
+ReadsSecond pass program old new (Ok done) = (reading : Reading) × Reads pass reading × WritesAll program reading old new done
+ReadsSecond pass program old new (Err fault.Read) =
+    (source : List SourceLine) × ReadsTill pass source
+    × (lines : List Numbered) × Unended program.map program.mentioned.names source lines × WritesLines program lines old new
+ReadsSecond pass program old new (Err fault.NoMemory) =
+    (reading : Reading) × Reads pass reading × StopsAmongWrites (StopsBetween old new) program reading
+ReadsSecond pass program old new (Err (fault.Write output)) =
+    (reading : Reading) × Reads pass reading × StopsAmongWrites (StopsIn output old new) program reading
+ReadsSecond pass program old new (Err stopped) =
+    (reading : Reading) × Reads pass reading
+    × (lines : List Numbered) × Refuses program.map program.mentioned.names reading lines stopped × WritesLines program lines old new

@@ -1,0 +1,70 @@
+//! The second pass: what the lines of the sources write.
+
+ghost use Rattle.std.specs.Prelude.{◌≡◌, []};
+ghost use Rattle.m11_asm.specs.Passes.{ReadsSecond, pass_of};
+ghost use Rattle.m11_asm.specs.Second.{PutsLines};
+ghost use Rattle.m11_asm_outputs.specs.Outputs.{Outputs, outputs_of};
+ghost use Rattle.m11_second.specs.Program.{Program, program_in};
+ghost use Rattle.m11_second.specs.Second.{SecondStands};
+
+use m11_asm_outputs::AsmFault;
+use m11_base::{Feed, Sink};
+use m11_first::Symbols;
+use m11_lines::LineReader;
+use m11_second::{AsmDone, Second};
+use std::alloc::Global;
+
+/// Reads the sources again, up to the line in which `.END` becomes live or to the end of the last one, and writes what they give.
+pub fn read_second<F: Feed, S: Sink, T: Sink, U: Sink>(
+    alloc: Global,
+    feeds: &mut [F],
+    symbols: Symbols,
+    object: &mut S,
+    listing: &mut Option<T>,
+    messages: &mut U,
+) -> Result<AsmDone, AsmFault>
+    ensures reads { ReadsSecond (pass_of F.text F.faults feeds.old feeds.new) (program_in symbols)
+        (outputs_of S.Sink T.Sink U.Sink object.old listing.old messages.old)
+        (outputs_of S.Sink T.Sink U.Sink object.new listing.new messages.new) result }
+    ensures listing { listing.new ≡ listing.old }
+{
+    let mut second = Second::new(alloc, symbols)?;
+    match put_lines(feeds, &mut second, object, listing, messages) {
+        Ok(()) => second.end(object, listing, messages),
+        Err(fault) => {
+            // by a call, which is proved sooner
+            drop(second);
+            Err(fault)
+        }
+    }
+}
+
+// The lines of the sources, one after the other.
+fn put_lines<F: Feed, S: Sink, T: Sink, U: Sink>(
+    feeds: &mut [F],
+    second: &mut Second,
+    object: &mut S,
+    listing: &mut Option<T>,
+    messages: &mut U,
+) -> Result<(), AsmFault>
+    ensures puts { (program : Program) (old : Outputs)
+        → SecondStands program [] old (outputs_of S.Sink T.Sink U.Sink object.old listing.old messages.old) second.old
+        → PutsLines (pass_of F.text F.faults feeds.old feeds.new) program old
+        (outputs_of S.Sink T.Sink U.Sink object.new listing.new messages.new) second.new result }
+    ensures listing { listing.new ≡ listing.old }
+{
+    let mut reader = LineReader::new();
+    'lines: loop {
+        if second.has_ended() {
+            return Ok(());
+        }
+        match reader.next(feeds) {
+            Ok(Some(line)) => match second.line(line, object, listing, messages) {
+                Ok(()) => {}
+                Err(fault) => return Err(fault),
+            },
+            Ok(None) => return Ok(()),
+            Err(fault) => return Err(AsmFault::from(fault)),
+        }
+    }
+}

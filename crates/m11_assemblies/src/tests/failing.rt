@@ -1,0 +1,276 @@
+//! Assemblies in which each read and each write fails in turn, and devices that give or take nothing.
+
+use super::{
+    Assembled, DIRECTORY, END_OF_GSD, END_OF_MODULE, IN_BLANK_SECTION, TRANSFER, Wanted, left,
+};
+use m11_asm::{AsmDone, AsmFault, AsmOutput, asm_run};
+use m11_base::{FuseFeed, FuseSink, MemoryFeed, MemorySink, WriterSink};
+use std::alloc::Global;
+use std::process::Abort;
+use std::test::Fail;
+
+// A source in one of its readings, or an output.
+#[derive(Clone, Copy, Debug, PartialEq, Eq)]
+enum Device {
+    First,
+    Second,
+    Output(AsmOutput),
+}
+
+impl Device {
+    // What an assembly ends with where the device fails.
+    fn fault(self) -> AsmFault {
+        match self {
+            Device::First | Device::Second => AsmFault::Read,
+            Device::Output(output) => AsmFault::Write(output),
+        }
+    }
+
+    // Whether this is what is written where the device fails in the assembly of a source without flags: nothing in the first reading; later
+    // a beginning of the object, and messages only after all of it.
+    fn leaves(self, found: &Assembled, whole: &Assembled) -> bool {
+        match self {
+            Device::First => found.is_empty(),
+            Device::Second | Device::Output(AsmOutput::Object) => {
+                begins(found, whole) && found.messages.is_empty()
+            }
+            Device::Output(_) => {
+                begins(found, whole) && found.object.len() == whole.object.len()
+            }
+        }
+    }
+}
+
+// Whether each output is a beginning of what a whole assembly left.
+fn begins(found: &Assembled, whole: &Assembled) -> bool {
+    whole.object.as_slice().starts_with(found.object.as_slice())
+        && whole
+            .messages
+            .as_slice()
+            .starts_with(found.messages.as_slice())
+}
+
+// A device that fails after n calls, while all others pass.
+#[derive(Clone, Copy)]
+struct Broken {
+    device: Device,
+    calls: u64,
+}
+
+impl Broken {
+    fn passes(self, device: Device) -> u64 {
+        if device == self.device {
+            self.calls
+        } else {
+            u64::MAX
+        }
+    }
+
+    fn feed<'a>(self, reading: Device, source: &'a str) -> FuseFeed<MemoryFeed<'a>> {
+        FuseFeed::new(MemoryFeed::new(source.as_bytes()), self.passes(reading))
+    }
+
+    fn sink<'a>(
+        self,
+        output: AsmOutput,
+        text: &'a mut Vec<u8>,
+        most: usize,
+    ) -> FuseSink<WriterSink<&'a mut Vec<u8>>> {
+        FuseSink::new(
+            WriterSink::new(text),
+            self.passes(Device::Output(output)),
+            most,
+        )
+    }
+}
+
+// Assembles a source with a broken device into texts, by outputs that take n bytes a call at most.
+fn assemble_broken(
+    alloc: Global,
+    source: &str,
+    broken: Broken,
+    most: usize,
+    object: &mut Vec<u8>,
+    messages: &mut Vec<u8>,
+) -> Result<AsmDone, AsmFault> {
+    let mut listing: Option<MemorySink> = None;
+    asm_run(
+        alloc,
+        &mut [broken.feed(Device::First, source)],
+        &mut [broken.feed(Device::Second, source)],
+        &mut broken.sink(AsmOutput::Object, object, most),
+        &mut listing,
+        &mut broken.sink(AsmOutput::Messages, messages, most),
+    )
+}
+
+// The same, with what the texts are then.
+fn assembled_broken(alloc: Global, source: &str, broken: Broken, most: usize) -> Assembled {
+    let mut object = Vec::new(alloc);
+    let mut messages = Vec::new(alloc);
+    let outcome = assemble_broken(alloc, source, broken, most, &mut object, &mut messages);
+    Assembled {
+        outcome,
+        object,
+        messages,
+    }
+}
+
+const ONE_WORD: &str = ".WORD 1\n.END\n";
+
+const ONE_WORD_ASSEMBLED: Wanted<'static> = Wanted {
+    object: &[
+        DIRECTORY,
+        &[0x02, 0x00],
+        TRANSFER,
+        &[0x3E],
+        END_OF_GSD,
+        IN_BLANK_SECTION,
+        &[
+            0x01, 0x00, 0x0A, 0x00, 0x03, 0x00, 0x00, 0x00, 0x01, 0x00, 0xF1,
+        ],
+        END_OF_MODULE,
+    ],
+    reported: &["ERRORS DETECTED: 0"],
+    flagged: 0,
+};
+
+// Labels that are made for each call, repeats, and a condition.
+const TWICE: &str = ".MACRO TWICE ?L\n\
+    L: BR L\n\
+    .REPT 3\n\
+    .WORD 7\n\
+    .ENDR\n\
+    .ENDM\n\
+    TWICE\n\
+    TWICE\n\
+    .IF DF X\n\
+    .WORD 1\n\
+    .ENDC\n\
+    X: .WORD 2\n\
+    .END\n";
+
+const TWICE_ASSEMBLED: Wanted<'static> = Wanted {
+    object: &[
+        DIRECTORY,
+        &[0x12, 0x00],
+        TRANSFER,
+        &[0x2E],
+        END_OF_GSD,
+        IN_BLANK_SECTION,
+        &[
+            0x01, 0x00, 0x1A, 0x00, 0x03, 0x00, 0x00, 0x00, 0xFF, 0x01, 0x07, 0x00, 0x07, 0x00,
+            0x07, 0x00, 0xFF, 0x01, 0x07, 0x00, 0x07, 0x00, 0x07, 0x00, 0x02, 0x00, 0xB6,
+        ],
+        END_OF_MODULE,
+    ],
+    reported: &["ERRORS DETECTED: 0"],
+    flagged: 0,
+};
+
+// A device, how many bytes an output takes a call at most, and how many calls of the device an assembly makes. No source is read after its
+// last byte.
+type Failing = (Device, usize, u64);
+
+static ONE_WORD_FAILING: [Failing; 6] = [
+    (Device::First, 512, 13),
+    (Device::Second, 512, 13),
+    (Device::Output(AsmOutput::Object), 512, 5),
+    (Device::Output(AsmOutput::Object), 7, 13),
+    (Device::Output(AsmOutput::Messages), 512, 1),
+    (Device::Output(AsmOutput::Messages), 7, 3),
+];
+
+static TWICE_FAILING: [Failing; 6] = [
+    (Device::First, 512, 103),
+    (Device::Second, 512, 103),
+    (Device::Output(AsmOutput::Object), 512, 5),
+    (Device::Output(AsmOutput::Object), 7, 15),
+    (Device::Output(AsmOutput::Messages), 512, 1),
+    (Device::Output(AsmOutput::Messages), 7, 3),
+];
+
+// An assembly whose device failed ended with its fault, and wrote no more than a beginning.
+fn ended_early(
+    rt: &impl Abort,
+    found: &Assembled,
+    whole: &Assembled,
+    broken: Broken,
+) -> Result<(), Fail> {
+    let Broken { device, calls } = broken;
+    found.had_memory()?;
+    assert!(rt;
+        found.outcome == Err(device.fault()),
+        "{device:?}: the fault after {calls} calls"
+    );
+    assert!(rt;
+        device.leaves(found, whole),
+        "{device:?}: what was written after {calls} calls"
+    );
+    Ok(())
+}
+
+// A whole assembly left what is wanted, and one whose device fails earlier ends early.
+fn fails_in_turn(
+    rt: &(impl Abort + AllocGlobal),
+    source: &str,
+    row: Failing,
+    wanted: Wanted<'_>,
+    whole: &Assembled,
+) -> Result<(), Fail> {
+    left(rt, source, whole, wanted)?;
+    let (device, most, all) = row;
+    for calls in 0..all {
+        let broken = Broken { device, calls };
+        let found = assembled_broken(rt.alloc(), source, broken, most);
+        let shown = ended_early(rt, &found, whole, broken);
+        drop(found);
+        shown?;
+    }
+    Ok(())
+}
+
+// In the assembly of a source each row's device may fail at each of its calls.
+fn devices_may_fail(
+    rt: &(impl Abort + AllocGlobal),
+    source: &str,
+    wanted: Wanted<'_>,
+    rows: &[Failing],
+) -> Result<(), Fail> {
+    for row in rows {
+        let (device, most, calls) = *row;
+        let whole = assembled_broken(rt.alloc(), source, Broken { device, calls }, most);
+        let shown = fails_in_turn(rt, source, *row, wanted, &whole);
+        drop(whole);
+        shown?;
+    }
+    Ok(())
+}
+
+#[test]
+fn each_read_and_each_write_may_fail(rt: HostRuntime) -> Result<(), Fail> {
+    devices_may_fail(&rt, ONE_WORD, ONE_WORD_ASSEMBLED, &ONE_WORD_FAILING)?;
+    devices_may_fail(&rt, TWICE, TWICE_ASSEMBLED, &TWICE_FAILING)
+}
+
+// Whether an assembly with a broken device ends with this, and writes nothing.
+fn leaves_nothing(alloc: Global, broken: Broken, most: usize, fault: AsmFault) -> bool {
+    let found = assembled_broken(alloc, ONE_WORD, broken, most);
+    let shown = found.outcome == Err(fault) && found.is_empty();
+    drop(found);
+    shown
+}
+
+#[test]
+fn devices_that_give_or_take_nothing_leave_nothing(rt: HostRuntime) {
+    let second = Broken {
+        device: Device::Second,
+        calls: 0,
+    };
+    let none = Broken {
+        device: Device::First,
+        calls: u64::MAX,
+    };
+    assert!(rt; leaves_nothing(rt.alloc(), second, 512, AsmFault::Read));
+    assert!(rt; leaves_nothing(rt.alloc(), none, 0, AsmFault::Write(AsmOutput::Object)));
+}

@@ -1,0 +1,199 @@
+//! The two passes line by line: how far the object has come after each line, and what they return after a fault and after the end.
+
+use m11_asm::{AsmDone, AsmFault, First, Second, Symbols};
+use m11_base::MemorySink;
+use m11_passes::PassFault;
+use m11_scan::Line;
+use m11_unfolding::UnfoldFault;
+use std::alloc::{AllocError, Global};
+use std::process::Abort;
+use std::test::Fail;
+
+// Takes lines in the first pass.
+fn take_lines(first: &mut First, source: &[&str]) -> Result<(), PassFault> {
+    for line in source {
+        first.line(Line::from_bytes(line.as_bytes()))?;
+    }
+    Ok(())
+}
+
+// What the first pass gives.
+fn symbols_of(alloc: Global, source: &[&str]) -> Result<Symbols, PassFault> {
+    let mut first = First::new(alloc)?;
+    match take_lines(&mut first, source) {
+        Ok(()) => first.end(),
+        Err(fault) => {
+            drop(first);
+            Err(fault)
+        }
+    }
+}
+
+// What a second pass writes.
+#[derive(Drop)]
+struct Outputs {
+    object: MemorySink,
+    listing: Option<MemorySink>,
+    messages: MemorySink,
+}
+
+impl Outputs {
+    fn new(alloc: Global) -> Outputs {
+        Outputs {
+            object: MemorySink::new(alloc),
+            listing: None,
+            messages: MemorySink::new(alloc),
+        }
+    }
+
+    // Takes a line.
+    fn take(&mut self, second: &mut Second, line: &str) -> Result<(), AsmFault> {
+        second.line(
+            Line::from_bytes(line.as_bytes()),
+            &mut self.object,
+            &mut self.listing,
+            &mut self.messages,
+        )
+    }
+
+    // Takes lines.
+    fn take_all(&mut self, second: &mut Second, source: &[&str]) -> Result<(), AsmFault> {
+        for line in source {
+            self.take(second, line)?;
+        }
+        Ok(())
+    }
+
+    fn end(&mut self, second: Second) -> Result<AsmDone, AsmFault> {
+        second.end(&mut self.object, &mut self.listing, &mut self.messages)
+    }
+
+    // Whether the object has n bytes, and the messages are these.
+    fn has(&self, length: usize, messages: &str) -> bool {
+        self.object.bytes().len() == length && self.messages.bytes() == messages.as_bytes()
+    }
+
+    // Takes lines, after each of which the object has n bytes, and nothing is reported.
+    fn grows_by(&mut self, second: &mut Second, source: &[&str], lengths: &[usize]) -> bool {
+        for (line, length) in source.iter().zip(lengths) {
+            if self.take(second, line).is_err() || !self.has(*length, "") {
+                return false;
+            }
+        }
+        true
+    }
+}
+
+// A source, the length of the object after each line, and at the end.
+type Growing = (&'static [&'static str], &'static [usize], usize);
+
+static GROWING: [Growing; 3] = [
+    // a text is full, and is written when the next byte comes
+    (
+        &[
+            ".ASCII /AAAAAAAAAAAAAAAAAAAAAAAAAAAAAAAA/",
+            ".BYTE 1",
+            ".BYTE 2",
+            ".END",
+        ],
+        &[46, 102, 102, 102],
+        120,
+    ),
+    // a text ends where the place moves
+    (
+        &[
+            ".TITLE T",
+            ".MACRO M A",
+            "A: .WORD B'A",
+            ".ENDM",
+            "M X",
+            ".IF DF X",
+            ".=.+2",
+            ".ENDC",
+            "B1: MOV #B1,@Q",
+            ".END B1",
+        ],
+        &[62, 62, 62, 62, 62, 62, 62, 62, 101, 101],
+        140,
+    ),
+    // after the end no line is read
+    (
+        &[".WORD 1", ".END", ".WORD 2", ".IF"],
+        &[46, 46, 46, 46],
+        79,
+    ),
+];
+
+// Whether the object of a second pass grows as a row says.
+fn grows(mut second: Second, outputs: &mut Outputs, row: Growing) -> bool {
+    let (source, lengths, length) = row;
+    if outputs.grows_by(&mut second, source, lengths) {
+        outputs.end(second) == Ok(AsmDone { flagged: 0 })
+            && outputs.has(length, "ERRORS DETECTED: 0\n")
+    } else {
+        drop(second);
+        false
+    }
+}
+
+// Each row's object grows as it says.
+fn all_grow(rt: &(impl Abort + AllocGlobal), rows: &[Growing]) -> Result<(), Fail> {
+    for row in rows {
+        let (source, _, length) = row;
+        let second = Second::new(rt.alloc(), symbols_of(rt.alloc(), source)?)?;
+        let mut outputs = Outputs::new(rt.alloc());
+        let shown = grows(second, &mut outputs, *row);
+        drop(outputs);
+        assert!(rt; shown, "the object of {length} bytes");
+    }
+    Ok(())
+}
+
+#[test]
+fn a_text_is_written_once_it_is_closed(rt: HostRuntime) -> Result<(), Fail> {
+    all_grow(&rt, &GROWING)
+}
+
+// A macro that calls itself.
+const ENDLESS: &[&str] = &[".WORD 1", ".MACRO M", "M", ".ENDM", "M"];
+
+// Whether a first pass returns its fault again at a further line, and at its end.
+fn first_returns_again(alloc: Global) -> Result<bool, AllocError> {
+    let fault = PassFault::Unfold(UnfoldFault::TooDeep);
+    let mut first = First::new(alloc)?;
+    let shown = take_lines(&mut first, ENDLESS) == Err(fault)
+        && take_lines(&mut first, &[".END"]) == Err(fault);
+    match first.end() {
+        Ok(symbols) => {
+            drop(symbols);
+            Ok(false)
+        }
+        Err(found) => Ok(shown && found == fault),
+    }
+}
+
+// Whether a second pass returns its fault again at a further line, and at its end, and writes nothing more.
+fn returns_again(mut second: Second, outputs: &mut Outputs) -> bool {
+    let fault = AsmFault::Unfold(UnfoldFault::TooDeep);
+    let shown = outputs.take_all(&mut second, ENDLESS) == Err(fault)
+        && outputs.has(46, "")
+        && outputs.take(&mut second, ".END") == Err(fault)
+        && outputs.has(46, "");
+    outputs.end(second) == Err(fault) && shown && outputs.has(46, "")
+}
+
+// The same of a second pass whose first one met no line.
+fn second_returns_again(alloc: Global) -> Result<bool, PassFault> {
+    let second = Second::new(alloc, symbols_of(alloc, &[])?)?;
+    let mut outputs = Outputs::new(alloc);
+    let shown = returns_again(second, &mut outputs);
+    drop(outputs);
+    Ok(shown)
+}
+
+#[test]
+fn a_fault_is_returned_again(rt: HostRuntime) -> Result<(), Fail> {
+    assert!(rt; first_returns_again(rt.alloc())?);
+    assert!(rt; second_returns_again(rt.alloc())?);
+    Ok(())
+}
