@@ -12,7 +12,7 @@ use std::alloc::Global;
 use std::process::Abort;
 use std::test::Fail;
 
-// The block of a directory of a module without a title, as far as the size of its blank section. The size, `TRANSFER` and a sum byte end it.
+// The block of a directory of a module without a title, up to the size of its blank section. The size, `TRANSFER` and a sum byte follow.
 pub(crate) const DIRECTORY: &[u8] = &[
     0x01, 0x00, 0x26, 0x00, 0x01, 0x00, 0x09, 0xB1, 0x8C, 0x3A, 0x00, 0x00, 0x00, 0x00, 0x01, 0xAF,
     0x94, 0x0F, 0x44, 0x05, 0x00, 0x00, 0x00, 0x00, 0x00, 0x00, 0x20, 0x05,

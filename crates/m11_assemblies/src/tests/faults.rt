@@ -36,10 +36,33 @@ static LINE_FAULTS: [(LineFault, AsmFault); 3] = [
     (LineFault::TooManyLines, AsmFault::TooMuchSource),
 ];
 
-// The same of unfolding.
-static UNFOLD_FAULTS: [(UnfoldFault, AsmFault); 2] = [
-    (UnfoldFault::TooDeep, AsmFault::Unfold(UnfoldFault::TooDeep)),
-    (UnfoldFault::NoMemory, AsmFault::NoMemory),
+// Faults of unfolding, each with its number and its name, and what they are to an assembly.
+static UNFOLD_FAULTS: [(UnfoldFault, u8, &str, AsmFault); 5] = [
+    (
+        UnfoldFault::TooDeep,
+        1,
+        "TooDeep",
+        AsmFault::Unfold(UnfoldFault::TooDeep),
+    ),
+    (
+        UnfoldFault::TooManyLines,
+        2,
+        "TooManyLines",
+        AsmFault::Unfold(UnfoldFault::TooManyLines),
+    ),
+    (
+        UnfoldFault::TooMuchText,
+        3,
+        "TooMuchText",
+        AsmFault::Unfold(UnfoldFault::TooMuchText),
+    ),
+    (
+        UnfoldFault::TooManyMacros,
+        4,
+        "TooManyMacros",
+        AsmFault::Unfold(UnfoldFault::TooManyMacros),
+    ),
+    (UnfoldFault::NoMemory, 90, "NoMemory", AsmFault::NoMemory),
 ];
 
 fn check_faults(rt: &impl Abort, rows: &[(AsmFault, u8, &str)]) {
@@ -61,9 +84,11 @@ fn check_line_faults(rt: &impl Abort, rows: &[(LineFault, AsmFault)]) {
     }
 }
 
-fn check_unfold_faults(rt: &impl Abort, rows: &[(UnfoldFault, AsmFault)]) {
-    for (fault, wanted) in rows {
-        assert!(rt; AsmFault::from(*fault) == *wanted, "{fault:?}");
+fn check_unfold_faults(rt: &impl Abort, rows: &[(UnfoldFault, u8, &str, AsmFault)]) {
+    for (fault, number, name, wanted) in rows {
+        assert_eq!(rt; fault.number(), *number, "{name}");
+        assert_eq!(rt; fault.name(), *name);
+        assert!(rt; AsmFault::from(*fault) == *wanted, "{name}");
     }
 }
 

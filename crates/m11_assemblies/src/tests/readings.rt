@@ -1,4 +1,4 @@
-//! Assemblies whose second reading gives another text than the first one: names and sizes are those of the first, words those of the second.
+//! Assemblies whose second reading gives another text: names and sizes are those of the first one, words those of the second.
 
 use super::{
     DIRECTORY, END_OF_GSD, END_OF_MODULE, IN_BLANK_SECTION, TRANSFER, Wanted, assembled_from, left,
