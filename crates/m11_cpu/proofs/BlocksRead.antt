@@ -90,10 +90,10 @@ StandsBefore (AtEnd address) read = ⊥
 StandsBefore AfterFault read = ⊥
 
 pub next_is : (stage : TapeStage) (read : Reader) (old new : Place) (after : TapeStage)
-    (answer : Result TapePart TapeFault)
-    → StandsBefore stage read → ReadsNext stage old new after answer
-    → ReadsPart (λ part. part) read old new answer × (after ≡ stage_after answer)
-next_is BeforeBlock read old new after answer stands r = rw stands r
-next_is (InBlock left total) read old new after answer stands r = rw stands.1 r
-next_is (AtEnd address) read old new after answer stands r = absurd stands
-next_is AfterFault read old new after answer stands r = absurd stands
+    (result : Result TapePart TapeFault)
+    → StandsBefore stage read → ReadsNext stage old new after result
+    → ReadsPart (λ part. part) read old new result × (after ≡ stage_after result)
+next_is BeforeBlock read old new after result stands r = rw stands r
+next_is (InBlock left total) read old new after result stands r = rw stands.1 r
+next_is (AtEnd address) read old new after result stands r = absurd stands
+next_is AfterFault read old new after result stands r = absurd stands

@@ -44,11 +44,11 @@ module _ (old here : Place) (before now : List ℕ) (address count index : ℕ) 
   pub is_open : index < count → left_of stage ≡ 0 → stage ≡ AfterFault
   is_open more none = some_left more (ap left_of (sym t.stands) ∙ none)
 
-  pub byte_read : (new : Place) (after : TapeStage) (answer : Result ℕ TapeFault)
-      → ReadsByte stage here new after answer
-      → ReadsPart (λ byte. byte) data_byte here new answer
-      × (after ≡ stage_within (count - length taken) (sum (tape_header address count ++ taken) % 256) answer)
-  byte_read new after answer r = rw t.stands at r
+  pub byte_read : (new : Place) (after : TapeStage) (result : Result ℕ TapeFault)
+      → ReadsByte stage here new after result
+      → ReadsPart (λ byte. byte) data_byte here new result
+      × (after ≡ stage_within (count - length taken) (sum (tape_header address count ++ taken) % 256) result)
+  byte_read new after result r = rw t.stands at r
 
   pub some_put : index < count → PutSome old here before now address count taken
   some_put more = record { took = t.took; some = omega (arith, t.long); inside = t.inside; memory = t.memory }

@@ -65,13 +65,13 @@ pub if_not : {A : Type 0} (test : Bool) (a b : Dialogue A) (old new : Devices) (
 if_not test a b old new y e h = let P : Bool → Type 0 = λ t. Does (cond t a b) old new y in subst P (sym e) h
 
 -- the same, where a call has returned the test
-pub if_so_by : {A : Type 0} (answer test : Bool) (a b : Dialogue A) (old new : Devices) (y : A) → answer ≡ test
-    → answer ≡ true → Does a old new y → Does (cond test a b) old new y
-if_so_by answer test a b old new y f e h = if_so test a b old new y (sym f ∙ e) h
+pub if_so_by : {A : Type 0} (found test : Bool) (a b : Dialogue A) (old new : Devices) (y : A) → found ≡ test
+    → found ≡ true → Does a old new y → Does (cond test a b) old new y
+if_so_by found test a b old new y f e h = if_so test a b old new y (sym f ∙ e) h
 
-pub if_not_by : {A : Type 0} (answer test : Bool) (a b : Dialogue A) (old new : Devices) (y : A) → answer ≡ test
-    → answer ≡ false → Does b old new y → Does (cond test a b) old new y
-if_not_by answer test a b old new y f e h = if_not test a b old new y (sym f ∙ e) h
+pub if_not_by : {A : Type 0} (found test : Bool) (a b : Dialogue A) (old new : Devices) (y : A) → found ≡ test
+    → found ≡ false → Does b old new y → Does (cond test a b) old new y
+if_not_by found test a b old new y f e h = if_not test a b old new y (sym f ∙ e) h
 
 -- what a reply leads to
 pub asks : {A : Type 0} (by : Reply → Dialogue A) (i i' : Input) (new : Devices) (y : A) (reply : Reply)

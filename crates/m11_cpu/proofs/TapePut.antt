@@ -42,24 +42,24 @@ module _ (old here : Place) (before now : List ℕ) (stage : TapeStage) (blocks 
   pub block_ended : left_of stage ≡ 0
   block_ended = none_left stage blocks l.stands
 
-  module _ (new : Place) (after : TapeStage) (answer : Result TapePart TapeFault)
-      (r : ReadsNext stage here new after answer) where
-    part_read : ReadsPart (λ part. part) (part_after first_part blocks) here new answer × (after ≡ stage_after answer)
-    part_read = next_is stage (part_after first_part blocks) here new after answer l.stands r
+  module _ (new : Place) (after : TapeStage) (result : Result TapePart TapeFault)
+      (r : ReadsNext stage here new after result) where
+    part_read : ReadsPart (λ part. part) (part_after first_part blocks) here new result × (after ≡ stage_after result)
+    part_read = next_is stage (part_after first_part blocks) here new after result l.stands r
 
-    pub stage_is : after ≡ stage_after answer
+    pub stage_is : after ≡ stage_after result
     stage_is = part_read.1
 
-    part_as : (same : Result TapePart TapeFault) → answer ≡ same
+    part_as : (same : Result TapePart TapeFault) → result ≡ same
         → ReadsPart (λ part. part) (part_after first_part blocks) here new same
     part_as same is = subst
         (λ (a : Result TapePart TapeFault). ReadsPart (λ part. part) (part_after first_part blocks) here new a) is
         part_read.0
 
-    pub part_stops : (fault : TapeFault) → answer ≡ Err fault → Loads old new before now (Err (Tape fault))
+    pub part_stops : (fault : TapeFault) → result ≡ Err fault → Loads old new before now (Err (Tape fault))
     part_stops fault is = inl (record { blocks = blocks; following = here; put = l.put; stops = part_as (Err fault) is })
 
-    pub tape_ends : (start : ℕ) → answer ≡ Ok (Start start) → LoadsTape old new before now start
+    pub tape_ends : (start : ℕ) → result ≡ Ok (Start start) → LoadsTape old new before now start
     tape_ends start is =
         let last : Reads (part_after first_part blocks) here new (Start start) = part_as (Ok (Start start)) is in
         record {
@@ -70,7 +70,7 @@ module _ (old here : Place) (before now : List ℕ) (stage : TapeStage) (blocks 
           tape = is_tape blocks start old here new l.put.given l.put.took l.put.hold last;
         }
 
-    module _ (address count : ℕ) (is : answer ≡ Ok (Data address count)) where
+    module _ (address count : ℕ) (is : result ≡ Ok (Data address count)) where
       header : Reads (part_after first_part blocks) here new (Data address count)
       header = part_as (Ok (Data address count)) is
 
@@ -136,13 +136,13 @@ stop_counts read a b fault.Failed s = absurd s
 stop_counts read a b fault.NoTransfer s = s.1.2.1 ∙ s.1.1.faults
 stop_counts read a b fault.TooMuch s = s.1.2.2 ∙ s.1.1.faults
 
-counts_after : (first here : ℕ) (new : ℕ) (answer : Result ℕ LoadFault) → here ≡ first → CountsFailure here new answer
-    → CountsFailure first new answer
-counts_after first here new answer same counts =
-    subst (λ (n : ℕ). CountsFailure n new answer) same counts
+counts_after : (first here : ℕ) (new : ℕ) (result : Result ℕ LoadFault) → here ≡ first → CountsFailure here new result
+    → CountsFailure first new result
+counts_after first here new result same counts =
+    subst (λ (n : ℕ). CountsFailure n new result) same counts
 
-load_counts : (old new : Place) (before after : List ℕ) (answer : Result ℕ LoadFault)
-    → Loads old new before after answer → CountsFailure old.faults new.faults answer
+load_counts : (old new : Place) (before after : List ℕ) (result : Result ℕ LoadFault)
+    → Loads old new before after result → CountsFailure old.faults new.faults result
 load_counts old new before after (Ok start) l = l.last.took.faults ∙ l.put.took.faults
 load_counts old new before after (Err (Tape fault)) (inl s) =
     counts_after old.faults s.following.faults new.faults (Err (Tape fault)) s.put.took.faults
@@ -155,7 +155,7 @@ load_counts old new before after (Err (Tape fault)) (inr s) =
 load_counts old new before after (Err OutsideMemory) s =
     let part = s.3 in s.4.1.faults ∙ part.part.took.faults ∙ part.header.took.faults ∙ part.put.took.faults
 
-pub counts_from : (text text' : Option Text) (faults faults' : ℕ) (before after : List ℕ) (answer : Result ℕ LoadFault)
-    → LoadsFrom text text' faults faults' before after answer → CountsFailure faults faults' answer
-counts_from text text' faults faults' before after answer l =
-    load_counts (place text faults most_bytes) (place text' faults' l.0) before after answer l.1
+pub counts_from : (text text' : Option Text) (faults faults' : ℕ) (before after : List ℕ) (result : Result ℕ LoadFault)
+    → LoadsFrom text text' faults faults' before after result → CountsFailure faults faults' result
+counts_from text text' faults faults' before after result l =
+    load_counts (place text faults most_bytes) (place text' faults' l.0) before after result l.1

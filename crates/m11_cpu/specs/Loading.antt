@@ -104,8 +104,8 @@ Loads old new before after (Err OutsideMemory) =
 
 -- the same of a feed, of which at most n bytes as a tape may have are read
 abbrev pub LoadsFrom : Option Text → Option Text → ℕ → ℕ → Bytes → Bytes → Result ℕ LoadFault → Type 0
-LoadsFrom text text' faults faults' before after answer =
-    (room : ℕ) × Loads (place text faults most_bytes) (place text' faults' room) before after answer
+LoadsFrom text text' faults faults' before after result =
+    (room : ℕ) × Loads (place text faults most_bytes) (place text' faults' room) before after result
 
 -- the feed's count of failures reports one where the load does, and stays where it does not
 abbrev pub CountsFailure : ℕ → ℕ → Result ℕ LoadFault → Type 0
@@ -114,9 +114,9 @@ CountsFailure faults faults' _ = faults' ≡ faults
 
 -- the same into a machine, of which nothing but the memory changes
 abbrev pub LoadsInto : Option Text → Option Text → ℕ → ℕ → Machine → Machine → Result ℕ LoadFault → Type 0
-LoadsInto text text' faults faults' before after answer =
-    LoadsFrom text text' faults faults' before.memory after.memory answer
-    × CountsFailure faults faults' answer × (after ≡ record before { memory = after.memory })
+LoadsInto text text' faults faults' before after result =
+    LoadsFrom text text' faults faults' before.memory after.memory result
+    × CountsFailure faults faults' result × (after ≡ record before { memory = after.memory })
 
 -- ---- one block
 

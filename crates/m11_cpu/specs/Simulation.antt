@@ -43,7 +43,7 @@ run_devices tape console messages = record { tape = tape; console = console; mes
 
 -- the tape was loaded into a new machine
 abbrev pub Loaded : ℕ → Input → Input → Machine → Result ℕ LoadFault → Type 0
-Loaded words tape tape' m answer = LoadsInto tape.text tape'.text tape.faults tape'.faults (new_machine words) m answer
+Loaded words tape tape' m result = LoadsInto tape.text tape'.text tape.faults tape'.faults (new_machine words) m result
 
 -- the tape was loaded, and the program was run from its start, or from the one that replaces it
 pub record HasRun (request : Request) (before after : RunDevices) (ran : Ran) (m : Machine) : Type 0 where

@@ -11,7 +11,9 @@ use crate::stop::LastingStop;
 use m11_base::{Feed, Sink};
 
 impl Machine {
-    /// The word at an address.
+    /// The word at an even address. A device's register may ask `feed` for a byte.
+    ///
+    /// `Traps` through 4 where the address is odd, or nothing lies there; `Stops` where `feed` failed.
     #[tactic(auto, using(crate::proofs::Dialogues::dialogues), unfolding(crate::specs::Access::load_word))]
     #[inline(always)]
     pub(crate) fn load_word<F: Feed>(&mut self, address: u16, feed: &mut F) -> Result<u16, Abort>
@@ -27,7 +29,10 @@ impl Machine {
         self.load_device(address, feed)
     }
 
-    /// The byte at an address.
+    /// The byte at an address, even or odd. A device is read at its even address alone: the high bytes of its registers
+    /// are 0.
+    ///
+    /// `Traps` through 4 where nothing lies there; `Stops` where `feed` failed.
     #[tactic(auto, using(crate::proofs::Dialogues::dialogues), unfolding(crate::specs::Access::load_byte))]
     #[inline(always)]
     pub(crate) fn load_byte<F: Feed>(&mut self, address: u16, feed: &mut F) -> Result<u16, Abort>
@@ -56,7 +61,8 @@ impl Machine {
         self.device_word(address, feed)
     }
 
-    // The word of a register of a device.
+    // The word of a device's register, of which eight bits count. A read of the receiver's buffer takes its byte; the
+    // transmitter's buffer can only be written, and reads 0.
     #[tactic(auto, using(crate::proofs::Dialogues::dialogues), unfolding(crate::specs::Access::load_device))]
     #[cold]
     #[inline(never)]
@@ -88,7 +94,7 @@ impl Machine {
         Ok(self.receiver.status())
     }
 
-    // Asks the input for a byte.
+    // Asks the input for one byte. Its end is kept, since it is not asked again then; where it fails, the machine stops.
     #[tactic(auto, using(crate::proofs::Dialogues::dialogues), unfolding(crate::specs::Access::receive))]
     fn receive<F: Feed>(&mut self, feed: &mut F) -> Result<(), Abort>
         ensures { Does (receive self.old) (input_alone (F.text feed.old) (F.faults feed.old))
@@ -117,7 +123,9 @@ impl Machine {
         u16::from(self.receiver.byte)
     }
 
-    /// Puts a word at an address.
+    /// Puts a word at an even address. A device's register may send a byte to `sink`.
+    ///
+    /// `Traps` through 4 where the address is odd, or nothing lies there; `Stops` where `sink` failed.
     #[tactic(auto, using(crate::proofs::Dialogues::dialogues), unfolding(crate::specs::Access::store_word))]
     #[inline(always)]
     pub(crate) fn store_word<S: Sink>(
@@ -139,7 +147,10 @@ impl Machine {
         self.store_device(address, value, sink)
     }
 
-    /// Puts a byte, which is below 256, at an address.
+    /// Puts a byte at an address, even or odd. A device is written at its even address alone: the high bytes of its
+    /// registers take nothing.
+    ///
+    /// `Traps` through 4 where nothing lies there; `Stops` where `sink` failed.
     #[tactic(auto, using(crate::proofs::Dialogues::dialogues), unfolding(crate::specs::Access::store_byte))]
     #[inline(always)]
     pub(crate) fn store_byte<S: Sink>(
@@ -161,7 +172,7 @@ impl Machine {
         self.store_device(address, u16::from(value), sink)
     }
 
-    // Puts a word at an even address past the memory. What it calls is apart for the same reason.
+    // Puts a word at an even address past the memory. What it calls is apart for the reason of `load_device`.
     #[tactic(auto, using(crate::proofs::Dialogues::dialogues), unfolding(crate::specs::Access::store_device))]
     #[inline(always)]
     fn store_device<S: Sink>(&mut self, address: u16, value: u16, sink: &mut S) -> Result<(), Abort>
@@ -171,7 +182,8 @@ impl Machine {
         self.set_device_word(address, value, sink)
     }
 
-    // Puts a word into a register of a device.
+    // Puts a word into a device's register. Of the console's two statuses bit 100 alone is kept, the receiver's buffer
+    // takes nothing, and the processor status keeps its T.
     #[tactic(auto, using(crate::proofs::Dialogues::dialogues), unfolding(crate::specs::Access::store_device))]
     #[cold]
     #[inline(never)]
@@ -198,7 +210,8 @@ impl Machine {
         Ok(())
     }
 
-    // Sends a byte to the output.
+    // Sends a byte to the output at once, so that a prompt is seen before input is asked for. Where that fails, the
+    // machine stops.
     #[tactic(auto, using(crate::proofs::Dialogues::sends_at_once), unfolding(crate::specs::Access::send))]
     fn send<S: Sink>(&mut self, byte: u8, sink: &mut S) -> Result<(), Abort>
         ensures { Does (send byte self.old) (output_alone (S.text sink.old) (S.faults sink.old))
@@ -227,7 +240,7 @@ fn put_byte<S: Sink>(sink: &mut S, byte: u8) -> bool
 // The byte at an odd address past the memory: the high byte of a register, which is 0.
 #[inline(always)]
 fn load_odd(address: u16) -> Result<u16, Abort>
-    ensures answer { result ≡ load_odd address }
+    ensures value { result ≡ load_odd address }
     ensures byte { IfOk result (λ value. value < 256) }
 {
     match device_at(address - address % 2) {

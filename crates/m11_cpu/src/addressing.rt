@@ -20,7 +20,8 @@ pub enum OperandLocation {
 }
 
 impl Machine {
-    /// The place of an operand, its register being stepped as the mode says.
+    /// Where an operand lies: its register in mode 0, else its effective address. Modes 2 to 5 step the register before
+    /// any access through it, and it stays stepped where that access traps or stops.
     #[inline(always)]
     pub(crate) fn place_of<F: Feed>(
         &mut self,
@@ -59,7 +60,7 @@ impl Machine {
         }
     }
 
-    // The place whose address is the word at this address.
+    // The last step of modes 3, 5 and 7: the effective address is the word at this address.
     #[inline(never)]
     fn deferred<F: Feed>(&mut self, address: u16, feed: &mut F) -> Result<OperandLocation, Abort>
         ensures { Does (deferred address self.old) (input_alone (F.text feed.old) (F.faults feed.old))
@@ -68,7 +69,8 @@ impl Machine {
         Ok(OperandLocation::InMemory(self.load_word(address, feed)?))
     }
 
-    // The address that a register and the next word of the program add up to.
+    // Modes 6 and 7: the next word of the program and the register add up to an address, modulo 200000. The word is read
+    // first, so PC as the register counts as stepped over it.
     #[inline(always)]
     fn indexed<F: Feed>(&mut self, register: Register, feed: &mut F) -> Result<u16, Abort>
         ensures { Does (indexed register self.old) (input_alone (F.text feed.old) (F.faults feed.old))
@@ -90,7 +92,7 @@ impl Machine {
         Ok(word)
     }
 
-    /// What a register holds before it steps forward.
+    /// Steps a register forward by some bytes, modulo 200000, and returns what it held before.
     #[inline(always)]
     pub(crate) fn forward(&mut self, register: Register, bytes: u16) -> u16
         ensures { (result, self.new) ≡ forward register bytes self.old }
@@ -100,7 +102,7 @@ impl Machine {
         value
     }
 
-    /// What a register holds after its step back.
+    /// Steps a register back by some bytes, modulo 200000, and returns what it holds then.
     #[inline(always)]
     pub(crate) fn back(&mut self, register: Register, bytes: u16) -> u16
         ensures { (result, self.new) ≡ back register bytes self.old }
@@ -110,7 +112,7 @@ impl Machine {
         value
     }
 
-    /// The word or byte in a place.
+    /// What lies in a place: a word, or a byte below 256. A byte in a register is its low byte.
     #[tactic(auto, using(crate::proofs::Dialogues::dialogues), unfolding(crate::specs::Addressing::fetch))]
     #[inline(always)]
     pub(crate) fn fetch<F: Feed>(
@@ -133,7 +135,8 @@ impl Machine {
         }
     }
 
-    /// The word or byte that an operand means, fetched wholly: its place, and what is there.
+    /// The value of an operand, fetched wholly, with the steps of its register: a source has to be fetched before the
+    /// place of its destination is formed.
     #[inline(always)]
     pub(crate) fn fetch_operand<F: Feed>(
         &mut self,
@@ -149,7 +152,7 @@ impl Machine {
         self.fetch(place, size, feed)
     }
 
-    /// Puts a word, or a byte below 256, into a place. A byte in a register is its low byte.
+    /// Puts a word, or the low byte of one, into a place. A byte leaves the high byte of a register as it was.
     #[tactic(auto, using(crate::proofs::Dialogues::dialogues), unfolding(crate::specs::Addressing::store))]
     #[inline(always)]
     pub(crate) fn store<S: Sink>(
@@ -200,7 +203,7 @@ impl Machine {
     }
 }
 
-// A word with 0 for its low byte.
+// The high byte of a word where it stands, to be joined with another low byte.
 #[inline(always)]
 pub(crate) fn without_low_byte(word: u16) -> u16
     ensures high { result ≡ without_low_byte word }
@@ -209,7 +212,7 @@ pub(crate) fn without_low_byte(word: u16) -> u16
     word / 256 * 256
 }
 
-// How many bytes modes 2 and 4 step a register.
+// How many bytes modes 2 and 4 step a register: SP and PC always have to be even, so a byte steps them by 2 too.
 #[inline(always)]
 pub(crate) fn step_of(size: Size, register: Register) -> u16
     ensures { result ≡ step_of size register }

@@ -57,7 +57,7 @@ impl Receiver {
         !self.is_done && !self.has_ended
     }
 
-    /// The bits of its status.
+    /// Its status: 200 where a byte is there that was not read yet, and 100 where that bit was set.
     pub(crate) fn status(self) -> u16
         ensures bits { result ≡ receiver_bits self }
         ensures byte { result < 256 }
@@ -67,7 +67,7 @@ impl Receiver {
 }
 
 impl Transmitter {
-    /// The bits of its status.
+    /// Its status: 200 always, and 100 where that bit was set.
     pub(crate) fn status(self) -> u16
         ensures bits { result ≡ transmitter_bits self }
         ensures byte { result < 256 }

@@ -1,4 +1,4 @@
-//! The machine.
+//! The machine: what it holds, what is public of it, and what its steps read and write.
 
 ghost use Rattle.std.specs.Prelude.{◌≡◌, ◌<◌, ◌≤◌, IfOk, nat_lt};
 ghost use Rattle.m11_base.specs.declared.operand.Register.TheVariants.{Pc};
@@ -65,14 +65,14 @@ impl Machine {
         load_tape(&mut self.memory, tape)
     }
 
-    /// Puts the program counter at an address.
+    /// Puts the program counter at any address. Where it is odd, or no memory is there, the next step traps through 4.
     pub fn start_at(&mut self, address: u16)
         ensures { self.new ≡ with_register Pc address self.old }
     {
         self.set_register(Register::Pc, address);
     }
 
-    /// What a register holds.
+    /// What a register holds; the program counter has the address of the next instruction.
     #[inline(always)]
     pub fn register(&self, register: Register) -> u16
         ensures { result ≡ register_of register self.now }
@@ -80,7 +80,7 @@ impl Machine {
         self.registers[usize::from(register.number())]
     }
 
-    /// The processor status word.
+    /// The processor status word, of which eight bits count: the priority, T, N, Z, V and C.
     pub fn psw(&self) -> u16
         ensures word { result ≡ psw_in self.now }
         ensures byte { result < 256 }
@@ -103,7 +103,7 @@ impl Machine {
         self.memory.byte(address)
     }
 
-    /// Puts a word into a register.
+    /// Puts a word into a register. The program counter too takes any: an odd one traps at the next step.
     #[inline(always)]
     pub(crate) fn set_register(&mut self, register: Register, value: u16)
         ensures { self.new ≡ with_register register value self.old }
@@ -111,7 +111,7 @@ impl Machine {
         self.registers[usize::from(register.number())] = value;
     }
 
-    /// Steps a register forward by some bytes.
+    /// Steps a register forward by some bytes, modulo 200000.
     #[inline(always)]
     pub(crate) fn advance(&mut self, register: Register, bytes: u16)
         ensures { self.new ≡ advanced register bytes self.old }

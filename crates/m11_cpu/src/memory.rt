@@ -47,7 +47,7 @@ impl Memory {
         usize::from(address / 2) < self.words.len()
     }
 
-    /// The address so far after another one, where the memory has a byte there.
+    /// The address `distance` bytes after another one; None where the memory has no byte there.
     #[tactic(auto, using(crate::proofs::WordsAsBytes::length_of_bytes))]
     pub(crate) fn place_past(&self, address: u16, distance: u16) -> Option<u16>
         ensures some { IfSome result (λ place. (place ≡ address + distance) × (place < length self.now)) }

@@ -14,7 +14,7 @@ use m11_arithmetic::Computed;
 use m11_base::{Mode, Operand, Register, Size};
 
 impl Machine {
-    // The word or byte that an operand means.
+    // What `fetch_operand` gives where all of it lies in registers and memory; else None, and nothing changes.
     #[tactic(auto, using(crate::proofs::QuickDone::in_register, crate::proofs::QuickDone::place_fetched, crate::proofs::QuickDone::plain_fetched))]
     #[inline(always)]
     pub(crate) fn near_operand(&mut self, operand: Operand, size: Size) -> Option<u16>
@@ -35,7 +35,8 @@ impl Machine {
         }
     }
 
-    // The place of an operand.
+    // Where `place_of` finds an operand, if what lies there can be read and written with no device and no trap; else None,
+    // and nothing changes.
     #[tactic(auto, using(crate::proofs::QuickDone::in_register))]
     #[inline(always)]
     pub(crate) fn near_place(&mut self, operand: Operand, size: Size) -> Option<OperandLocation>
@@ -53,7 +54,7 @@ impl Machine {
         }
     }
 
-    // The word or byte in a place.
+    // What `fetch` gives of a place that was found near: no trap can come.
     #[tactic(auto, using(crate::proofs::QuickDone::plain_fetched), unfolding(crate::specs::Addressing::fetch))]
     #[inline(always)]
     pub(crate) fn near_value(&self, place: OperandLocation, size: Size) -> u16
@@ -68,7 +69,8 @@ impl Machine {
         }
     }
 
-    // The place in memory that an operand means. Where it isn't one, nothing changes.
+    // The effective address of an operand, where it lies in memory; else None, and nothing changes. Modes 5 and 7 are left
+    // to the general step.
     #[tactic(auto, using(crate::proofs::QuickDone::by_register, crate::proofs::QuickDone::by_increment, crate::proofs::QuickDone::by_decrement, crate::proofs::QuickDone::by_index))]
     #[inline(always)]
     pub(crate) fn plain_place(&mut self, operand: Operand, size: Size) -> Option<u16>
@@ -151,7 +153,7 @@ impl Machine {
         Some(address)
     }
 
-    // The word or byte at an address in memory.
+    // What lies at an address that `is_plain`: a word, or a byte below 256.
     #[inline(always)]
     pub(crate) fn plain(&self, size: Size, address: u16) -> u16
         requires { is_plain size address self.now.memory ≡ true }
@@ -164,7 +166,8 @@ impl Machine {
         }
     }
 
-    // Whether a word or byte lies in memory.
+    // Whether a word or byte can be read and written at an address with no device and no trap: it lies in memory, and a
+    // word at an even address.
     #[inline(always)]
     pub(crate) fn is_plain(&self, size: Size, address: u16) -> bool
         ensures { result ≡ is_plain size address self.now.memory }
@@ -175,7 +178,7 @@ impl Machine {
         }
     }
 
-    // Puts a result into a place, and then its condition codes.
+    // What `put_result` does at a place that was found near: it puts the result, and then the condition codes.
     #[tactic(auto, using(crate::proofs::QuickDone::bind_comes, crate::proofs::QuickDone::comes_at, crate::proofs::QuickDone::finished_stopped, crate::proofs::QuickDone::finished_trace), unfolding(crate::specs::Addressing::put_result))]
     #[inline(always)]
     pub(crate) fn put_computed(&mut self, place: OperandLocation, size: Size, computed: Computed)
@@ -187,7 +190,7 @@ impl Machine {
         self.finish(place, computed.codes);
     }
 
-    // Puts a word or byte into a place.
+    // What `store` does at a place that was found near: a byte leaves the high byte of a register as it was.
     #[tactic(auto, unfolding(crate::specs::Addressing::store))]
     #[inline(always)]
     fn put_near(&mut self, place: OperandLocation, size: Size, value: u16)
@@ -207,7 +210,7 @@ impl Machine {
         }
     }
 
-    // Puts a word or byte at an address in memory.
+    // Puts a word, or the low byte of one, at an address that `is_plain`.
     #[tactic(auto, using(crate::proofs::QuickDone::word_stored, crate::proofs::QuickDone::byte_stored))]
     #[inline(always)]
     pub(crate) fn set_plain(&mut self, size: Size, address: u16, value: u16)

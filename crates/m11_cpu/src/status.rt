@@ -42,7 +42,7 @@ impl ProcessorStatus {
         }
     }
 
-    /// The word of the status.
+    /// The status as a word; the bits that this machine doesn't have are 0.
     pub(crate) fn bits(self) -> u16
         ensures bits { result ≡ psw_of self }
         ensures byte { result < 256 }

@@ -1,4 +1,4 @@
-//! Why a run ends, and what a step yields.
+//! Why a run ends, and what a step yields. (Numbers and names are this project's own: docs/PROCESSOR.md, "Stops".)
 
 ghost use Rattle.std.specs.Prelude.{◌≡◌};
 
@@ -13,7 +13,7 @@ pub enum Stop {
     Wait,
     /// 4: a trap could not push onto the stack.
     StackFault,
-    /// 5: the tape says no start.
+    /// 5: the tape says no start: its transfer address is odd.
     NoStart,
     /// 6: the console's input failed.
     InputFault,
@@ -32,19 +32,19 @@ pub enum LastingStop {
     OutputFault,
 }
 
-/// The outcome of a step.
+/// What a step yields: the machine can go on, or it stops.
 #[derive(Clone, Copy, Debug, PartialEq, Eq)]
 pub enum Turn {
-    /// The next instruction can be begun.
+    /// The next instruction can be begun, also after a trap.
     Next,
-    /// The machine stops.
+    /// The machine stops. After HALT and WAIT a further step goes on, after any other stop it returns the same one.
     Stopped(Stop),
 }
 
 impl LastingStop {
     ghost use Rattle.m11_cpu.specs.Stop.{stop_of};
 
-    /// The stop that it is.
+    /// The same stop among all ways in which a run ends, for its number and its name.
     pub fn stop(self) -> Stop
         ensures { result ≡ stop_of self }
     {
@@ -56,7 +56,7 @@ impl LastingStop {
     }
 }
 
-/// The outcome of a run of a program.
+/// The outcome of a run whose stop was reported: the stop, from which the command takes its status.
 #[derive(Clone, Copy, Debug, PartialEq, Eq)]
 pub struct SimDone {
     pub stop: Stop,
