@@ -629,12 +629,14 @@ module _ (plan : Planned) (before : List Part) (a b : Outputs) (s s' : Emitting)
       of_record plan before a b s s' items result (there (content_of items) items bytes e)
       (subst Q (record_is items bytes e) h)
 
-  pub relocations_block : record_kind bytes ≡ Ok kind.Relocations
-      → TakesParts plan before (call_of a b s s') (Relocations ∷ relocated_parts (record_relocations bytes)) result
-      → TakesBlock plan before (call_of a b s s') items result
-  relocations_block k h =
-      let P : List Part → Type 0 = λ parts. TakesParts plan before (call_of a b s s') parts result in
-      record_block (subst P (sym (relocation_parts (content_of bytes) k)) h)
+-- a record of relocations was taken, by its bytes
+pub relocation_record : (plan : Planned) (before : List Part) (a b : Outputs) (s s' : Emitting) (bytes : List ℕ)
+    (result : Result (Unit {0}) LinkFault) → record_kind bytes ≡ Ok kind.Relocations
+    → TakesParts plan before (call_of a b s s') (Relocations ∷ relocated_parts (record_relocations bytes)) result
+    → TakesParts plan before (call_of a b s s') (record_parts bytes) result
+relocation_record plan before a b s s' bytes result k h =
+    let P : List Part → Type 0 = λ parts. TakesParts plan before (call_of a b s s') parts result in
+    subst P (sym (relocation_parts (content_of bytes) k)) h
 
 -- ---- the transfer block, by calls
 

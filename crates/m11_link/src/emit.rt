@@ -141,7 +141,7 @@ impl Emit {
         done
     }
 
-    // The end of the second pass, which is let go afterwards.
+    // What `end` does, by a borrow: so that `end` can let the pass go in one call, whatever comes.
     fn finish<S: Sink, T: Sink, U: Sink>(
         &mut self,
         tape: &mut S,
@@ -162,7 +162,7 @@ impl Emit {
         self.write_transfer(tape, map, messages)
     }
 
-    // Takes one block where no fault came before.
+    // What `feed` does where no fault came before.
     fn take_block<S: Sink, T: Sink, U: Sink>(
         &mut self,
         block: &Block,
@@ -180,9 +180,30 @@ impl Emit {
         ensures stays { is_some map.new ≡ is_some map.old }
     {
         let record = read_record(block)?;
+        self.take_record(&record, tape, map, messages)
+    }
+
+    // Takes one record. Relocations are stored while they are judged, since the text that they change is held; what any
+    // other record makes is written once all of it is judged.
+    fn take_record<S: Sink, T: Sink, U: Sink>(
+        &mut self,
+        record: &Record<'_>,
+        tape: &mut S,
+        map: &mut Option<T>,
+        messages: &mut U,
+    ) -> Result<(), LinkFault>
+        requires { IsRecord «record».now }
+        ensures takes { (plan : Planned) (before : List Part) → EmitStands plan before self.old
+            → TakesParts plan before (call_of
+            (outputs_of S.Sink T.Sink U.Sink tape.old map.old messages.old)
+            (outputs_of S.Sink T.Sink U.Sink tape.new map.new messages.new)
+            self.old self.new) (record_parts «record».now) result }
+        ensures kept { self.new.fault ≡ self.old.fault }
+        ensures stays { is_some map.new ≡ is_some map.old }
+    {
         match record.kind() {
-            RecordKind::Relocations => self.take_relocations(&record, map, messages),
-            _ => self.take_other(&record, tape, map, messages),
+            RecordKind::Relocations => self.take_relocations(record, map, messages),
+            _ => self.take_other(record, tape, map, messages),
         }
     }
 
@@ -277,7 +298,7 @@ impl Emit {
         Ok(())
     }
 
-    // Where the next record stands.
+    // Where the next record stands. It is asked for before the rules take the record, which may end the module.
     fn location(&self) -> ModuleSection
         ensures { result ≡ record { module_index = self.now.known.modules; section = self.now.known.section } }
     {
@@ -311,7 +332,7 @@ impl Emit {
         self.reporter.note(location, record, tape, messages)
     }
 
-    // Takes the end of an object where no fault came before. After a whole module no text is held.
+    // What `end_file` does where no fault came before. After a whole module no text is held.
     fn take_end<T: Sink, U: Sink>(
         &mut self,
         map: &mut Option<T>,
@@ -352,7 +373,8 @@ impl Emit {
         })
     }
 
-    // The messages on undefined globals and the map, where they were not written before.
+    // Writes the messages on undefined globals and the map, once: at the first call that isn't refused, so that a second
+    // pass that is refused at once leaves the outputs empty.
     fn begin<T: Sink, U: Sink>(
         &mut self,
         map: &mut Option<T>,

@@ -14,8 +14,8 @@ use m11_link_text::{
     global_line, limit_line, name_line, section_line, transfer_line, undefined_line,
 };
 
-/// The messages on undefined globals, and then the map; returns how many messages there are with the `count` of those
-/// before.
+/// Puts the messages on undefined globals, and then the map, which the plan of the first pass decides alone. Returns how
+/// many messages there are with the `count` of those before. `Write` where an output failed.
 pub(crate) fn put_front<T: Sink, U: Sink>(
     plan: &Plan,
     map: &mut Option<T>,
@@ -93,7 +93,7 @@ fn put_if_undefined<U: Sink>(
     }
 }
 
-// The map.
+// Puts the map in its five parts, or nothing where no map is asked for.
 fn put_map_lines<T: Sink>(plan: &Plan, map: &mut Option<T>) -> Result<(), LinkFault>
     ensures writes { (tape messages : Output) → Writes
         (outputs tape (optional_output T.Sink map.old) messages)
@@ -108,7 +108,7 @@ fn put_map_lines<T: Sink>(plan: &Plan, map: &mut Option<T>) -> Result<(), LinkFa
     put_last_lines(plan, map)
 }
 
-// The sections, under their word.
+// The part of sections. Its word stands even where there are none.
 fn put_sections<T: Sink>(plan: &Plan, map: &mut Option<T>) -> Result<(), LinkFault>
     ensures writes { (tape messages : Output) → Writes
         (outputs tape (optional_output T.Sink map.old) messages)
@@ -121,7 +121,7 @@ fn put_sections<T: Sink>(plan: &Plan, map: &mut Option<T>) -> Result<(), LinkFau
     put_each_section(plan, map)
 }
 
-// A line for each section.
+// A line for each section, in the order in which objects enter them first.
 fn put_each_section<T: Sink>(plan: &Plan, map: &mut Option<T>) -> Result<(), LinkFault>
     ensures writes { (tape messages : Output) → Writes
         (outputs tape (optional_output T.Sink map.old) messages)
@@ -141,7 +141,7 @@ fn put_each_section<T: Sink>(plan: &Plan, map: &mut Option<T>) -> Result<(), Lin
     Ok(())
 }
 
-// The globals that are defined, under their word.
+// The part of defined globals. Its word stands even where there are none.
 fn put_globals<T: Sink>(plan: &Plan, map: &mut Option<T>) -> Result<(), LinkFault>
     ensures writes { (tape messages : Output) → Writes
         (outputs tape (optional_output T.Sink map.old) messages)
@@ -154,7 +154,7 @@ fn put_globals<T: Sink>(plan: &Plan, map: &mut Option<T>) -> Result<(), LinkFaul
     put_each_global(plan, map)
 }
 
-// A line for each global that is defined.
+// A line for each global that is defined, in the order of their first definitions.
 fn put_each_global<T: Sink>(plan: &Plan, map: &mut Option<T>) -> Result<(), LinkFault>
     ensures writes { (tape messages : Output) → Writes
         (outputs tape (optional_output T.Sink map.old) messages)
@@ -174,7 +174,7 @@ fn put_each_global<T: Sink>(plan: &Plan, map: &mut Option<T>) -> Result<(), Link
     Ok(())
 }
 
-// The globals that are defined nowhere and referred to strongly, under their word.
+// The part of globals that are defined nowhere and referred to strongly. Its word stands even where there are none.
 fn put_undefined_names<T: Sink>(plan: &Plan, map: &mut Option<T>) -> Result<(), LinkFault>
     ensures writes { (tape messages : Output) → Writes
         (outputs tape (optional_output T.Sink map.old) messages)
@@ -187,7 +187,7 @@ fn put_undefined_names<T: Sink>(plan: &Plan, map: &mut Option<T>) -> Result<(), 
     put_each_name(plan, true, map)
 }
 
-// The globals that are defined nowhere and referred to weakly alone, under their word where there are any.
+// The part of globals that are defined nowhere and referred to weakly alone. It is left out where there are none.
 fn put_weak_names<T: Sink>(plan: &Plan, map: &mut Option<T>) -> Result<(), LinkFault>
     ensures writes { (tape messages : Output) → Writes
         (outputs tape (optional_output T.Sink map.old) messages)
@@ -216,7 +216,8 @@ fn has_weak_name(plan: &Plan) -> bool
     false
 }
 
-// A line for each global that is defined nowhere, where its references are of this strength.
+// A line for each global that is defined nowhere, where its references are of this strength, in the order of their first
+// references.
 fn put_each_name<T: Sink>(
     plan: &Plan,
     is_strong: bool,
@@ -258,7 +259,7 @@ fn put_if_of_strength<T: Sink>(
     }
 }
 
-// The transfer address and the limits.
+// The last lines: the transfer address, which is 1 where there is none, and the limits.
 fn put_last_lines<T: Sink>(plan: &Plan, map: &mut Option<T>) -> Result<(), LinkFault>
     ensures writes { (tape messages : Output) → Writes
         (outputs tape (optional_output T.Sink map.old) messages)

@@ -61,7 +61,8 @@ impl HeldText {
         }
     }
 
-    /// Stores one more relocation.
+    /// Stores one more relocation: the bytes at its place are replaced. One that doesn't lie within the text, which the
+    /// rules of modules refuse before, changes nothing.
     pub(crate) fn relocate(&mut self, plan: &Plan, relocation: &Relocation)
         ensures { self.new ≡ with_relocation (planned plan.now) self.old relocation.now }
     {

@@ -1,4 +1,5 @@
-//! Writes to the outputs of a link, each whole or with its fault.
+//! Writes to the outputs of a link, each whole or with its fault: `Write`, which names the output that failed, after a
+//! beginning of the bytes.
 
 ghost use Rattle.std.specs.Prelude.{◌≡◌, [], ◌∷◌, ◌≢◌, is_some, IfErr};
 ghost use Rattle.m11_writes.specs.Outputs.{Output, optional_output, output_of};
@@ -8,7 +9,7 @@ use m11_base::Sink;
 use m11_layout::{LinkFault, LinkOutput};
 use m11_writes::put_or_fail;
 
-/// All of the bytes, to the tape.
+/// Puts all of the bytes to the tape. `Write` of the tape where it failed.
 #[tactic(auto, using(crate::proofs::Writing::to_the_tape))]
 pub(crate) fn put_tape<S: Sink>(tape: &mut S, bytes: &[u8]) -> Result<(), LinkFault>
     ensures { (map messages : Output) → Writes
@@ -18,7 +19,7 @@ pub(crate) fn put_tape<S: Sink>(tape: &mut S, bytes: &[u8]) -> Result<(), LinkFa
     put_or_fail(tape, bytes, LinkFault::Write(LinkOutput::Tape))
 }
 
-/// All of the bytes, to the map, where there is one.
+/// Puts all of the bytes to the map, or nothing where none is asked for. `Write` of the map where it failed.
 #[tactic(auto, using(crate::proofs::Writing::to_the_map, crate::proofs::Writing::to_no_map, crate::proofs::Writing::put_takes_none))]
 pub(crate) fn put_map<T: Sink>(map: &mut Option<T>, bytes: &[u8]) -> Result<(), LinkFault>
     ensures writes { (tape messages : Output) → Writes
@@ -33,7 +34,7 @@ pub(crate) fn put_map<T: Sink>(map: &mut Option<T>, bytes: &[u8]) -> Result<(), 
     }
 }
 
-/// All of the bytes, to the messages.
+/// Puts all of the bytes to the messages, which the caller counts. `Write` of the messages where they failed.
 #[tactic(auto, using(crate::proofs::Writing::to_the_messages, crate::proofs::Writing::put_takes_none))]
 pub(crate) fn put_message<U: Sink>(messages: &mut U, bytes: &[u8]) -> Result<(), LinkFault>
     ensures writes { (tape map : Output) → Writes

@@ -65,14 +65,14 @@ impl Reporter {
 }
 
 impl Reporter {
-    /// The count of messages so far.
+    /// The count of messages so far, of which more than 4,294,967,295 are written and not counted.
     pub(crate) fn messages(&self) -> u32
         ensures { result ≡ self.now.messages }
     {
         self.messages
     }
 
-    /// What is written first: the messages on undefined globals, and the map.
+    /// Writes what comes first: the messages on undefined globals, and the map. `Write` where an output failed.
     pub(crate) fn begin<T: Sink, U: Sink>(
         &mut self,
         map: &mut Option<T>,
@@ -90,7 +90,10 @@ impl Reporter {
         Ok(())
     }
 
-    /// What a record makes that stands at this location. Relocations are stored one by one, by `relocate`.
+    /// Writes what a record makes that stands at this location. A text is held, since relocations may follow it, and any
+    /// record but relocations ends one that is held. Relocations are stored one by one, by `relocate`.
+    ///
+    /// `Write` where an output failed; `NoMemory` where there is none for a block of the tape or a name.
     pub(crate) fn note<S: Sink, U: Sink>(
         &mut self,
         location: ModuleSection,
@@ -147,7 +150,7 @@ impl Reporter {
         }
     }
 
-    /// The transfer block.
+    /// Writes the transfer block, which ends the tape. `Write` where the tape failed, `NoMemory`.
     pub(crate) fn put_transfer<S: Sink>(&self, tape: &mut S) -> Result<(), LinkFault>
         ensures { (map messages : Output) → Writes
             (outputs (output_of S.Sink tape.old) map messages)
@@ -158,7 +161,7 @@ impl Reporter {
         put_tape(tape, block.as_slice())
     }
 
-    // Holds a text, where none is held.
+    // Holds a text until a record comes that can't relocate it. None is held before.
     fn hold(&mut self, location: ModuleSection, address: u16, bytes: &[u8])
         requires { length bytes.now ≤ 512 }
         ensures { self.new ≡ with_held (Some (placed_text (planned self.old.plan) location.module_index location.section
@@ -196,7 +199,7 @@ impl Reporter {
         self.note_entries(module_index, record, messages)
     }
 
-    // The entries of a directory record.
+    // Notes the entries of a directory record in their order, in which their messages come.
     fn note_entries<U: Sink>(
         &mut self,
         module_index: usize,
@@ -218,7 +221,7 @@ impl Reporter {
         Ok(())
     }
 
-    // An entry.
+    // Notes an entry. Only sections and globals can be at odds with other modules, so others give no message.
     fn note_entry<U: Sink>(
         &mut self,
         module_index: usize,
@@ -299,7 +302,7 @@ impl Reporter {
         }
     }
 
-    // The name of a module.
+    // The name of a module, as the first pass has found it: the entry of the name may still be to come.
     fn module_name(&self, module_index: usize) -> Name
         ensures { result ≡ (planned self.now.plan).module_name module_index }
     {
@@ -344,7 +347,7 @@ impl Reporter {
         Ok(())
     }
 
-    // One more message.
+    // Writes a message and counts it. The count stays at 4,294,967,295 once it is there.
     fn report<U: Sink>(&mut self, messages: &mut U, line: &Line) -> Result<(), LinkFault>
         ensures { (tape map : Output) → Goes
             (outputs tape map (output_of U.Sink messages.old))

@@ -51,7 +51,7 @@ pub fn link_run<F: Feed, S: Sink, T: Sink, U: Sink>(
     }
 }
 
-/// Whatever the bytes of objects are, they yield items, and to no others.
+/// Whatever the bytes of objects are, they yield items, and no others.
 #[tactic(auto, using(crate::proofs::Steady::objects_come, crate::proofs::Sole::objects_same))]
 pub fn objects_come_to_items()
     ensures come { (sources : List (List ℕ)) → (items : List Item) × AreItems sources items }
@@ -59,7 +59,8 @@ pub fn objects_come_to_items()
         → AreItems sources items → AreItems sources others → items ≡ others }
 {}
 
-// The fault of a block as that of the link.
+// The fault of a block as that of the link: a device and a limit have statuses of their own, so they are no fault of a block
+// there.
 fn block_fault(fault: BlockFault) -> LinkFault
     ensures { result ≡ of_block fault }
 {
@@ -85,7 +86,7 @@ fn read_first<F: Feed>(alloc: Global, feeds: &mut [F], bottom: u16) -> Result<Pl
     }
 }
 
-// The objects of the first pass, one after another.
+// The objects of the first pass, one after another, up to the first fault.
 fn lay_out<F: Feed>(feeds: &mut [F], layout: &mut Layout) -> Result<(), LinkFault>
     ensures { (bottom : ℕ) (before : List Part) → StandsBetween bottom before layout.old
         → LaysOut (pass_of F.text F.faults feeds.old feeds.new) bottom before layout.new result }
@@ -99,7 +100,8 @@ fn lay_out<F: Feed>(feeds: &mut [F], layout: &mut Layout) -> Result<(), LinkFaul
     Ok(())
 }
 
-// One object of the first pass.
+// One object of the first pass. A block is taken before the next one is read, so the first fault is that of the first byte
+// that shows one.
 fn lay_out_object<F: Feed>(feed: &mut F, layout: &mut Layout) -> Result<(), LinkFault>
     ensures { (bottom : ℕ) (before : List Part) → LayoutStands bottom before layout.old
         → LaysOutObject (F.text feed.old) (F.faults feed.old) (F.faults feed.new) bottom before layout.new result }
@@ -143,7 +145,7 @@ fn read_second<F: Feed, S: Sink, T: Sink, U: Sink>(
     }
 }
 
-// The objects of the second pass, one after another.
+// The objects of the second pass, one after another, up to the first fault.
 fn emit_all<F: Feed, S: Sink, T: Sink, U: Sink>(
     feeds: &mut [F],
     emit: &mut Emit,
@@ -169,7 +171,7 @@ fn emit_all<F: Feed, S: Sink, T: Sink, U: Sink>(
     Ok(())
 }
 
-// One object of the second pass.
+// One object of the second pass. What a block makes is written before the next one is read.
 fn emit_object<F: Feed, S: Sink, T: Sink, U: Sink>(
     feed: &mut F,
     emit: &mut Emit,
