@@ -7,7 +7,7 @@ ghost use Rattle.m11_tasks.specs.Commands.{IsArgument, IsCommand, application, a
 use clap::{Arg, ArgAction, Command, value_parser};
 use std::alloc::{AllocError, Global};
 
-/// `m11` with its commands.
+/// The parser of `m11`: one of its three commands has to be given. `AllocError` where memory is refused.
 pub(crate) fn application_command<'a>(alloc: Global) -> Result<Command<'a>, AllocError>
     ensures { IfOk result (IsCommand application) }
 {
@@ -33,7 +33,7 @@ fn with_command<'a>(
     }
 }
 
-/// `m11`, before its commands.
+// `m11` without its commands. It has no command `help`, so that a word of that name is refused; `-h` and `--help` give help.
 fn bare_command<'a>(alloc: Global) -> Command<'a>
     ensures { IsCommand bare result }
 {
@@ -43,7 +43,7 @@ fn bare_command<'a>(alloc: Global) -> Command<'a>
         .subcommand_required(true)
 }
 
-// A command before its arguments.
+// A command without its arguments, which are added one by one.
 fn leaf_command<'a>(alloc: Global, name: &'a str, about: &'a str) -> Result<Command<'a>, AllocError>
     ensures { IfOk result (IsCommand (new_app name.entry.now)) }
 {
@@ -134,14 +134,14 @@ fn operand_argument<'a>(
         .action(action)
 }
 
-/// `-o FILE`.
+/// `-o FILE`, which is required.
 fn output_argument<'a>(alloc: Global, value: &'a str, help: &'a str) -> Arg<'a>
     ensures { IsArgument output_rule result }
 {
     option_argument(alloc, "output", 'o', value, help).required(true)
 }
 
-/// `SOURCE...`.
+/// `SOURCE...`, one or more.
 fn sources_argument<'a>(alloc: Global) -> Arg<'a>
     ensures { IsArgument sources_rule result }
 {
@@ -149,14 +149,14 @@ fn sources_argument<'a>(alloc: Global) -> Arg<'a>
     operand_argument(alloc, "sources", ArgAction::Append, "SOURCE", help)
 }
 
-/// `-m MAP`.
+/// `-m MAP`. Without it there is no map.
 fn map_argument<'a>(alloc: Global) -> Arg<'a>
     ensures { IsArgument map_rule result }
 {
     option_argument(alloc, "map", 'm', "MAP", "The map to write")
 }
 
-/// `-b OCTAL`.
+/// `-b OCTAL`. The parser takes any text: it is read once all words are taken, since its faults come after theirs.
 fn bottom_argument<'a>(alloc: Global) -> Arg<'a>
     ensures { IsArgument bottom_rule result }
 {
@@ -164,7 +164,7 @@ fn bottom_argument<'a>(alloc: Global) -> Arg<'a>
     option_argument(alloc, "bottom", 'b', "OCTAL", help)
 }
 
-/// `OBJECT...`.
+/// `OBJECT...`, one or more.
 fn objects_argument<'a>(alloc: Global) -> Arg<'a>
     ensures { IsArgument objects_rule result }
 {
@@ -172,7 +172,7 @@ fn objects_argument<'a>(alloc: Global) -> Arg<'a>
     operand_argument(alloc, "objects", ArgAction::Append, "OBJECT", help)
 }
 
-/// `-n STEPS`.
+/// `-n STEPS`, which the parser reads: in decimal, and within its range.
 fn steps_argument<'a>(alloc: Global) -> Arg<'a>
     ensures { IsArgument steps_rule result }
 {
@@ -181,7 +181,7 @@ fn steps_argument<'a>(alloc: Global) -> Arg<'a>
     option_argument(alloc, "steps", 'n', "STEPS", help).value_parser(bounds)
 }
 
-/// `-s OCTAL`.
+/// `-s OCTAL`, any text as of `-b`.
 fn start_argument<'a>(alloc: Global) -> Arg<'a>
     ensures { IsArgument start_rule result }
 {
@@ -189,7 +189,7 @@ fn start_argument<'a>(alloc: Global) -> Arg<'a>
     option_argument(alloc, "start", 's', "OCTAL", help)
 }
 
-/// `-k WORDS`.
+/// `-k WORDS`, which the parser reads: in decimal, and within its range.
 fn words_argument<'a>(alloc: Global) -> Arg<'a>
     ensures { IsArgument words_rule result }
 {
@@ -198,7 +198,7 @@ fn words_argument<'a>(alloc: Global) -> Arg<'a>
     option_argument(alloc, "words", 'k', "WORDS", help).value_parser(bounds)
 }
 
-/// `TAPE`.
+/// `TAPE`, just one.
 fn tape_argument<'a>(alloc: Global) -> Arg<'a>
     ensures { IsArgument tape_rule result }
 {

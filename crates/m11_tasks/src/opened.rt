@@ -55,7 +55,8 @@ pub struct LinkFiles<I, O> {
     pub map: Option<O>,
 }
 
-/// Opens the sources, and then creates the object.
+/// Opens the sources, and then creates the object. `NotOpened` of the first path that is refused, after which nothing is
+/// opened or created; `NoMemory`.
 #[tactic(auto, using(crate::proofs::Opening::stops_at_first))]
 pub fn open_asm_files<'a, F: Opens>(
     alloc: Global,
@@ -79,7 +80,8 @@ pub fn open_asm_files<'a, F: Opens>(
     Ok(AsmFiles { sources, object })
 }
 
-/// Opens the objects, then creates the tape, and then the map if one is asked for.
+/// Opens the objects, then creates the tape, and then the map if one is asked for. `NotOpened` of the first path that is
+/// refused, after which nothing is opened or created; `NoMemory`.
 pub fn open_link_files<'a, F: Opens>(
     alloc: Global,
     files: &mut F,
@@ -105,7 +107,7 @@ pub fn open_link_files<'a, F: Opens>(
     Ok(LinkFiles { objects, tape, map })
 }
 
-/// Opens the tape of a run.
+/// Opens the tape of a run, which is read once. `NotOpened` with its path; `NoMemory`.
 #[tactic(auto, using(crate::proofs::Opening::stops_at_one))]
 pub fn open_sim_file<'a, F: Opens>(
     files: &mut F,
@@ -177,7 +179,7 @@ fn open_input<'a, F: Opens>(files: &mut F, path: &'a str) -> Result<F::Input, Op
     }
 }
 
-// The output of a path, if there is one.
+// Creates the output of a path, where one is asked for.
 fn create_some<'a, F: Opens>(
     files: &mut F,
     path: Option<&'a str>,
@@ -196,7 +198,7 @@ fn create_some<'a, F: Opens>(
     }
 }
 
-// An output, which is empty.
+// Creates an output, or empties the file that is there. A fault names its path.
 fn create<'a, F: Opens>(files: &mut F, path: &'a str) -> Result<F::Output, OpenFault<'a>>
     ensures empty { IfOk result (λ output. IsEmptied (F.files files.old) (F.Output.text output)) }
     ensures created { IfOk result (λ output.

@@ -1,4 +1,4 @@
-//! What a command line asks for.
+//! Tasks: what a command line asks for, read from the entries that the parser has found.
 
 ghost use Rattle.std.specs.Prelude.{◌≡◌, ◌≤◌, ◌⊎◌, [], Err, IfErr, IfOk, codes, map, option_map, unwrap_or};
 ghost use Rattle.clap.specs.Words.{all_of, first_of, found_of, one_of, rows_of, subcommand_name_of, subcommand_rows_of};
@@ -22,7 +22,7 @@ pub struct AsmTask<'a> {
     pub sources: Vec<&'a str>,
 }
 
-/// What a link is to do.
+/// What a link is to do. Its paths are those of the words.
 #[derive(Debug, Drop)]
 pub struct LinkTask<'a> {
     /// Where the tape goes.
@@ -35,7 +35,7 @@ pub struct LinkTask<'a> {
     pub objects: Vec<&'a str>,
 }
 
-/// What a run of a tape is to do.
+/// What a run of a tape is to do. Its path is that of the words.
 #[derive(Debug, Drop)]
 pub struct SimTask<'a> {
     /// The path of the tape.
@@ -48,7 +48,7 @@ pub struct SimTask<'a> {
     pub limit: u32,
 }
 
-/// What a command line asks for.
+/// What a command line asks for: one command, with all of its numbers within their ranges.
 #[derive(Debug, Drop)]
 pub enum Task<'a> {
     /// `asm`: to assemble.
@@ -93,7 +93,7 @@ pub fn plan<'a, S: AsStr>(alloc: Global, words: &'a [S]) -> Result<Task<'a>, Usa
     task
 }
 
-// The task of the command that was entered.
+// The task of the command that was entered, or the fault of an address, or want of memory.
 fn entered_task<'a>(alloc: Global, matches: &ArgMatches<'a>) -> Result<Task<'a>, UsageFault>
     requires { IsCommandName (subcommand_name_of matches.now) }
     ensures given { EntriesGive (subcommand_rows_of matches.now) result }
@@ -174,7 +174,7 @@ fn start_given(entries: &ArgMatches<'_>) -> Result<Option<u16>, UsageFault>
     }
 }
 
-// The address that a text spells.
+// The address that a text spells in octal. `BadOctal`, then `OddAddress`, then `BadAddress` past 157776.
 fn address(text: &str) -> Result<u16, UsageFault>
     ensures { result ≡ address_of text.now }
 {
@@ -209,14 +209,14 @@ fn text_given<'a>(entries: &ArgMatches<'a>, id: &str) -> Option<&'a str>
     entries.get_str(id)
 }
 
-// The first value of an argument; the empty text where there is none.
+// The first value of an argument that is required; the empty text where there is none, which the parser doesn't let through.
 fn first_text<'a>(entries: &ArgMatches<'a>, id: &str) -> &'a str
     ensures { result.now ≡ unwrap_or (first_of id.now (rows_of (found_of entries.now))) [] }
 {
     entries.get_str(id).unwrap_or("")
 }
 
-// The values of an argument, in order.
+// The values of an argument, in order; none where it isn't there.
 fn all_texts<'a>(
     alloc: Global,
     entries: &ArgMatches<'a>,
