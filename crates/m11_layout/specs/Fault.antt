@@ -1,5 +1,6 @@
 -- The faults of a link, and how they are reported. (This project's own.)
-use Rattle.std.specs.Prelude.{ℕ, List, codes}
+use Rattle.std.specs.Prelude.{ℕ, codes}
+use Rattle.m11_base.specs.Devices.{Bytes}
 use Rattle.m11_modules.specs.declared.fault.ModuleFault.{ModuleFault}
 use Rattle.m11_modules.specs.declared.fault.ModuleFault.TheVariants as rule
 use Rattle.m11_layout.specs.declared.fault.LinkFault.{LinkFault}
@@ -22,7 +23,7 @@ link_fault_number fault.TooMuch = 13
 link_fault_number fault.TextOutside = 14
 link_fault_number fault.NoMemory = 90
 
-abbrev pub link_fault_name : LinkFault → List ℕ
+abbrev pub link_fault_name : LinkFault → Bytes
 link_fault_name fault.Read = codes "Read"
 link_fault_name (fault.Write output) = codes "Write"
 link_fault_name (fault.Block inner) = codes "Block"

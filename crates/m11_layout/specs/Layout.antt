@@ -1,5 +1,6 @@
 -- The first pass of a link, call by call: what stands after the parts so far. (This project's own.)
 use Rattle.std.specs.Prelude.{◌≡◌, ℕ, List, [], ◌++◌, ⊤, Option, Some, None, Result, Ok, Err}
+use Rattle.m11_base.specs.Devices.{Bytes}
 use Rattle.m11_obj.specs.Reading.{content_of}
 use Rattle.m11_modules.specs.declared.fault.ModuleFault.{ModuleFault}
 use Rattle.m11_modules.specs.Parts.{Part}
@@ -38,7 +39,7 @@ TakesParts bottom before new parts (Ok done) = LayoutStands bottom (before ++ pa
 TakesParts bottom before new parts (Err fault) = FirstFault before parts fault
 
 -- a block is no record, or its parts were taken
-abbrev pub TakesBlock : ℕ → List Part → LayoutState → List ℕ → Result (Unit {0}) LinkFault → Type 0
+abbrev pub TakesBlock : ℕ → List Part → LayoutState → Bytes → Result (Unit {0}) LinkFault → Type 0
 TakesBlock bottom before new bytes (Err (Record fault)) = content_of bytes ≡ Err fault
 TakesBlock bottom before new bytes result = TakesParts bottom before new (record_parts bytes) result
 

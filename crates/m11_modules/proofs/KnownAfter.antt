@@ -312,8 +312,8 @@ all_after before old new parts is h e =
     subst R (sym (known_after_parts before parts (subst P is h))) (subst Q is e)
 
 -- what was taken by what is known was taken after the parts before
-pub taken_after : (before : List Part) (old new : Known) (parts : List Part) (answer : Result (Unit {0}) ModuleFault)
-    → old ≡ known_of before → RulesTake old new parts answer → TakesAfter before new parts answer
+pub taken_after : (before : List Part) (old new : Known) (parts : List Part) (result : Result (Unit {0}) ModuleFault)
+    → old ≡ known_of before → RulesTake old new parts result → TakesAfter before new parts result
 unfolding RulesTake
 taken_after before old new parts (Ok done) is h =
     (fault_after before old parts None is h.0, all_after before old new parts is h.0 h.1)

@@ -7,12 +7,12 @@ use Rattle.m11_modules.specs.declared.fault.ModuleFault.TheVariants.{BadOrder, N
 use Rattle.m11_obj.specs.declared.relocations.Relocation.{Relocation}
 use Rattle.m11_modules.specs.Parts.{Part, Relocated}
 use Rattle.m11_modules.specs.Places.{Known}
-use Rattle.m11_modules.specs.Rules.{answered, fault_known, relocation_fault}
+use Rattle.m11_modules.specs.Rules.{returned, fault_known, relocation_fault}
 use Rattle.m11_modules.specs.Steps.{RulesTake, TakesOne, known_after, known_after_all, first_known_fault}
 use Rattle.m11_modules.proofs.Indexing.{drop_at}
 
-abbrev pub Answer : Type 0
-Answer = Result (Unit {0}) ModuleFault
+abbrev pub Outcome : Type 0
+Outcome = Result (Unit {0}) ModuleFault
 
 pub none_taken : (known : Known) (done : Unit {0}) → RulesTake known known [] (Ok done)
 unfolding RulesTake
@@ -42,8 +42,8 @@ then_fault old middle part parts fault none e h =
     let Q : Option ModuleFault → Type 0 = λ o. option_or o (first_known_fault (known_after old part) parts) ≡ fault in
     subst Q (sym none) g
 
-pub taken_then : (old middle new : Known) (part : Part) (parts : List Part) (done : Unit {0}) (answer : Answer)
-    → TakesOne old middle part (Ok done) → RulesTake middle new parts answer → RulesTake old new (part ∷ parts) answer
+pub taken_then : (old middle new : Known) (part : Part) (parts : List Part) (done : Unit {0}) (result : Outcome)
+    → TakesOne old middle part (Ok done) → RulesTake middle new parts result → RulesTake old new (part ∷ parts) result
 unfolding RulesTake TakesOne
 taken_then old middle new part parts done (Ok x) h k =
     let P : Known → Type 0 = λ m. new ≡ known_after_all m parts in
@@ -59,21 +59,21 @@ taken_then old middle new part parts done (Err TooManySections) h k = then_fault
 taken_then old middle new part parts done (Err TooManyModules) h k = then_fault old middle part parts (Some TooManyModules) h.0 h.1 k
 
 -- one part alone
-pub taken_one : (old new : Known) (part : Part) (answer : Answer) → TakesOne old new part answer → RulesTake old new (part ∷ []) answer
+pub taken_one : (old new : Known) (part : Part) (result : Outcome) → TakesOne old new part result → RulesTake old new (part ∷ []) result
 taken_one old new part (Ok done) h = taken_then old new new part [] done (Ok done) h (none_taken new done)
 taken_one old new part (Err fault) h = refused_first old new new part [] fault h
 
 -- ---- loops: what is left of the parts leads to all of them
 
 abbrev pub GoesOn : Known → Known → List Part → List Part → Type 0
-GoesOn old now rest all = (new : Known) (answer : Answer) → RulesTake now new rest answer → RulesTake old new all answer
+GoesOn old now rest all = (new : Known) (result : Outcome) → RulesTake now new rest result → RulesTake old new all result
 
 pub begins : (old : Known) (all : List Part) → GoesOn old old all all
-begins old all new answer h = h
+begins old all new result h = h
 
 pub goes_on : (old now later : Known) (part : Part) (rest all : List Part) (done : Unit {0})
     → GoesOn old now (part ∷ rest) all → TakesOne now later part (Ok done) → GoesOn old later rest all
-goes_on old now later part rest all done i h new answer k = i new answer (taken_then now later new part rest done answer h k)
+goes_on old now later part rest all done i h new result k = i new result (taken_then now later new part rest done result h k)
 
 pub stops : (old now new other : Known) (part : Part) (rest all : List Part) (fault : ModuleFault)
     → GoesOn old now (part ∷ rest) all → TakesOne now other part (Err fault) → RulesTake old new all (Err fault)
@@ -84,32 +84,32 @@ ends old now all done i = i now (Ok done) (none_taken now done)
 
 -- ---- refusals
 
-answered_some : (fault : Option ModuleFault) (said : ModuleFault) → answered fault ≡ Err said → fault ≡ Some said
-answered_some None said e = search
-answered_some (Some fault) said e = search
+returned_some : (fault : Option ModuleFault) (said : ModuleFault) → returned fault ≡ Err said → fault ≡ Some said
+returned_some None said e = search
+returned_some (Some fault) said e = search
 
 -- what a check returned is the fault of the part
-pub refused : (old new : Known) (part : Part) (fault : ModuleFault) → answered (fault_known old part) ≡ Err fault
+pub refused : (old new : Known) (part : Part) (fault : ModuleFault) → returned (fault_known old part) ≡ Err fault
     → TakesOne old new part (Err fault)
 unfolding TakesOne
 refused old new part NoMemory e = tt
-refused old new part BadOrder e = answered_some (fault_known old part) BadOrder e
-refused old new part NoText e = answered_some (fault_known old part) NoText e
-refused old new part BadDisplacement e = answered_some (fault_known old part) BadDisplacement e
-refused old new part UnknownSection e = answered_some (fault_known old part) UnknownSection e
-refused old new part TextOutside e = answered_some (fault_known old part) TextOutside e
-refused old new part TooManyGlobals e = answered_some (fault_known old part) TooManyGlobals e
-refused old new part TooManySections e = answered_some (fault_known old part) TooManySections e
-refused old new part TooManyModules e = answered_some (fault_known old part) TooManyModules e
+refused old new part BadOrder e = returned_some (fault_known old part) BadOrder e
+refused old new part NoText e = returned_some (fault_known old part) NoText e
+refused old new part BadDisplacement e = returned_some (fault_known old part) BadDisplacement e
+refused old new part UnknownSection e = returned_some (fault_known old part) UnknownSection e
+refused old new part TextOutside e = returned_some (fault_known old part) TextOutside e
+refused old new part TooManyGlobals e = returned_some (fault_known old part) TooManyGlobals e
+refused old new part TooManySections e = returned_some (fault_known old part) TooManySections e
+refused old new part TooManyModules e = returned_some (fault_known old part) TooManyModules e
 
 opened : (known : Known) (relocation : Relocation) (fault : ModuleFault)
-    → answered (relocation_fault relocation known.entered known.text known.globals) ≡ Err fault
-    → answered (fault_known known (Relocated relocation)) ≡ Err fault
+    → returned (relocation_fault relocation known.entered known.text known.globals) ≡ Err fault
+    → returned (fault_known known (Relocated relocation)) ≡ Err fault
 unfolding fault_known
 opened known relocation fault e = e
 
 pub relocation_refused : {seen : Known} (old new : Known) (relocation : Relocation) (fault : ModuleFault) → seen ≡ old
-    → answered (relocation_fault relocation seen.entered seen.text seen.globals) ≡ Err fault
+    → returned (relocation_fault relocation seen.entered seen.text seen.globals) ≡ Err fault
     → TakesOne old new (Relocated relocation) (Err fault)
 relocation_refused {seen} old new relocation fault is e =
     let P : Known → Type 0 = λ known. TakesOne known new (Relocated relocation) (Err fault) in

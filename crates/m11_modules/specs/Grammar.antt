@@ -2,6 +2,7 @@
 -- a module. That it may have no directory record and no text, and a file no module, is this project's own.)
 use Rattle.std.specs.Prelude.{ℕ, List, [], ◌∷◌, ◌++◌, map}
 use Rattle.std.specs.List.{flat_map}
+use Rattle.m11_base.specs.Devices.{Bytes}
 use Rattle.m11_obj.specs.declared.gsd.GsdEntry.{GsdEntry}
 use Rattle.m11_obj.specs.declared.relocations.Relocation.{Relocation}
 use Rattle.m11_obj.specs.Records as records
@@ -9,7 +10,7 @@ use Rattle.m11_modules.specs.Parts.{Part, parts_of, Directory, Entry, EndOfDirec
 
 -- a record after the directory
 pub data BodyRecord : Type 0 where
-  TextRecord : ℕ → List ℕ → BodyRecord
+  TextRecord : ℕ → Bytes → BodyRecord
   RelocationRecord : List Relocation → BodyRecord
 
 -- the entries of each directory record, and the records after them

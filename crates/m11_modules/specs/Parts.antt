@@ -1,6 +1,7 @@
 -- What stands in objects, part by part, in the order of the bytes. (RT-11 Volume and File Formats Manual, "Object
 -- file format".) That the directory of internal symbols counts for nothing wherever it stands is this project's own.
 use Rattle.std.specs.Prelude.{ℕ, List, [], ◌∷◌, map, Result, Ok, Err}
+use Rattle.m11_base.specs.Devices.{Bytes}
 use Rattle.m11_obj.specs.declared.gsd.GsdEntry.{GsdEntry}
 use Rattle.m11_obj.specs.declared.relocations.Relocation.{Relocation}
 use Rattle.m11_obj.specs.Reading.{content_of}
@@ -13,7 +14,7 @@ pub data Part : Type 0 where
   Entry : GsdEntry → Part
   EndOfDirectory : Part
   -- a load address and bytes
-  Text : ℕ → List ℕ → Part
+  Text : ℕ → Bytes → Part
   -- a relocation record begins; its relocations follow
   Relocations : Part
   Relocated : Relocation → Part
@@ -34,5 +35,5 @@ abbrev pub parts_in : Result records.Content RecordFault → List Part
 parts_in (Ok content) = parts_of content
 parts_in (Err fault) = []
 
-abbrev pub record_parts : List ℕ → List Part
+abbrev pub record_parts : Bytes → List Part
 record_parts bytes = parts_in (content_of bytes)

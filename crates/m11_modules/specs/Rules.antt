@@ -170,9 +170,9 @@ first_fault before [] = None
 first_fault before (part ∷ parts) = option_or (fault_of before part) (first_fault (before ++ part ∷ []) parts)
 
 -- the result of a check
-abbrev pub answered : Option ModuleFault → Result (Unit {0}) ModuleFault
-answered None = Ok tt
-answered (Some fault) = Err fault
+abbrev pub returned : Option ModuleFault → Result (Unit {0}) ModuleFault
+returned None = Ok tt
+returned (Some fault) = Err fault
 
 -- the fault of a record that may begin a module
 abbrev pub opening_fault : Stage → ℕ → Option ModuleFault

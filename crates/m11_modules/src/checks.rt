@@ -2,7 +2,7 @@
 
 ghost use Rattle.std.specs.Prelude.{◌≡◌, length};
 ghost use Rattle.m11_modules.specs.Places.{size_known};
-ghost use Rattle.m11_modules.specs.Rules.{answered, entering_fault, entry_fault, is_past, lies_within, opening_fault, place_fault, relocation_fault, section_fault, symbol_fault, global_fault, target_fault, text_fault, defines, defines_relocatable, width_of};
+ghost use Rattle.m11_modules.specs.Rules.{returned, entering_fault, entry_fault, is_past, lies_within, opening_fault, place_fault, relocation_fault, section_fault, symbol_fault, global_fault, target_fault, text_fault, defines, defines_relocatable, width_of};
 
 use crate::fault::ModuleFault;
 use crate::stage::Stage;
@@ -22,7 +22,7 @@ const MOST_GLOBALS: usize = 8192;
 
 /// A record that may begin a module: it is after no directory, and there is room for its module.
 pub(crate) fn check_begin(stage: Stage, modules: usize) -> Result<(), ModuleFault>
-    ensures { result ≡ answered (opening_fault stage modules) }
+    ensures { result ≡ returned (opening_fault stage modules) }
 {
     match stage {
         Stage::InBody => Err(ModuleFault::BadOrder),
@@ -38,7 +38,7 @@ pub(crate) fn check_begin(stage: Stage, modules: usize) -> Result<(), ModuleFaul
 
 /// A text, which has to end inside its section.
 pub(crate) fn check_text(size: u16, address: u16, bytes: &[u8]) -> Result<(), ModuleFault>
-    ensures { result ≡ answered (text_fault size address (length bytes.now)) }
+    ensures { result ≡ returned (text_fault size address (length bytes.now)) }
 {
     if usize::from(address) + bytes.len() > usize::from(size) {
         return Err(ModuleFault::TextOutside);
@@ -76,7 +76,7 @@ pub(crate) fn check_entry(
     sections: &IndexSet<Name>,
     globals: &IndexSet<Name>,
 ) -> Result<(), ModuleFault>
-    ensures { result ≡ answered (entry_fault entry.now.kind entry.now entered.now.entries sections.now.keys globals.now.keys) }
+    ensures { result ≡ returned (entry_fault entry.now.kind entry.now entered.now.entries sections.now.keys globals.now.keys) }
 {
     match entry.kind {
         GsdKind::ControlSection => check_entering(entered, sections, entry.name),
@@ -93,7 +93,7 @@ fn check_entering(
     sections: &IndexSet<Name>,
     name: Name,
 ) -> Result<(), ModuleFault>
-    ensures { result ≡ answered (entering_fault entered.now.entries sections.now.keys name) }
+    ensures { result ≡ returned (entering_fault entered.now.entries sections.now.keys name) }
 {
     match entered.get(&name) {
         Some(_) => Err(ModuleFault::BadOrder),
@@ -112,7 +112,7 @@ fn check_symbol(
     entered: &IndexMap<Name, u16>,
     globals: &IndexSet<Name>,
 ) -> Result<(), ModuleFault>
-    ensures { result ≡ answered (symbol_fault entry.now entered.now.entries globals.now.keys) }
+    ensures { result ≡ returned (symbol_fault entry.now entered.now.entries globals.now.keys) }
 {
     if defines_relocatable(entry) && entered.is_empty() {
         return Err(ModuleFault::BadOrder);
@@ -130,7 +130,7 @@ fn defines_relocatable(entry: &GsdEntry) -> bool
 
 // The section of that name has to be known.
 fn check_section(entered: &IndexMap<Name, u16>, name: Name) -> Result<(), ModuleFault>
-    ensures { result ≡ answered (section_fault entered.now.entries name) }
+    ensures { result ≡ returned (section_fault entered.now.entries name) }
 {
     match size_of(entered, name) {
         Some(_) => Ok(()),
@@ -140,7 +140,7 @@ fn check_section(entered: &IndexMap<Name, u16>, name: Name) -> Result<(), Module
 
 // For a global's name there has to be room.
 fn check_global(globals: &IndexSet<Name>, name: Name) -> Result<(), ModuleFault>
-    ensures { result ≡ answered (global_fault globals.now.keys name) }
+    ensures { result ≡ returned (global_fault globals.now.keys name) }
 {
     if is_past(MOST_GLOBALS, globals, name) {
         return Err(ModuleFault::TooManyGlobals);
@@ -168,7 +168,7 @@ pub fn lies_within(relocation: &Relocation, count: usize) -> bool
 
 // The place of a relocation has to lie within the text before it.
 fn check_place(relocation: &Relocation, text: Option<usize>) -> Result<(), ModuleFault>
-    ensures { result ≡ answered (place_fault relocation.now text) }
+    ensures { result ≡ returned (place_fault relocation.now text) }
 {
     let Some(count) = text else {
         return Err(ModuleFault::NoText);
@@ -186,7 +186,7 @@ fn check_target(
     entered: &IndexMap<Name, u16>,
     globals: &IndexSet<Name>,
 ) -> Result<(), ModuleFault>
-    ensures { result ≡ answered (target_fault target entered.now.entries globals.now.keys) }
+    ensures { result ≡ returned (target_fault target entered.now.entries globals.now.keys) }
 {
     match target {
         Target::Section(name)
@@ -208,7 +208,7 @@ pub(crate) fn check_relocation(
     text: Option<usize>,
     globals: &IndexSet<Name>,
 ) -> Result<(), ModuleFault>
-    ensures { result ≡ answered (relocation_fault relocation.now entered.now.entries text globals.now.keys) }
+    ensures { result ≡ returned (relocation_fault relocation.now entered.now.entries text globals.now.keys) }
 {
     match relocation.target {
         Target::LocationCounterDefinition(name, _) => check_section(entered, name),
