@@ -13,7 +13,7 @@ use Rattle.m11_blocks.proofs.ReadSteps.{bind_ok, bind_err, chosen, done, rest_is
 use Rattle.m11_layout.specs.declared.fault.LinkFault.TheVariants as fault'
 use Rattle.m11_link.specs.Objects.{AreItems, BlockOf, Item, ObjectEnds, ObjectItems}
 use Rattle.m11_link.specs.Objects as objects
-use Rattle.m11_link.proofs.Steady.{Steady, block_steady, content_again, content_refused, content_steady, count_steady, refuse, second_steady, start_steady, stop_is}
+use Rattle.m11_link.proofs.Steady.{Steady, block_steady, content_again, content_refused, content_steady, count_steady, count_within, refuse, second_steady, start_steady, stop_is}
 
 -- the bytes before the rest say the same alone
 pub record Sole {A : Type 0} (read : List ℕ → Read BlockFault A) : Type 0 where
@@ -146,18 +146,8 @@ second_sole = record { ok = second_ok; refused = second_refused }
 module _ (n : ℕ) (p : List ℕ) where
   count_of_ok : (x : ℕ) (rest : List ℕ) → count_of n p ≡ Ok (x, rest) → (p ≡ rest) × (count_of n [] ≡ Ok (x, []))
   count_of_ok x rest e =
-      elim (chosen (ltb n 4) (refuse fault.TooShort p)
-      (cond (ltb (content_limit + 4) n) (refuse fault.TooLong p) (done (n - 4) p)) (Ok (x, rest)) e) [
-        | inl short ↦ absurd (let bad = short.1 in cc)
-        | inr enough ↦ elim (chosen (ltb (content_limit + 4) n) (refuse fault.TooLong p) (done (n - 4) p) (Ok (x, rest))
-            enough.1) [
-              | inl long ↦ absurd (let bad = long.1 in cc)
-              | inr fits ↦ (
-                rest_is (n - 4) x p rest fits.1,
-                rw (enough.0, fits.0) (done_alone (n - 4) x p rest fits.1),
-              )
-            ]
-      ]
+      let h = count_within n p x rest e in
+      (rest_is (n - 4) x p rest h.2, rw (h.0, h.1) (done_alone (n - 4) x p rest h.2))
 
   count_of_refused : (inner : BlockFault) (rest : List ℕ) → count_of n p ≡ Err (Refused inner rest)
       → (p ≡ rest) × (count_of n [] ≡ Err (Refused inner []))

@@ -137,22 +137,25 @@ second_steady = record {
           | inr some ↦ absurd (let bad = some.1 in cc)
         ]
 
--- the length
-count_of_ok : (n : ℕ) (p q : List ℕ) (x : ℕ) (rest : List ℕ) → count_of n p ≡ Ok (x, rest)
-    → (count_of n (p ++ q) ≡ Ok (x, rest ++ q)) × (length rest ≤ length p)
-count_of_ok n p q x rest e =
+-- the length: one that is read is within its bounds
+pub count_within : (n : ℕ) (p : List ℕ) (x : ℕ) (rest : List ℕ) → count_of n p ≡ Ok (x, rest)
+    → (ltb n 4 ≡ false) × (ltb (content_limit + 4) n ≡ false) × (done {Fault = BlockFault} (n - 4) p ≡ done x rest)
+count_within n p x rest e =
     elim (chosen (ltb n 4) (refuse fault.TooShort p)
     (cond (ltb (content_limit + 4) n) (refuse fault.TooLong p) (done (n - 4) p)) (Ok (x, rest)) e) [
       | inl short ↦ absurd (let bad = short.1 in cc)
       | inr enough ↦ elim (chosen (ltb (content_limit + 4) n) (refuse fault.TooLong p) (done (n - 4) p) (Ok (x, rest))
           enough.1) [
             | inl long ↦ absurd (let bad = long.1 in cc)
-            | inr fits ↦ (
-              rw (enough.0, fits.0) (done_same (n - 4) x p rest q fits.1),
-              done_shorter (n - 4) x p rest fits.1,
-            )
+            | inr fits ↦ (enough.0, fits.0, fits.1)
           ]
     ]
+
+count_of_ok : (n : ℕ) (p q : List ℕ) (x : ℕ) (rest : List ℕ) → count_of n p ≡ Ok (x, rest)
+    → (count_of n (p ++ q) ≡ Ok (x, rest ++ q)) × (length rest ≤ length p)
+count_of_ok n p q x rest e =
+    let h = count_within n p x rest e in
+    (rw (h.0, h.1) (done_same (n - 4) x p rest q h.2), done_shorter (n - 4) x p rest h.2)
 
 count_of_refused : (n : ℕ) (p q : List ℕ) (inner : BlockFault) (rest : List ℕ) → count_of n p ≡ Err (Refused inner rest)
     → count_of n (p ++ q) ≡ Err (Refused inner (rest ++ q))

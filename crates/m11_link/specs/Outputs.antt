@@ -26,7 +26,7 @@ abbrev pub outputs_of : {S T U : Type 0} → Ghosts S → Ghosts T → Ghosts U 
 outputs_of known_tape known_map known_messages tape map messages =
     outputs (output_of known_tape tape) (optional_output known_map map) (output_of known_messages messages)
 
--- they are told apart
+-- they are distinguished
 abbrev pub is_output : LinkOutput → LinkOutput → Bool
 is_output Tape Tape = true
 is_output Map Map = true

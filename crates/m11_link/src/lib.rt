@@ -17,4 +17,4 @@ pub use m11_link_text::{
     Line, different_line, global_line, limit_line, multiple_line, name_line, relocate,
     section_line, transfer_line, undefined_line,
 };
-pub use run::{link_run, objects_come_to_items};
+pub use run::{link_run, objects_yield_items};

@@ -53,8 +53,8 @@ pub fn link_run<F: Feed, S: Sink, T: Sink, U: Sink>(
 
 /// Whatever the bytes of objects are, they yield items, and no others.
 #[tactic(auto, using(crate::proofs::Steady::objects_come, crate::proofs::Sole::objects_same))]
-pub fn objects_come_to_items()
-    ensures come { (sources : List (List ℕ)) → (items : List Item) × AreItems sources items }
+pub fn objects_yield_items()
+    ensures yields { (sources : List (List ℕ)) → (items : List Item) × AreItems sources items }
     ensures same { (sources : List (List ℕ)) (items others : List Item)
         → AreItems sources items → AreItems sources others → items ≡ others }
 {}
