@@ -26,8 +26,8 @@ is_near size (InRegister register) m = true
 is_near size (InMemory address) m = is_plain size address m.memory
 
 -- an act yields a value at once
-abbrev pub ComesTo : {A : Type 0} → Act A → Machine → A → Machine → Type 0
-ComesTo act m x n = act m ≡ Comes (Ok x, n)
+abbrev pub Yields : {A : Type 0} → Act A → Machine → A → Machine → Type 0
+Yields act m x n = act m ≡ Comes (Ok x, n)
 
 abbrev pub NearEnds : Act (Unit {0}) → Machine → Machine → Type 0
 NearEnds act m n = act m ≡ Comes (Ok tt, n)

@@ -5,7 +5,7 @@ use Rattle.m11_base.specs.declared.operand.Register.TheVariants.{Pc}
 use Rattle.m11_cpu.specs.Dialogue.{Comes}
 use Rattle.m11_cpu.specs.Execution.{execute}
 use Rattle.m11_cpu.specs.Machine.{register_of}
-use Rattle.m11_cpu.specs.Near.{ComesTo}
+use Rattle.m11_cpu.specs.Near.{Yields}
 use Rattle.m11_cpu.specs.Steps.{step}
 use Rattle.m11_cpu.specs.declared.execution.Ending.TheVariants as ending
 use Rattle.m11_cpu.specs.declared.machine.Machine.{Machine}
@@ -17,7 +17,7 @@ QuickRuns m = (m.stopped ≡ None) × (m.status.trace ≡ false)
 
 -- an instruction was executed at once, and the program counter is here
 abbrev pub Executed : Insn → ℕ → Machine → Machine → Type 0
-Executed code counter m n = ComesTo (execute code) m ending.Next n × (counter ≡ register_of Pc n)
+Executed code counter m n = Yields (execute code) m ending.Next n × (counter ≡ register_of Pc n)
 
 -- n steps lead from one machine to the other
 unfoldable pub StepsAtOnce : ℕ → Machine → Machine → Type 0

@@ -3,7 +3,7 @@
 ghost use Rattle.std.specs.Prelude.{◌≡◌, ◌<◌, ◌/◌, ◌%◌, IfSome, None, true};
 ghost use Rattle.m11_arithmetic.specs.Sizes.{size_limit};
 ghost use Rattle.m11_base.specs.Operand.{mode_of};
-ghost use Rattle.m11_cpu.specs.Near.{NearEnds, NearKeeps, is_near, ChangesRegisters, ComesTo, is_plain, plain_at};
+ghost use Rattle.m11_cpu.specs.Near.{NearEnds, NearKeeps, is_near, ChangesRegisters, Yields, is_plain, plain_at};
 ghost use Rattle.m11_cpu.specs.Addressing.{put_result, fetch, fetch_operand, indexed, place_of, store};
 ghost use Rattle.m11_base.specs.declared.operand.Mode.TheVariants as mode;
 ghost use Rattle.m11_cpu.specs.declared.addressing.OperandLocation.TheVariants.{InMemory};
@@ -18,7 +18,7 @@ impl Machine {
     #[tactic(auto, using(crate::proofs::QuickDone::in_register, crate::proofs::QuickDone::place_fetched, crate::proofs::QuickDone::plain_fetched))]
     #[inline(always)]
     pub(crate) fn near_operand(&mut self, operand: Operand, size: Size) -> Option<u16>
-        ensures some { IfSome result (λ value. ComesTo (fetch_operand operand size) self.old value self.new) }
+        ensures some { IfSome result (λ value. Yields (fetch_operand operand size) self.old value self.new) }
         ensures fits { IfSome result (λ value. value < size_limit size) }
         ensures registers { ChangesRegisters self.old self.new }
         ensures none { result ≡ None → self.new ≡ self.old }
@@ -40,7 +40,7 @@ impl Machine {
     #[tactic(auto, using(crate::proofs::QuickDone::in_register))]
     #[inline(always)]
     pub(crate) fn near_place(&mut self, operand: Operand, size: Size) -> Option<OperandLocation>
-        ensures some { IfSome result (λ place. ComesTo (place_of operand size) self.old place self.new) }
+        ensures some { IfSome result (λ place. Yields (place_of operand size) self.old place self.new) }
         ensures near { IfSome result (λ place. is_near size place self.new ≡ true) }
         ensures registers { ChangesRegisters self.old self.new }
         ensures none { result ≡ None → self.new ≡ self.old }
@@ -59,7 +59,7 @@ impl Machine {
     #[inline(always)]
     pub(crate) fn near_value(&self, place: OperandLocation, size: Size) -> u16
         requires { is_near size place self.now ≡ true }
-        ensures fetched { ComesTo (fetch place size) self.now result self.now }
+        ensures fetched { Yields (fetch place size) self.now result self.now }
         ensures fits { result < size_limit size }
     {
         match (place, size) {
@@ -74,7 +74,7 @@ impl Machine {
     #[tactic(auto, using(crate::proofs::QuickDone::by_register, crate::proofs::QuickDone::by_increment, crate::proofs::QuickDone::by_decrement, crate::proofs::QuickDone::by_index))]
     #[inline(always)]
     pub(crate) fn plain_place(&mut self, operand: Operand, size: Size) -> Option<u16>
-        ensures some { IfSome result (λ address. ComesTo (place_of operand size) self.old (InMemory address) self.new) }
+        ensures some { IfSome result (λ address. Yields (place_of operand size) self.old (InMemory address) self.new) }
         ensures plain { IfSome result (λ address. is_plain size address self.new.memory ≡ true) }
         ensures registers { ChangesRegisters self.old self.new }
         ensures none { result ≡ None → self.new ≡ self.old }
@@ -113,7 +113,7 @@ impl Machine {
     #[inline(never)]
     fn plain_pointer(&mut self, operand: Operand, size: Size) -> Option<u16>
         requires { operand.mode ≡ mode.AutoincrementDeferred }
-        ensures some { IfSome result (λ address. ComesTo (place_of operand size) self.old (InMemory address) self.new) }
+        ensures some { IfSome result (λ address. Yields (place_of operand size) self.old (InMemory address) self.new) }
         ensures plain { IfSome result (λ address. is_plain size address self.new.memory ≡ true) }
         ensures registers { ChangesRegisters self.old self.new }
         ensures none { result ≡ None → self.new ≡ self.old }
@@ -134,7 +134,7 @@ impl Machine {
     #[tactic(auto, using(crate::proofs::QuickDone::index_at, crate::proofs::QuickDone::counter_back))]
     #[inline(never)]
     fn plain_index(&mut self, operand: Operand, size: Size) -> Option<u16>
-        ensures some { IfSome result (λ address. ComesTo (indexed operand.register) self.old address self.new) }
+        ensures some { IfSome result (λ address. Yields (indexed operand.register) self.old address self.new) }
         ensures plain { IfSome result (λ address. is_plain size address self.new.memory ≡ true) }
         ensures registers { ChangesRegisters self.old self.new }
         ensures none { result ≡ None → self.new ≡ self.old }

@@ -6,7 +6,7 @@ ghost use Rattle.m11_base.specs.Instructions.{meaning, with_fields};
 ghost use Rattle.m11_base.specs.declared.operand.Register.TheVariants.{Pc, Sp};
 ghost use Rattle.m11_cpu.specs.Jumps.{branched, counted_down, call, enter, jump, push, return_by, target};
 ghost use Rattle.m11_cpu.specs.Machine.{register_of};
-ghost use Rattle.m11_cpu.specs.Near.{NearEnds, NearKeeps, ChangesRegisters, ComesTo, is_plain};
+ghost use Rattle.m11_cpu.specs.Near.{NearEnds, NearKeeps, ChangesRegisters, Yields, is_plain};
 ghost use Rattle.m11_cpu.specs.Quick.{Executed};
 ghost use Rattle.m11_base.specs.declared.instruction.Op.TheVariants as op;
 ghost use Rattle.m11_base.specs.OperationTables.{last};
@@ -207,7 +207,7 @@ impl Machine {
     #[tactic(auto, using(crate::proofs::QuickDone::bind_comes), unfolding(crate::specs::Jumps::target))]
     #[inline(always)]
     fn near_target(&mut self, operand: Operand) -> Option<u16>
-        ensures some { IfSome result (λ address. ComesTo (target operand) self.old address self.new) }
+        ensures some { IfSome result (λ address. Yields (target operand) self.old address self.new) }
         ensures registers { ChangesRegisters self.old self.new }
         ensures none { result ≡ None → self.new ≡ self.old }
     {
