@@ -2,9 +2,10 @@
 use Rattle.std.proofs.Common.{◌≡◌, ◌∙◌, ◌<◌, ◌≤◌, ℕ, ◌+◌, ◌*◌, List, [], length, Option, None, Result, Ok, Err, IsErrAnd, refl, sym, ap, subst, arith}
 use Rattle.std.specs.Prelude.{false}
 use Rattle.std.specs.Int.RustNames.{bit_or}
+use Rattle.std.specs.Option.{option_to_list}
 use Rattle.m11_arguments.specs.Notes.{Notes}
 use Rattle.m11_arguments.specs.Directives.{every_name}
-use Rattle.m11_arguments.specs.Expressions.{known_by}
+use Rattle.m11_arguments.specs.Expressions.{Known, known_by, value_at}
 use Rattle.m11_base.specs.Devices.{Bytes}
 use Rattle.m11_scan.specs.Views.{bits_of}
 use Rattle.m11_statements.specs.Labels.{labels_at, labels_end}
@@ -20,8 +21,9 @@ use Rattle.m11_placement.specs.Changes.{Change, changed}
 use Rattle.m11_placement.specs.Contents.{Put}
 use Rattle.m11_placement.specs.Labels.{labels_letters, labels_stand}
 use Rattle.m11_placement.specs.Limits.{most_local_symbols, most_names, most_sections}
-use Rattle.m11_placement.specs.Lines.{Deed, Rests, Assigning, Setting, Operating, deed, line_put, put_by, put_place, section_name, stands}
-use Rattle.m11_placement.specs.Meanings.{Map, empty_map, stands_for}
+use Rattle.m11_placement.specs.Items.{deed_items, is_shown, value_items}
+use Rattle.m11_placement.specs.Lines.{Deed, Rests, Assigning, Setting, Operating, after_line, deed, line_change, line_put, put_by, put_place, section_name, stands}
+use Rattle.m11_placement.specs.Meanings.{Map, empty_map, known_at, stands_for}
 use Rattle.m11_placement.specs.declared.meanings.Context.TheVariants.{Knows}
 use Rattle.m11_placement.specs.Operators.{is_even}
 use Rattle.m11_placement.specs.Sections.{numbered}
@@ -29,7 +31,7 @@ use Rattle.m11_placement.specs.Tables.{Table, firm_table, first_table, place}
 use Rattle.m11_placement.specs.Unfolded.{told}
 use Rattle.m11_placement.specs.declared.sections.Section.{Section}
 use Rattle.m11_placement.specs.declared.settings.Settings.{Settings}
-use Rattle.m11_placing.proofs.Alike.{alike_itself, alike_place}
+use Rattle.m11_placing.proofs.Alike.{alike_itself, alike_known, alike_place}
 use Rattle.m11_placing.specs.Deeds.{deed_seen}
 use Rattle.m11_placing.specs.Lines.{letters_from}
 use Rattle.m11_placing.specs.Mentioned.{Gathered, with_all}
@@ -39,7 +41,7 @@ use Rattle.m11_placing.specs.declared.labels.LabelLetters.{LabelLetters}
 use Rattle.m11_table.specs.Alike as tables
 use Rattle.m11_table.specs.Alike.{Alike}
 use Rattle.m11_table.specs.Asking.{FirmAsked, firm_asked}
-use Rattle.m11_passes.proofs.Placing.{Act, IsActOf, all_so, deed_so, line_fits, matches_so, mentions_refused, notes_so, puts, sections_refused, stage_so}
+use Rattle.m11_passes.proofs.Placing.{Act, IsActOf, all_so, change_is, deed_so, line_fits, matches_so, mentions_refused, notes_so, puts, sections_refused, stage_so}
 use Rattle.m11_passes.proofs.Settling.{change_modest, changed_moves, labels_blocks}
 use Rattle.m11_passes.proofs.Turning.{first_sound}
 use Rattle.m11_passes.specs.Bounds.{HasRoom, IsSound, IsSoundUntil}
@@ -103,6 +105,15 @@ put_place_alike one other alike (Assigning name is_global start) = alike_place o
 put_place_alike one other alike (Setting start) = alike_place one other alike
 put_place_alike one other alike (Operating operator start) = ap (place_for (is_even operator)) (alike_place one other alike)
 
+deed_items_alike : (map_ : Map) (one other : Table) → Alike one other → (line : Bytes) (change : Change) (of : Deed)
+    → deed_items map_ one line change of ≡ deed_items map_ other line change of
+deed_items_alike map_ one other alike line change Rests = refl
+deed_items_alike map_ one other alike line change (Assigning name is_global start) =
+    ap (λ (k : Known). value_items (value_at k line start))
+    (alike_known one other alike map_ Knows (place one) ∙ ap (known_at map_ Knows other) (alike_place one other alike))
+deed_items_alike map_ one other alike line change (Setting start) = refl
+deed_items_alike map_ one other alike line change (Operating operator start) = refl
+
 -- ---- one line
 
 module _ (map_ : Map) (live : Live) (before : Stage) (old new : Going) (stood : Kept) (named : Gathered) (found : LabelLetters)
@@ -156,10 +167,13 @@ module _ (map_ : Map) (live : Live) (before : Stage) (old new : Going) (stood : 
         → Follows stood new.kept (λ t. changed map_ text (change_after stood.table text done.arguments of) t)
         → new.kept.local_symbols ≤ most_local_symbols → length new.kept.table.sections ≤ most_sections
         → placed.section ≡ section_name stood.table → placed.place ≡ put_place stood.table of
+        → placed.counter ≡ place stood.table
+        → option_to_list placed.assigned ≡ deed_items map_ stood.table text (change_after stood.table text done.arguments of) of
+        → placed.is_shown ≡ is_shown new.kept.table.settings placed.is_expanded
         → bits_of placed.letters ≡ bit_or (letters_from text (labels_end text) (body_of every_name text) (label_letters live.line)
         (bits_of found.doubled) new.put.letters done.notes.letters) (bits_of found.moved)
         → (table : Table) → Matches old.kept table → PlacesAfter map_ table live before old new placed
-    placed_after placed same deed_so_far put_is gathered_is follows symbols sections section_is place_is letters_are table matches =
+    placed_after placed same deed_so_far put_is gathered_is follows symbols sections section_is place_is counter_is assigned_is shown_is letters_are table matches =
         let here = labels table matches in
         let line : Given = given_by table live before in
         let F : Deed → Type 0 = λ d. Follows stood new.kept
@@ -169,14 +183,20 @@ module _ (map_ : Map) (live : Live) (before : Stage) (old new : Going) (stood : 
         let put_so : new.put ≡ line_put map_ (stands table line) line
         = puts map_ table live before new.unfolder.stage done stood old.gathered here.matches acts new.put
         (put_is ∙ ap (λ (d : Deed). put_by map_ stood.table text done.arguments d) deed_is) in
+        let changes : change_after stood.table text done.arguments (deed done.is_own text)
+        ≡ line_change (firm_table (stands table line)) line
+        = change_is map_ table live before new.unfolder.stage done stood old.gathered here.matches acts here.fits named named_are
+        all all_told in
+        let matches_after : Matches new.kept (after_line map_ table line)
+        = matches_so map_ table live before new.unfolder.stage done stood old.gathered here.matches acts here.fits named named_are
+        all all_told few new.kept follows_so in
         let notes : done.notes ≡ line.notes
         = notes_so map_ table live before new.unfolder.stage done stood old.gathered here.matches acts in
         record {
           fits = line_fits map_ table live before new.unfolder.stage done stood old.gathered here.matches acts here.fits named
               named_are all all_told few new.kept follows_so symbols sections;
           stage_is = stage_so map_ table live before new.unfolder.stage done stood old.gathered here.matches acts;
-          matches = matches_so map_ table live before new.unfolder.stage done stood old.gathered here.matches acts here.fits named
-              named_are all all_told few new.kept follows_so;
+          matches = matches_after;
           gathered = gathered_is ∙ all_so map_ table live before new.unfolder.stage done stood old.gathered here.matches acts here.fits
               named named_are all all_told;
           placed_so = record {
@@ -196,6 +216,16 @@ module _ (map_ : Map) (live : Live) (before : Stage) (old new : Going) (stood : 
             place_is = place_is ∙ put_place_alike stood.table (labels_stand table text) here.matches.alike of
                 ∙ ap (put_place (labels_stand table text)) (deed_is ∙ own);
             contents_are = ap (λ (p : Put). p.contents) put_so;
+            counter_is = counter_is ∙ alike_place stood.table (labels_stand table text) here.matches.alike;
+            assigned_is = assigned_is
+                ∙ ap (λ (d : Deed). deed_items map_ stood.table text (change_after stood.table text done.arguments d) d) deed_is
+                ∙ ap (λ (c : Change). deed_items map_ stood.table text c (deed done.is_own text)) changes
+                ∙ ap (deed_items map_ stood.table text (line_change (firm_table (stands table line)) line)) own
+                ∙ deed_items_alike map_ stood.table (stands table line) here.matches.alike text
+                (line_change (firm_table (stands table line)) line) (deed line.is_own text);
+            shown_is = shown_is
+                ∙ ap (λ (s : Settings). is_shown s placed.is_expanded) matches_after.alike.settings
+                ∙ ap (λ (l : Live). is_shown (after_line map_ table line).settings l.is_expanded) same;
           };
         }
 

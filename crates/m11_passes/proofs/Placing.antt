@@ -232,7 +232,7 @@ module _ (map_ : Map) (table : Table) (live : Live) (before after : Stage) (done
 
         -- ---- what changes
 
-        change_is : change_after stood.table text done.arguments (deed done.is_own text) ≡ line_change (firm_table (stands table line)) line
+        pub change_is : change_after stood.table text done.arguments (deed done.is_own text) ≡ line_change (firm_table (stands table line)) line
         change_is = change_so ∙ changes_as stood.table (stands table line) line stand.alike
 
         module _ (few : length after_all.names ≤ most_names) where

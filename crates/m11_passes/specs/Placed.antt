@@ -1,14 +1,16 @@
 -- A live line as a pass places it. (MACRO-11 Language Reference Manual, "Source program format" and "Diagnostic error message summary".)
 use Rattle.std.specs.Prelude.{◌≡◌, ℕ}
 use Rattle.std.specs.Int.RustNames.{bit_or}
+use Rattle.std.specs.Option.{option_to_list}
 use Rattle.m11_scan.specs.Views.{bits_of}
 use Rattle.m11_statements.specs.Labels.{labels_at}
 use Rattle.m11_unfolding.specs.Taking.{Live}
 use Rattle.m11_unfolding.specs.Unfolding.{Given}
 use Rattle.m11_placement.specs.Contents.{Put}
-use Rattle.m11_placement.specs.Lines.{deed, letters, line_put, put_place, section_name, stands}
+use Rattle.m11_placement.specs.Items.{assigned_items, is_shown}
+use Rattle.m11_placement.specs.Lines.{after_line, deed, letters, line_put, put_place, section_name, stands}
 use Rattle.m11_placement.specs.Meanings.{Map}
-use Rattle.m11_placement.specs.Tables.{Table}
+use Rattle.m11_placement.specs.Tables.{Table, place}
 use Rattle.m11_placing.specs.Deeds.{deed_seen}
 use Rattle.m11_placing.specs.Moved.{moved_letters}
 use Rattle.m11_passes.specs.declared.placed.PlacedLine.{PlacedLine}
@@ -29,3 +31,7 @@ pub record IsPlaced (map : Map) (table : Table) (given : Given) (placed : Placed
   pub section_is : placed.section ≡ section_name (stands table given)
   pub place_is : placed.place ≡ put_place (stands table given) (deed given.is_own given.live.line.text)
   pub contents_are : put.contents ≡ (line_put map (stands table given) given).contents
+  -- what a listing shows of it
+  pub counter_is : placed.counter ≡ place (stands table given)
+  pub assigned_is : option_to_list placed.assigned ≡ assigned_items map table given
+  pub shown_is : placed.is_shown ≡ is_shown (after_line map table given).settings given.live.is_expanded

@@ -1,10 +1,12 @@
 //! What stands after the labels of a live line. (MACRO-11 Language Reference Manual, "Operator field" and "Symbols".)
 
 ghost use Rattle.std.specs.Prelude.{◌≡◌, ◌<◌, ◌≤◌, ◌+◌, ◌^◌, IfOk, IfErr, IsTrue, length, map};
+ghost use Rattle.std.specs.Option.{option_to_list};
 ghost use Rattle.m11_placement.specs.Changes.{changed};
+ghost use Rattle.m11_placement.specs.Items.{deed_items, is_shown};
 ghost use Rattle.m11_placement.specs.Limits.{most_names, most_sections};
 ghost use Rattle.m11_placement.specs.Lines.{put_by, put_place, section_name};
-ghost use Rattle.m11_placement.specs.Tables.{Table as Told};
+ghost use Rattle.m11_placement.specs.Tables.{Table as Told, place};
 ghost use Rattle.m11_placing.specs.Deeds.{IsWithin, deed_seen, is_listed};
 ghost use Rattle.m11_placement.specs.Mentions.{deed_mentions, mention};
 ghost use Rattle.m11_placement.specs.declared.meanings.Context.TheVariants.{Knows};
@@ -19,9 +21,10 @@ use m11_arguments::Notes;
 use m11_base::Name;
 use m11_contents::Put;
 use m11_fields::is_even;
+use m11_listing::Item;
 use m11_operators::place_for;
 use m11_placement::Context;
-use m11_placing::{Deed, Mentioned, Pass, PlacingFault, deed_change, put_deed};
+use m11_placing::{Deed, Mentioned, Pass, PlacingFault, assigned_item, deed_change, put_deed};
 use m11_scan::Line;
 use m11_table::Map;
 
@@ -86,14 +89,14 @@ pub(crate) fn mention_line(
     Ok(())
 }
 
-// What a line changes for the lines after it.
+// What a line changes for the lines after it, and what a listing shows of what it assigns.
 pub(crate) fn change_line(
     pass: &mut Pass,
     map: &Map<'_>,
     line: &Line,
     arguments: Option<u16>,
     deed: &Deed,
-) -> Result<(), PassFault>
+) -> Result<Option<Item>, PassFault>
     requires within { IsWithin (length line.now.text) deed.now }
     requires listed { pass.old.table.settings.listed + 1 < 2 ^ 64 }
     requires unlisted { pass.old.table.settings.unlisted + 1 < 2 ^ 64 }
@@ -106,12 +109,15 @@ pub(crate) fn change_line(
         (change_after pass.old.table line.now.text arguments (deed_seen deed.now)) told)) }
     ensures sections { IfOk result (λ _. length pass.new.table.sections ≤ most_sections) }
     ensures symbols { IfOk result (λ _. pass.new.local_symbols ≡ pass.old.local_symbols) }
+    ensures shows { IfOk result (λ item. option_to_list item ≡ deed_items map.now pass.old.table line.now.text
+        (change_after pass.old.table line.now.text arguments (deed_seen deed.now)) (deed_seen deed.now)) }
     ensures refuses { IfErr result (λ fault. (told : Told) → Matches pass.old told → Refuses fault ⊥ (most_sections < length
         (changed map.now line.now.text (change_after pass.old.table line.now.text arguments (deed_seen deed.now)) told).sections)) }
 {
     let change = deed_change(pass.table(), line, arguments, deed);
+    let assigned = assigned_item(map, pass.table(), line, &change, deed);
     pass.take(map, line, &change)?;
-    Ok(())
+    Ok(assigned)
 }
 
 // The name of the section that lines go into.
@@ -120,6 +126,20 @@ pub(crate) fn section_name(pass: &Pass) -> Name
 {
     let table = pass.table();
     table.section(table.settings().section).name
+}
+
+// Where the counter of the section that lines go into stands.
+pub(crate) fn counter(pass: &Pass) -> u16
+    ensures { result ≡ place pass.now.table }
+{
+    pass.table().place()
+}
+
+// Whether the levels of listing show a line.
+pub(crate) fn is_shown(pass: &Pass, is_expanded: bool) -> bool
+    ensures { result ≡ is_shown pass.now.table.settings is_expanded }
+{
+    m11_placing::is_shown(&pass.table().settings(), is_expanded)
 }
 
 // Where the operator of a line puts what it puts.

@@ -1,6 +1,7 @@
 //! A live line as a pass places it. (MACRO-11 Language Reference Manual, "Source program format".)
 
 use m11_base::Name;
+use m11_listing::Item;
 use m11_placing::Deed;
 use m11_scan::{Letters, Line};
 
@@ -19,4 +20,10 @@ pub struct PlacedLine {
     pub section: Name,
     /// The place in that section where it puts what it puts.
     pub place: u16,
+    /// Where the counter of that section stands before it.
+    pub counter: u16,
+    /// What a listing shows of what it assigns.
+    pub assigned: Option<Item>,
+    /// Whether the levels of listing after it show it.
+    pub is_shown: bool,
 }

@@ -18,7 +18,9 @@ ghost use Rattle.m11_passes.specs.Turns.{IsEmpty, IsNext, Places, Turns};
 
 use crate::fault::PassFault;
 use crate::labelling::define_labels;
-use crate::operating::{change_line, mention_line, put_line, put_place, section_name};
+use crate::operating::{
+    change_line, counter, is_shown, mention_line, put_line, put_place, section_name,
+};
 use crate::placed::PlacedLine;
 use crate::turns::Turn;
 use m11_arguments::Notes;
@@ -107,6 +109,7 @@ impl State {
         let deed = deed_after_labels(act.is_own, line, statement.body);
         let section = section_name(&self.pass);
         let place = put_place(&self.pass, &deed);
+        let counter = counter(&self.pass);
         put_line(&mut self.put, map, &self.pass, line, act.arguments, &deed)?;
         mention_line(
             &mut self.mentioned,
@@ -116,7 +119,8 @@ impl State {
             act.arguments,
             &deed,
         )?;
-        change_line(&mut self.pass, map, line, act.arguments, &deed)?;
+        let assigned = change_line(&mut self.pass, map, line, act.arguments, &deed)?;
+        let is_shown = is_shown(&self.pass, live.is_expanded);
         let letters = all_letters(line, &statement, found, &self.put, &act.notes);
         Ok(PlacedLine {
             line: live.line,
@@ -125,6 +129,9 @@ impl State {
             letters,
             section,
             place,
+            counter,
+            assigned,
+            is_shown,
         })
     }
 }

@@ -1,10 +1,14 @@
 -- What a listing shows of a line, and which lines it has: the items are what a line puts, or what it assigns. (MACRO-11 Language Reference
 -- Manual, "Listing control directives". Which mark an item has, and that flagged lines always stand in it, is this project's own.)
-use Rattle.std.specs.Prelude.{ℕ, ◌%◌, ◌==◌, ◌&&◌, ◌||◌, not, nat_le, Bool, if◌then◌else◌, List, [], ◌∷◌}
+use Rattle.std.specs.Prelude.{ℕ, ◌%◌, ◌==◌, ◌&&◌, ◌||◌, not, nat_le, Bool, if◌then◌else◌, List, [], ◌∷◌, ◌++◌}
 use Rattle.std.specs.List.{flat_map}
 use Rattle.m11_arguments.specs.Definedness.{is_defined}
 use Rattle.m11_arguments.specs.Expressions.{value_at}
 use Rattle.m11_base.specs.Devices.{Bytes}
+use Rattle.m11_listing.specs.declared.items.Item.{Item}
+use Rattle.m11_listing.specs.declared.items.Item.TheVariants.{InByte, InWord}
+use Rattle.m11_listing.specs.declared.items.Mark.{Mark}
+use Rattle.m11_listing.specs.declared.items.Mark.TheVariants.{Unmarked, OfSection, OfObject, OfRegister}
 use Rattle.m11_object_text.specs.declared.pieces.PieceContent.{PieceContent}
 use Rattle.m11_object_text.specs.declared.pieces.PieceContent.TheVariants.{Byte, Word, Limits}
 use Rattle.m11_object_text.specs.declared.pieces.RelocationKind.{RelocationKind}
@@ -17,19 +21,6 @@ use Rattle.m11_placement.specs.Changes.{Change, Numbers}
 use Rattle.m11_placement.specs.Lines.{Assigning, Deed, Operating, Rests, Setting, deed, line_change, line_put, stands}
 use Rattle.m11_placement.specs.Meanings.{Knows, Map, known_at}
 use Rattle.m11_placement.specs.Tables.{Settings, Table, firm_table, place}
-
--- what a number is marked by: nothing, `'`, `G` or `%`
-pub data Mark : Type 0 where
-  Unmarked : Mark
-  OfSection : Mark
-  OfObject : Mark
-  OfRegister : Mark
-
-pub data Item : Type 0 where
-  -- a byte, with three octal digits
-  InByte : ℕ → Mark → Item
-  -- a word, with six
-  InWord : ℕ → Mark → Item
 
 -- ---- what is put: the constant, by what the place is relocated by
 
@@ -64,20 +55,26 @@ abbrev pub number_items : Change → List Item
 number_items (Numbers name number) = InWord number Unmarked ∷ []
 number_items other = []
 
--- ---- a line: what it puts, or what it assigns, whether its name takes it or not; `.=` is no assignment
-
-abbrev pub deed_items : Map → Table → Bytes → Change → List PieceContent → Deed → List Item
-deed_items map table line change contents Rests = []
-deed_items map table line change contents (Assigning name is_global start) =
+-- whether its name takes it or not; `.=` is no assignment
+abbrev pub deed_items : Map → Table → Bytes → Change → Deed → List Item
+deed_items map table line change Rests = []
+deed_items map table line change (Assigning name is_global start) =
     value_items (value_at (known_at map Knows table (place table)) line start)
-deed_items map table line change contents (Setting start) = []
-deed_items map table line change [] (Operating operator start) = number_items change
-deed_items map table line change (content ∷ contents) (Operating operator start) = flat_map content_items (content ∷ contents)
+deed_items map table line change (Setting start) = []
+deed_items map table line change (Operating operator start) = number_items change
+
+abbrev pub assigned_items : Map → Table → Given → List Item
+assigned_items map table given =
+    deed_items map (stands table given) given.live.line.text (line_change (firm_table (stands table given)) given)
+    (deed given.is_own given.live.line.text)
+
+-- ---- a line: what it puts, and what it assigns. No line does both
+
+abbrev pub items_of : List PieceContent → List Item
+items_of contents = flat_map content_items contents
 
 abbrev pub items : Map → Table → Given → List Item
-items map table given =
-    deed_items map (stands table given) given.live.line.text (line_change (firm_table (stands table given)) given)
-    (line_put map (stands table given) given).contents (deed given.is_own given.live.line.text)
+items map table given = items_of (line_put map (stands table given) given).contents ++ assigned_items map table given
 
 -- ---- which lines stand in a listing: flagged ones; others where the level after them isn't below 0, and those of expansions by `.LIST ME`
 

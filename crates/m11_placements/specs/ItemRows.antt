@@ -1,8 +1,11 @@
 -- What a listing shows of lines, worked by hand. (MACRO-11 Language Reference Manual, "Listing control directives".)
 use Rattle.std.specs.Prelude.{ℕ, Bool, true, false, List, [], ◌∷◌, codes, map}
 use Rattle.m11_base.specs.Devices.{Bytes}
-use Rattle.m11_placement.specs.Items.{InByte, InWord, Item, OfObject, OfRegister, OfSection, Unmarked, is_listed, items}
 use Rattle.m11_lines.specs.Line.{line_of}
+use Rattle.m11_listing.specs.declared.items.Item.{Item}
+use Rattle.m11_listing.specs.declared.items.Item.TheVariants.{InByte, InWord}
+use Rattle.m11_listing.specs.declared.items.Mark.TheVariants.{OfObject, OfRegister, OfSection, Unmarked}
+use Rattle.m11_placement.specs.Items.{is_listed, items}
 use Rattle.m11_placement.specs.Lines.{after_line}
 use Rattle.m11_placement.specs.Meanings.{Map}
 use Rattle.m11_placement.specs.Placements.{program_map}

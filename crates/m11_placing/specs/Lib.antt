@@ -1,6 +1,5 @@
 pub mod Deeds
 pub mod Faults
-pub mod Items
 pub mod Labels
 pub mod Lines
 pub mod Mentioned

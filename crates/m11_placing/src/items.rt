@@ -1,22 +1,31 @@
 //! What a listing shows of a line: what it puts, or what it assigns. (MACRO-11 Language Reference Manual, "Listing control directives".)
 
-ghost use Rattle.std.specs.Prelude.{◌≡◌, ◌∷◌, ◌++◌, [], IfOk};
+ghost use Rattle.std.specs.Prelude.{◌≡◌, ◌≤◌, ◌∷◌, ◌++◌, [], IfOk, length};
+ghost use Rattle.std.specs.Option.{option_to_list};
+ghost use Rattle.m11_arguments.specs.Expressions.{value_at};
 ghost use Rattle.m11_directives.specs.Changes.{change_seen};
 ghost use Rattle.m11_placement.specs.Items as spec;
-ghost use Rattle.m11_placing.specs.Items.{item_alone, item_seen, items_seen, mark_seen};
+ghost use Rattle.m11_placement.specs.Meanings.{known_at};
+ghost use Rattle.m11_placement.specs.Tables.{place};
+ghost use Rattle.m11_placement.specs.declared.meanings.Context.TheVariants.{Knows};
+ghost use Rattle.m11_placing.specs.Deeds.{IsWithin, deed_seen};
 ghost use Rattle.m11_values.specs.Quantities.{quantity};
 
+use crate::deeds::Deed;
 use bitflags::Flags;
+use m11_arguments::value_at;
 use m11_directives::Change;
 use m11_listing::{Item, Mark};
 use m11_object_text::{PieceContent, RelocationKind};
-use m11_scan::Letters;
+use m11_placement::{Context, Settings};
+use m11_scan::{Letters, Line};
+use m11_table::{Map, NamesAt, Table};
 use m11_values::{Kind, Value};
 use std::alloc::AllocError;
 
 /// Adds what is shown of a byte, a word or a pair of limits: its constant, and what a linker does to it.
 pub fn add_content_items(items: &mut Vec<Item>, content: &PieceContent) -> Result<(), AllocError>
-    ensures { IfOk result (λ _. items_seen items.new.items ≡ items_seen items.old.items ++ spec.content_items content.now) }
+    ensures { IfOk result (λ _. items.new.items ≡ items.old.items ++ spec.content_items content.now) }
 {
     match content {
         PieceContent::Byte(stored) => {
@@ -34,15 +43,50 @@ pub fn add_content_items(items: &mut Vec<Item>, content: &PieceContent) -> Resul
 }
 
 fn add_item(items: &mut Vec<Item>, item: Item) -> Result<(), AllocError>
-    ensures { IfOk result (λ _. items_seen items.new.items ≡ items_seen items.old.items ++ item_seen item ∷ []) }
+    ensures { IfOk result (λ _. items.new.items ≡ items.old.items ++ item ∷ []) }
 {
     items.push(item)?;
     Ok(())
 }
 
-/// What is shown of a value that is assigned. One that isn't known isn't shown.
-pub fn value_item(value: Value) -> Option<Item>
-    ensures { item_alone result ≡ spec.value_items (quantity value) }
+/// What is shown of what a line assigns, whether its name takes it or not: a value, or the number of `.NARG` and `.NCHR`.
+pub fn assigned_item(
+    map: &Map<'_>,
+    table: &Table,
+    line: &Line,
+    change: &Change,
+    deed: &Deed,
+) -> Option<Item>
+    requires { IsWithin (length line.now.text) deed.now }
+    ensures { option_to_list result
+        ≡ spec.deed_items map.now table.now line.now.text (change_seen change.now) (deed_seen deed.now) }
+{
+    match deed {
+        Deed::Assigns(assignment) => value_item(assigned_value(map, table, line, assignment.value)),
+        Deed::Operates(_, _) => number_item(change),
+        Deed::Rests | Deed::Sets(_) => None,
+    }
+}
+
+// The value of an assignment, under what a whole source gives its names.
+fn assigned_value(map: &Map<'_>, table: &Table, line: &Line, start: u8) -> Value
+    requires { start ≤ length line.now.text }
+    ensures { quantity result ≡ value_at (known_at map.now Knows table.now (place table.now)) line.now.text start }
+{
+    let names = NamesAt::new(map, Context::Knows, table, table.place());
+    value_at(line, usize::from(start), &names)
+}
+
+/// Whether the levels of listing show a line that has no letters: one of an expansion by `.LIST ME` only.
+pub fn is_shown(settings: &Settings, is_expanded: bool) -> bool
+    ensures { result ≡ spec.is_shown settings.now is_expanded }
+{
+    settings.unlisted <= settings.listed && (!is_expanded || settings.shows_expansions)
+}
+
+// What is shown of a value that is assigned. One that isn't known isn't shown.
+fn value_item(value: Value) -> Option<Item>
+    ensures { option_to_list result ≡ spec.value_items (quantity value) }
 {
     if value.letters.bits() & Letters::U.bits() == 0 {
         Some(Item::InWord(value.number, mark_by(value.kind)))
@@ -51,9 +95,9 @@ pub fn value_item(value: Value) -> Option<Item>
     }
 }
 
-/// What is shown of a number that a directive assigns.
-pub fn number_item(change: &Change) -> Option<Item>
-    ensures { item_alone result ≡ spec.number_items (change_seen change.now) }
+// What is shown of a number that a directive assigns.
+fn number_item(change: &Change) -> Option<Item>
+    ensures { option_to_list result ≡ spec.number_items (change_seen change.now) }
 {
     match change {
         Change::Numbers(_, number) => Some(Item::InWord(*number, Mark::Unmarked)),
@@ -63,7 +107,7 @@ pub fn number_item(change: &Change) -> Option<Item>
 
 // By what a linker does.
 fn mark_of(kind: RelocationKind) -> Mark
-    ensures { mark_seen result ≡ spec.mark_of kind }
+    ensures { result ≡ spec.mark_of kind }
 {
     match kind {
         RelocationKind::Fixed | RelocationKind::InternalDisplaced => Mark::Unmarked,
@@ -75,7 +119,7 @@ fn mark_of(kind: RelocationKind) -> Mark
 
 // By what a value counts from.
 fn mark_by(kind: Kind) -> Mark
-    ensures { mark_seen result ≡ spec.mark_by kind }
+    ensures { result ≡ spec.mark_by kind }
 {
     match kind {
         Kind::Absolute => Mark::Unmarked,

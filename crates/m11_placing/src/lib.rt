@@ -16,7 +16,7 @@ mod pass;
 
 pub use deeds::{Deed, deed_after_labels};
 pub use fault::PlacingFault;
-pub use items::{add_content_items, number_item, value_item};
+pub use items::{add_content_items, assigned_item, is_shown};
 pub use labels::LabelLetters;
 pub use laws::a_line_goes_through_a_pass;
 pub use lines::{deed_change, line_letters, put_deed};

@@ -99,15 +99,15 @@ change_line-requires-clause-sections c =
     c.args.live.line.text c.requires.room c.in_ok-found.ensures.tables fits in
     room.sections
 
-pub returns-in_err-change_line-clause-places : goal.returns-in_err-change_line-clause-places
-returns-in_err-change_line-clause-places c =
+pub returns-in_err-assigned-clause-places : goal.returns-in_err-assigned-clause-places
+returns-in_err-assigned-clause-places c =
     places_fails c.args.map.now (live_of c.args.live) c.args.self.now.unfolder.stage (going_of c.args.self.now)
     (record {
       unfolder = c.act_on.new.unfolder;
       kept = c.change_line.new.pass;
       gathered = c.mention_line.new.mentioned;
       put = c.put_line.new.put;
-    }) c.in_err-change_line.field-0.0 c.from_residual-in_err-change_line.result
+    }) c.in_err-assigned.field-0.0 c.from_residual-in_err-assigned.result
     (change_fails c.args.map.now (live_of c.args.live) c.args.self.now.unfolder.stage (going_of c.args.self.now)
     (record {
       unfolder = c.act_on.new.unfolder;
@@ -127,13 +127,13 @@ returns-in_err-change_line-clause-places c =
     c.deed_after_labels-deed.ensures.deed
     c.mention_line.new.mentioned c.in_ok-mention_line.ensures.mentions
     (c.in_ok-mention_line.ensures.few c.in_ok-found.ensures.few.names) c.in_ok-found.ensures.few.symbols
-    c.in_err-change_line.field-0.0 c.in_err-change_line.ensures.refuses)
-    c.from_residual-in_err-change_line.ensures.1
+    c.in_err-assigned.field-0.0 c.in_err-assigned.ensures.refuses)
+    c.from_residual-in_err-assigned.ensures.1
 
 pub returns-clause-places : goal.returns-clause-places
 returns-clause-places c =
     let few = c.in_ok-found.ensures.few.symbols in
-    let same = c.in_ok-change_line.ensures.symbols in
+    let same = c.in_ok-assigned.ensures.symbols in
     placed_after c.args.map.now (live_of c.args.live) c.args.self.now.unfolder.stage (going_of c.args.self.now)
     (record {
       unfolder = c.act_on.new.unfolder;
@@ -160,8 +160,12 @@ returns-clause-places c =
       letters = c.all_letters-letters.result;
       section = c.section_name-section.result;
       place = c.put_place-place.result;
-    }) refl refl c.in_ok-put_line.ensures.puts refl c.in_ok-change_line.ensures.changes (omega (arith, few, same))
-    c.in_ok-change_line.ensures.sections c.section_name-section.ensures c.put_place-place.ensures
+      counter = c.counter-counter.result;
+      assigned = c.in_ok-assigned.assigned;
+      is_shown = c.is_shown-is_shown.result;
+    }) refl refl c.in_ok-put_line.ensures.puts refl c.in_ok-assigned.ensures.changes (omega (arith, few, same))
+    c.in_ok-assigned.ensures.sections c.section_name-section.ensures c.put_place-place.ensures
+    c.counter-counter.ensures c.in_ok-assigned.ensures.shows c.is_shown-is_shown.ensures
     (c.all_letters-letters.ensures
     ∙ ap (λ (n : ℕ). bit_or (letters_from c.args.live.line.text n c.statement-statement.result.body
     (bits_of c.statement-statement.result.label_letters) (bits_of c.in_ok-found.found.doubled) c.put_line.new.put.letters
@@ -186,7 +190,7 @@ returns-clause-sound c =
     let room = stood_room c.args.self.now.unfolder.stage.taken c.args.self.now.pass.table c.define_labels.new.pass.table
     c.args.live.line.text c.requires.room c.in_ok-found.ensures.tables fits in
     let few = c.in_ok-found.ensures.few.symbols in
-    let same = c.in_ok-change_line.ensures.symbols in
+    let same = c.in_ok-assigned.ensures.symbols in
     let taken : c.act_on.new.unfolder.stage.taken ≡ c.args.self.now.unfolder.stage.taken
     = ap (λ (s : Stage). s.taken) c.in_ok-act.ensures.acts.1
     ∙ act_takes (told c.define_labels.new.pass.table) c.args.self.now.unfolder.stage c.args.live.line.text in
@@ -194,7 +198,7 @@ returns-clause-sound c =
       room = subst (λ (n : ℕ). HasRoom n 0 0 c.change_line.new.pass.table) (sym taken)
           (changed_room c.args.self.now.unfolder.stage.taken c.args.map.now c.define_labels.new.pass.table
           c.change_line.new.pass.table c.args.live.line.text c.in_ok-act.act.arguments (deed_seen c.deed_after_labels-deed.result)
-          room c.in_ok-change_line.ensures.tables c.in_ok-change_line.ensures.sections);
+          room c.in_ok-assigned.ensures.tables c.in_ok-assigned.ensures.sections);
       few = record {
         symbols = omega (arith, few, same);
         names = c.in_ok-mention_line.ensures.few c.in_ok-found.ensures.few.names;
