@@ -118,9 +118,9 @@ fn put_reference(
     place: u16,
     start: u8,
 ) -> Result<(), AllocError>
-    ensures { IfOk result (λ _. put.new ≡ followed_by put.old (word setting.now.table is_relative place
-        (value_at (setting_of setting.now).refers setting.now.line start))) }
+    ensures { IfOk result (λ _. put.new ≡ followed_by put.old (word setting.now.map.sections setting.now.table is_relative
+        place (value_at (setting_of setting.now).refers setting.now.line start))) }
 {
     let value = setting.reference(start);
-    put_word(put, setting.table(), is_relative, place, value)
+    put_word(put, setting, is_relative, place, value)
 }

@@ -5,10 +5,11 @@ ghost use Rattle.std.specs.Prelude.{◌≡◌};
 ghost use Rattle.m11_values.specs.Quantities.{quantity};
 ghost use Rattle.m11_placement.specs.Relocations as spec;
 
+use crate::settings::Setting;
 use m11_base::Name;
 use m11_object_text::{RelocationKind, Stored};
 use m11_placement::Section;
-use m11_table::Table;
+use m11_table::{Map, Table};
 use m11_values::{Kind, Value};
 use std::marker::Model;
 
@@ -88,24 +89,35 @@ impl Row {
 }
 
 // The row of a value, as a line sees it. A register counts as a number where it may not stand.
-fn row_of(table: &Table, kind: &Kind) -> Row
-    ensures { result ≡ spec.row_of (spec.origin_of table.now kind.now) }
+fn row_of(map: &Map, table: &Table, kind: &Kind) -> Row
+    ensures { result ≡ spec.row_of (spec.origin_of map.now.sections table.now kind.now) }
 {
     match kind {
         Kind::Absolute | Kind::Register => Row::zero(),
-        Kind::Section(number) => section_row(table, *number),
+        Kind::Section(number) => section_row(map, table, *number),
         Kind::Reference(name) => Row::in_object(*name),
     }
 }
 
 // The row of a value of a section.
-fn section_row(table: &Table, number: u16) -> Row
-    ensures { result ≡ spec.row_of (spec.origin_of table.now (Kind.Section number)) }
+fn section_row(map: &Map, table: &Table, number: u16) -> Row
+    ensures { result ≡ spec.row_of (spec.origin_of map.now.sections table.now (Kind.Section number)) }
 {
     if number == table.settings().section {
         Row::here()
     } else {
-        row_in(&table.section(number))
+        row_in(&section_of(map, table, number))
+    }
+}
+
+// The section of a number: a line may refer to one that only a line after it begins.
+fn section_of(map: &Map, table: &Table, number: u16) -> Section
+    ensures { result ≡ spec.section_of map.now.sections table.now number }
+{
+    if usize::from(number) < table.section_count() {
+        table.section(number)
+    } else {
+        map.section(number)
     }
 }
 
@@ -117,17 +129,17 @@ fn row_in(section: &Section) -> Row
 }
 
 // What a linker does to a value of a kind.
-fn relocation_of(table: &Table, is_relative: bool, kind: Kind) -> RelocationKind
-    ensures { result ≡ spec.relocation_of table.now is_relative kind }
+fn relocation_of(map: &Map, table: &Table, is_relative: bool, kind: Kind) -> RelocationKind
+    ensures { result ≡ spec.relocation_of map.now.sections table.now is_relative kind }
 {
-    row_of(table, &kind).relocation(is_relative, table.is_moved())
+    row_of(map, table, &kind).relocation(is_relative, table.is_moved())
 }
 
 // What stands at a place for a value.
-pub(crate) fn stored(table: &Table, is_relative: bool, place: u16, value: Value) -> Stored
-    ensures { result ≡ spec.stored table.now is_relative place (quantity value) }
+pub(crate) fn stored(setting: &Setting, is_relative: bool, place: u16, value: Value) -> Stored
+    ensures { result ≡ spec.stored setting.now.map.sections setting.now.table is_relative place (quantity value) }
 {
-    let kind = relocation_of(table, is_relative, value.kind);
+    let kind = relocation_of(setting.map(), setting.table(), is_relative, value.kind);
     stored_as(is_relative, kind, place, value.number)
 }
 

@@ -88,13 +88,8 @@ fn put_element_word(
         → followed_by put.new (spec.words_from setting.now.map setting.now.table setting.now.line next starts)
         ≡ followed_by put.old (spec.words_from setting.now.map setting.now.table setting.now.line place (start ∷ starts))) }
 {
-    put_word(
-        put,
-        setting.table(),
-        false,
-        place,
-        element_value(setting, place, start),
-    )?;
+    let value = element_value(setting, place, start);
+    put_word(put, setting, false, place, value)?;
     Ok(further(place, 2))
 }
 
@@ -137,12 +132,8 @@ fn put_element_byte(
         → followed_by put.new (spec.bytes_from setting.now.map setting.now.table setting.now.line next starts)
         ≡ followed_by put.old (spec.bytes_from setting.now.map setting.now.table setting.now.line place (start ∷ starts))) }
 {
-    put_byte(
-        put,
-        setting.table(),
-        place,
-        element_value(setting, place, start),
-    )?;
+    let value = element_value(setting, place, start);
+    put_byte(put, setting, place, value)?;
     Ok(further(place, 1))
 }
 

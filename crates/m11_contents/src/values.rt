@@ -8,8 +8,9 @@ ghost use Rattle.m11_values.specs.Quantities.{quantity};
 
 use crate::puts::Put;
 use crate::relocations::stored;
+use crate::settings::Setting;
 use m11_scan::Letters;
-use m11_table::{Table, register_letters};
+use m11_table::register_letters;
 use m11_values::Value;
 use std::alloc::AllocError;
 
@@ -36,24 +37,31 @@ fn is_byte_high(number: u16) -> bool
 /// A value as a word, relative to the place after it or not.
 pub fn put_word(
     put: &mut Put,
-    table: &Table,
+    setting: &Setting,
     is_relative: bool,
     place: u16,
     value: Value,
 ) -> Result<(), AllocError>
-    ensures { IfOk result (λ _. put.new ≡ followed_by put.old (spec.word table.now is_relative place (quantity value))) }
+    ensures { IfOk result (λ _. put.new ≡ followed_by put.old
+        (spec.word setting.now.map.sections setting.now.table is_relative place (quantity value))) }
 {
     let letters = value.letters.with(register_letters(value.kind));
-    put.add_word(stored(table, is_relative, place, value), letters)
+    put.add_word(stored(setting, is_relative, place, value), letters)
 }
 
 /// A value as a byte: its number is asked, whatever it counts from.
-pub fn put_byte(put: &mut Put, table: &Table, place: u16, value: Value) -> Result<(), AllocError>
-    ensures { IfOk result (λ _. put.new ≡ followed_by put.old (spec.byte table.now place (quantity value))) }
+pub fn put_byte(
+    put: &mut Put,
+    setting: &Setting,
+    place: u16,
+    value: Value,
+) -> Result<(), AllocError>
+    ensures { IfOk result (λ _. put.new ≡ followed_by put.old
+        (spec.byte setting.now.map.sections setting.now.table place (quantity value))) }
 {
     let letters = value
         .letters
         .with(register_letters(value.kind))
         .with(byte_letters(value.number));
-    put.add_byte(stored(table, false, place, value), letters)
+    put.add_byte(stored(setting, false, place, value), letters)
 }

@@ -1,5 +1,5 @@
 -- Maps that tell the same place a line alike: what it puts and changes, its letters, and the limit that it passes.
-use Rattle.std.proofs.Common.{◌≡◌, ◌∙◌, ℕ, Bool, if◌then◌else◌, List, [], ◌∷◌, Option, Some, None, refl, ap}
+use Rattle.std.proofs.Common.{◌≡◌, ◌∙◌, ℕ, Bool, if◌then◌else◌, List, [], ◌∷◌, ◌++◌, Option, Some, None, refl, ap}
 use Rattle.std.proofs.Math.Path.{fun_ext}
 use Rattle.std.specs.Int.RustNames.{bit_or}
 use Rattle.std.specs.Prelude.{false, not, ◌&&◌}
@@ -11,6 +11,7 @@ use Rattle.m11_arguments.specs.Expressions.{known_by, symbols_at, value_at}
 use Rattle.m11_arguments.specs.LeftOvers.{skip_letters}
 use Rattle.m11_base.specs.Devices.{Bytes}
 use Rattle.m11_base.specs.Rad50.{Name}
+use Rattle.m11_listing.specs.declared.items.Item.{Item}
 use Rattle.m11_statements.specs.Labels.{labels_at, labels_end}
 use Rattle.m11_statements.specs.Statements.{body_of, label_letters, letter_if}
 use Rattle.m11_statements.specs.declared.labels.Label.{Label}
@@ -38,12 +39,14 @@ use Rattle.m11_placement.specs.Definitions.{has_key, is_defined, is_labelled, la
 use Rattle.m11_placement.specs.Effects.{directive_put, operator_put}
 use Rattle.m11_placement.specs.Elements.{elements_at}
 use Rattle.m11_placement.specs.Instructions.{assembled, fields, setting}
+use Rattle.m11_placement.specs.Items.{assigned_items, deed_items, items, items_of, value_items}
 use Rattle.m11_placement.specs.Labels.{global_if, label_name, labels_letters, with_definition, with_doubled, with_label}
 use Rattle.m11_placement.specs.Limits.{limit_fault, with_mentions}
 use Rattle.m11_placement.specs.Lines.{Assigning, Deed, Operating, Rests, Setting as SetsPlace, after_line, deed, known_end, letters, line_change, line_put, pieces, put_by, put_place, section_name, stands}
 use Rattle.m11_placement.specs.Meanings.{Map, defined_or, known_at, letter_D, map_of, meaning_of, quantity_of, stands_for, undefined}
 use Rattle.m11_placement.specs.Mentions.{mentions}
 use Rattle.m11_placement.specs.Operators.{is_even}
+use Rattle.m11_placement.specs.declared.sections.Section.{Section}
 use Rattle.m11_placement.specs.Storage as storage
 use Rattle.m11_placement.specs.Strings as strings
 use Rattle.m11_placement.specs.Tables.{Table, firm_table, place}
@@ -65,7 +68,12 @@ use Rattle.m11_maps.specs.Maps.{TellTheSame}
 -- ---- tables that are alike
 
 pub maps_same : (one other : Table) → Alike one other → TellTheSame (map_of one) (map_of other)
-maps_same one other alike = record { definitions = alike.definitions; doubled = alike.doubled; globals = alike.globals }
+maps_same one other alike = record {
+  definitions = alike.definitions;
+  doubled = alike.doubled;
+  globals = alike.globals;
+  sections = alike.sections;
+}
 
 -- ---- what a key stands for
 
@@ -158,25 +166,30 @@ module _ (one other : Map) (same : TellTheSame one other) where
         → storage.words_from one table line here starts ≡ storage.words_from other table line here starts
     words_same [] here = refl
     words_same (start ∷ starts) here =
-        ap (λ (k : expressions.Known). followed_by (word table false here (element_value k line start))
+        ap (λ (k : expressions.Known). followed_by (word one.sections table false here (element_value k line start))
         (storage.words_from one table line (further here 2) starts)) (known_same Refers table here)
-        ∙ ap (followed_by (word table false here (element_value (known_at other Refers table here) line start)))
+        ∙ ap (λ (l : List Section). followed_by (word l table false here (element_value (known_at other Refers table here) line start))
+        (storage.words_from one table line (further here 2) starts)) same.sections
+        ∙ ap (followed_by (word other.sections table false here (element_value (known_at other Refers table here) line start)))
         (words_same starts (further here 2))
 
     bytes_same : (starts : List ℕ) (here : ℕ)
         → storage.bytes_from one table line here starts ≡ storage.bytes_from other table line here starts
     bytes_same [] here = refl
     bytes_same (start ∷ starts) here =
-        ap (λ (k : expressions.Known). followed_by (byte table here (element_value k line start))
+        ap (λ (k : expressions.Known). followed_by (byte one.sections table here (element_value k line start))
         (storage.bytes_from one table line (further here 1) starts)) (known_same Refers table here)
-        ∙ ap (followed_by (byte table here (element_value (known_at other Refers table here) line start)))
+        ∙ ap (λ (l : List Section). followed_by (byte l table here (element_value (known_at other Refers table here) line start))
+        (storage.bytes_from one table line (further here 1) starts)) same.sections
+        ∙ ap (followed_by (byte other.sections table here (element_value (known_at other Refers table here) line start)))
         (bytes_same starts (further here 1))
 
     part_same : (here : ℕ) (part : Part) (of : PartKind)
         → strings.part_bytes one table here line part of ≡ strings.part_bytes other table here line part of
     part_same here part Text = refl
     part_same here part Expression =
-        ap (λ (k : expressions.Known). byte table here (value_at k line part.inside.start)) (known_same Refers table here)
+        ap (λ (k : expressions.Known). byte one.sections table here (value_at k line part.inside.start)) (known_same Refers table here)
+        ∙ ap (λ (l : List Section). byte l table here (value_at (known_at other Refers table here) line part.inside.start)) same.sections
 
     parts_same : (parts : List Part) (here : ℕ)
         → strings.parts_bytes one table here line parts ≡ strings.parts_bytes other table here line parts
@@ -213,10 +226,11 @@ module _ (one other : Map) (same : TellTheSame one other) where
 
     setting_same : (here : ℕ) → setting one table here line ≡ setting other table here line
     setting_same here =
-        let at : expressions.Known → expressions.Known → Setting = λ known refers.
-        record { table = table; place = here; known = known; refers = refers; line = line } in
-        ap (λ (k : expressions.Known). at k (known_at one Refers table here)) (known_same Knows table here)
-        ∙ ap (at (known_at other Knows table here)) (known_same Refers table here)
+        let at : List Section → expressions.Known → expressions.Known → Setting = λ whole known refers.
+        record { whole = whole; table = table; place = here; known = known; refers = refers; line = line } in
+        ap (λ (l : List Section). at l (known_at one Knows table here) (known_at one Refers table here)) same.sections
+        ∙ ap (λ (k : expressions.Known). at other.sections k (known_at one Refers table here)) (known_same Knows table here)
+        ∙ ap (at other.sections (known_at other Knows table here)) (known_same Refers table here)
 
     operator_same : (here start : ℕ) (arguments : Option ℕ) (operator : Operator)
         → operator_put one table here line start arguments operator ≡ operator_put other table here line start arguments operator
@@ -235,6 +249,25 @@ module _ (one other : Map) (same : TellTheSame one other) where
   pub line_put_same : (table : Table) (given : Given) → line_put one table given ≡ line_put other table given
   unfolding line_put
   line_put_same table given = put_same table given.live.line.text given.arguments (deed given.is_own given.live.line.text)
+
+  -- ---- what a listing shows
+
+  deed_items_same : (table : Table) (line : Bytes) (change : Change) (of : Deed)
+      → deed_items one table line change of ≡ deed_items other table line change of
+  deed_items_same table line change Rests = refl
+  deed_items_same table line change (Assigning name is_global start) =
+      ap (λ (k : expressions.Known). value_items (value_at k line start)) (known_same Knows table (place table))
+  deed_items_same table line change (SetsPlace start) = refl
+  deed_items_same table line change (Operating operator start) = refl
+
+  pub items_same : (table : Table) (given : Given) → items one table given ≡ items other table given
+  items_same table given =
+      ap (λ (p : Put). items_of p.contents ++ assigned_items one table given) (line_put_same (stands table given) given)
+      ∙ ap (λ (l : List Item). items_of (line_put other (stands table given) given).contents ++ l)
+      (deed_items_same (stands table given) given.live.line.text (line_change (firm_table (stands table given)) given)
+      (deed given.is_own given.live.line.text))
+
+  -- ---- pieces
 
   pub pieces_same : (table : Table) (given : Given) → pieces one table given ≡ pieces other table given
   pieces_same table given =

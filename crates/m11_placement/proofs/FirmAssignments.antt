@@ -8,7 +8,7 @@ use Rattle.m11_values.specs.Quantities.{Quantity}
 use Rattle.m11_placement.proofs.FirmNames.{firm_option, last_firm, value_alike}
 use Rattle.m11_placement.specs.Assignments.{all_firm, assigned, standing_of}
 use Rattle.m11_placement.specs.Definitions.{Definition, Key, Named, Numbered, Standing, Unknown, firm_part, firm_standing, last_definition}
-use Rattle.m11_placement.specs.Meanings.{AreFirm, Knows, Map, firm_known, is_firm, is_firm_in, known_at}
+use Rattle.m11_placement.specs.Meanings.{AreFirm, Knows, Map, empty_map, firm_known, is_firm, is_firm_in, known_at}
 use Rattle.m11_placement.specs.Tables.{Table, firm_table, place}
 
 found_firm : (found : Option Definition) → is_firm_in (firm_option found) ≡ is_firm_in found
@@ -61,10 +61,8 @@ from_firm table key line start =
     kept (all_firm table (symbols_at line start)) key (value_at (firm_known table (place table)) line start)
 
 twice_firm : (table : Table) (line : List ℕ) (start : ℕ) → AreFirm (firm_table table) (symbols_at line start)
-    → value_at (known_at (record { definitions = []; doubled = []; globals = [] }) Knows (firm_table table) (place table)) line start
-    ≡ value_at (firm_known (firm_table table) (place table)) line start
-twice_firm table line start firm =
-    value_alike (record { definitions = []; doubled = []; globals = [] }) Knows (firm_table table) (place table) line start firm
+    → value_at (known_at empty_map Knows (firm_table table) (place table)) line start ≡ value_at (firm_known (firm_table table) (place table)) line start
+twice_firm table line start firm = value_alike empty_map Knows (firm_table table) (place table) line start firm
 
 part_by_firm : (map : Map) (table : Table) (key : Key) (line : List ℕ) (start : ℕ)
     → firm_part (assigned map table key line start) ≡ from_firm (firm_table table) key line start

@@ -33,6 +33,11 @@ section_rows =
     (piece (named (codes "DATA  ")) 0 (byte 0 1).content
     ∷ piece (named (codes "PROG  ")) 0 (moved_word 0 (kind.Section (named (codes "DATA  "))) 2).content
     ∷ piece (named (codes "DATA  ")) 2 (fixed_word 7) ∷ [])
+    ∷ row (codes ".WORD D" ∷ codes "TST D" ∷ codes ".BYTE D" ∷ codes ".PSECT DATA" ∷ codes "D: NOP" ∷ [])
+    (codes "" ∷ codes "" ∷ codes "" ∷ codes "" ∷ codes "" ∷ [])
+    (moved_word 0 (kind.Section (named (codes "DATA  "))) 0 ∷ word 2 0o005767
+    ∷ moved_word 4 (kind.SectionDisplaced (named (codes "DATA  "))) 0 ∷ moved_byte 6 (kind.Section (named (codes "DATA  "))) 0
+    ∷ piece (named (codes "DATA  ")) 0 (fixed_word 0o240) ∷ [])
     ∷ row (codes ".PSECT P,ABS" ∷ codes "L: NOP" ∷ codes ".ASECT" ∷ codes "BR L" ∷ codes ".CSECT" ∷ codes "BR 0" ∷ [])
     (codes "" ∷ codes "" ∷ codes "" ∷ codes "" ∷ codes "" ∷ codes "A" ∷ [])
     (piece (named (codes "P     ")) 0 (fixed_word 0o240) ∷ piece absolute_name 0 (fixed_word 0o777) ∷ word 0 0o400 ∷ [])

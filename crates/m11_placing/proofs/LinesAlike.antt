@@ -133,25 +133,25 @@ module _ (one : Table) (definitions : List Definition) (doubled : List Key) (glo
         → storage.words_from map one line here starts ≡ storage.words_from map other line here starts
     words_alike [] here = refl
     words_alike (start ∷ starts) here =
-        ap (λ (k : expressions.Known). followed_by (word one false here (element_value k line start))
+        ap (λ (k : expressions.Known). followed_by (word map.sections one false here (element_value k line start))
         (storage.words_from map one line (further here 2) starts)) (alike_known one other alike map Refers here)
-        ∙ ap (λ (p : Put). followed_by (word other false here (element_value (known_at map Refers other here) line start)) p)
+        ∙ ap (λ (p : Put). followed_by (word map.sections other false here (element_value (known_at map Refers other here) line start)) p)
         (words_alike starts (further here 2))
 
     bytes_alike : (starts : List ℕ) (here : ℕ)
         → storage.bytes_from map one line here starts ≡ storage.bytes_from map other line here starts
     bytes_alike [] here = refl
     bytes_alike (start ∷ starts) here =
-        ap (λ (k : expressions.Known). followed_by (byte one here (element_value k line start))
+        ap (λ (k : expressions.Known). followed_by (byte map.sections one here (element_value k line start))
         (storage.bytes_from map one line (further here 1) starts)) (alike_known one other alike map Refers here)
-        ∙ ap (λ (p : Put). followed_by (byte other here (element_value (known_at map Refers other here) line start)) p)
+        ∙ ap (λ (p : Put). followed_by (byte map.sections other here (element_value (known_at map Refers other here) line start)) p)
         (bytes_alike starts (further here 1))
 
     part_alike : (here : ℕ) (part : Part) (of : PartKind)
         → strings.part_bytes map one here line part of ≡ strings.part_bytes map other here line part of
     part_alike here part Text = refl
     part_alike here part Expression =
-        ap (λ (k : expressions.Known). byte one here (value_at k line part.inside.start)) (alike_known one other alike map Refers here)
+        ap (λ (k : expressions.Known). byte map.sections one here (value_at k line part.inside.start)) (alike_known one other alike map Refers here)
 
     parts_alike : (parts : List Part) (here : ℕ)
         → strings.parts_bytes map one here line parts ≡ strings.parts_bytes map other here line parts
@@ -210,7 +210,7 @@ module _ (one : Table) (definitions : List Definition) (doubled : List Key) (glo
         → operator_put map one here line start arguments operator ≡ operator_put map other here line start arguments operator
     put_operator_alike here start arguments (Instruction operation) =
         let at : expressions.Known → expressions.Known → Fields → Put = λ known refers found.
-        assembled (record { table = one; place = here; known = known; refers = refers; line = line }) start operation found in
+        assembled (record { whole = map.sections; table = one; place = here; known = known; refers = refers; line = line }) start operation found in
         ap (λ (k : expressions.Known). at k (known_at map Refers one here) (fields one here line start operation))
         (alike_known one other alike map Knows here)
         ∙ ap (λ (k : expressions.Known). at (known_at map Knows other here) k (fields one here line start operation))

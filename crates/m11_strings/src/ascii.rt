@@ -86,7 +86,7 @@ fn put_part_bytes(
         PartKind::Text => put_characters(put, part.inside.text(setting.line())),
         PartKind::Expression => {
             let value = setting.at(place).reference(part.inside.start);
-            put_byte(put, setting.table(), place, value)
+            put_byte(put, setting, place, value)
         }
     }
 }

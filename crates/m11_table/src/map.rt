@@ -1,13 +1,14 @@
-//! What a whole source gives its names in the end, as a second reading is told it. (MACRO-11 Language Reference Manual, "Symbols".)
+//! What a whole source gives its names in the end, and its sections, as a second reading is told it. (MACRO-11 Language Reference Manual, "Symbols".)
 
 ghost use Rattle.std.specs.Prelude.{◌≡◌};
 ghost use Rattle.m11_placement.specs.Assigning.{is_exported};
 ghost use Rattle.m11_placement.specs.Definitions.{has_key, last_definition};
 ghost use Rattle.m11_placement.specs.Meanings.{empty_map, map_of};
+ghost use Rattle.m11_placement.specs.Sections.{numbered};
 
-use crate::table::Table;
+use crate::table::{Table, blank_section};
 use m11_base::Name;
-use m11_placement::{Definition, Key};
+use m11_placement::{Definition, Key, Section};
 use std::marker::Model;
 
 /// What a whole source gives its names: nothing in the first reading, the table after the first one in the second.
@@ -55,6 +56,16 @@ impl<'a> Map<'a> {
         match self.table {
             Some(table) => table.is_doubled(key),
             None => false,
+        }
+    }
+
+    /// The section of a number; the blank one where there is none.
+    pub fn section(&self, number: u16) -> Section
+        ensures { result ≡ numbered number self.now.sections }
+    {
+        match self.table {
+            Some(table) => table.section(number),
+            None => blank_section(),
         }
     }
 

@@ -3,7 +3,7 @@
 
 ghost use Rattle.std.specs.Prelude.{◌≡◌, ◌<◌, ◌+◌, ◌^◌, [], IfOk, IfSome, None, length, slice_get};
 ghost use Rattle.std.specs.List.{list_any};
-ghost use Rattle.m11_base.specs.Names.{name_in_words};
+ghost use Rattle.m11_base.specs.Names.{blank_name, name_in_words};
 ghost use Rattle.m11_base.specs.Rad50.{is_same_name};
 ghost use Rattle.m11_placement.specs.Changes.{in_number, with_move, with_section, with_settings};
 ghost use Rattle.m11_placement.specs.Definitions.{has_key, is_defined, is_labelled, last_definition, register_named};
@@ -12,7 +12,7 @@ ghost use Rattle.m11_placement.specs.Meanings.{is_firm, is_firm_in};
 ghost use Rattle.m11_placement.specs.Places.{Goes, Steps};
 ghost use Rattle.m11_placement.specs.ProgramSections.{known_section};
 ghost use Rattle.m11_placement.specs.Relocations.{is_here, is_moved};
-ghost use Rattle.m11_placement.specs.Sections.{number_of, numbered, section};
+ghost use Rattle.m11_placement.specs.Sections.{number_of, numbered, of_program, section};
 ghost use Rattle.m11_placement.specs.Tables.{first_settings, first_table, kind_here, place};
 ghost use Rattle.m11_placement.specs.declared.definitions.Key.TheVariants.{Named, Numbered};
 ghost use Rattle.m11_table.specs.Alike.{Alike, Follows};
@@ -144,10 +144,7 @@ impl Table {
                 name: *name,
                 attributes: *attributes,
             },
-            None => Section {
-                name: blank_name(),
-                attributes: BLANK_ATTRIBUTES,
-            },
+            None => blank_section(),
         }
     }
 
@@ -472,6 +469,16 @@ fn register_named(name: &[u8; 6], number: u16) -> Definition
         standing: Standing::Known(number, Kind::Register),
         is_firm: true,
         is_label: false,
+    }
+}
+
+// A section that there isn't counts as the blank one.
+pub(crate) fn blank_section() -> Section
+    ensures { result ≡ section blank_name of_program }
+{
+    Section {
+        name: blank_name(),
+        attributes: BLANK_ATTRIBUTES,
     }
 }
 
