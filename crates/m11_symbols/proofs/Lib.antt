@@ -1,0 +1,3 @@
+mod Needed
+mod Numbering
+mod SameEntries

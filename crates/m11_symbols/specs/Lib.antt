@@ -1,0 +1,4 @@
+pub mod Sections
+pub mod Symbols
+pub mod Values
+pub mod Worked

@@ -1,0 +1,21 @@
+-- The sections of the symbol table. (MACRO-11 Language Reference Manual, "Table of contents and symbol table" and "Program section
+-- directives". That they stand in the order of their numbers is this project's own.)
+use Rattle.std.specs.Prelude.{ℕ, List, map}
+use Rattle.std.specs.List.{enumerate_from}
+use Rattle.m11_directory.specs.FirstPass.{Told}
+use Rattle.m11_listing.specs.declared.symbol_table.SectionEntry.{SectionEntry}
+use Rattle.m11_placement.specs.declared.sections.Section.{Section}
+
+abbrev pub sized_entry : ℕ → Section → ℕ → SectionEntry
+sized_entry number section size = record {
+  name = section.name;
+  size = size;
+  number = number;
+  attributes = record { 0 = section.attributes };
+}
+
+abbrev pub section_entry : Told → ℕ × Section → SectionEntry
+section_entry told numbered = sized_entry numbered.0 numbered.1 (told.size_of numbered.0)
+
+abbrev pub section_entries : Told → List SectionEntry
+section_entries told = map (section_entry told) (enumerate_from 0 told.table.sections)

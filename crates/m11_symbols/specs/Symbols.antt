@@ -1,0 +1,42 @@
+-- The names of the symbol table. (MACRO-11 Language Reference Manual, "Table of contents and symbol table" and ".GLOBL directive". That names
+-- stand by their two RADIX-50 words, and that references have `G` too, is this project's own.)
+use Rattle.std.specs.Prelude.{◌&&◌, ◌||◌, Bool, is_none, List, map, Option}
+use Rattle.m11_base.specs.Rad50.{Name}
+use Rattle.m11_directory.specs.FirstPass.{Told}
+use Rattle.m11_directory.specs.Names.{has_name, ordered}
+use Rattle.m11_directory.specs.References.{references}
+use Rattle.m11_listing.specs.declared.symbol_table.SymbolEntry.{SymbolEntry}
+use Rattle.m11_placement.specs.declared.definitions.Definition.{Definition}
+use Rattle.m11_placement.specs.declared.definitions.Key.TheVariants.{Named}
+use Rattle.m11_placement.specs.Definitions.{last_definition}
+use Rattle.m11_symbols.specs.Values.{is_assigned, symbol_value}
+
+-- its last definition, if it has one
+abbrev pub definition_of : Told → Name → Option Definition
+definition_of told name = last_definition (Named name) told.table.definitions
+
+-- `G` stands for what lines made global, and for what another object has to define
+abbrev pub is_global : Told → Name → Bool
+is_global told name = has_name name told.table.globals || has_name name (references told)
+
+-- lines refer to the name, and no line defines it
+abbrev pub is_needed : Told → Name → Bool
+is_needed told name = has_name name told.referred && is_none (definition_of told name)
+
+abbrev pub entry_by : Name → Option Definition → Bool → SymbolEntry
+entry_by name definition is_global = record {
+  name = name;
+  is_assigned = is_assigned definition;
+  value = symbol_value definition;
+  is_global = is_global;
+}
+
+abbrev pub symbol_entry : Told → Name → SymbolEntry
+symbol_entry told name = entry_by name (definition_of told name) (is_global told name)
+
+-- names in order, each once
+abbrev pub symbol_entries : Told → List Name → List SymbolEntry
+symbol_entries told names = map (symbol_entry told) (ordered names)
+
+abbrev pub entry_names : List SymbolEntry → List Name
+entry_names entries = map (λ entry. entry.name) entries

@@ -1,0 +1,43 @@
+//! The sections of the symbol table. (MACRO-11 Language Reference Manual, "Table of contents and symbol table" and "Program section
+//! directives".)
+
+ghost use Rattle.std.specs.Prelude.{◌≡◌, ◌<◌, ◌≤◌, IfOk, length};
+ghost use Rattle.m11_directory.specs.FirstPass.{told_by};
+ghost use Rattle.m11_placement.specs.Sections.{numbered};
+ghost use Rattle.m11_symbols.specs.Sections as spec;
+
+use bitflags::Flags;
+use m11_directory::FirstPass;
+use m11_listing::SectionEntry;
+use m11_obj::SectionFlags;
+use std::alloc::{AllocError, Global};
+
+// The entry of the section of a number.
+fn section_entry(first: &FirstPass<'_>, number: u16) -> SectionEntry
+    requires { number < 64 }
+    ensures { result ≡ spec.section_entry (told_by first.now) (number, numbered number first.now.table.now.sections) }
+{
+    let section = first.table.section(number);
+    SectionEntry {
+        name: section.name,
+        size: first.sizes[usize::from(number)],
+        number: number as u8,
+        attributes: SectionFlags::from_bits_retain(section.attributes),
+    }
+}
+
+/// The entries of the sections, in the order of their numbers.
+pub fn section_entries(
+    alloc: Global,
+    first: &FirstPass<'_>,
+) -> Result<Vec<SectionEntry>, AllocError>
+    requires { length first.now.table.now.sections ≤ 64 }
+    ensures { IfOk result (λ entries. entries.items ≡ spec.section_entries (told_by first.now)) }
+{
+    let mut entries = Vec::new(alloc);
+    let count = first.table.section_count();
+    'sections: for number in 0..count {
+        entries.push(section_entry(first, number as u16))?;
+    }
+    Ok(entries)
+}
