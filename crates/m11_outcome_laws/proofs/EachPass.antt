@@ -1,0 +1,79 @@
+-- Each pass over a reading ends or is refused, and so two readings have an outcome.
+use Rattle.std.proofs.Common.{◌≡◌, ◌∙◌, true, false, List, [], ◌++◌, append-nil, Option, Some, None, inl, inr, refl, sym, ap, subst}
+use Rattle.std.specs.Prelude.{◌⊎◌}
+use Rattle.m11_asm.specs.Outcome as outcome
+use Rattle.m11_asm.specs.Outcome.{Ends, HasOutcome, Outcome, Refused, Assembled, Refuses, Unended}
+use Rattle.m11_asm_outputs.specs.Fault.{of_lines}
+use Rattle.m11_asm_outputs.specs.declared.fault.AsmFault.{AsmFault}
+use Rattle.m11_base.specs.Rad50.{Name}
+use Rattle.m11_lines.specs.Line.{SourceLine}
+use Rattle.m11_lines.specs.declared.fault.LineFault.{LineFault}
+use Rattle.m11_pass_laws.specs.Ends.{EndsAfter, HasEnd, IsOver}
+use Rattle.m11_pass_laws.specs.Ends as ends
+use Rattle.m11_passes.specs.Lines.{Numbered, PassLines, givens}
+use Rattle.m11_placement.specs.Meanings.{Map, empty_map}
+use Rattle.m11_readings.specs.Readings.{Reading}
+use Rattle.m11_second.specs.Faults.{of_pass}
+use Rattle.m11_second.specs.Program.{Program, program_of}
+use Rattle.m11_second.specs.Written.{Ended, flagged_count, program_writes, written}
+use Rattle.m11_unfolding.specs.Stages.{Stage}
+use Rattle.m11_outcome_laws.proofs.OnePass.{ended_at}
+
+-- what is known of passes over lines
+abbrev pub EachEnds : Type 0
+EachEnds = (map : Map) (names : List Name) (all : List SourceLine) → HasEnd map names all
+
+-- it ends, or it is refused
+abbrev pub Comes : Map → List Name → Reading → Type 0
+Comes map names reading = ((lines : List Numbered) × (ended : Ended) × Ends map names reading lines ended)
+    ⊎ ((lines : List Numbered) × (fault : AsmFault) × Refuses map names reading lines fault)
+
+module _ (map_ : Map) (names : List Name) (reading : Reading) where
+  by_fault : (lines : List Numbered) → Unended map_ names reading.lines lines → (came : Option LineFault) → reading.fault ≡ came
+      → Comes map_ names reading
+  by_fault lines u None none = inl (lines, ended_at reading.lines false, outcome.Ends.WithoutEnd u none refl)
+  by_fault lines u (Some fault) stops = inr (lines, of_lines fault, outcome.Refuses.AtReading fault stops refl u)
+
+  module _ (source : List SourceLine) (lines : List Numbered) (stage : Stage) (e : EndsAfter map_ names reading.lines source lines stage) where
+    all_read : e.more ≡ [] → source ≡ reading.lines
+    all_read none = sym (append-nil source) ∙ ap (λ (ls : List SourceLine). source ++ ls) (sym none) ∙ e.whole
+
+    unended : e.more ≡ [] → stage.left ≡ [] → stage.has_ended ≡ false → Unended map_ names reading.lines lines
+    unended none left goes = record {
+      stage = stage;
+      live = subst (λ (ls : List SourceLine). PassLines map_ names ls lines stage) (all_read none) e.lines_are;
+      left = left;
+      goes_on = goes;
+    }
+
+    by_end : IsOver e.more stage → Comes map_ names reading
+    by_end (inl ended) = inl (lines, ended_at source true, outcome.Ends.AtEnd source e.more stage (sym e.whole) e.lines_are ended refl)
+    by_end (inr (none, left, goes)) = by_fault lines (unended none left goes) reading.fault refl
+
+  pub comes_by : HasEnd map_ names reading.lines → Comes map_ names reading
+  comes_by (ends.HasEnd.AtEnd source lines stage e) = by_end source lines stage e e.is_over
+  comes_by (ends.HasEnd.AtLimit source lines limit x) =
+      inr (lines, of_pass limit, outcome.Refuses.AtLimit source x.more limit (sym x.whole) x.exceeds refl)
+
+module _ (each : EachEnds) (first second : Reading) where
+  by_second : (lines : List Numbered) (ended : Ended) (program : Program) → Ends empty_map [] first lines ended
+      → program ≡ program_of (givens lines) → Comes program.map program.mentioned.names second
+      → (all : Outcome) × HasOutcome first second all
+  by_second lines ended program ends is (inl (others, end, ends')) = (
+    Assembled (program_writes program others end) (flagged_count program others end.has_end),
+    outcome.HasOutcome.Assembles lines ended program others end ends is ends',
+  )
+  by_second lines ended program ends is (inr (others, fault, refuses)) = (
+    Refused fault (written program others),
+    outcome.HasOutcome.SecondRefuses lines ended program others fault ends is refuses,
+  )
+
+  by_first : Comes empty_map [] first → (all : Outcome) × HasOutcome first second all
+  by_first (inl (lines, ended, ends)) =
+      let program : Program = program_of (givens lines) in
+      by_second lines ended program ends refl
+      (comes_by program.map program.mentioned.names second (each program.map program.mentioned.names second.lines))
+  by_first (inr (lines, fault, refuses)) = (Refused fault [], outcome.HasOutcome.FirstRefuses lines fault refuses)
+
+  pub has_outcome : (all : Outcome) × HasOutcome first second all
+  has_outcome = by_first (comes_by empty_map [] first (each empty_map [] first.lines))

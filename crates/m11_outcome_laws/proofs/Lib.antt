@@ -1,0 +1,5 @@
+mod EachPass
+mod OneOutcome
+mod OnePass
+mod OneText
+mod RunsRefused

@@ -1,0 +1,72 @@
+//! Laws of outcomes. Each is the contract of a function that does nothing but to call the laws that its own follows from.
+
+ghost use Rattle.std.specs.Prelude.{◌≡◌, ◌↔◌, ◌∷◌, ◌++◌, List, [], Err};
+ghost use Rattle.m11_asm.specs.Outcome.{Ends, HasOutcome, Outcome, Refuses};
+ghost use Rattle.m11_asm.specs.Passes.{Pass};
+ghost use Rattle.m11_asm.specs.Run.{AsmRuns};
+ghost use Rattle.m11_asm_outputs.specs.Outputs.{Gains, Outputs, Write};
+ghost use Rattle.m11_asm_outputs.specs.declared.fault.AsmFault.{AsmFault};
+ghost use Rattle.m11_base.specs.Devices.{Bytes};
+ghost use Rattle.m11_outcome_laws.specs.OneText.{IsToldByFirst, Repeats, program_after};
+ghost use Rattle.m11_outcome_laws.specs.Runs.{IsOfSources, IsRefused};
+ghost use Rattle.m11_outcome_laws.specs.Sources.{AssembleTo};
+ghost use Rattle.m11_passes.specs.Lines.{Numbered};
+ghost use Rattle.m11_placement.specs.Meanings.{empty_map};
+ghost use Rattle.m11_readings.specs.Readings.{Reading};
+ghost use Rattle.m11_second.specs.Written.{Ended};
+
+use m11_pass_laws::{
+    a_pass_has_one_end, a_second_pass_over_the_same_lines_passes_no_limit,
+    each_pass_comes_to_its_end_or_passes_a_limit,
+    no_label_has_moved_in_a_second_pass_over_the_same_lines, the_same_lines_are_read_alike,
+};
+use m11_readings::sources_after_a_line_feed_are_one_text;
+
+/// Sources have one outcome: any two outcomes of the same two readings are the same. Both are refusals by the same fault after the same
+/// writes, or both are the same writes with the same count of flagged lines.
+pub fn sources_have_one_outcome()
+    ensures { (first second : Reading) (one other : Outcome) → HasOutcome first second one → HasOutcome first second other → one ≡ other }
+{
+    a_pass_has_one_end();
+}
+
+/// Any two readings have an outcome, whatever their lines are. With `sources_have_one_outcome` they have just one.
+pub fn each_list_of_sources_has_an_outcome()
+    ensures { (first second : Reading) → (outcome : Outcome) × HasOutcome first second outcome }
+{
+    each_pass_comes_to_its_end_or_passes_a_limit();
+}
+
+/// Where the first of two sources ends in a line feed, they assemble to what the one text that they make together assembles to, whatever
+/// sources follow.
+pub fn two_sources_after_a_line_feed_are_one_text()
+    ensures { (one other : Bytes) (sources : List Bytes) (outcome : Outcome)
+        → AssembleTo ((one ++ 10 ∷ []) ∷ other ∷ sources) outcome
+        ↔ AssembleTo (((one ++ 10 ∷ []) ++ other) ∷ sources) outcome }
+{
+    sources_after_a_line_feed_are_one_text();
+}
+
+/// Where both passes read the same text, and the first one is not refused, the second one is not refused either: it has the same live lines
+/// up to the same end, and none of their labels has moved. So the first pass alone tells the outcome, and a refusal has written nothing.
+pub fn the_same_text_has_no_moved_label_and_no_second_refusal()
+    ensures repeats { (reading : Reading) (lines : List Numbered) (ended : Ended) → Ends empty_map [] reading lines ended
+        → Repeats reading lines ended }
+    ensures refuses { (reading : Reading) (lines others : List Numbered) (ended : Ended) (fault : AsmFault)
+        → Ends empty_map [] reading lines ended
+        → Refuses (program_after lines).map (program_after lines).mentioned.names reading others fault → ⊥ }
+    ensures outcome { (reading : Reading) (outcome : Outcome) → HasOutcome reading reading outcome → IsToldByFirst reading outcome }
+{
+    the_same_lines_are_read_alike();
+    each_pass_comes_to_its_end_or_passes_a_limit();
+    a_second_pass_over_the_same_lines_passes_no_limit();
+    no_label_has_moved_in_a_second_pass_over_the_same_lines();
+}
+
+/// A run that ends by a fault of its sources writes exactly what the outcome of its two readings says. Where the first pass is refused
+/// nothing is written, and the second pass reads nothing: whatever it would read, the outcome is that refusal. Of runs that are Ok
+/// `m11_asm::a_run_writes_the_outcome_of_its_sources` says the same.
+pub fn runs_write_their_outcome<F>()
+    ensures { (first second : Pass F) (old new : Outputs) (fault : AsmFault) → IsOfSources fault → AsmRuns first second old new (Err fault)
+        → (writes : List Write) × IsRefused first second fault writes × Gains old new writes }
+{}
