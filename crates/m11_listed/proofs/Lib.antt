@@ -1,0 +1,2 @@
+pub mod LinesListed
+pub mod ListedLines
