@@ -49,6 +49,8 @@ ops()
 DIRECTIVES = set(""".WORD .BYTE .ASCII .ASCIZ .RAD50 .BLKB .BLKW .EVEN .ODD .LIMIT .RADIX .ASECT .CSECT .PSECT .GLOBL .WEAK
 .TITLE .IDENT .LIST .NLIST .ENABL .DSABL .SBTTL .PAGE .END .NARG .NCHR""".split())
 UNFOLD = set(".IF .IFF .IFT .IFTF .ENDC .IIF .MACRO .REPT .IRP .IRPC .ENDM .ENDR .MEXIT".split())
+# What no expression begins with: a register or a target is then missing.
+NO_EXPRESSION = (",", "end", "(", ")", "@", "#")
 OPENERS = {".MACRO", ".REPT", ".IRP", ".IRPC"}
 CLOSERS = {".ENDM", ".ENDR"}
 
@@ -974,7 +976,7 @@ class Pass:
         self.bad_in(toks)
         if unit == 2:
             self.even()
-        n, i = (1, 0) if toks[0].k == "end" else self.firm_number(toks, 0, self.flags)
+        n, i = (1, 0) if toks[0].k in NO_EXPRESSION else self.firm_number(toks, 0, self.flags)
         self.left(toks, i)
         self.sec.at = (self.sec.at + n * unit) & 0xFFFF
 
@@ -1189,8 +1191,9 @@ class Pass:
     def d_end(self, text, toks, at):
         self.bad_in(toks)
         self.ended = True
-        if toks[0].k == "end":
+        if toks[0].k in NO_EXPRESSION:
             self.end = None
+            self.left(toks, 0)
             return
         flags = set()
         v, i = self.expr(toks, 0, "real", flags)
@@ -1209,6 +1212,8 @@ class Pass:
         self.bad_in(toks)
         if toks[0].k != "name":
             self.flags.add("A")
+            if all(ex.nargs is None for ex in self.stack):
+                self.flags.add("O")
             return
         self.left(toks, 1)
         for ex in reversed(self.stack):
@@ -1323,12 +1328,12 @@ class Pass:
             return 0
 
         def register(i):
-            if toks[i].k in (",", "end"):
+            if toks[i].k in NO_EXPRESSION:
                 return missing(), i
             return self.register(toks, i)
 
         def target(i, back):
-            if toks[i].k in (",", "end"):
+            if toks[i].k in NO_EXPRESSION:
                 f.add("A")
                 return 0, i
             v, i = self.expr(toks, i, "real", f)
