@@ -774,6 +774,9 @@ class Pass:
             v, i = self.expr(toks, 2, "firm", flags)
             self.left(toks, i)
             rel = bool(self.sec.flags & 0o40)
+            if v.k == "reg":
+                flags.add("R")
+                v = Val("abs", v.v)
             if (rel and v.k == "rel" and v.s == self.secnum) or (not rel and v.k == "abs"):
                 self.sec.at = v.v
             else:
@@ -1032,7 +1035,8 @@ class Pass:
 
     def d_csect(self, text, toks, at):
         self.bad_in(toks)
-        if toks[0].k == "end":
+        if toks[0].k in ("end", ","):
+            self.left(toks, 0)
             self.block += 1
             self.secnum = 1
             return
@@ -1103,16 +1107,13 @@ class Pass:
         self.name_list(toks, each)
 
     def d_title(self, text, toks, at):
-        i = at
-        while i < len(text) and text[i] in " \t":
-            i += 1
-        j = i
-        while j < len(text) and text[j] in NAMECH:
-            j += 1
-        if j == i or text[i] in DIG:
-            self.flags.add("A")
+        if toks[0].k in ("name", "."):
+            if toks[0].bad:
+                self.flags.add("I")
+            self.title = six(toks[0].t)
         else:
-            self.title = six(text[i:j])
+            self.bad_in(toks)
+            self.flags.add("A")
 
     def d_ident(self, text, toks, at):
         i = at
@@ -1121,6 +1122,7 @@ class Pass:
                 self.flags.add("I")
             i += 1
         if i >= len(text) or text[i] == "<":
+            self.bad_in(toks)
             self.flags.add("A")
             return
         j = text.find(text[i], i + 1)
