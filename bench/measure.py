@@ -8,9 +8,9 @@ import time
 from collections import namedtuple
 from pathlib import Path
 
-# What a command printed, on both streams; its exit status; its seconds of the processor; and its highest resident
-# memory in KiB.
-Run = namedtuple("Run", "printed status seconds peak")
+# What a command printed, on both streams; its exit status; its seconds of the processor; its highest resident memory in
+# KiB; and its seconds of the clock.
+Run = namedtuple("Run", "printed status seconds peak clock")
 
 
 def peak_of(pid):
@@ -26,13 +26,15 @@ def peak_of(pid):
 def measured(command, interval):
     """The run of a command, whose memory is looked at once in so many seconds."""
     with tempfile.TemporaryFile() as printed:
+        begun = time.perf_counter()
         process = subprocess.Popen(command, stdin=subprocess.DEVNULL, stdout=printed, stderr=printed)
         peak, ended = 0, 0
         while not ended:
             peak = max(peak, peak_of(process.pid))
             time.sleep(interval)
             ended, status, used = os.wait4(process.pid, os.WNOHANG)
+        clock = time.perf_counter() - begun
         process.returncode = os.waitstatus_to_exitcode(status)
         printed.seek(0)
         text = printed.read().decode("ascii", "replace")
-        return Run(text, process.returncode, used.ru_utime + used.ru_stime, peak)
+        return Run(text, process.returncode, used.ru_utime + used.ru_stime, peak, clock)
