@@ -253,12 +253,12 @@ class Pass:
         table = self.locals if isinstance(key, tuple) else self.names
         sym = table.get(key)
         if mode in ("firm", "test"):
+            if sym is not None and sym.doubled and mode == "firm":
+                flags.add("D")
             if sym is None or not sym.firm:
                 if mode == "firm":
                     flags.add("U")
                 return ABS0
-            if sym.doubled and mode == "firm":
-                flags.add("D")
             return sym.val
         if sym is None and self.first is not None:
             sym = (self.first.locals if isinstance(key, tuple) else self.first.names).get(key)
