@@ -42,6 +42,7 @@ module _ (told : Told) where
 
   pub entries_done : (entries : List SectionEntry) (count : ℕ) → count ≡ length sections
       → entries ≡ map (section_entry told) (take count numbers) → entries ≡ section_entries told
+  unfolding section_entries
   entries_done entries count e f =
       f
       ∙ ap (λ (n : ℕ). map (section_entry told) (take n numbers)) (e ∙ sym (length-enumerate_from 0 sections))

@@ -33,6 +33,7 @@ module _ (one other : Told) (same : TellTheSame one other) where
       (ap (λ (size : ℕ). sized_entry number section size) (same.sizes number here)) (entries_from (number + 1) sections after)
 
   pub sections_same : section_entries one ≡ section_entries other
+  unfolding section_entries
   sections_same =
       let within : 0 + length one.table.sections ≤ length one.table.sections = omega arith in
       entries_from 0 one.table.sections within
@@ -46,6 +47,7 @@ names_of told (name ∷ names) = ap (λ (others : List Name). name ∷ others) (
 
 module _ (in_order : (names : List Name) → AreInOrder (ordered names) names) where
   pub names_in_order : (told : Told) (names : List Name) → AreInOrder (entry_names (symbol_entries told names)) names
+  unfolding symbol_entries
   names_in_order told names =
       let P : List Name → Type 0 = λ list. AreInOrder list names in
       subst P (sym (names_of told (ordered names))) (in_order names)
@@ -68,6 +70,7 @@ module _ (in_order : (names : List Name) → AreInOrder (ordered names) names) w
 
     pub symbols_same : ((list names : List Name) → AreInOrder list names → list ≡ ordered names)
         → (names others : List Name) → HaveTheSame names others → symbol_entries one names ≡ symbol_entries other others
+    unfolding symbol_entries
     symbols_same alone names others have =
         let agree : symbol_entry one ≡ symbol_entry other = λ i name. entry_same name i in
         let listed : ordered names ≡ ordered others =

@@ -17,5 +17,5 @@ sized_entry number section size = record {
 abbrev pub section_entry : Told → ℕ × Section → SectionEntry
 section_entry told numbered = sized_entry numbered.0 numbered.1 (told.size_of numbered.0)
 
-abbrev pub section_entries : Told → List SectionEntry
+unfoldable pub section_entries : Told → List SectionEntry
 section_entries told = map (section_entry told) (enumerate_from 0 told.table.sections)

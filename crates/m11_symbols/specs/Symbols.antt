@@ -35,7 +35,7 @@ abbrev pub symbol_entry : Told → Name → SymbolEntry
 symbol_entry told name = entry_by name (definition_of told name) (is_global told name)
 
 -- names in order, each once
-abbrev pub symbol_entries : Told → List Name → List SymbolEntry
+unfoldable pub symbol_entries : Told → List Name → List SymbolEntry
 symbol_entries told names = map (symbol_entry told) (ordered names)
 
 abbrev pub entry_names : List SymbolEntry → List Name
