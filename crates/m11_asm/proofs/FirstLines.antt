@@ -1,6 +1,5 @@
 -- The first pass over feeds, from line to line.
 use Rattle.std.proofs.Common.{◌≡◌, ◌∙◌, Bool, true, false, List, [], ◌∷◌, ◌++◌, ℕ, length, Option, Some, None, Result, Ok, Err, IsErrAnd, refl, sym, ap, subst, inl, inr}
-use Rattle.std.specs.Prelude.{◌⊎◌}
 use Rattle.m11_asm_outputs.specs.Fault.{of_lines}
 use Rattle.m11_asm_outputs.specs.declared.fault.AsmFault.{AsmFault}
 use Rattle.m11_asm_outputs.specs.declared.fault.AsmFault.TheVariants as fault
@@ -10,7 +9,6 @@ use Rattle.m11_lines.specs.Line.{SourceLine}
 use Rattle.m11_lines.specs.Reader.{LineReading, ReadsNext, place}
 use Rattle.m11_lines.specs.declared.fault.LineFault.{LineFault}
 use Rattle.m11_lines.specs.declared.fault.LineFault.TheVariants.{Read, TooMuchSource, TooManyLines}
-use Rattle.m11_passes.specs.Reaching.{Refused}
 use Rattle.m11_passes.specs.declared.fault.PassFault.{PassFault}
 use Rattle.m11_passes.specs.declared.fault.PassFault.TheVariants as pass
 use Rattle.m11_placement.specs.Meanings.{empty_map}

@@ -1,25 +1,22 @@
 -- Both passes make the run.
-use Rattle.std.proofs.Common.{◌≡◌, ◌≤◌, ℕ, List, length, Result, Ok, Err, refl, sym, subst, inr}
+use Rattle.std.proofs.Common.{◌≤◌, ℕ, List, length, Result, Ok, Err, refl, sym, subst, inr}
 use Rattle.m11_asm_outputs.specs.Outputs.{Gains, Outputs, Write}
 use Rattle.m11_asm_outputs.specs.declared.fault.AsmFault.{AsmFault}
-use Rattle.m11_directory.specs.FirstPass.{Told}
-use Rattle.m11_directory.specs.Laws as directory
-use Rattle.m11_directory.specs.Rows.{directory_rows}
-use Rattle.m11_first.specs.First.{FirstState, Symbols, symbols_of}
+use Rattle.m11_first.specs.First.{Symbols}
 use Rattle.m11_passes.specs.Lines.{Numbered, givens}
 use Rattle.m11_placement.specs.Limits.{most_sections}
 use Rattle.m11_readings.specs.Readings.{Reading}
 use Rattle.m11_second.specs.Program.{Program, program_in, program_of}
 use Rattle.m11_second.specs.Written.{program_writes}
 use Rattle.m11_second.specs.declared.done.AsmDone.{AsmDone}
-use Rattle.m11_asm.specs.First.{FirstTaken, GivesSymbols}
+use Rattle.m11_asm.specs.First.{GivesSymbols}
 use Rattle.m11_asm.specs.Outcome as outcome
 use Rattle.m11_asm.specs.Outcome.{Assembled, HasOutcome}
 use Rattle.m11_asm.specs.Passes.{Pass, Reads, ReadsFirst, ReadsSecond}
 use Rattle.m11_asm.specs.Run.{AsmRuns, AsmRunsOr}
 use Rattle.m11_asm.proofs.FirstLines.{first_reads}
 use Rattle.m11_asm.proofs.ProgramsAlike.{AlikePrograms, reads_alike}
-use Rattle.m11_asm.proofs.ProgramsTold.{programs_alike}
+use Rattle.m11_asm.proofs.ProgramsTold.{TellAlike, programs_alike}
 
 module _ {F : Type 0} (Untouched : Type 0) (first second : Pass F) (old new : Outputs) where
   runs_by : (lines : List Numbered) → ReadsFirst first (Ok lines) → (result : Result AsmDone AsmFault)
@@ -27,14 +24,13 @@ module _ {F : Type 0} (Untouched : Type 0) (first second : Pass F) (old new : Ou
   runs_by lines read (Ok done) reads = (lines, read, reads)
   runs_by lines read (Err stopped) reads = inr (lines, read, reads)
 
-  module _ (law : (one other : Told) → directory.TellTheSame one other → directory_rows one ≡ directory_rows other) (symbols : Symbols)
-      (gives : GivesSymbols first (Ok symbols)) where
+  module _ (laws : TellAlike) (symbols : Symbols) (gives : GivesSymbols first (Ok symbols)) where
     same : AlikePrograms (program_in symbols) (program_of (givens gives.1.stands.lines))
     same =
         let P : Symbols → Type 0 = λ s. length s.kept.table.sections ≤ most_sections in
         let Q : Symbols → Type 0 = λ s. AlikePrograms (program_in s) (program_of (givens gives.1.stands.lines)) in
         subst Q (sym gives.2)
-        (programs_alike gives.1.source gives.1.stands.lines gives.0 gives.1.stands.taken (subst P gives.2 gives.3) law)
+        (programs_alike gives.1.source gives.1.stands.lines gives.0 gives.1.stands.taken (subst P gives.2 gives.3) laws)
 
     pub asm_runs : (result : Result AsmDone AsmFault) → ReadsSecond second (program_in symbols) old new result
         → AsmRunsOr Untouched first second old new result

@@ -1,13 +1,11 @@
 -- The lines that a reader returned so far, and the readings of which they are.
-use Rattle.std.proofs.Common.{◌≡◌, ◌∙◌, ◌≤◌, ℕ, List, [], ◌∷◌, ◌++◌, length, map, filter, Option, Some, None, Ok, Err, refl, sym, ap, subst, arith}
+use Rattle.std.proofs.Common.{◌≡◌, ◌∙◌, ◌≤◌, ℕ, List, [], ◌∷◌, ◌++◌, length, filter, Option, Some, None, Ok, Err, refl, sym, ap, subst, arith}
 use Rattle.std.proofs.lemmas.List.{length-map}
 use Rattle.std.proofs.lemmas.List.Sums.{length-filter}
-use Rattle.m11_asm_outputs.specs.declared.fault.AsmFault.{AsmFault}
 use Rattle.m11_base.specs.Feed.{Text}
 use Rattle.m11_lines.specs.Line.{SourceLine, line_of}
 use Rattle.m11_lines.specs.Lines.{RawLine, is_line, line_text, lines_in, most_bytes, most_lines}
 use Rattle.m11_lines.specs.Reader.{LineReading, ReadsNext, place}
-use Rattle.m11_lines.specs.declared.fault.LineFault.{LineFault}
 use Rattle.m11_lines.specs.declared.fault.LineFault.TheVariants.{Read, TooMuchSource, TooManyLines}
 use Rattle.m11_readings.specs.Calls.{BeginReading, HasRead, start}
 use Rattle.m11_readings.specs.Readings.{Reading, lines_of, reading_of}

@@ -6,26 +6,33 @@ use Rattle.m11_asm_outputs.specs.Object.{content_writes, head_contents, records_
 use Rattle.m11_asm_outputs.specs.Outputs.{Gains, Outputs, StopsBetween, StopsIn, Write}
 use Rattle.m11_asm_outputs.specs.declared.fault.AsmFault.{AsmFault}
 use Rattle.m11_asm_outputs.specs.declared.fault.AsmFault.TheVariants as fault
+use Rattle.m11_base.specs.Devices.{Bytes}
 use Rattle.m11_base.specs.Rad50.{Name}
 use Rattle.m11_lines.specs.Line.{SourceLine}
+use Rattle.m11_listed.specs.Listed.{all_to_listing, lines_of, listing_writes}
+use Rattle.m11_listing.specs.Listing.{listed_lines}
+use Rattle.m11_listing.specs.declared.items.Item.{Item}
+use Rattle.m11_listing.specs.declared.symbol_table.SectionEntry.{SectionEntry}
+use Rattle.m11_listing.specs.declared.symbol_table.SymbolEntry.{SymbolEntry}
 use Rattle.m11_maps.specs.Maps.{TellTheSame}
 use Rattle.m11_maps.proofs.LiveLines.{exceeds_same, pass_lines_same, table_at_same}
-use Rattle.m11_maps.proofs.MapsAlike.{after_line_same, all_letters_same, pieces_same}
+use Rattle.m11_maps.proofs.MapsAlike.{after_line_same, all_letters_same, items_same, pieces_same}
 use Rattle.m11_object_text.specs.declared.directory.DirectoryRow.{DirectoryRow}
 use Rattle.m11_object_text.specs.declared.pieces.Piece.{Piece}
 use Rattle.m11_passes.specs.Lines.{Numbered, PassLines, givens, table_at}
 use Rattle.m11_passes.specs.Placed.{all_letters}
 use Rattle.m11_passes.specs.Reaching.{Exceeds}
 use Rattle.m11_placement.specs.Exports.{transfer_letters}
-use Rattle.m11_placement.specs.Lines.{after_line, pieces}
-use Rattle.m11_placement.specs.Meanings.{Map}
-use Rattle.m11_placement.specs.Placements.{Placed, placed_from, placement}
+use Rattle.m11_placement.specs.Items.{is_listed}
+use Rattle.m11_placement.specs.Lines.{after_line, deed, pieces, put_place, stands}
+use Rattle.m11_placement.specs.Placements.{placed_from}
 use Rattle.m11_placement.specs.Sources.{directed, end_in}
-use Rattle.m11_placement.specs.Tables.{Table, first_table}
+use Rattle.m11_placement.specs.Tables.{Table, first_table, place}
 use Rattle.m11_placing.specs.Mentioned.{Gathered}
 use Rattle.m11_readings.specs.Readings.{Reading}
+use Rattle.m11_scan.specs.Letters.{letters_text}
 use Rattle.m11_second.specs.Program.{Program}
-use Rattle.m11_second.specs.Written.{Ended, flagged_count, flagged_in, head_before, is_flagged, last_writes, letters_after, letters_at, line_writes, message_writes, pieces_in, pieces_of, program_writes, reported_letters, written, written_after}
+use Rattle.m11_second.specs.Written.{Ended, added_writes, closing_writes, flagged_count, flagged_in, head_before, is_flagged, last_place, last_writes, letters_after, letters_at, line_writes, message_writes, pieces_in, pieces_of, program_writes, written, written_after}
 use Rattle.m11_second.specs.declared.done.AsmDone.{AsmDone}
 use Rattle.m11_unfolding.specs.Stages.{Stage}
 use Rattle.m11_unfolding.specs.Unfolding.{Given}
@@ -39,6 +46,8 @@ pub record AlikePrograms (one other : Program) : Type 0 where
   pub maps : TellTheSame one.map other.map
   pub mentioned : one.mentioned ≡ other.mentioned
   pub rows : one.rows ≡ other.rows
+  pub symbols : one.symbols ≡ other.symbols
+  pub sections : one.sections ≡ other.sections
   pub transfer : one.transfer ≡ other.transfer
 
 module _ (one other : Program) (alike : AlikePrograms one other) where
@@ -87,18 +96,46 @@ module _ (one other : Program) (alike : AlikePrograms one other) where
   head_alike [] = ap (λ (rows : List DirectoryRow). content_writes (head_contents rows)) alike.rows
   head_alike (line ∷ before) = refl
 
+  -- the listing of a line depends on the maps by its items and by the levels after it
+  listing_same : (table : Table) (letters number : ℕ) (given : Given)
+      → listing_writes one.map table letters number given ≡ listing_writes other.map table letters number given
+  unfolding listing_writes
+  listing_same table letters number given =
+      let text = given.live.line.text in
+      let at : ℕ = put_place (stands table given) (deed given.is_own text) in
+      ap (λ (t : Table). if is_listed t given letters then all_to_listing (lines_of one.map table letters number given) else [])
+      (after_line_same one.map other.map alike.maps table given)
+      ∙ ap (λ (l : List Item). if is_listed (after_line other.map table given) given letters then
+      all_to_listing (listed_lines (letters_text letters) number (place table) at l text) else [])
+      (items_same one.map other.map alike.maps table given)
+
+  listing_alike : (before : List Numbered) (line : Numbered)
+      → listing_writes one.map (table_at one.map before) (letters_at one before line) line.number line.given
+      ≡ listing_writes other.map (table_at other.map before) (letters_at other before line) line.number line.given
+  listing_alike before line =
+      ap (λ (t : Table). listing_writes one.map t (letters_at one before line) line.number line.given)
+      (table_at_same one.map other.map alike.maps before)
+      ∙ ap (λ (l : ℕ). listing_writes one.map (table_at other.map before) l line.number line.given) (letters_alike before line)
+      ∙ listing_same (table_at other.map before) (letters_at other before line) line.number line.given
+
   line_alike : (before : List Numbered) (line : Numbered) → line_writes one before line ≡ line_writes other before line
   unfolding line_writes
   line_alike before line =
-      let text = line.given.live.line.text in
-      let of : List Piece → List Piece → ℕ → List Write = λ done more letters.
-      content_writes (records_closed_by done more) ++ message_writes letters line.number text in
-      ap (λ (p : List Piece). of p (pieces one.map (table_at one.map before) line.given) (letters_at one before line)) (pieces_alike before)
-      ∙ ap (λ (t : Table). of (pieces_in other.map before) (pieces one.map t line.given) (letters_at one before line))
+      let text : Bytes = line.given.live.line.text in
+      let of : List Piece → List Piece → List Write → ℕ → List Write = λ done more listed letters.
+      content_writes (records_closed_by done more) ++ (listed ++ message_writes letters line.number text) in
+      let shown : List Write = listing_writes one.map (table_at one.map before) (letters_at one before line) line.number line.given in
+      let here : List Piece = pieces other.map (table_at other.map before) line.given in
+      ap (λ (p : List Piece). of p (pieces one.map (table_at one.map before) line.given) shown (letters_at one before line))
+      (pieces_alike before)
+      ∙ ap (λ (t : Table). of (pieces_in other.map before) (pieces one.map t line.given) shown (letters_at one before line))
       (table_at_same one.map other.map alike.maps before)
-      ∙ ap (λ (p : List Piece). of (pieces_in other.map before) p (letters_at one before line))
+      ∙ ap (λ (p : List Piece). of (pieces_in other.map before) p shown (letters_at one before line))
       (pieces_same one.map other.map alike.maps (table_at other.map before) line.given)
-      ∙ ap (of (pieces_in other.map before) (pieces other.map (table_at other.map before) line.given)) (letters_alike before line)
+      ∙ ap (λ (w : List Write). of (pieces_in other.map before) here w (letters_at one before line)) (listing_alike before line)
+      ∙ ap (of (pieces_in other.map before) here
+      (listing_writes other.map (table_at other.map before) (letters_at other before line) line.number line.given))
+      (letters_alike before line)
 
   after_alike : (before all : List Numbered) → written_after one before all ≡ written_after other before all
   after_alike before [] = refl
@@ -111,8 +148,23 @@ module _ (one other : Program) (alike : AlikePrograms one other) where
   unfolding written
   written_alike all = after_alike [] all
 
+  closing_alike : (all : List Numbered) (has_end : Bool)
+      → closing_writes (pieces_in one.map all) one.symbols one.sections (flagged_count one all has_end)
+      ≡ closing_writes (pieces_in other.map all) other.symbols other.sections (flagged_count other all has_end)
+  closing_alike all has_end =
+      ap (λ (p : List Piece). closing_writes p one.symbols one.sections (flagged_count one all has_end)) (pieces_alike all)
+      ∙ ap (λ (y : List SymbolEntry). closing_writes (pieces_in other.map all) y one.sections (flagged_count one all has_end)) alike.symbols
+      ∙ ap (λ (s : List SectionEntry). closing_writes (pieces_in other.map all) other.symbols s (flagged_count one all has_end))
+      alike.sections
+      ∙ ap (λ (n : ℕ). closing_writes (pieces_in other.map all) other.symbols other.sections n) (counts_alike all has_end)
+
   last_alike : (all : List Numbered) (ended : Ended) → last_writes one all ended ≡ last_writes other all ended
-  last_alike all ended = rw (head_alike all, pieces_alike all, flagged_alike all) refl
+  last_alike all ended =
+      let closing : Program → List Write = λ p. closing_writes (pieces_in p.map all) p.symbols p.sections (flagged_count p all ended.has_end) in
+      ap (λ (h : List Write). h ++ (added_writes ended (last_place one all) ++ closing one)) (head_alike all)
+      ∙ ap (λ (t : Table). head_before other all ++ (added_writes ended (place t) ++ closing one))
+      (table_at_same one.map other.map alike.maps all)
+      ∙ ap (λ (w : List Write). head_before other all ++ (added_writes ended (last_place other all) ++ w)) (closing_alike all ended.has_end)
 
   pub program_alike : (all : List Numbered) (ended : Ended) → program_writes one all ended ≡ program_writes other all ended
   program_alike all ended = rw (written_alike all, last_alike all ended) refl

@@ -1,23 +1,31 @@
 -- What a first pass keeps of a source tells the same as the source's lines.
-use Rattle.std.proofs.Common.{◌≡◌, ◌∙◌, ◌≤◌, ◌<◌, ℕ, length, List, refl, sym, ap, arith}
+use Rattle.std.proofs.Common.{◌≡◌, ◌≤◌, length, List, ap, arith}
 use Rattle.m11_base.specs.Rad50.{Name}
 use Rattle.m11_directory.specs.FirstPass.{Told}
 use Rattle.m11_directory.specs.Laws as directory
 use Rattle.m11_directory.specs.Names.{has_name}
 use Rattle.m11_directory.specs.Rows.{directory_rows}
-use Rattle.m11_first.specs.Facts.{Facts, facts_of}
+use Rattle.m11_first.specs.Facts.{Facts}
 use Rattle.m11_first.specs.First.{FirstState, Taken, symbols_of}
 use Rattle.m11_lines.specs.Line.{SourceLine}
 use Rattle.m11_maps.proofs.MapsAlike.{maps_same}
 use Rattle.m11_passes.specs.Lines.{Numbered, givens}
 use Rattle.m11_placement.specs.Limits.{most_sections}
 use Rattle.m11_placing.specs.Mentioned.{Gathered}
-use Rattle.m11_second.specs.Program.{mentioned_in, program_in, program_of, told_in, told_of}
+use Rattle.m11_second.specs.Program.{all_names, mentioned_in, program_in, program_kept, program_of, told_in, told_of}
+use Rattle.m11_symbols.specs.Sections.{section_entries}
+use Rattle.m11_symbols.specs.Symbols.{symbol_entries}
 use Rattle.m11_asm.proofs.ProgramsAlike.{AlikePrograms}
 
+-- the laws of first passes that tell the same: they have the same rows, names and sections
+pub record TellAlike : Type 0 where
+  pub rows : (one other : Told) → directory.TellTheSame one other → directory_rows one ≡ directory_rows other
+  pub symbols : (one other : Told) (names others : List Name) → directory.TellTheSame one other → directory.HaveTheSame names others
+      → symbol_entries one names ≡ symbol_entries other others
+  pub sections : (one other : Told) → directory.TellTheSame one other → section_entries one ≡ section_entries other
+
 module _ (source : List SourceLine) (lines : List Numbered) (first : FirstState) (taken : Taken source lines first.going first.facts)
-    (few : length first.going.kept.table.sections ≤ most_sections)
-    (law : (one other : Told) → directory.TellTheSame one other → directory_rows one ≡ directory_rows other) where
+    (few : length first.going.kept.table.sections ≤ most_sections) (laws : TellAlike) where
   referred_same : first.going.gathered ≡ mentioned_in (givens lines)
   referred_same = taken.stands.gathered
 
@@ -32,10 +40,16 @@ module _ (source : List SourceLine) (lines : List Numbered) (first : FirstState)
     transfer = ap (λ (f : Facts). f.transfer) taken.facts_are;
   }
 
+  names_same : directory.HaveTheSame (all_names first.going.gathered) (all_names (mentioned_in (givens lines)))
+  names_same name = ap (λ (g : Gathered). has_name name (all_names g)) referred_same
+
   pub programs_alike : AlikePrograms (program_in (symbols_of first)) (program_of (givens lines))
+  unfolding program_kept
   programs_alike = record {
     maps = maps_same _ _ taken.stands.matches.alike;
     mentioned = referred_same;
-    rows = law _ _ told_same;
+    rows = laws.rows _ _ told_same;
+    symbols = laws.symbols _ _ _ _ told_same names_same;
+    sections = laws.sections _ _ told_same;
     transfer = ap (λ (f : Facts). f.transfer) taken.facts_are;
   }

@@ -1,6 +1,5 @@
 -- The second pass over feeds, from line to line.
-use Rattle.std.proofs.Common.{◌≡◌, ◌∙◌, ◌≤◌, ℕ, ◌+◌, Bool, true, false, List, [], ◌∷◌, ◌++◌, length, Option, Some, None, Result, Ok, Err, IfOk, IsErrAnd, refl, sym, ap, subst, inl, inr, arith}
-use Rattle.std.specs.Prelude.{◌⊎◌}
+use Rattle.std.proofs.Common.{◌≡◌, ◌∙◌, ℕ, ◌+◌, Bool, true, false, List, [], ◌∷◌, ◌++◌, length, Option, Some, None, Result, Ok, Err, IfOk, IsErrAnd, refl, sym, ap, subst, inl, inr, arith}
 use Rattle.m11_asm_outputs.specs.Fault.{of_lines}
 use Rattle.m11_asm_outputs.specs.Outputs.{Outputs, StopsBetween, StopsIn, Write, Writes, assembly}
 use Rattle.m11_asm_outputs.specs.declared.fault.AsmFault.{AsmFault}
@@ -13,9 +12,8 @@ use Rattle.m11_lines.specs.declared.fault.LineFault.{LineFault}
 use Rattle.m11_lines.specs.declared.fault.LineFault.TheVariants.{Read, TooMuchSource, TooManyLines}
 use Rattle.m11_passes.specs.Lines as lines
 use Rattle.m11_readings.specs.Readings.{Reading}
-use Rattle.m11_second.specs.Faults.{of_pass}
 use Rattle.m11_second.specs.Program.{Program}
-use Rattle.m11_second.specs.Second.{SecondEnds, SecondFails, SecondStands, SecondState, SecondTakes, StopsAmong, StopsAtLimit, ended_with}
+use Rattle.m11_second.specs.Second.{SecondEnds, SecondFails, SecondStands, SecondState, SecondTakes, StopsAmong, ended_with}
 use Rattle.m11_second.specs.Written.{Ended, flagged_count, program_writes, written}
 use Rattle.m11_second.specs.declared.done.AsmDone.{AsmDone}
 use Rattle.m11_unfolding.specs.Stages.{start}

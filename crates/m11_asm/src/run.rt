@@ -11,16 +11,20 @@ use m11_asm_outputs::AsmFault;
 use m11_base::{Feed, Sink};
 use m11_directory::first_passes_that_tell_the_same_have_the_same_rows;
 use m11_second::AsmDone;
+use m11_symbols::{
+    first_passes_that_tell_the_same_have_the_same_sections,
+    first_passes_that_tell_the_same_have_the_same_symbols,
+};
 use std::alloc::Global;
 
-/// Assembles sources, one after another as one text, into an object module and messages. Each is read twice, and one line of source is
-/// kept.
+/// Assembles sources, one after another as one text, into an object module, a listing where there is one, and messages. Each source is
+/// read twice, and one line of source is kept.
 ///
 /// `first` and `second` give the same sources for two passes, of which only the second one writes. Where a source has a `.END` that
 /// becomes live no later byte is read. Faults, the first in the order of the input: `Read` and `TooMuchSource` of reading;
 /// `TooManySymbols`, `TooManySections` and `Unfold` of a line. Where the first pass is refused nothing is written. Then `Write`, after which
 /// nothing more is written, and the same faults again where the second pass gives other bytes: what the live lines before the fault write
-/// is then written. `NoMemory` wherever memory is refused. The listing isn't touched.
+/// is then written. `NoMemory` wherever memory is refused.
 pub fn asm_run<F: Feed, S: Sink, T: Sink, U: Sink>(
     alloc: Global,
     first: &mut [F],
@@ -33,15 +37,16 @@ pub fn asm_run<F: Feed, S: Sink, T: Sink, U: Sink>(
         (pass_of F.text F.faults first.old first.new) (pass_of F.text F.faults second.old second.new)
         (outputs_of S.Sink T.Sink U.Sink object.old listing.old messages.old)
         (outputs_of S.Sink T.Sink U.Sink object.new listing.new messages.new) result }
-    ensures untouched { AsmRunsOr ((object.new ≡ object.old) × (messages.new ≡ messages.old))
+    ensures untouched { AsmRunsOr ((object.new ≡ object.old) × (listing.new ≡ listing.old) × (messages.new ≡ messages.old))
         (pass_of F.text F.faults first.old first.new) (pass_of F.text F.faults second.old second.new)
         (outputs_of S.Sink T.Sink U.Sink object.old listing.old messages.old)
         (outputs_of S.Sink T.Sink U.Sink object.new listing.new messages.new) result }
-    ensures listing { listing.new ≡ listing.old }
 {
     match read_first(alloc, first) {
         Ok(symbols) => {
             first_passes_that_tell_the_same_have_the_same_rows();
+            first_passes_that_tell_the_same_have_the_same_symbols();
+            first_passes_that_tell_the_same_have_the_same_sections();
             read_second(alloc, second, symbols, object, listing, messages)
         }
         Err(fault) => Err(fault),

@@ -1,6 +1,6 @@
 //! The second pass: what the lines of the sources write.
 
-ghost use Rattle.std.specs.Prelude.{◌≡◌, []};
+ghost use Rattle.std.specs.Prelude.{[]};
 ghost use Rattle.m11_asm.specs.Passes.{ReadsSecond, pass_of};
 ghost use Rattle.m11_asm.specs.Second.{PutsLines};
 ghost use Rattle.m11_asm_outputs.specs.Outputs.{Outputs, outputs_of};
@@ -23,10 +23,9 @@ pub fn read_second<F: Feed, S: Sink, T: Sink, U: Sink>(
     listing: &mut Option<T>,
     messages: &mut U,
 ) -> Result<AsmDone, AsmFault>
-    ensures reads { ReadsSecond (pass_of F.text F.faults feeds.old feeds.new) (program_in symbols)
+    ensures { ReadsSecond (pass_of F.text F.faults feeds.old feeds.new) (program_in symbols)
         (outputs_of S.Sink T.Sink U.Sink object.old listing.old messages.old)
         (outputs_of S.Sink T.Sink U.Sink object.new listing.new messages.new) result }
-    ensures listing { listing.new ≡ listing.old }
 {
     let mut second = Second::new(alloc, symbols)?;
     match put_lines(feeds, &mut second, object, listing, messages) {
@@ -47,11 +46,10 @@ fn put_lines<F: Feed, S: Sink, T: Sink, U: Sink>(
     listing: &mut Option<T>,
     messages: &mut U,
 ) -> Result<(), AsmFault>
-    ensures puts { (program : Program) (old : Outputs)
+    ensures { (program : Program) (old : Outputs)
         → SecondStands program [] old (outputs_of S.Sink T.Sink U.Sink object.old listing.old messages.old) second.old
         → PutsLines (pass_of F.text F.faults feeds.old feeds.new) program old
         (outputs_of S.Sink T.Sink U.Sink object.new listing.new messages.new) second.new result }
-    ensures listing { listing.new ≡ listing.old }
 {
     let mut reader = LineReader::new();
     'lines: loop {

@@ -1,4 +1,4 @@
-//! What the tests of whole assemblies share: assemblies of what two readings give, and what is looked at after one.
+//! What the tests of whole assemblies share: assemblies of what two passes read, and what is looked at after one.
 
 mod failing;
 mod faults;
@@ -35,6 +35,7 @@ pub(crate) const END_OF_MODULE: &[u8] = &[0x01, 0x00, 0x06, 0x00, 0x06, 0x00, 0x
 pub(crate) struct Assembled {
     pub(crate) outcome: Result<AsmDone, AsmFault>,
     pub(crate) object: Vec<u8>,
+    pub(crate) listing: Vec<u8>,
     pub(crate) messages: Vec<u8>,
 }
 
@@ -44,6 +45,11 @@ impl Assembled {
         rest_after(self.object.as_slice(), pieces).is_some_and(<[u8]>::is_empty)
     }
 
+    // Whether the listing has these lines.
+    fn lists(&self, lines: &[&str]) -> bool {
+        rest_after_lines(self.listing.as_slice(), lines).is_some_and(<[u8]>::is_empty)
+    }
+
     // Whether these lines were reported.
     fn reports(&self, lines: &[&str]) -> bool {
         rest_after_lines(self.messages.as_slice(), lines).is_some_and(<[u8]>::is_empty)
@@ -51,7 +57,7 @@ impl Assembled {
 
     // Whether nothing was written.
     pub(crate) fn is_empty(&self) -> bool {
-        self.object.is_empty() && self.messages.is_empty()
+        self.object.is_empty() && self.listing.is_empty() && self.messages.is_empty()
     }
 
     // Where memory was refused nothing more is looked at.
@@ -81,46 +87,62 @@ fn rest_after_lines<'a>(text: &'a [u8], lines: &[&str]) -> Option<&'a [u8]> {
     Some(rest)
 }
 
-// Assembles what two readings give, into texts.
-fn assemble_into<'a>(
-    alloc: Global,
-    first: &mut [MemoryFeed<'a>],
-    second: &mut [MemoryFeed<'a>],
-    object: &mut Vec<u8>,
-    messages: &mut Vec<u8>,
-) -> Result<AsmDone, AsmFault> {
-    let mut listing: Option<MemorySink> = None;
-    asm_run(
-        alloc,
-        first,
-        second,
-        &mut WriterSink::new(object),
-        &mut listing,
-        &mut WriterSink::new(messages),
-    )
-}
-
-// Assembles what two readings give.
+// Assembles what two passes read, without a listing.
 pub(crate) fn assembled_from<'a>(
     alloc: Global,
     first: &mut [MemoryFeed<'a>],
     second: &mut [MemoryFeed<'a>],
 ) -> Assembled {
     let mut object = Vec::new(alloc);
+    let mut listing: Option<MemorySink> = None;
     let mut messages = Vec::new(alloc);
-    let outcome = assemble_into(alloc, first, second, &mut object, &mut messages);
+    let outcome = asm_run(
+        alloc,
+        first,
+        second,
+        &mut WriterSink::new(&mut object),
+        &mut listing,
+        &mut WriterSink::new(&mut messages),
+    );
     Assembled {
         outcome,
         object,
+        listing: Vec::new(alloc),
         messages,
     }
 }
 
-// What an assembly that ends well leaves: its object in pieces, the lines of its messages without their ends, and how many lines are
-// flagged.
+// The same with a listing.
+pub(crate) fn listed_from<'a>(
+    alloc: Global,
+    first: &mut [MemoryFeed<'a>],
+    second: &mut [MemoryFeed<'a>],
+) -> Assembled {
+    let mut object = Vec::new(alloc);
+    let mut listing = Vec::new(alloc);
+    let mut messages = Vec::new(alloc);
+    let outcome = asm_run(
+        alloc,
+        first,
+        second,
+        &mut WriterSink::new(&mut object),
+        &mut Some(WriterSink::new(&mut listing)),
+        &mut WriterSink::new(&mut messages),
+    );
+    Assembled {
+        outcome,
+        object,
+        listing,
+        messages,
+    }
+}
+
+// What an assembly that ends well leaves: its object in pieces, the lines of its listing and of its messages without their ends, and how
+// many lines are flagged.
 #[derive(Clone, Copy)]
 pub(crate) struct Wanted<'a> {
     pub(crate) object: &'a [&'a [u8]],
+    pub(crate) listed: &'a [&'a str],
     pub(crate) reported: &'a [&'a str],
     pub(crate) flagged: u32,
 }
@@ -135,6 +157,7 @@ pub(crate) fn left(
     let done = found.outcome?;
     assert!(rt; done.flagged == wanted.flagged, "{name}: the count");
     assert!(rt; found.has_object(wanted.object), "{name}: the object");
+    assert!(rt; found.lists(wanted.listed), "{name}: the listing");
     assert!(rt; found.reports(wanted.reported), "{name}: the messages");
     Ok(())
 }

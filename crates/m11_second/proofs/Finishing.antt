@@ -1,27 +1,28 @@
 -- Where the second pass begins, and where it ends.
-use Rattle.std.proofs.Common.{◌≡◌, ◌∙◌, ◌≤◌, ℕ, ◌+◌, Bool, true, false, if◌then◌else◌, List, [], ◌∷◌, ◌++◌, length, Option, None, Result, Ok, Err, IfOk, refl, sym, ap, subst, arith}
+use Rattle.std.proofs.Common.{◌≡◌, ◌∙◌, ◌≤◌, Bool, true, false, if◌then◌else◌, List, [], ◌∷◌, ◌++◌, length, Option, None, Result, IfOk, refl, sym, ap, subst, arith}
 use Rattle.std.proofs.lemmas.List.Sums.{count_by-le-length}
 use Rattle.m11_asm_outputs.specs.Outputs.{Gains, Outputs, Write, Writes, assembly}
 use Rattle.m11_asm_outputs.specs.declared.fault.AsmFault.{AsmFault}
-use Rattle.m11_directory.specs.Rows.{directory_rows}
 use Rattle.m11_first.specs.Facts.{Facts}
 use Rattle.m11_first.specs.First.{Symbols}
 use Rattle.m11_lines.specs.Line.{SourceLine}
-use Rattle.m11_object_text.specs.declared.directory.DirectoryRow.{DirectoryRow}
 use Rattle.m11_passes.specs.Lines.{Numbered}
 use Rattle.m11_passes.specs.States.{Going, PassState, Stands}
 use Rattle.m11_pass_laws.proofs.Counting.{at_most}
 use Rattle.m11_placement.specs.Meanings.{Map, map_of}
+use Rattle.m11_placement.specs.Places.{place_in}
+use Rattle.m11_placement.specs.Tables.{Table, place}
+use Rattle.m11_placement.specs.declared.settings.Settings.{Settings}
 use Rattle.m11_placing.specs.Mentioned.{Gathered}
 use Rattle.m11_placing.specs.Passes.{Kept}
+use Rattle.m11_table.specs.Alike.{Alike}
 use Rattle.m11_unfolding.specs.Limits.{most_lines}
 use Rattle.m11_unfolding.specs.Stages.{Stage, start}
-use Rattle.m11_values.specs.Quantities.{Quantity}
 use Rattle.m11_writes.proofs.Writing.{writes_then}
-use Rattle.m11_second.specs.Program.{Program, program_in, told_in}
+use Rattle.m11_second.specs.Program.{Program, program_in, program_kept}
 use Rattle.m11_second.specs.Second.{GoesOn, SecondEnds, SecondStands, SecondState, ended_with}
 use Rattle.m11_second.specs.Writing.{Writing, WritingStands, most_counted}
-use Rattle.m11_second.specs.Written.{flagged_count, flagged_in, is_flagged, last_writes, letters_after, written}
+use Rattle.m11_second.specs.Written.{flagged_count, flagged_in, is_flagged, last_place, last_writes, letters_after, written}
 use Rattle.m11_second.specs.declared.done.AsmDone.{AsmDone}
 use Rattle.m11_second.proofs.LinesWritten.{nothing_written}
 
@@ -36,13 +37,11 @@ begins_so pass fault first goes = record {
 
 module _ (kept : Kept) (gathered : Gathered) (facts : Facts) (going : Going) (writing : Writing) (fault : Option AsmFault)
     (stands : (map : Map) → Stands map gathered [] [] going) (first_stage : going.unfolder.stage ≡ start [])
-    (rows : List DirectoryRow) (rows_are : rows ≡ directory_rows (told_in kept gathered facts))
-    (transfer : Option Quantity) (told : transfer ≡ facts.transfer)
-    (keeps : (program : Program) → program.rows ≡ rows → program.transfer ≡ transfer → WritingStands program [] writing)
-    (goes : fault ≡ None) where
+    (keeps : WritingStands (program_kept kept gathered facts) [] writing) (goes : fault ≡ None) where
   begun : (first now : Outputs) → Gains first now []
       → SecondStands (program_in (record { kept = kept; gathered = gathered; facts = facts })) [] first now
       (record { map = map_of kept.table; going = going; writing = writing; read = 0; has_ended = false; fault = fault })
+  unfolding program_kept
   begun first now gains =
       let program = program_in (record { kept = kept; gathered = gathered; facts = facts }) in
       record {
@@ -50,7 +49,7 @@ module _ (kept : Kept) (gathered : Gathered) (facts : Facts) (going : Going) (wr
         map_is = refl;
         taken = record {
           stands = stands (map_of kept.table);
-          keeps = keeps program (sym rows_are) (sym told);
+          keeps = keeps;
           gains = subst (λ (ws : List Write). Gains first now ws) (sym (nothing_written program)) gains;
         };
         read = refl;
@@ -92,8 +91,15 @@ pub count_few : (program : Program) (lines : List Numbered) (has_end : Bool) →
     → flagged_count program lines has_end ≤ most_counted
 count_few program lines has_end few = omega (arith, few, flagged_few program lines, least_added has_end)
 
+place_same : (one other : Table) → Alike one other → place one ≡ place other
+place_same one other alike =
+    alike.counters one.settings.section ∙ ap (λ (s : Settings). place_in s.section other.moves) alike.settings
+
 module _ (program : Program) (source : List SourceLine) (first now : Outputs) (state : SecondState)
     (stands : SecondStands program source first now state) where
+  pub place_is : place state.going.kept.table ≡ last_place program stands.lines
+  place_is = place_same _ _ stands.taken.stands.matches.alike
+
   pub few_flagged : flagged_count program stands.lines state.has_ended ≤ most_counted
   few_flagged =
       count_few program stands.lines state.has_ended

@@ -1,12 +1,11 @@
 -- What follows from a line of the source is placed and written, live line by live line.
-use Rattle.std.proofs.Common.{◌≡◌, ◌∙◌, ℕ, Bool, true, false, List, [], ◌∷◌, ◌++◌, length, Option, None, Result, Ok, Err, IfOk, IsErrAnd, refl, sym, ap, subst, append-nil}
-use Rattle.m11_asm_outputs.specs.Outputs.{Gains, Outputs, Stops, StopsBetween, StopsIn, Write, Writes, assembly}
+use Rattle.std.proofs.Common.{◌≡◌, ℕ, Bool, true, false, List, [], ◌∷◌, ◌++◌, length, Result, Ok, Err, IsErrAnd, refl, sym, subst, append-nil}
+use Rattle.m11_asm_outputs.specs.Outputs.{Gains, Outputs, Stops, StopsBetween, Write, assembly}
 use Rattle.m11_asm_outputs.specs.declared.fault.AsmFault.{AsmFault}
 use Rattle.m11_asm_outputs.specs.declared.fault.AsmFault.TheVariants as fault
-use Rattle.m11_asm_outputs.specs.declared.fault.AsmOutput.{AsmOutput}
 use Rattle.m11_lines.specs.Line.{SourceLine}
 use Rattle.m11_object_text.specs.declared.pieces.PieceContent.{PieceContent}
-use Rattle.m11_passes.specs.Lines.{Numbered, PassLines, numbered, table_at}
+use Rattle.m11_passes.specs.Lines.{Numbered, numbered, table_at}
 use Rattle.m11_passes.specs.Placed.{IsPlaced, live_in}
 use Rattle.m11_passes.specs.Reaching.{PlacesLine, Reaches, Refused}
 use Rattle.m11_passes.specs.Refusals.{given_by}
@@ -20,11 +19,10 @@ use Rattle.m11_passes.specs.declared.turns.Turn.TheVariants.{NeedLine, End, Plac
 use Rattle.m11_placement.specs.Contents.{Put}
 use Rattle.m11_placement.specs.Meanings.{Map}
 use Rattle.m11_placing.specs.Mentioned.{Gathered}
-use Rattle.m11_writes.specs.Outputs.{Output}
 use Rattle.m11_writes.proofs.Writing.{gains_then, stops_after}
 use Rattle.m11_second.specs.Faults.{of_pass}
 use Rattle.m11_second.specs.Program.{Program}
-use Rattle.m11_second.specs.Second.{SecondFails, StopsAmong, StopsAtLimit, Taken, TakesAll, TakesLeft}
+use Rattle.m11_second.specs.Second.{SecondFails, Taken, TakesAll, TakesLeft}
 use Rattle.m11_second.specs.Writing.{Writing, WritingStands}
 use Rattle.m11_second.specs.Written.{head_before, line_writes, written}
 use Rattle.m11_second.proofs.LinesWritten.{next_writes, written_more}

@@ -1,10 +1,13 @@
--- What the first reading of a source tells the second one. (MACRO-11 Language Reference Manual, "Symbols", ".GLOBL directive" and ".END
--- directive". That a source is read twice, is this project's own.)
-use Rattle.std.specs.Prelude.{List, Option, slice_index}
+-- What the first pass over a source tells the second one. (MACRO-11 Language Reference Manual, "Symbols", ".GLOBL directive", ".END
+-- directive" and "Table of contents and symbol table". That a source is read twice, is this project's own.)
+use Rattle.std.specs.Prelude.{List, ◌++◌, Option, slice_index}
+use Rattle.m11_base.specs.Rad50.{Name}
 use Rattle.m11_directory.specs.FirstPass.{Told}
 use Rattle.m11_directory.specs.Rows.{directory_rows}
 use Rattle.m11_first.specs.Facts.{Facts, facts_of}
 use Rattle.m11_first.specs.First.{Symbols}
+use Rattle.m11_listing.specs.declared.symbol_table.SectionEntry.{SectionEntry}
+use Rattle.m11_listing.specs.declared.symbol_table.SymbolEntry.{SymbolEntry}
 use Rattle.m11_object_text.specs.declared.directory.DirectoryRow.{DirectoryRow}
 use Rattle.m11_passes.specs.States.{gathered_after}
 use Rattle.m11_placement.specs.Meanings.{Map, empty_map, map_of}
@@ -13,6 +16,8 @@ use Rattle.m11_placement.specs.Places.{size_in}
 use Rattle.m11_placement.specs.Tables.{first_table}
 use Rattle.m11_placing.specs.Mentioned.{Gathered, none_gathered}
 use Rattle.m11_placing.specs.Passes.{Kept}
+use Rattle.m11_symbols.specs.Sections.{section_entries}
+use Rattle.m11_symbols.specs.Symbols.{symbol_entries}
 use Rattle.m11_unfolding.specs.Unfolding.{Given}
 use Rattle.m11_values.specs.Quantities.{Quantity}
 
@@ -22,10 +27,17 @@ pub record Program : Type 0 where
   pub mentioned : Gathered
   -- the rows of its directory
   pub rows : List DirectoryRow
+  -- the names and the sections of its symbol table
+  pub symbols : List SymbolEntry
+  pub sections : List SectionEntry
   -- the value of the expression after `.END`, if there is one
   pub transfer : Option Quantity
 
--- ---- of the lines that became live in the first reading
+-- the names that stand in its symbol table
+abbrev pub all_names : Gathered → List Name
+all_names mentioned = mentioned.names ++ mentioned.registers
+
+-- ---- of the lines that became live in the first pass
 
 -- the names that they mention
 abbrev pub mentioned_in : List Given → Gathered
@@ -47,6 +59,8 @@ program_of lines = record {
   map = program_map lines;
   mentioned = mentioned_in lines;
   rows = directory_rows (told_of lines);
+  symbols = symbol_entries (told_of lines) (all_names (mentioned_in lines));
+  sections = section_entries (told_of lines);
   transfer = (facts_of lines).transfer;
 }
 
@@ -63,10 +77,15 @@ told_in kept gathered facts = record {
   transfer = facts.transfer;
 }
 
-abbrev pub program_in : Symbols → Program
-program_in symbols = record {
-  map = map_of symbols.kept.table;
-  mentioned = symbols.gathered;
-  rows = directory_rows (told_in symbols.kept symbols.gathered symbols.facts);
-  transfer = symbols.facts.transfer;
+unfoldable pub program_kept : Kept → Gathered → Facts → Program
+program_kept kept gathered facts = record {
+  map = map_of kept.table;
+  mentioned = gathered;
+  rows = directory_rows (told_in kept gathered facts);
+  symbols = symbol_entries (told_in kept gathered facts) (all_names gathered);
+  sections = section_entries (told_in kept gathered facts);
+  transfer = facts.transfer;
 }
+
+abbrev pub program_in : Symbols → Program
+program_in symbols = program_kept symbols.kept symbols.gathered symbols.facts

@@ -1,12 +1,16 @@
--- What an assembly writes, line by line: the object's texts as far as they are closed, and the messages of flagged lines; and what it
--- writes in the end. (RT-11 Volume and File Formats Manual, "Object file format"; MACRO-11 Language Reference Manual, "Diagnostic error
--- message summary" and ".END directive". The order between object and messages, and that a source without `.END` has an empty line added
--- which is flagged E, are this project's own.)
-use Rattle.std.specs.Prelude.{ℕ, ◌+◌, ◌==◌, not, Bool, true, false, if◌then◌else◌, List, [], ◌∷◌, ◌++◌, count_by}
+-- What an assembly writes, line by line: the object's texts as far as they are closed, the lines of the listing, and the messages of
+-- flagged lines; and what it writes in the end. (RT-11 Volume and File Formats Manual, "Object file format"; MACRO-11 Language Reference
+-- Manual, "Listing control directives", "Table of contents and symbol table", "Diagnostic error message summary" and ".END directive". The
+-- order of the three outputs, and that a source without `.END` has an empty line added which is flagged E, are this project's own.)
+use Rattle.std.specs.Prelude.{ℕ, ◌+◌, ◌==◌, not, Bool, if◌then◌else◌, List, [], ◌∷◌, ◌++◌, count_by}
 use Rattle.std.specs.Int.RustNames.{bit_or}
 use Rattle.std.specs.List.{flat_map}
 use Rattle.m11_base.specs.Devices.{Bytes}
+use Rattle.m11_listed.specs.Listed.{added_lines, all_to_listing, listing_writes}
 use Rattle.m11_listing.specs.Messages.{count_line, message_line}
+use Rattle.m11_listing.specs.SymbolTable.{last_lines}
+use Rattle.m11_listing.specs.declared.symbol_table.SectionEntry.{SectionEntry}
+use Rattle.m11_listing.specs.declared.symbol_table.SymbolEntry.{SymbolEntry}
 use Rattle.m11_obj.specs.Records.{EndOfModule}
 use Rattle.m11_object_text.specs.declared.pieces.Piece.{Piece}
 use Rattle.m11_scan.specs.Letters.{letters_text}
@@ -16,7 +20,7 @@ use Rattle.m11_placement.specs.Lines.{pieces}
 use Rattle.m11_placement.specs.Meanings.{Map}
 use Rattle.m11_placement.specs.Placements.{Placed, placement}
 use Rattle.m11_placement.specs.Sources.{directed, end_in}
-use Rattle.m11_placement.specs.Tables.{Table}
+use Rattle.m11_placement.specs.Tables.{Table, place}
 use Rattle.m11_asm_outputs.specs.Object.{content_writes, head_contents, last_records, records_closed_by}
 use Rattle.m11_asm_outputs.specs.Outputs.{Write, to_messages}
 use Rattle.m11_passes.specs.Lines.{Numbered, givens, table_at}
@@ -25,7 +29,7 @@ use Rattle.m11_second.specs.Program.{Program}
 
 -- ---- messages
 
--- the letters that a line reports: its own, and at `.END` those of the expression as the first reading found it
+-- the letters that a line reports: its own, and at `.END` those of the expression as the first pass found it
 abbrev pub reported_letters : Program → Table → Given → ℕ
 reported_letters program table given =
     bit_or (all_letters program.map table given) (end_in (transfer_letters program.transfer) (directed given))
@@ -53,7 +57,7 @@ pieces_in map lines = flat_map pieces_of (placement map (givens lines))
 
 -- ---- a line, after those before it
 
--- the head goes out before what the first line writes, or else at the end
+-- the head is written before what the first line writes, or else at the end
 abbrev pub head_before : Program → List Numbered → List Write
 head_before program [] = content_writes (head_contents program.rows)
 head_before program (line ∷ lines) = []
@@ -62,11 +66,12 @@ head_before program (line ∷ lines) = []
 abbrev pub letters_at : Program → List Numbered → Numbered → ℕ
 letters_at program before line = reported_letters program (table_at program.map before) line.given
 
--- the texts that its pieces close, and then its message
+-- the texts that its pieces close, then its lines in the listing, and then its message
 unfoldable pub line_writes : Program → List Numbered → Numbered → List Write
 line_writes program before line =
     content_writes (records_closed_by (pieces_in program.map before) (pieces program.map (table_at program.map before) line.given))
-    ++ message_writes (letters_at program before line) line.number line.given.live.line.text
+    ++ (listing_writes program.map (table_at program.map before) (letters_at program before line) line.number line.given
+    ++ message_writes (letters_at program before line) line.number line.given.live.line.text)
 
 abbrev pub written_after : Program → List Numbered → List Numbered → List Write
 written_after program before [] = []
@@ -93,22 +98,31 @@ pub record Ended : Type 0 where
   pub read : ℕ
   pub has_end : Bool
 
--- the letters of the line that is added where there is no `.END`
-abbrev pub added_letters : Bool → ℕ
-added_letters true = 0
-added_letters false = letter_E
-
 -- how many lines are flagged, with the one that is added
 abbrev pub flagged_count : Program → List Numbered → Bool → ℕ
 flagged_count program lines has_end = flagged_in program lines + (if has_end then 0 else 1)
 
--- the head, if no line became live; the line that is added; the last text, the end of the module, and the count of flagged lines
+-- where there is no `.END`, an empty line is added, which is flagged E: a line of the listing, with the counter, and a message
+abbrev pub added_writes : Ended → ℕ → List Write
+added_writes ended counter =
+    if ended.has_end then [] else all_to_listing (added_lines letter_E ended.read counter) ++ message_writes letter_E ended.read []
+
+-- the last text and the end of the module; the symbol table; the count of flagged lines
+abbrev pub closing_writes : List Piece → List SymbolEntry → List SectionEntry → ℕ → List Write
+closing_writes pieces symbols sections count =
+    content_writes (last_records pieces ++ EndOfModule ∷ [])
+    ++ (all_to_listing (last_lines symbols sections count) ++ to_messages (count_line count) ∷ [])
+
+-- where the location counter stands after some lines
+abbrev pub last_place : Program → List Numbered → ℕ
+last_place program lines = place (table_at program.map lines)
+
+-- the head, if no line became live; the line that is added, where the counter stands; and what closes all
 abbrev pub last_writes : Program → List Numbered → Ended → List Write
 last_writes program lines ended =
     head_before program lines
-    ++ (message_writes (added_letters ended.has_end) ended.read []
-    ++ (content_writes (last_records (pieces_in program.map lines) ++ EndOfModule ∷ [])
-    ++ to_messages (count_line (flagged_count program lines ended.has_end)) ∷ []))
+    ++ (added_writes ended (last_place program lines)
+    ++ closing_writes (pieces_in program.map lines) program.symbols program.sections (flagged_count program lines ended.has_end))
 
 -- all that the lines of a source write
 abbrev pub program_writes : Program → List Numbered → Ended → List Write

@@ -1,12 +1,11 @@
 //! Places what follows from one line of the source, and writes it.
 
 ghost use Rattle.std.specs.Prelude.{◌≡◌, None, [], List, IfOk, false, length};
-ghost use Rattle.m11_asm_outputs.specs.Outputs.{Outputs, outputs};
+ghost use Rattle.m11_asm_outputs.specs.Outputs.{Outputs, outputs_of};
 ghost use Rattle.m11_lines.specs.Line.{SourceLine};
 ghost use Rattle.m11_passes.specs.Lines.{Numbered};
 ghost use Rattle.m11_second.specs.Program.{Program};
 ghost use Rattle.m11_second.specs.Second.{Taken, TakesLeft};
-ghost use Rattle.m11_writes.specs.Outputs.{Output, output_of};
 
 use crate::faults::of_pass;
 use crate::writing::Writing;
@@ -18,20 +17,21 @@ use m11_table::Map;
 /// Places what is left to take, and writes it: whether `.END` became live. The number is that of the last line that was read.
 ///
 /// Errors: those of the pass, `Write` of an output, and `NoMemory` between two writes.
-pub fn take_left<S: Sink, U: Sink>(
+pub fn take_left<S: Sink, T: Sink, U: Sink>(
     pass: &mut SourcePass,
     map: &Map<'_>,
     writing: &mut Writing,
     number: u16,
     object: &mut S,
+    listing: &mut Option<T>,
     messages: &mut U,
 ) -> Result<bool, AsmFault>
     requires { pass.old.fault ≡ None }
-    ensures takes { (program : Program) (source : List SourceLine) (lines : List Numbered) (first : Outputs) (listing : Output)
+    ensures takes { (program : Program) (source : List SourceLine) (lines : List Numbered) (first : Outputs)
         → map.now ≡ program.map → number ≡ length source
-        → Taken program source lines first (outputs (output_of S.Sink object.old) listing (output_of U.Sink messages.old))
+        → Taken program source lines first (outputs_of S.Sink T.Sink U.Sink object.old listing.old messages.old)
         pass.old.going writing.old
-        → TakesLeft program source first (outputs (output_of S.Sink object.new) listing (output_of U.Sink messages.new))
+        → TakesLeft program source first (outputs_of S.Sink T.Sink U.Sink object.new listing.new messages.new)
         pass.new.going writing.new result }
     ensures goes_on { IfOk result (λ _. pass.new.fault ≡ None) }
     ensures needs { IfOk result (λ has_ended. has_ended ≡ false → pass.new.going.unfolder.stage.left ≡ []) }
@@ -42,7 +42,7 @@ pub fn take_left<S: Sink, U: Sink>(
             Ok(Turn::NeedLine) => return Ok(false),
             Ok(Turn::End) => return Ok(true),
             Ok(Turn::Placed(line)) => {
-                writing.put_line(&line, number, pass.contents(), object, messages)?
+                writing.put_line(&line, number, pass.contents(), object, listing, messages)?
             }
             Err(fault) => return Err(of_pass(fault)),
         }

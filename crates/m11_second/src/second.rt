@@ -1,14 +1,12 @@
 //! The second pass of a source, line by line. (MACRO-11 Language Reference Manual, "Source program format", "Symbols" and ".END directive".)
 
-ghost use Rattle.std.specs.Prelude.{◌≡◌, [], ◌≤◌, ◌+◌, List, Some, Err, IfOk, IfErr, length};
+ghost use Rattle.std.specs.Prelude.{◌≡◌, [], ◌+◌, List, Some, Err, IfOk, IfErr};
 ghost use Rattle.std.specs.Result.{result_err};
 ghost use Rattle.m11_asm_outputs.specs.Outputs.{Gains, Outputs, outputs_of};
 ghost use Rattle.m11_asm_outputs.specs.declared.fault.AsmFault.TheVariants as fault;
-ghost use Rattle.m11_directory.specs.Rows.{directory_rows};
 ghost use Rattle.m11_lines.specs.Line.{SourceLine};
 ghost use Rattle.m11_lines.specs.Lines.{most_lines};
-ghost use Rattle.m11_placement.specs.Limits.{most_sections};
-ghost use Rattle.m11_second.specs.Program.{Program, program_in, told_in};
+ghost use Rattle.m11_second.specs.Program.{Program, program_in};
 ghost use Rattle.m11_second.specs.Second.{SecondEnds, SecondStands, SecondTakes};
 
 use crate::done::AsmDone;
@@ -16,11 +14,9 @@ use crate::lines::take_left;
 use crate::writing::Writing;
 use m11_asm_outputs::AsmFault;
 use m11_base::{Latch, Sink};
-use m11_directory::{FirstPass, directory_rows};
-use m11_first::{Facts, Symbols};
-use m11_object_text::DirectoryRow;
+use m11_first::Symbols;
 use m11_passes::{SourcePass, the_calls_place_the_lines_of_a_source};
-use m11_placing::{Mentioned, Pass};
+use m11_placing::Pass;
 use m11_scan::Line;
 use m11_table::Map;
 use std::alloc::{AllocError, Global};
@@ -69,10 +65,10 @@ impl Second {
             → SecondStands (program_in symbols) [] first now second) }
     {
         let (first, mentioned, facts) = symbols.into_parts();
-        let rows = rows_of(alloc, &first, &mentioned, &facts)?;
+        let writing = Writing::new(alloc, &first, &mentioned, &facts)?;
         Ok(Second {
             pass: SourcePass::new(alloc, mentioned)?,
-            writing: Writing::new(alloc, rows, facts.transfer()),
+            writing,
             first,
             read: 0,
             has_ended: false,
@@ -98,9 +94,8 @@ impl Second {
             (outputs_of S.Sink T.Sink U.Sink object.old listing.old messages.old)
             (outputs_of S.Sink T.Sink U.Sink object.new listing.new messages.new) self.old self.new result }
         ensures again { (fault : AsmFault) → self.old.fault ≡ Some fault → (result ≡ Err fault) × (self.new ≡ self.old)
-            × (object.new ≡ object.old) × (messages.new ≡ messages.old) }
+            × (object.new ≡ object.old) × (listing.new ≡ listing.old) × (messages.new ≡ messages.old) }
         ensures fault { self.new.fault ≡ result_err result }
-        ensures listing { listing.new ≡ listing.old }
     {
         the_calls_place_the_lines_of_a_source();
         self.fault.check()?;
@@ -117,6 +112,7 @@ impl Second {
             &mut self.writing,
             read,
             object,
+            listing,
             messages,
         );
         self.has_ended = self.fault.keep(taken)?;
@@ -144,13 +140,13 @@ impl Second {
             (outputs_of S.Sink T.Sink U.Sink object.old listing.old messages.old) self
             → SecondEnds program source first (outputs_of S.Sink T.Sink U.Sink object.new listing.new messages.new) self result }
         ensures again { (fault : AsmFault) → self.fault ≡ Some fault → (result ≡ Err fault)
-            × (object.new ≡ object.old) × (messages.new ≡ messages.old) }
-        ensures listing { listing.new ≡ listing.old }
+            × (object.new ≡ object.old) × (listing.new ≡ listing.old) × (messages.new ≡ messages.old) }
     {
         match self.fault.check() {
-            Ok(()) => self
-                .writing
-                .end(self.has_ended, self.read, object, messages),
+            Ok(()) => {
+                let place = self.pass.table().place();
+                self.writing.end(self.has_ended, self.read, place, object, listing, messages)
+            }
             Err(fault) => {
                 // by a call, which is proved sooner
                 drop(self);
@@ -170,26 +166,4 @@ fn number_after(read: u16) -> Result<u16, AsmFault>
     } else {
         Err(AsmFault::TooMuchSource)
     }
-}
-
-// The rows of the directory of what a first pass gave.
-fn rows_of(
-    alloc: Global,
-    first: &Pass,
-    mentioned: &Mentioned,
-    facts: &Facts,
-) -> Result<Vec<DirectoryRow>, AllocError>
-    requires { length first.now.table.sections ≤ most_sections }
-    ensures { IfOk result (λ rows. rows.items ≡ directory_rows (told_in first.now mentioned.now facts.now)) }
-{
-    let told = FirstPass {
-        table: first.table(),
-        sizes: first.sizes(),
-        referred: mentioned.referred(),
-        weak: facts.weak(),
-        title: facts.title(),
-        identification: facts.identification(),
-        transfer: facts.transfer(),
-    };
-    directory_rows(alloc, &told)
 }

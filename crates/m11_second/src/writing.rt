@@ -1,24 +1,29 @@
 //! Writes what placed lines give, one after the other, and what stands after them. (RT-11 Volume and File Formats Manual, "Object file
-//! format"; MACRO-11 Language Reference Manual, "Diagnostic error message summary" and ".END directive".)
+//! format"; MACRO-11 Language Reference Manual, "Listing control directives", "Table of contents and symbol table", "Diagnostic error
+//! message summary" and ".END directive".)
 
 ghost use Rattle.std.specs.Prelude.{◌≡◌, ◌≤◌, ◌++◌, ◌∷◌, [], List, IfOk, length, option_map};
-ghost use Rattle.m11_asm_outputs.specs.Object.{IsOpenAfter, content_writes, last_records, records_closed_by};
-ghost use Rattle.m11_asm_outputs.specs.Outputs.{Writes, outputs, to_messages};
-ghost use Rattle.m11_listing.specs.Messages.{count_line};
-ghost use Rattle.m11_obj.specs.Records.{EndOfModule};
+ghost use Rattle.m11_asm_outputs.specs.Object.{IsOpenAfter, content_writes, records_closed_by};
+ghost use Rattle.m11_asm_outputs.specs.Outputs.{Writes, outputs, outputs_of};
+ghost use Rattle.m11_directory.specs.FirstPass.{told_by};
+ghost use Rattle.m11_listed.specs.Listed.{listing_writes};
 ghost use Rattle.m11_object_text.specs.declared.pieces.Piece.{Piece};
 ghost use Rattle.m11_passes.specs.Lines.{Numbered, table_at};
 ghost use Rattle.m11_passes.specs.Placed.{IsPlaced};
 ghost use Rattle.m11_placement.specs.Contents.{Put, pieces_from};
 ghost use Rattle.m11_placement.specs.Exports as exports;
+ghost use Rattle.m11_placement.specs.Limits.{most_sections};
+ghost use Rattle.m11_placement.specs.Meanings.{Map};
 ghost use Rattle.m11_placement.specs.Sources.{directed_in, end_in};
+ghost use Rattle.m11_placement.specs.Tables.{Table};
 ghost use Rattle.m11_placing.specs.Deeds.{deed_seen};
 ghost use Rattle.m11_scan.specs.Views.{bits_of};
-ghost use Rattle.m11_second.specs.Program.{Program};
-ghost use Rattle.m11_second.specs.Writing.{WritingStands, begun, counted, most_counted, opened};
-ghost use Rattle.m11_second.specs.Written.{added_letters, flagged_count, head_before, last_writes, line_writes, message_writes};
+ghost use Rattle.m11_second.specs.Program.{Program, program_kept, told_in};
+ghost use Rattle.m11_second.specs.Writing.{WritingStands, begun, counted, counted_last, most_counted, opened};
+ghost use Rattle.m11_second.specs.Written.{added_writes, closing_writes, flagged_count, head_before, last_place, last_writes, line_writes, message_writes};
+ghost use Rattle.m11_unfolding.specs.Unfolding.{Given};
 ghost use Rattle.m11_values.specs.Quantities.{quantity};
-ghost use Rattle.m11_writes.specs.Outputs.{Output, output_of};
+ghost use Rattle.m11_writes.specs.Outputs.{Output, optional_output, output_of};
 
 use crate::done::AsmDone;
 use bitflags::Flags;
@@ -27,22 +32,31 @@ use m11_asm_outputs::{
 };
 use m11_base::Sink;
 use m11_directives::transfer_letters;
+use m11_directory::{FirstPass, directory_rows};
+use m11_first::Facts;
+use m11_listed::{put_listed, put_placed, put_symbol_table};
+use m11_listing::{Item, SectionEntry, SymbolEntry};
 use m11_object_text::{DirectoryRow, OpenText, PieceContent};
 use m11_passes::PlacedLine;
 use m11_placement::{Directive, Operator};
-use m11_placing::Deed;
+use m11_placing::{Deed, Mentioned, Pass};
 use m11_scan::Letters;
+use m11_symbols::{section_entries, symbol_entries};
 use m11_values::Value;
-use std::alloc::Global;
+use std::alloc::{AllocError, Global};
 use std::marker::Model;
 
 /// What is kept of what was written.
 #[derive(Drop)]
 pub struct Writing {
     alloc: Global,
-    // The rows of the directory, and where the program begins, as the first pass told them.
+    // What the first pass told: the rows of the directory, where the program begins, and the entries of the symbol table.
     rows: Vec<DirectoryRow>,
     transfer: Option<Value>,
+    symbols: Vec<SymbolEntry>,
+    sections: Vec<SectionEntry>,
+    // Room for what the listing shows of a line.
+    items: Vec<Item>,
     // The text that is open.
     text: OpenText,
     // Whether the head of the object is written.
@@ -61,6 +75,8 @@ impl Model for Writing {
     ghost view = { λ w. record {
       rows = w.rows.items;
       transfer = option_map quantity w.transfer;
+      symbols = w.symbols.items;
+      sections = w.sections.items;
       text = w.text;
       has_begun = w.has_begun;
       flagged = w.flagged;
@@ -68,38 +84,48 @@ impl Model for Writing {
 }
 
 impl Writing {
-    /// Before the first line.
-    pub fn new(alloc: Global, rows: Vec<DirectoryRow>, transfer: Option<Value>) -> Writing
-        ensures { (program : Program) → program.rows ≡ rows.items → program.transfer ≡ option_map quantity transfer
-            → WritingStands program [] result }
+    /// Before the first line, after what a first pass gives.
+    pub fn new(
+        alloc: Global,
+        first: &Pass,
+        mentioned: &Mentioned,
+        facts: &Facts,
+    ) -> Result<Writing, AllocError>
+        requires { length first.now.table.sections ≤ most_sections }
+        ensures { IfOk result (λ writing. WritingStands (program_kept first.now mentioned.now facts.now) [] writing) }
     {
-        Writing {
+        let told = told(first, mentioned, facts);
+        Ok(Writing {
             alloc,
-            rows,
-            transfer,
+            rows: directory_rows(alloc, &told)?,
+            transfer: facts.transfer(),
+            symbols: symbol_entries(alloc, &told, mentioned.names(), mentioned.registers())?,
+            sections: section_entries(alloc, &told)?,
+            items: Vec::new(alloc),
             text: open_text(),
             has_begun: false,
             flagged: 0,
-        }
+        })
     }
 
-    /// What a placed line writes: the head of the object where it is the first, the texts that its pieces close, and its message if it is
-    /// flagged. The number is that of the source's line, and the contents are what the line puts.
+    /// What a placed line writes: the head of the object where it is the first, the texts that its pieces close, its lines in the listing,
+    /// and its message if it is flagged. The number is that of the source's line, and the contents are what the line puts.
     ///
     /// Errors: `Write` of an output, and `NoMemory` between two writes.
-    pub fn put_line<S: Sink, U: Sink>(
+    pub fn put_line<S: Sink, T: Sink, U: Sink>(
         &mut self,
         line: &PlacedLine,
         number: u16,
         contents: &[PieceContent],
         object: &mut S,
+        listing: &mut Option<T>,
         messages: &mut U,
     ) -> Result<(), AsmFault>
-        ensures writes { (program : Program) (lines : List Numbered) (one : Numbered) (put : Put) (listing : Output)
+        ensures writes { (program : Program) (lines : List Numbered) (one : Numbered) (put : Put)
             → WritingStands program lines self.old → IsPlaced program.map (table_at program.map lines) one.given line.now put
             → put.contents ≡ contents.now → number ≡ one.number → Writes
-            (outputs (output_of S.Sink object.old) listing (output_of U.Sink messages.old))
-            (outputs (output_of S.Sink object.new) listing (output_of U.Sink messages.new))
+            (outputs_of S.Sink T.Sink U.Sink object.old listing.old messages.old)
+            (outputs_of S.Sink T.Sink U.Sink object.new listing.new messages.new)
             (head_before program lines ++ line_writes program lines one) result }
         ensures stands { (program : Program) (lines : List Numbered) (one : Numbered) (put : Put)
             → WritingStands program lines self.old → IsPlaced program.map (table_at program.map lines) one.given line.now put
@@ -108,6 +134,7 @@ impl Writing {
         self.begin(object)?;
         self.put_pieces(line, contents, object)?;
         let letters = line.letters.with(end_letters(&line.deed, self.transfer));
+        self.list(line, letters, number, contents, listing)?;
         self.report(letters, number, line.line.text(), messages)
     }
 
@@ -152,6 +179,25 @@ impl Writing {
         )
     }
 
+    // The lines of a placed line in the listing.
+    fn list<T: Sink>(
+        &mut self,
+        line: &PlacedLine,
+        letters: Letters,
+        number: u16,
+        contents: &[PieceContent],
+        listing: &mut Option<T>,
+    ) -> Result<(), AsmFault>
+        ensures writes { (map : Map) (table : Table) (given : Given) (put : Put) (object messages : Output)
+            → IsPlaced map table given line.now put → put.contents ≡ contents.now → Writes
+            (outputs object (optional_output T.Sink listing.old) messages)
+            (outputs object (optional_output T.Sink listing.new) messages)
+            (listing_writes map table (bits_of letters) number given) result }
+        ensures keeps { self.new ≡ self.old }
+    {
+        put_placed(&mut self.items, line, letters, number, contents, listing)
+    }
+
     // A flagged line is reported.
     fn report<U: Sink>(
         &mut self,
@@ -176,21 +222,24 @@ impl Writing {
         Ok(())
     }
 
-    /// What stands after all lines: the head, if there was none; where `.END` didn't become live a message; the last text, the end of the
-    /// module, and the count of flagged lines. `read` is the number of lines that were read.
+    /// What stands after all lines: the head, if there was none; where `.END` didn't become live a line that is added; the last text and the
+    /// end of the module, the symbol table, and the count of flagged lines. `read` is the number of lines that were read, and `place` that
+    /// of the location counter after them.
     ///
     /// Errors: `Write` of an output, and `NoMemory` between two writes.
-    pub fn end<S: Sink, U: Sink>(
+    pub fn end<S: Sink, T: Sink, U: Sink>(
         self,
         has_ended: bool,
         read: u16,
+        place: u16,
         object: &mut S,
+        listing: &mut Option<T>,
         messages: &mut U,
     ) -> Result<AsmDone, AsmFault>
-        ensures writes { (program : Program) (lines : List Numbered) (listing : Output) → WritingStands program lines self
-            → flagged_count program lines has_ended ≤ most_counted → Writes
-            (outputs (output_of S.Sink object.old) listing (output_of U.Sink messages.old))
-            (outputs (output_of S.Sink object.new) listing (output_of U.Sink messages.new))
+        ensures writes { (program : Program) (lines : List Numbered) → WritingStands program lines self
+            → place ≡ last_place program lines → flagged_count program lines has_ended ≤ most_counted → Writes
+            (outputs_of S.Sink T.Sink U.Sink object.old listing.old messages.old)
+            (outputs_of S.Sink T.Sink U.Sink object.new listing.new messages.new)
             (last_writes program lines (record { read = read; has_end = has_ended })) result }
         ensures counts { (program : Program) (lines : List Numbered) → WritingStands program lines self
             → flagged_count program lines has_ended ≤ most_counted
@@ -198,38 +247,73 @@ impl Writing {
     {
         let mut last = self;
         last.begin(object)?;
-        last.report(added_letters(has_ended), read, &[], messages)?;
-        last.close(object, messages)
+        last.add_line(has_ended, read, place, listing, messages)?;
+        last.close(object, listing, messages)
     }
 
-    // The last text, the end of the module, and the count.
-    fn close<S: Sink, U: Sink>(self, object: &mut S, messages: &mut U) -> Result<AsmDone, AsmFault>
-        ensures writes { (pieces : List Piece) → IsOpenAfter pieces self.text → (listing : Output) → Writes
-            (outputs (output_of S.Sink object.old) listing (output_of U.Sink messages.old))
-            (outputs (output_of S.Sink object.new) listing (output_of U.Sink messages.new))
-            (content_writes (last_records pieces ++ EndOfModule ∷ []) ++ to_messages (count_line self.flagged) ∷ []) result }
+    // The line that is added where `.END` didn't become live.
+    fn add_line<T: Sink, U: Sink>(
+        &mut self,
+        has_ended: bool,
+        read: u16,
+        place: u16,
+        listing: &mut Option<T>,
+        messages: &mut U,
+    ) -> Result<(), AsmFault>
+        ensures writes { (object : Output) → Writes
+            (outputs object (optional_output T.Sink listing.old) (output_of U.Sink messages.old))
+            (outputs object (optional_output T.Sink listing.new) (output_of U.Sink messages.new))
+            (added_writes (record { read = read; has_end = has_ended }) place) result }
+        ensures counts { IfOk result (λ _. self.new ≡ record self.old { flagged = counted_last has_ended self.old.flagged }) }
+    {
+        if has_ended {
+            return Ok(());
+        }
+        put_listed(listing, Letters::E, read, place, place, &[], &[])?;
+        self.report(Letters::E, read, &[], messages)
+    }
+
+    // The last text and the end of the module, the symbol table, and the count.
+    fn close<S: Sink, T: Sink, U: Sink>(
+        self,
+        object: &mut S,
+        listing: &mut Option<T>,
+        messages: &mut U,
+    ) -> Result<AsmDone, AsmFault>
+        ensures writes { (pieces : List Piece) → IsOpenAfter pieces self.text → Writes
+            (outputs_of S.Sink T.Sink U.Sink object.old listing.old messages.old)
+            (outputs_of S.Sink T.Sink U.Sink object.new listing.new messages.new)
+            (closing_writes pieces self.symbols self.sections self.flagged) result }
         ensures counts { IfOk result (λ done. done.flagged ≡ self.flagged) }
     {
         let Writing {
             alloc,
+            symbols,
+            sections,
             text,
             flagged,
             ..
         } = self;
         put_last(alloc, object, text)?;
+        put_symbol_table(listing, symbols.as_slice(), sections.as_slice(), flagged)?;
         put_count(messages, flagged)?;
         Ok(AsmDone { flagged })
     }
 }
 
-// The letters of the line that is added where `.END` didn't become live.
-fn added_letters(has_ended: bool) -> Letters
-    ensures { bits_of result ≡ added_letters has_ended }
+// What a first pass tells of the directory and of the symbol table.
+fn told<'a>(first: &'a Pass, mentioned: &'a Mentioned, facts: &'a Facts) -> FirstPass<'a>
+    ensures table { result.table.now ≡ first.now.table }
+    ensures told { told_by result ≡ told_in first.now mentioned.now facts.now }
 {
-    if has_ended {
-        Letters::none()
-    } else {
-        Letters::E
+    FirstPass {
+        table: first.table(),
+        sizes: first.sizes(),
+        referred: mentioned.referred(),
+        weak: facts.weak(),
+        title: facts.title(),
+        identification: facts.identification(),
+        transfer: facts.transfer(),
     }
 }
 

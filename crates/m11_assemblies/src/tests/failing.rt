@@ -3,13 +3,13 @@
 use super::{
     Assembled, DIRECTORY, END_OF_GSD, END_OF_MODULE, IN_BLANK_SECTION, TRANSFER, Wanted, left,
 };
-use m11_asm::{AsmDone, AsmFault, AsmOutput, asm_run};
-use m11_base::{FuseFeed, FuseSink, MemoryFeed, MemorySink, WriterSink};
+use m11_asm::{AsmFault, AsmOutput, asm_run};
+use m11_base::{FuseFeed, FuseSink, MemoryFeed, WriterSink};
 use std::alloc::Global;
 use std::process::Abort;
 use std::test::Fail;
 
-// A source in one of its readings, or an output.
+// A source in one of its passes, or an output.
 #[derive(Clone, Copy, Debug, PartialEq, Eq)]
 enum Device {
     First,
@@ -26,28 +26,33 @@ impl Device {
         }
     }
 
-    // Whether this is what is written where the device fails in the assembly of a source without flags: nothing in the first reading; later
-    // a beginning of the object, and messages only after all of it.
+    // Whether this is what is written where the device fails in the assembly of a source without flags: nothing in the first pass; later
+    // a beginning of the object and of the listing, and messages only after all of both.
     fn leaves(self, found: &Assembled, whole: &Assembled) -> bool {
         match self {
             Device::First => found.is_empty(),
-            Device::Second | Device::Output(AsmOutput::Object) => {
-                begins(found, whole) && found.messages.is_empty()
+            Device::Output(AsmOutput::Messages) => {
+                begins(found, whole)
+                    && found.object.len() == whole.object.len()
+                    && found.listing.len() == whole.listing.len()
             }
-            Device::Output(_) => {
-                begins(found, whole) && found.object.len() == whole.object.len()
+            Device::Second | Device::Output(_) => {
+                begins(found, whole) && found.messages.is_empty()
             }
         }
     }
 }
 
+// Whether a text begins with another one.
+fn is_beginning(text: &Vec<u8>, whole: &Vec<u8>) -> bool {
+    whole.as_slice().starts_with(text.as_slice())
+}
+
 // Whether each output is a beginning of what a whole assembly left.
 fn begins(found: &Assembled, whole: &Assembled) -> bool {
-    whole.object.as_slice().starts_with(found.object.as_slice())
-        && whole
-            .messages
-            .as_slice()
-            .starts_with(found.messages.as_slice())
+    is_beginning(&found.object, &whole.object)
+        && is_beginning(&found.listing, &whole.listing)
+        && is_beginning(&found.messages, &whole.messages)
 }
 
 // A device that fails after n calls, while all others pass.
@@ -84,34 +89,23 @@ impl Broken {
     }
 }
 
-// Assembles a source with a broken device into texts, by outputs that take n bytes a call at most.
-fn assemble_broken(
-    alloc: Global,
-    source: &str,
-    broken: Broken,
-    most: usize,
-    object: &mut Vec<u8>,
-    messages: &mut Vec<u8>,
-) -> Result<AsmDone, AsmFault> {
-    let mut listing: Option<MemorySink> = None;
-    asm_run(
+// Assembles a source with a broken device, by outputs that take n bytes a call at most.
+fn assembled_broken(alloc: Global, source: &str, broken: Broken, most: usize) -> Assembled {
+    let mut object = Vec::new(alloc);
+    let mut listing = Vec::new(alloc);
+    let mut messages = Vec::new(alloc);
+    let outcome = asm_run(
         alloc,
         &mut [broken.feed(Device::First, source)],
         &mut [broken.feed(Device::Second, source)],
-        &mut broken.sink(AsmOutput::Object, object, most),
-        &mut listing,
-        &mut broken.sink(AsmOutput::Messages, messages, most),
-    )
-}
-
-// The same, with what the texts are then.
-fn assembled_broken(alloc: Global, source: &str, broken: Broken, most: usize) -> Assembled {
-    let mut object = Vec::new(alloc);
-    let mut messages = Vec::new(alloc);
-    let outcome = assemble_broken(alloc, source, broken, most, &mut object, &mut messages);
+        &mut broken.sink(AsmOutput::Object, &mut object, most),
+        &mut Some(broken.sink(AsmOutput::Listing, &mut listing, most)),
+        &mut broken.sink(AsmOutput::Messages, &mut messages, most),
+    );
     Assembled {
         outcome,
         object,
+        listing,
         messages,
     }
 }
@@ -130,6 +124,17 @@ const ONE_WORD_ASSEMBLED: Wanted<'static> = Wanted {
             0x01, 0x00, 0x0A, 0x00, 0x03, 0x00, 0x00, 0x00, 0x01, 0x00, 0xF1,
         ],
         END_OF_MODULE,
+    ],
+    listed: &[
+        "         1 000000 000001                  .WORD 1",
+        "         2 000002                         .END",
+        "",
+        "SYMBOL TABLE",
+        "",
+        ". ABS. 000000   0 RW,I,GBL,ABS,OVR",
+        "       000002   1 RW,I,LCL,REL,CON",
+        "",
+        "ERRORS DETECTED: 0",
     ],
     reported: &["ERRORS DETECTED: 0"],
     flagged: 0,
@@ -164,6 +169,23 @@ const TWICE_ASSEMBLED: Wanted<'static> = Wanted {
         ],
         END_OF_MODULE,
     ],
+    listed: &[
+        "         1 000000                         .MACRO TWICE ?L",
+        "         7 000000                         TWICE",
+        "         8 000010                         TWICE",
+        "         9 000020                         .IF DF X",
+        "        11 000020                         .ENDC",
+        "        12 000020 000002                  X: .WORD 2",
+        "        13 000022                         .END",
+        "",
+        "SYMBOL TABLE",
+        "X        000020 R    1",
+        "",
+        ". ABS. 000000   0 RW,I,GBL,ABS,OVR",
+        "       000022   1 RW,I,LCL,REL,CON",
+        "",
+        "ERRORS DETECTED: 0",
+    ],
     reported: &["ERRORS DETECTED: 0"],
     flagged: 0,
 };
@@ -172,20 +194,24 @@ const TWICE_ASSEMBLED: Wanted<'static> = Wanted {
 // last byte.
 type Failing = (Device, usize, u64);
 
-static ONE_WORD_FAILING: [Failing; 6] = [
+static ONE_WORD_FAILING: [Failing; 8] = [
     (Device::First, 512, 13),
     (Device::Second, 512, 13),
     (Device::Output(AsmOutput::Object), 512, 5),
     (Device::Output(AsmOutput::Object), 7, 13),
+    (Device::Output(AsmOutput::Listing), 512, 9),
+    (Device::Output(AsmOutput::Listing), 7, 33),
     (Device::Output(AsmOutput::Messages), 512, 1),
     (Device::Output(AsmOutput::Messages), 7, 3),
 ];
 
-static TWICE_FAILING: [Failing; 6] = [
+static TWICE_FAILING: [Failing; 8] = [
     (Device::First, 512, 103),
     (Device::Second, 512, 103),
     (Device::Output(AsmOutput::Object), 512, 5),
     (Device::Output(AsmOutput::Object), 7, 15),
+    (Device::Output(AsmOutput::Listing), 512, 15),
+    (Device::Output(AsmOutput::Listing), 7, 75),
     (Device::Output(AsmOutput::Messages), 512, 1),
     (Device::Output(AsmOutput::Messages), 7, 3),
 ];

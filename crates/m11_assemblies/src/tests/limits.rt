@@ -18,6 +18,7 @@ const NO_WORD: Wanted<'static> = Wanted {
         END_OF_GSD,
         END_OF_MODULE,
     ],
+    listed: &[],
     reported: &["ERRORS DETECTED: 0"],
     flagged: 0,
 };

@@ -1,13 +1,13 @@
-//! Assemblies whose second reading gives another text: names and sizes are those of the first one, words those of the second.
+//! Assemblies whose second pass reads another text: names and sizes are those of the first one, words those of the second.
 
 use super::{
-    DIRECTORY, END_OF_GSD, END_OF_MODULE, IN_BLANK_SECTION, TRANSFER, Wanted, assembled_from, left,
+    DIRECTORY, END_OF_GSD, END_OF_MODULE, IN_BLANK_SECTION, TRANSFER, Wanted, left, listed_from,
 };
 use m11_base::MemoryFeed;
 use std::process::Abort;
 use std::test::Fail;
 
-// The text of the first reading, that of the second one, and what they leave.
+// The text of the first pass, that of the second one, and what they leave.
 type Row = (&'static str, &'static str, Wanted<'static>);
 
 static ROWS: [Row; 3] = [
@@ -27,6 +27,18 @@ static ROWS: [Row; 3] = [
                     0x01, 0x00, 0x0A, 0x00, 0x03, 0x00, 0x00, 0x00, 0x02, 0x00, 0xF0,
                 ],
                 END_OF_MODULE,
+            ],
+            listed: &[
+                "P        1 000000 000002                  A: .WORD 2",
+                "         2 000002                         .END",
+                "",
+                "SYMBOL TABLE",
+                "A        000002 R    1",
+                "",
+                ". ABS. 000000   0 RW,I,GBL,ABS,OVR",
+                "       000004   1 RW,I,LCL,REL,CON",
+                "",
+                "ERRORS DETECTED: 1",
             ],
             reported: &["P 1: A: .WORD 2", "ERRORS DETECTED: 1"],
             flagged: 1,
@@ -49,11 +61,22 @@ static ROWS: [Row; 3] = [
                 ],
                 END_OF_MODULE,
             ],
+            listed: &[
+                "P        1 000000 000777                  1$: BR 1$",
+                "         2 000002                         .END",
+                "",
+                "SYMBOL TABLE",
+                "",
+                ". ABS. 000000   0 RW,I,GBL,ABS,OVR",
+                "       000004   1 RW,I,LCL,REL,CON",
+                "",
+                "ERRORS DETECTED: 1",
+            ],
             reported: &["P 1: 1$: BR 1$", "ERRORS DETECTED: 1"],
             flagged: 1,
         },
     ),
-    // a name that the first reading didn't meet is that of a global, which the directory leaves out
+    // a name that the first pass didn't meet is that of a global, which the directory and the symbol table leave out
     (
         ".WORD 1\n.END\n",
         ".WORD Q\n.END\n",
@@ -73,6 +96,17 @@ static ROWS: [Row; 3] = [
                 ],
                 END_OF_MODULE,
             ],
+            listed: &[
+                "         1 000000 000000G                 .WORD Q",
+                "         2 000002                         .END",
+                "",
+                "SYMBOL TABLE",
+                "",
+                ". ABS. 000000   0 RW,I,GBL,ABS,OVR",
+                "       000002   1 RW,I,LCL,REL,CON",
+                "",
+                "ERRORS DETECTED: 0",
+            ],
             reported: &["ERRORS DETECTED: 0"],
             flagged: 0,
         },
@@ -82,7 +116,7 @@ static ROWS: [Row; 3] = [
 // Each row's texts leave what is wanted.
 fn leave_what_is_wanted(rt: &(impl Abort + AllocGlobal), rows: &[Row]) -> Result<(), Fail> {
     for (first, second, wanted) in rows {
-        let found = assembled_from(
+        let found = listed_from(
             rt.alloc(),
             &mut [MemoryFeed::new(first.as_bytes())],
             &mut [MemoryFeed::new(second.as_bytes())],
@@ -95,8 +129,6 @@ fn leave_what_is_wanted(rt: &(impl Abort + AllocGlobal), rows: &[Row]) -> Result
 }
 
 #[test]
-fn the_second_reading_is_written_under_what_the_first_one_gave(
-    rt: HostRuntime,
-) -> Result<(), Fail> {
+fn the_second_text_is_written_under_what_the_first_one_gave(rt: HostRuntime) -> Result<(), Fail> {
     leave_what_is_wanted(&rt, &ROWS)
 }

@@ -1,4 +1,5 @@
-//! The two passes line by line: how far the object has come after each line, and what they return after a fault and after the end.
+//! The two passes line by line: how far the object and the listing have come after each line, and what they return after a fault and
+//! after the end.
 
 use m11_asm::{AsmDone, AsmFault, First, Second, Symbols};
 use m11_base::MemorySink;
@@ -41,7 +42,7 @@ impl Outputs {
     fn new(alloc: Global) -> Outputs {
         Outputs {
             object: MemorySink::new(alloc),
-            listing: None,
+            listing: Some(MemorySink::new(alloc)),
             messages: MemorySink::new(alloc),
         }
     }
@@ -71,6 +72,24 @@ impl Outputs {
     // Whether the object has n bytes, and the messages are these.
     fn has(&self, length: usize, messages: &str) -> bool {
         self.object.bytes().len() == length && self.messages.bytes() == messages.as_bytes()
+    }
+
+    // How many bytes the listing has.
+    fn listed(&self) -> usize {
+        match &self.listing {
+            Some(listing) => listing.bytes().len(),
+            None => 0,
+        }
+    }
+
+    // Takes lines, after each of which the listing has n bytes.
+    fn lists_by(&mut self, second: &mut Second, source: &[&str], lengths: &[usize]) -> bool {
+        for (line, length) in source.iter().zip(lengths) {
+            if self.take(second, line).is_err() || self.listed() != *length {
+                return false;
+            }
+        }
+        true
     }
 
     // Takes lines, after each of which the object has n bytes, and nothing is reported.
@@ -146,6 +165,32 @@ fn all_grow(rt: &(impl Abort + AllocGlobal), rows: &[Growing]) -> Result<(), Fai
         drop(outputs);
         assert!(rt; shown, "the object of {length} bytes");
     }
+    Ok(())
+}
+
+// A source whose third line has a further line of items, and how many bytes the listing has after each line. Each line of the source has 42
+// characters before its text and an end after it. What stands after all lines has 105 bytes.
+const LISTED: &[&str] = &[".WORD 1", "NOP", ".WORD 1,2,3,4", ".END"];
+
+const LISTED_LENGTHS: &[usize] = &[50, 96, 177, 224];
+
+// Whether the listing of a second pass is complete after each line.
+fn lists(mut second: Second, outputs: &mut Outputs) -> bool {
+    if outputs.lists_by(&mut second, LISTED, LISTED_LENGTHS) {
+        outputs.end(second) == Ok(AsmDone { flagged: 0 }) && outputs.listed() == 329
+    } else {
+        drop(second);
+        false
+    }
+}
+
+#[test]
+fn the_listing_is_complete_after_each_line(rt: HostRuntime) -> Result<(), Fail> {
+    let second = Second::new(rt.alloc(), symbols_of(rt.alloc(), LISTED)?)?;
+    let mut outputs = Outputs::new(rt.alloc());
+    let shown = lists(second, &mut outputs);
+    drop(outputs);
+    assert!(rt; shown);
     Ok(())
 }
 

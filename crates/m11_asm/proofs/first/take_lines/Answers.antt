@@ -1,4 +1,4 @@
-use Rattle.std.proofs.Common.{◌≡◌, ◌∙◌, List, [], Option, Some, None, Ok, Err, ap, sym, subst}
+use Rattle.std.proofs.Common.{◌∙◌, [], Option, Ok, ap, sym, subst}
 use Rattle.m11_lines.specs.Line.{SourceLine}
 use Rattle.m11_lines.specs.Reader.{LineReading, ReadsNext, place}
 use Rattle.m11_asm.proofs.FirstLines.{first_ended, first_goes_on, first_read, first_refuses, first_stops}

@@ -1,4 +1,4 @@
-use Rattle.std.proofs.Common.{◌≡◌, ℕ, [], None}
+use Rattle.std.proofs.Common.{◌≡◌, [], None}
 use Rattle.m11_first.specs.First.{FirstStands}
 use Rattle.m11_asm.proofs.FirstLines.{FirstSoFar}
 use Rattle.m11_asm.proofs.first.take_lines.Given as goal

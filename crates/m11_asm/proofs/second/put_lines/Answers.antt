@@ -1,7 +1,7 @@
-use Rattle.std.proofs.Common.{◌≡◌, ◌∙◌, List, [], Option, Some, None, Ok, Err, ap, refl, sym, subst}
+use Rattle.std.proofs.Common.{◌∙◌, [], Option, Ok, ap, sym, subst}
 use Rattle.m11_lines.specs.Line.{SourceLine}
 use Rattle.m11_lines.specs.Reader.{LineReading, ReadsNext, place}
-use Rattle.m11_asm_outputs.specs.Outputs.{Outputs, outputs_of}
+use Rattle.m11_asm_outputs.specs.Outputs.{outputs_of}
 use Rattle.m11_asm.proofs.LinesRead.{reader_begins}
 use Rattle.m11_asm.proofs.SecondLines.{second_ended, second_goes_on, second_read, second_refuses, second_stops}
 use Rattle.m11_asm.proofs.second.put_lines.Goals as goal
@@ -9,7 +9,6 @@ use Rattle.m11_asm.proofs.second.put_lines.Goals as goal
 pub lines-init : goal.lines-init
 lines-init g c = record {
   sound = ap (λ (r : LineReading). r.fault) c.new-reader.ensures;
-  listing = refl;
   so_far = λ program old stands. record {
     source = [];
     read = reader_begins g.F.Feed.text g.F.Feed.faults c.args.feeds.now c.new-reader.result c.new-reader.ensures;
@@ -17,8 +16,8 @@ lines-init g c = record {
   };
 }
 
-pub returns-then-has_ended-clause-puts : goal.returns-then-has_ended-clause-puts
-returns-then-has_ended-clause-puts g c = λ program old stands.
+pub returns-then-has_ended : goal.returns-then-has_ended
+returns-then-has_ended g c = λ program old stands.
     second_ended g.F.Feed.text g.F.Feed.faults program old c.args.feeds.now c.lines.feeds c.lines.reader
     (outputs_of g.S.Sink g.T.Sink g.U.Sink c.lines.object c.lines.listing c.lines.messages) c.lines.second
     (c.lines.invariant.so_far program old stands) (sym c.has_ended.ensures ∙ c.if-has_ended.true)
@@ -26,7 +25,6 @@ returns-then-has_ended-clause-puts g c = λ program old stands.
 pub lines-preserved : goal.lines-preserved
 lines-preserved g c = record {
   sound = c.in-Ok-Some.ensures.keeps;
-  listing = c.in-Ok.ensures.listing ∙ c.lines.invariant.listing;
   so_far = λ program old stands.
       let so = c.lines.invariant.so_far program old stands in
       let P : Option SourceLine → Type 0 = λ o. ReadsNext (place g.F.Feed.text g.F.Feed.faults c.lines.feeds c.lines.reader)
@@ -39,8 +37,8 @@ lines-preserved g c = record {
       c.line.new.self (c.in-Ok.ensures.takes program so.source old so.stands);
 }
 
-pub returns-in-Err-line-clause-puts : goal.returns-in-Err-line-clause-puts
-returns-in-Err-line-clause-puts g c = λ program old stands.
+pub returns-in-Err-line : goal.returns-in-Err-line
+returns-in-Err-line g c = λ program old stands.
     let so = c.lines.invariant.so_far program old stands in
     let P : Option SourceLine → Type 0 = λ o. ReadsNext (place g.F.Feed.text g.F.Feed.faults c.lines.feeds c.lines.reader)
     (place g.F.Feed.text g.F.Feed.faults c.next.new.feeds c.next.new.self) (Ok o) in
@@ -51,8 +49,8 @@ returns-in-Err-line-clause-puts g c = λ program old stands.
     (outputs_of g.S.Sink g.T.Sink g.U.Sink c.line.new.object c.line.new.listing c.line.new.messages)
     c.line.new.self c.in-Err-line.fault (c.in-Err-line.ensures.takes program so.source old so.stands)
 
-pub returns-in-Ok-None-clause-puts : goal.returns-in-Ok-None-clause-puts
-returns-in-Ok-None-clause-puts g c = λ program old stands.
+pub returns-in-Ok-None : goal.returns-in-Ok-None
+returns-in-Ok-None g c = λ program old stands.
     let P : Option SourceLine → Type 0 = λ o. ReadsNext (place g.F.Feed.text g.F.Feed.faults c.lines.feeds c.lines.reader)
     (place g.F.Feed.text g.F.Feed.faults c.next.new.feeds c.next.new.self) (Ok o) in
     second_read g.F.Feed.text g.F.Feed.faults program old c.args.feeds.now c.lines.feeds c.lines.reader
@@ -60,8 +58,8 @@ returns-in-Ok-None-clause-puts g c = λ program old stands.
     (c.lines.invariant.so_far program old stands) (sym c.has_ended.ensures ∙ c.if-has_ended.false) c.next.new.feeds c.next.new.self
     (subst P c.in-Ok-None.field-0-is (c.in-Ok-None.ensures.reads c.lines.invariant.sound))
 
-pub returns-in-Err-clause-puts : goal.returns-in-Err-clause-puts
-returns-in-Err-clause-puts g c = λ program old stands.
+pub returns-in-Err : goal.returns-in-Err
+returns-in-Err g c = λ program old stands.
     second_stops g.F.Feed.text g.F.Feed.faults program old c.args.feeds.now c.lines.feeds c.lines.reader
     (outputs_of g.S.Sink g.T.Sink g.U.Sink c.lines.object c.lines.listing c.lines.messages) c.lines.second
     (c.lines.invariant.so_far program old stands) (sym c.has_ended.ensures ∙ c.if-has_ended.false) c.next.new.feeds c.next.new.self

@@ -1,4 +1,4 @@
-use Rattle.std.proofs.Common.{◌≡◌, ℕ, [], None}
+use Rattle.std.proofs.Common.{◌≡◌, [], None}
 use Rattle.m11_asm_outputs.specs.Outputs.{Outputs, outputs_of}
 use Rattle.m11_second.specs.Program.{Program}
 use Rattle.m11_second.specs.Second.{SecondStands}
@@ -8,7 +8,6 @@ use Rattle.m11_asm.proofs.second.put_lines.Given as goal
 abbrev pub invariant-lines : goal.invariant-lines
 invariant-lines g l = record {
   sound : l.reader.fault ≡ None;
-  listing : l.listing ≡ l.initial.listing;
   so_far : (program : Program) (old : Outputs)
       → SecondStands program [] old
       (outputs_of g.S.Sink g.T.Sink g.U.Sink l.initial.object l.initial.listing l.initial.messages) l.initial.second

@@ -1,5 +1,3 @@
-use Rattle.std.proofs.Common.{◌∙◌, Option, ap, option_map}
-use Rattle.m11_first.specs.Facts.{Facts}
 use Rattle.m11_second.proofs.Finishing.{begins_so, second_begins}
 use Rattle.m11_second.proofs.second.Second.new.Goals as goal
 
@@ -9,6 +7,6 @@ invariant_of-result c = begins_so c.in_ok-new.field-0 c.new-3.result c.in_ok-new
 pub returns : goal.returns
 returns c =
     second_begins c.into_parts-first.result.0 c.into_parts-first.result.1 c.into_parts-first.result.2 c.in_ok-new.field-0.going
-    c.new-2.result c.new-3.result c.in_ok-new.ensures.stands c.in_ok-new.ensures.begins _ c.in_ok-rows.ensures _ c.transfer.ensures
-    c.new-2.ensures c.new-3.ensures c.args.symbols c.into_parts-first.ensures.pass c.into_parts-first.ensures.mentioned
+    c.in_ok-writing.writing c.new-3.result c.in_ok-new.ensures.stands c.in_ok-new.ensures.begins c.in_ok-writing.ensures
+    c.new-3.ensures c.args.symbols c.into_parts-first.ensures.pass c.into_parts-first.ensures.mentioned
     c.into_parts-first.ensures.facts

@@ -1,4 +1,4 @@
-use Rattle.std.proofs.Common.{◌≡◌, ◌∙◌, List, sym, ap}
+use Rattle.std.proofs.Common.{◌∙◌, List, sym, ap}
 use Rattle.m11_asm_outputs.specs.Object.{content_writes, head_contents}
 use Rattle.m11_asm_outputs.specs.Outputs.{assembly}
 use Rattle.m11_object_text.specs.declared.directory.DirectoryRow.{DirectoryRow}
