@@ -1,3 +1,4 @@
+pub mod Messages
 pub mod OneText
 pub mod Runs
 pub mod Sources

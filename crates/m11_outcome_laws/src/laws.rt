@@ -1,19 +1,22 @@
 //! Laws of outcomes. Each is the contract of a function that does nothing but to call the laws that its own follows from.
 
-ghost use Rattle.std.specs.Prelude.{◌≡◌, ◌↔◌, ◌∷◌, ◌++◌, List, [], Err};
-ghost use Rattle.m11_asm.specs.Outcome.{Ends, HasOutcome, Outcome, Refuses};
+ghost use Rattle.std.specs.Prelude.{◌≡◌, ◌↔◌, ◌∷◌, ◌++◌, ◌+◌, ℕ, List, [], Err, Some};
+ghost use Rattle.m11_asm.specs.Outcome.{Assembled, Ends, HasOutcome, Outcome, Refuses};
 ghost use Rattle.m11_asm.specs.Passes.{Pass};
 ghost use Rattle.m11_asm.specs.Run.{AsmRuns};
 ghost use Rattle.m11_asm_outputs.specs.Outputs.{Gains, Outputs, Write};
 ghost use Rattle.m11_asm_outputs.specs.declared.fault.AsmFault.{AsmFault};
+ghost use Rattle.m11_asm_outputs.specs.declared.fault.AsmOutput.{AsmOutput};
 ghost use Rattle.m11_base.specs.Devices.{Bytes};
+ghost use Rattle.m11_outcome_laws.specs.Messages.{messages_in};
 ghost use Rattle.m11_outcome_laws.specs.OneText.{IsToldByFirst, Repeats, program_after};
 ghost use Rattle.m11_outcome_laws.specs.Runs.{IsOfSources, IsRefused};
 ghost use Rattle.m11_outcome_laws.specs.Sources.{AssembleTo};
 ghost use Rattle.m11_passes.specs.Lines.{Numbered};
 ghost use Rattle.m11_placement.specs.Meanings.{empty_map};
 ghost use Rattle.m11_readings.specs.Readings.{Reading};
-ghost use Rattle.m11_second.specs.Written.{Ended};
+ghost use Rattle.m11_second.specs.Program.{Program};
+ghost use Rattle.m11_second.specs.Written.{Ended, flagged_count, program_writes};
 
 use m11_pass_laws::{
     a_pass_has_one_end, a_second_pass_over_the_same_lines_passes_no_limit,
@@ -70,3 +73,21 @@ pub fn runs_write_their_outcome<F>()
     ensures { (first second : Pass F) (old new : Outputs) (fault : AsmFault) → IsOfSources fault → AsmRuns first second old new (Err fault)
         → (writes : List Write) × IsRefused first second fault writes × Gains old new writes }
 {}
+
+/// The messages of an assembly are one for each flagged line, that which is added without `.END` among them, and the count of flagged lines.
+pub fn there_is_a_message_for_each_flagged_line()
+    ensures { (program : Program) (lines : List Numbered) (ended : Ended)
+        → messages_in (program_writes program lines ended) ≡ flagged_count program lines ended.has_end + 1 }
+{}
+
+/// Two assemblies of the same texts leave the same object and the same messages, where one has a listing and the other has none: whatever
+/// their outputs are, one that both began with the same bytes has the same bytes in the end.
+pub fn a_listing_changes_no_other_output()
+    ensures { (first second : Reading) (writes others : List Write) (flagged count : ℕ)
+        → HasOutcome first second (Assembled writes flagged) → HasOutcome first second (Assembled others count)
+        → (old new with_old with_new : Outputs) → Gains old new writes → Gains with_old with_new others
+        → (output : AsmOutput) (before : Bytes) → (old output).text ≡ Some before → (with_old output).text ≡ Some before
+        → (new output).text ≡ (with_new output).text }
+{
+    sources_have_one_outcome();
+}

@@ -1,0 +1,10 @@
+-- How many messages writes are. (MACRO-11 Language Reference Manual, "Diagnostic error message summary".)
+use Rattle.std.specs.Prelude.{ℕ, Bool, List, count_by}
+use Rattle.m11_asm_outputs.specs.Outputs.{Write, is_output}
+use Rattle.m11_asm_outputs.specs.declared.fault.AsmOutput.TheVariants.{Messages}
+
+abbrev pub is_message : Write → Bool
+is_message write = is_output write.output Messages
+
+abbrev pub messages_in : List Write → ℕ
+messages_in writes = count_by is_message writes
