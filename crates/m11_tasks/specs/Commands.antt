@@ -41,13 +41,17 @@ operand_rule name action = record (new_rule name) {
 abbrev pub output_rule : Rule
 output_rule = record (option_rule (codes "output") 111) { required = true }
 
+-- `-l LST`, `--listing LST`: the listing to write, if one is
+abbrev pub listing_rule : Rule
+listing_rule = option_rule (codes "listing") 108
+
 -- `SOURCE...`: the sources, in order
 abbrev pub sources_rule : Rule
 sources_rule = operand_rule (codes "sources") Append
 
--- `asm -o OBJ SOURCE...`
+-- `asm -o OBJ [-l LST] SOURCE...`
 abbrev pub asm_shape : Shape
-asm_shape = record (new_shape (codes "asm")) { rules = output_rule ∷ sources_rule ∷ [] }
+asm_shape = record (new_shape (codes "asm")) { rules = output_rule ∷ listing_rule ∷ sources_rule ∷ [] }
 
 abbrev pub asm_app : App
 asm_app = record { top = asm_shape; subs = [] }

@@ -24,7 +24,7 @@ abbrev pub asm_inputs : AsmTask → List Bytes
 asm_inputs task = texts task.sources.items
 
 abbrev pub asm_outputs : AsmTask → List Bytes
-asm_outputs task = task.object.now ∷ []
+asm_outputs task = task.object.now ∷ optional task.listing
 
 abbrev pub link_inputs : LinkTask → List Bytes
 link_inputs task = texts task.objects.items

@@ -15,10 +15,11 @@ use Rattle.m11_tasks.specs.declared.tasks.Task.TheVariants.{Asm, Link, Sim}
 use Rattle.m11_tasks.specs.declared.usage.UsageFault.{UsageFault}
 use Rattle.m11_tasks.specs.declared.usage.UsageFault.TheVariants.{Help, Words, BadOctal, OddAddress, BadAddress, NoMemory}
 
--- the paths of an assembly, as entries state them: the object is the first value of `output`, the
--- sources are all values of `sources` in order
+-- the paths of an assembly, as entries state them: the object is the first value of `output`; the
+-- listing is that of `listing`, if there is one; the sources are all values of `sources` in order
 pub record IsAsmTask (rows : List Row) (task : AsmTask) : Type 0 where
   pub object : task.object.now ≡ unwrap_or (first_of (codes "output") rows) []
+  pub listing_path : option_map (λ path. path.now) task.listing ≡ first_of (codes "listing") rows
   pub sources : map (λ s. s.now) task.sources.items ≡ unwrap_or (all_of (codes "sources") rows) []
 
 -- an address of memory, where the word is one: even, and not past the greatest memory

@@ -2,7 +2,7 @@
 
 ghost use Rattle.std.specs.Prelude.{IfOk};
 ghost use Rattle.clap.specs.Words.{App, Rule, new_app, with_rule, with_subcommand};
-ghost use Rattle.m11_tasks.specs.Commands.{IsArgument, IsCommand, application, asm_app, bare, bottom_rule, link_app, map_rule, objects_rule, operand_rule, option_rule, output_rule, sim_app, sources_rule, start_rule, steps_rule, tape_rule, words_rule};
+ghost use Rattle.m11_tasks.specs.Commands.{IsArgument, IsCommand, application, asm_app, bare, bottom_rule, link_app, listing_rule, map_rule, objects_rule, operand_rule, option_rule, output_rule, sim_app, sources_rule, start_rule, steps_rule, tape_rule, words_rule};
 
 use clap::{Arg, ArgAction, Command, value_parser};
 use std::alloc::{AllocError, Global};
@@ -64,7 +64,7 @@ fn with_argument<'a>(
     }
 }
 
-/// `asm -o OBJ SOURCE...`.
+/// `asm -o OBJ [-l LST] SOURCE...`.
 fn asm_command<'a>(alloc: Global) -> Result<Command<'a>, AllocError>
     ensures { IfOk result (IsCommand asm_app) }
 {
@@ -74,6 +74,7 @@ fn asm_command<'a>(alloc: Global) -> Result<Command<'a>, AllocError>
         command,
         output_argument(alloc, "OBJ", "The object to write"),
     );
+    let command = with_argument(command, listing_argument(alloc));
     with_argument(command, sources_argument(alloc))
 }
 
@@ -139,6 +140,13 @@ fn output_argument<'a>(alloc: Global, value: &'a str, help: &'a str) -> Arg<'a>
     ensures { IsArgument output_rule result }
 {
     option_argument(alloc, "output", 'o', value, help).required(true)
+}
+
+/// `-l LST`. Without it there is no listing.
+fn listing_argument<'a>(alloc: Global) -> Arg<'a>
+    ensures { IsArgument listing_rule result }
+{
+    option_argument(alloc, "listing", 'l', "LST", "The listing to write")
 }
 
 /// `SOURCE...`, one or more.

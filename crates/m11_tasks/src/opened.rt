@@ -35,13 +35,15 @@ pub struct Inputs<I> {
     pub second: Vec<I>,
 }
 
-/// The sources and the object of an assembly.
+/// The sources of an assembly, its object, and its listing if one is asked for.
 #[derive(Drop)]
 pub struct AsmFiles<I, O> {
     /// The sources, in order.
     pub sources: Inputs<I>,
     /// The object, which is empty.
     pub object: O,
+    /// The listing, which is empty, if there is one.
+    pub listing: Option<O>,
 }
 
 /// The objects of a link, its tape, and its map if one is asked for.
@@ -55,9 +57,8 @@ pub struct LinkFiles<I, O> {
     pub map: Option<O>,
 }
 
-/// Opens the sources, and then creates the object. `NotOpened` of the first path that is refused, after which nothing is
-/// opened or created; `NoMemory`.
-#[tactic(auto, using(crate::proofs::Opening::stops_at_first))]
+/// Opens the sources, then creates the object, and then the listing if one is asked for. `NotOpened` of the first path that
+/// is refused, after which nothing is opened or created; `NoMemory`.
 pub fn open_asm_files<'a, F: Opens>(
     alloc: Global,
     files: &mut F,
@@ -69,6 +70,8 @@ pub fn open_asm_files<'a, F: Opens>(
         AreFiles F.Input.text (F.files files.old) (asm_inputs task.now) opened.sources.second.items) }
     ensures object { IfOk result (λ opened.
         IsEmptied (F.files files.old) (F.Output.text opened.object)) }
+    ensures listing { IfOk result (λ opened.
+        IsEmptiedSome F.Output.text (F.files files.old) task.now.listing opened.listing) }
     ensures created { IfOk result (λ opened.
         F.files files.new ≡ creating (asm_outputs task.now) (F.files files.old)) }
     ensures stops { IfErr result (Stops (F.files files.old) (F.files files.new)
@@ -77,7 +80,12 @@ pub fn open_asm_files<'a, F: Opens>(
 {
     let sources = open_inputs(alloc, files, task.sources.as_slice())?;
     let object = create(files, task.object)?;
-    Ok(AsmFiles { sources, object })
+    let listing = create_some(files, task.listing)?;
+    Ok(AsmFiles {
+        sources,
+        object,
+        listing,
+    })
 }
 
 /// Opens the objects, then creates the tape, and then the map if one is asked for. `NotOpened` of the first path that is

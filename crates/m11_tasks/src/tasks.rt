@@ -18,6 +18,8 @@ use std::convert::AsStr;
 pub struct AsmTask<'a> {
     /// Where the object module goes.
     pub object: &'a str,
+    /// Where the listing goes, if one is asked for.
+    pub listing: Option<&'a str>,
     /// The sources, one text after the other.
     pub sources: Vec<&'a str>,
 }
@@ -118,6 +120,7 @@ fn asm_task<'a>(alloc: Global, entries: &ArgMatches<'a>) -> Result<AsmTask<'a>, 
 {
     Ok(AsmTask {
         object: first_text(entries, "output"),
+        listing: text_given(entries, "listing"),
         sources: all_texts(alloc, entries, "sources")?,
     })
 }
