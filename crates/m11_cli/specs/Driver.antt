@@ -1,5 +1,5 @@
 -- What a command line makes of the three streams of its process, and of the files of its task. (This project's own.)
-use Rattle.std.specs.Prelude.{◌≡◌, ◌⊎◌, ℕ, List, [], Option, None, Result, Ok, Err}
+use Rattle.std.specs.Prelude.{◌≡◌, ◌⊎◌, ℕ, List, [], Option, Result, Ok, Err}
 use Rattle.std.specs.Io.KnownBytes.{Appends}
 use Rattle.clap.specs.Words.{Text}
 use Rattle.m11_base.specs.Devices.{Bytes, Rises}
@@ -95,12 +95,13 @@ RefusesFile inputs outputs old new reported reported' = Rises old.refusals new.r
 abbrev pub known : Ghosts Output
 known = record { text = λ output. output.text; faults = λ output. output.faults }
 
--- the object and the messages of an assembly, which has no listing
-abbrev pub asm_outputs_of : Output → Output → assembled.Outputs
-asm_outputs_of object reported = assembled.outputs_of {T = Output} known known known object None reported
+-- the object, the listing if there is one, and the messages of an assembly
+abbrev pub asm_outputs_of : Output → Option Output → Output → assembled.Outputs
+asm_outputs_of object listing reported = assembled.outputs_of known known known object listing reported
 
--- the sources are the files of their paths, in both passes. By their texts the object, which is empty at first, and what
--- is reported become what an assembly makes of them; the object is created, and kept under its path
+-- the sources are the files of their paths, in both passes. By their texts the object and the listing, which are empty at
+-- first, and what is reported become what an assembly makes of them; object and listing are created in this order, and
+-- kept under their paths
 pub record Assembles (asm : AsmTask) (old new : Store) (reported reported' : Output) (answer : Result AsmDone AsmFault)
     : Type 0 where
   pub first : List Input
@@ -109,13 +110,17 @@ pub record Assembles (asm : AsmTask) (old new : Store) (reported reported' : Out
   pub second' : List Input
   pub object : Output
   pub object' : Output
+  pub listing : Option Output
+  pub listing' : Option Output
   pub read : AreFiles (λ s. s.text) old.files (asm_inputs asm) first
   pub read-again : AreFiles (λ s. s.text) old.files (asm_inputs asm) second
   pub emptied : IsEmptied old.files object.text
+  pub emptied-listing : IsEmptiedSome (λ l. l.text) old.files asm.listing listing
   pub runs : AsmRuns (assembling.pass_of (λ s. s.text) (λ s. s.faults) first first')
       (assembling.pass_of (λ s. s.text) (λ s. s.faults) second second')
-      (asm_outputs_of object reported) (asm_outputs_of object' reported') answer
-  pub kept : new.files ≡ keeping asm.object.now object'.text (creating (asm_outputs asm) old.files)
+      (asm_outputs_of object listing reported) (asm_outputs_of object' listing' reported') answer
+  pub kept : new.files ≡ keeping_some (λ l. l.text) asm.listing listing'
+      (keeping asm.object.now object'.text (creating (asm_outputs asm) old.files))
   pub opened : new.refusals ≡ old.refusals
 
 abbrev pub MayAssemble : AsmTask → Store → Store → Output → Output → Result AsmDone AsmFault → Type 0

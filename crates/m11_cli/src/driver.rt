@@ -33,11 +33,11 @@ use std::convert::AsStr;
 /// is the program's name.
 ///
 /// Help goes to `out`; refused words, a file that does not open, messages and the line of a fault go
-/// to `err`. The inputs are opened first, in order, each twice; then the outputs are created, a tape
-/// before its map, and handed back when all has been written to them. The first file that does not
-/// open ends the command, and leaves outputs that were created before it empty. `input` is what a
-/// program that is run reads and `out` takes what it prints, each byte at once; an assembly and a
-/// link read nothing of `input`.
+/// to `err`. The inputs are opened first, in order, each twice; then the outputs are created, an
+/// object before its listing and a tape before its map, and handed back when all has been written to
+/// them. The first file that does not open ends the command, and leaves outputs that were created
+/// before it empty. `input` is what a program that is run reads and `out` takes what it prints, each
+/// byte at once; an assembly and a link read nothing of `input`.
 pub fn command<'a, F, I, O, E, S>(
     alloc: Global,
     files: &mut F,
@@ -187,7 +187,7 @@ fn assemble<F: Opens, E: Sink>(
     }
 }
 
-// An assembly of open files, whose messages go to `err`. The object is handed back.
+// An assembly of open files, whose messages go to `err`. The object and the listing are handed back.
 fn run_asm<F: Opens, E: Sink>(
     alloc: Global,
     files: &mut F,
@@ -198,6 +198,7 @@ fn run_asm<F: Opens, E: Sink>(
     ensures { (before : Store) → AreFiles F.Input.text before.files (asm_inputs task.now) opened.sources.first.items
         → AreFiles F.Input.text before.files (asm_inputs task.now) opened.sources.second.items
         → IsEmptied before.files (F.Output.text opened.object)
+        → IsEmptiedSome F.Output.text before.files task.now.listing opened.listing
         → F.files files.old ≡ creating (asm_outputs task.now) before.files → F.refusals files.old ≡ before.refusals
         → Assembles task.now before (store (F.files files.new) (F.refusals files.new))
         (output_of (E.text err.old) (E.faults err.old)) (output_of (E.text err.new) (E.faults err.new)) result }
@@ -205,8 +206,8 @@ fn run_asm<F: Opens, E: Sink>(
     let AsmFiles {
         mut sources,
         mut object,
+        mut listing,
     } = opened;
-    let mut listing: Option<F::Output> = None;
     let answer = asm_run(
         alloc,
         sources.first.as_mut_slice(),
@@ -216,6 +217,7 @@ fn run_asm<F: Opens, E: Sink>(
         err,
     );
     files.keep(task.object, object);
+    keep_some(files, task.listing, listing);
     answer
 }
 

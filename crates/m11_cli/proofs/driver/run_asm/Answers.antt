@@ -1,11 +1,11 @@
 use Rattle.std.proofs.Common.{◌∙◌, ap}
 use Rattle.m11_asm.specs.Passes.{pass_of}
 use Rattle.m11_asm.specs.Run.{AsmRuns}
-use Rattle.m11_files.specs.Opens.{keeping}
+use Rattle.m11_files.specs.Opens.{keeping, keeping_some}
 use Rattle.m11_cli.specs.Driver.{asm_outputs_of}
 use Rattle.m11_tasks.specs.Opened.{asm_inputs}
 use Rattle.m11_cli.proofs.Assembled.{asm_runs}
-use Rattle.m11_cli.proofs.Linked.{seen_sink}
+use Rattle.m11_cli.proofs.Linked.{emptied, kept, same_output, seen_output, seen_sink}
 use Rattle.m11_cli.proofs.Sources.{are, seen}
 use Rattle.m11_cli.proofs.driver.run_asm.Goals as goal
 
@@ -19,28 +19,37 @@ returns g c =
     let second = c.args.opened.sources.second.items in
     let object = seen_sink sink c.args.opened.object in
     let object' = seen_sink sink c.asm_run-answer.new.object in
+    let listing = seen_output sink c.args.opened.listing in
+    let listing' = seen_output sink c.asm_run-answer.new.listing in
     let reported = seen_sink g.E.Sink c.args.err.now in
     let reported' = seen_sink g.E.Sink c.asm_run-answer.new.messages in
     let ran : AsmRuns (pass_of text faults first c.asm_run-answer.new.first)
     (pass_of text faults second c.asm_run-answer.new.second)
-    (asm_outputs_of object reported) (asm_outputs_of object' reported') c.asm_run-answer.result =
+    (asm_outputs_of object listing reported) (asm_outputs_of object' listing' reported') c.asm_run-answer.result =
     rw (
       c.as_mut_slice.ensures.value,
       c.as_mut_slice-2.ensures.value,
-      c.asm_run-answer.ensures.listing,
+      same_output sink c.args.opened.listing,
+      same_output sink c.asm_run-answer.new.listing,
     ) at c.asm_run-answer.ensures.runs in
-    λ before read again emptied created same. record {
+    λ before read again emptied-object emptied-listing created same. record {
       first = seen text faults first;
       first' = seen text faults c.asm_run-answer.new.first;
       second = seen text faults second;
       second' = seen text faults c.asm_run-answer.new.second;
       object = object;
       object' = object';
+      listing = listing;
+      listing' = listing';
       read = are text faults before.files (asm_inputs task) first read;
       read-again = are text faults before.files (asm_inputs task) second again;
-      emptied = emptied;
+      emptied = emptied-object;
+      emptied-listing = emptied sink before.files task.listing c.args.opened.listing emptied-listing;
       runs = asm_runs text faults _ _ _ _ _ _ c.asm_run-answer.result ran;
-      kept = c.keep.ensures.keeps
-          ∙ ap (λ files. keeping task.object.now (sink.text c.asm_run-answer.new.object) files) created;
-      opened = c.keep.ensures.counts ∙ same;
+      kept = c.keep_some.ensures.keeps
+          ∙ kept sink task.listing c.asm_run-answer.new.listing _
+          ∙ ap (λ files. keeping_some (λ output. output.text) task.listing listing' files)
+          (c.keep.ensures.keeps
+          ∙ ap (λ files. keeping task.object.now (sink.text c.asm_run-answer.new.object) files) created);
+      opened = c.keep_some.ensures.counts ∙ c.keep.ensures.counts ∙ same;
     }
