@@ -1,7 +1,7 @@
-//! Devices that fail: the console of a program that runs, and its messages.
+//! Devices that fail: the console of a program that runs, and its messages; the listing of an assembly.
 
-use m11_base::{FuseFeed, FuseSink, MemoryFeed, WriterSink};
-use m11_cli::{MemoryFile, MemoryFiles, command};
+use m11_base::{DeviceFault, FuseFeed, FuseSink, MemoryFeed, MemorySink, Sink, WriterSink};
+use m11_cli::{MemoryFile, MemoryFiles, OpenRefusal, Opens, command};
 use std::alloc::{AllocError, Global};
 use std::process::Abort;
 use std::test::Fail;
@@ -97,4 +97,150 @@ fn check(rt: &(impl Abort + AllocGlobal), stored: &[MemoryFile], run: &Run) {
 #[test]
 fn a_run_whose_device_fails_leaves_the_status_of_a_device(rt: HostRuntime) -> Result<(), Fail> {
     check_runs(&rt, &RUNS)
+}
+
+// The listing of this source:
+//
+//     .WORD 1
+//     .END
+const LISTING: &str = "         1 000000 000001                  .WORD 1
+         2 000002                         .END
+
+SYMBOL TABLE
+
+. ABS. 000000   0 RW,I,GBL,ABS,OVR
+       000002   1 RW,I,LCL,REL,CON
+
+ERRORS DETECTED: 0
+";
+
+// How many bytes of it are the lines of the source.
+const LINES: usize = 97;
+
+// The bytes of the object that are written before the listing's first line, and all of them.
+const HEAD: usize = 46;
+
+const OBJECT: usize = 79;
+
+// A file that takes as many bytes as it has room for, and then fails.
+#[derive(Drop)]
+struct ShortFile {
+    taken: Vec<u8>,
+    room: usize,
+    faults: u64,
+}
+
+impl ShortFile {
+    // An empty one.
+    fn new(alloc: Global, room: usize) -> ShortFile {
+        ShortFile {
+            taken: Vec::new(alloc),
+            room,
+            faults: 0,
+        }
+    }
+}
+
+impl Sink for ShortFile {
+    ghost use Rattle.std.specs.Prelude.{None};
+
+    ghost text = { λ _. None };
+
+    ghost faults = { λ s. s.faults };
+
+    fn put(&mut self, bytes: &[u8]) -> Result<usize, DeviceFault> {
+        if self.faults == u64::MAX {
+            return Err(DeviceFault);
+        }
+        let count = bytes.len().min(self.room);
+        let is_full = count == 0 && !bytes.is_empty();
+        if is_full || self.taken.extend_from_slice(&bytes[..count]).is_err() {
+            self.faults += 1;
+            return Err(DeviceFault);
+        }
+        self.room -= count;
+        Ok(count)
+    }
+}
+
+// The files of an assembly of that source, whose listing takes `room` bytes.
+#[derive(Drop)]
+struct ShortFiles {
+    alloc: Global,
+    room: usize,
+    object: Vec<u8>,
+    listing: Vec<u8>,
+}
+
+impl Opens for ShortFiles {
+    ghost use Rattle.std.specs.Prelude.{None};
+
+    type Input = MemoryFeed<'static>;
+
+    type Output = ShortFile;
+
+    ghost files = { λ _. None };
+
+    ghost refusals = { λ _. 0 };
+
+    fn open(&mut self, _path: &str) -> Result<MemoryFeed<'static>, OpenRefusal> {
+        Ok(MemoryFeed::new(b".WORD 1\n.END\n"))
+    }
+
+    fn create(&mut self, path: &str) -> Result<ShortFile, OpenRefusal> {
+        match path {
+            "P.LST" => Ok(ShortFile::new(self.alloc, self.room)),
+            _ => Ok(ShortFile::new(self.alloc, usize::MAX)),
+        }
+    }
+
+    fn keep(&mut self, path: &str, output: ShortFile) {
+        match path {
+            "P.LST" => self.listing = output.taken,
+            _ => self.object = output.taken,
+        }
+    }
+}
+
+// Whether an assembly whose listing takes `room` bytes of its text leaves those, the object up to there, no message, and the
+// status and the line of a listing that can't be written.
+fn is_told(alloc: Global, room: usize) -> bool {
+    let mut files = ShortFiles {
+        alloc,
+        room,
+        object: Vec::new(alloc),
+        listing: Vec::new(alloc),
+    };
+    let mut out = MemorySink::new(alloc);
+    let mut err = MemorySink::new(alloc);
+    let status = command(
+        alloc,
+        &mut files,
+        &mut MemoryFeed::new(b""),
+        &mut out,
+        &mut err,
+        ["m11", "asm", "-o", "P.OBJ", "-l", "P.LST", "P.MAC"].as_slice(),
+    );
+    let ShortFiles {
+        object,
+        listing,
+        ..
+    } = files;
+    let written = if room < LINES { HEAD } else { OBJECT };
+    status == 3
+        && out.bytes().is_empty()
+        && err.bytes() == b"?M11 ASM 2 Write LISTING\n".as_slice()
+        && object.len() == written
+        && listing.len() == room
+        && LISTING.as_bytes().starts_with(listing.as_slice())
+}
+
+#[test]
+fn a_listing_that_fails_leaves_a_beginning_and_the_object_up_to_there(
+    rt: HostRuntime,
+) -> Result<(), Fail> {
+    for room in 0..LISTING.len() {
+        assert!(rt; is_told(rt.alloc(), room));
+    }
+    Ok(())
 }

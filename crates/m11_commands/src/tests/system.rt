@@ -10,9 +10,9 @@ use std::test::Fail;
 
 // The words of a command whose inputs and outputs are not all ordinary files, the status that it leaves, and what is
 // reported. `SOURCES` is a folder: it opens, and its first read fails. `NOWHERE` is none.
-static COMMANDS: [(&[&str], u8, &str); 9] = [
+static COMMANDS: [(&[&str], u8, &str); 10] = [
     (
-        &["m11", "asm", "-o", "OUT.OBJ", "ONE.MAC"],
+        &["m11", "asm", "-o", "OUT.OBJ", "-l", "OUT.LST", "ONE.MAC"],
         0,
         "ERRORS DETECTED: 0\n",
     ),
@@ -27,9 +27,30 @@ static COMMANDS: [(&[&str], u8, &str); 9] = [
         "?M11 OPEN NONE.MAC\n",
     ),
     (
-        &["m11", "asm", "-o", "NOWHERE/P.OBJ", "ONE.MAC"],
+        &[
+            "m11",
+            "asm",
+            "-o",
+            "NOWHERE/P.OBJ",
+            "-l",
+            "NONE.LST",
+            "ONE.MAC",
+        ],
         3,
         "?M11 OPEN NOWHERE/P.OBJ\n",
+    ),
+    (
+        &[
+            "m11",
+            "asm",
+            "-o",
+            "EMPTY.OBJ",
+            "-l",
+            "NOWHERE/P.LST",
+            "ONE.MAC",
+        ],
+        3,
+        "?M11 OPEN NOWHERE/P.LST\n",
     ),
     (
         &["m11", "link", "-o", "OUT.TAP", "-m", "OUT.MAP", "OUT.OBJ"],
@@ -63,9 +84,11 @@ static COMMANDS: [(&[&str], u8, &str); 9] = [
 ];
 
 // The files that these commands leave, and how many bytes each has.
-static LEFT: [(&str, usize); 6] = [
+static LEFT: [(&str, usize); 8] = [
     ("OUT.OBJ", 79),
+    ("OUT.LST", 202),
     ("FOLDER.OBJ", 0),
+    ("EMPTY.OBJ", 0),
     ("OUT.TAP", 16),
     ("OUT.MAP", 139),
     ("FOLDER.TAP", 0),
@@ -118,19 +141,45 @@ fn commands_read_and_write_the_files_of_the_system(rt: HostRuntime) -> Result<()
         !fs::exists(&rt, "NONE.OBJ")?,
         "an object of a source that is not there"
     );
+    assert!(rt;
+        !fs::exists(&rt, "NONE.LST")?,
+        "a listing of an object that can't be created"
+    );
     remove(&rt, &LEFT)?;
     fs::remove_file(&rt, "ONE.MAC")?;
     Ok(fs::remove_dir(&rt, "SOURCES")?)
 }
 
+// Outputs on a device that is always full, the object and the listing, and what is reported of them.
+static FULL: [(&[&str], u8, &str); 2] = [
+    (
+        &["m11", "asm", "-o", "/dev/full", "FULL.MAC"],
+        3,
+        "?M11 ASM 2 Write OBJECT\n",
+    ),
+    (
+        &[
+            "m11",
+            "asm",
+            "-o",
+            "FULL.OBJ",
+            "-l",
+            "/dev/full",
+            "FULL.MAC",
+        ],
+        3,
+        "?M11 ASM 2 Write LISTING\n",
+    ),
+];
+
 #[test]
-fn a_full_device_is_reported_as_the_object(rt: HostRuntime) -> Result<(), Fail> {
+fn a_full_device_is_reported_as_the_output_on_it(rt: HostRuntime) -> Result<(), Fail> {
     // Not each system has a device that is always full.
     if fs::open(&rt, "/dev/full").is_ok() {
         fs::write(&rt, "FULL.MAC", ".END\n")?;
-        let words = ["m11", "asm", "-o", "/dev/full", "FULL.MAC"];
-        let reported = "?M11 ASM 2 Write OBJECT\n";
-        assert_eq!(rt; done(&rt, words.as_slice(), reported), Some(3));
+        check_commands(&rt, &FULL)?;
+        // The directory stands before the first line of a listing.
+        remove(&rt, &[("FULL.OBJ", 46)])?;
         fs::remove_file(&rt, "FULL.MAC")?;
     }
     Ok(())
