@@ -1,18 +1,18 @@
 -- A condition and the comma after it are noted one after the other.
 use Rattle.std.proofs.Common.{◌≡◌, ℕ, List, ◌++◌, Option, ap, ◌∙◌}
 use Rattle.std.specs.Int.RustNames.{bit_or}
-use Rattle.m11_arguments.specs.Conditions.{Asked, answer_of, notes_of}
-use Rattle.m11_arguments.specs.declared.conditions.Answer.{Answer}
+use Rattle.m11_arguments.specs.Conditions.{Asked, verdict_of, notes_of}
+use Rattle.m11_arguments.specs.declared.conditions.Verdict.{Verdict}
 use Rattle.m11_arguments.specs.Immediate.{comma_letters, immediate_notes, statement_at}
 use Rattle.m11_arguments.specs.Notes.{Notes, joined, noting, with_letters}
 use Rattle.m11_arguments.proofs.Joining.{or_joins}
 
-pub noted_at_once : (line : List ℕ) (begin middle after : Notes) (asked : Asked) (answer : Answer) (letters end : ℕ)
-    → {statement : Option ℕ} → answer ≡ answer_of asked → middle ≡ joined begin (notes_of asked) → end ≡ answer.end
+pub noted_at_once : (line : List ℕ) (begin middle after : Notes) (asked : Asked) (verdict : Verdict) (letters end : ℕ)
+    → {statement : Option ℕ} → verdict ≡ verdict_of asked → middle ≡ joined begin (notes_of asked) → end ≡ verdict.end
     → statement ≡ statement_at line end → letters ≡ comma_letters line end statement → after ≡ with_letters middle letters
     → after ≡ joined begin (immediate_notes line asked)
-noted_at_once line begin middle after asked answer letters end {statement} is noted ends begun comma added =
-    let here : end ≡ asked.end = ends ∙ ap (λ (a : Answer). a.end) is in
+noted_at_once line begin middle after asked verdict letters end {statement} is noted ends begun comma added =
+    let here : end ≡ asked.end = ends ∙ ap (λ (a : Verdict). a.end) is in
     let told : letters ≡ comma_letters line asked.end (statement_at line asked.end) =
     comma ∙ ap (λ (s : Option ℕ). comma_letters line end s) begun
     ∙ ap (λ (n : ℕ). comma_letters line n (statement_at line n)) here in

@@ -9,11 +9,11 @@ use Rattle.m11_arguments.specs.declared.definedness.JointAt.{JointAt}
 use Rattle.m11_arguments.specs.declared.definedness.SoFar.{SoFar}
 use Rattle.m11_arguments.specs.Expressions.{Known}
 use Rattle.m11_arguments.specs.Notes.{Notes, with_symbols}
-use Rattle.m11_arguments.specs.Definedness.{Tested, after_joint, answer_of, after_symbol, at_bad, at_last, joined_to, joining, joint_at, joint_in, names_in, symbol_first, tested}
+use Rattle.m11_arguments.specs.Definedness.{Tested, after_joint, verdict_of, after_symbol, at_bad, at_last, joined_to, joining, joint_at, joint_in, names_in, symbol_first, tested}
 
 abbrev next_after : Bool → Option SoFar → Option JointAt → Option SoFar
-next_after answer other None = other
-next_after answer other (Some next) = Some (record { holds = answer; joint = next.joint })
+next_after verdict other None = other
+next_after verdict other (Some next) = Some (record { holds = verdict; joint = next.joint })
 
 module _ (test : Symbol → Bool) (size : ℕ) (before : Option SoFar) (name : Lexeme) where
   pub bad_name : (tokens : List Lexeme) → symbol_in name.sort name.text ≡ None → names_in test size before (name ∷ tokens) ≡ at_bad size
@@ -55,29 +55,29 @@ module _ (test : Symbol → Bool) (size : ℕ) (before : Option SoFar) (name : L
 
 -- what is left of a list of names leads to what the whole list tells
 pub record Leads (notes begin : Notes) (left all : Tested) : Type 0 where
-  pub answer : left.answer ≡ all.answer
+  pub verdict : left.verdict ≡ all.verdict
   pub end : left.end ≡ all.end
   pub symbols : with_symbols notes left.symbols ≡ with_symbols begin all.symbols
 
 -- what the list tells where it ends
 pub record IsTold (notes begin : Notes) (found : Option Bool) (place : ℕ) (all : Tested) : Type 0 where
-  pub answer : found ≡ all.answer
+  pub verdict : found ≡ all.verdict
   pub end : place ≡ all.end
   pub symbols : notes ≡ with_symbols begin all.symbols
 
 module _ (notes begin : Notes) (all left : Tested) (leads : Leads notes begin left all) where
-  pub told : (answer : Option Bool) (end : ℕ) (after : Notes) → left ≡ record { answer = answer; end = end; symbols = [] }
-      → after ≡ with_symbols notes [] → IsTold after begin answer end all
-  told answer end after is same = record {
-    answer = sym (ap (λ (t : Tested). t.answer) is) ∙ leads.answer;
+  pub told : (verdict : Option Bool) (end : ℕ) (after : Notes) → left ≡ record { verdict = verdict; end = end; symbols = [] }
+      → after ≡ with_symbols notes [] → IsTold after begin verdict end all
+  told verdict end after is same = record {
+    verdict = sym (ap (λ (t : Tested). t.verdict) is) ∙ leads.verdict;
     end = sym (ap (λ (t : Tested). t.end) is) ∙ leads.end;
     symbols = same ∙ sym (ap (λ (t : Tested). with_symbols notes t.symbols) is) ∙ leads.symbols;
   }
 
-  pub told_last : (symbol : Symbol) (answer : Bool) (end : ℕ) (after : Notes) → left ≡ symbol_first symbol (at_last answer end)
-      → after ≡ with_symbols notes (symbol ∷ []) → IsTold after begin (Some answer) end all
-  told_last symbol answer end after is same = record {
-    answer = sym (ap (λ (t : Tested). t.answer) is) ∙ leads.answer;
+  pub told_last : (symbol : Symbol) (verdict : Bool) (end : ℕ) (after : Notes) → left ≡ symbol_first symbol (at_last verdict end)
+      → after ≡ with_symbols notes (symbol ∷ []) → IsTold after begin (Some verdict) end all
+  told_last symbol verdict end after is same = record {
+    verdict = sym (ap (λ (t : Tested). t.verdict) is) ∙ leads.verdict;
     end = sym (ap (λ (t : Tested). t.end) is) ∙ leads.end;
     symbols = same ∙ sym (ap (λ (t : Tested). with_symbols notes t.symbols) is) ∙ leads.symbols;
   }
@@ -85,7 +85,7 @@ module _ (notes begin : Notes) (all left : Tested) (leads : Leads notes begin le
   pub leads_on : (symbol : Symbol) (more : Tested) (after : Notes) → left ≡ symbol_first symbol more
       → after ≡ with_symbols notes (symbol ∷ []) → Leads after begin more all
   leads_on symbol more after is same = record {
-    answer = sym (ap (λ (t : Tested). t.answer) is) ∙ leads.answer;
+    verdict = sym (ap (λ (t : Tested). t.verdict) is) ∙ leads.verdict;
     end = sym (ap (λ (t : Tested). t.end) is) ∙ leads.end;
     symbols =
         ap (λ (n : Notes). with_symbols n more.symbols) same
@@ -94,9 +94,9 @@ module _ (notes begin : Notes) (all left : Tested) (leads : Leads notes begin le
         ∙ sym (ap (λ (t : Tested). with_symbols notes t.symbols) is) ∙ leads.symbols;
   }
 
-abbrev answer_or : Bool → Option Bool → Bool
-answer_or other None = other
-answer_or other (Some answer) = answer
+abbrev verdict_or : Bool → Option Bool → Bool
+verdict_or other None = other
+verdict_or other (Some verdict) = verdict
 
 -- a step from one name to what stands after it
 module _ (known : Known) (wants : Bool) (size : ℕ) (before : Option SoFar) (name : Lexeme) (here tokens : List Lexeme)
@@ -107,33 +107,33 @@ module _ (known : Known) (wants : Bool) (size : ℕ) (before : Option SoFar) (na
       let P : List Lexeme → Type 0 = λ ts. Leads notes begin (names_in (tested known wants) size before ts) all in
       subst P begins leads
 
-  pub bad_exit : (symbol : Option Symbol) → symbol_in name.sort name.text ≡ symbol → answer_of known wants symbol ≡ None
+  pub bad_exit : (symbol : Option Symbol) → symbol_in name.sort name.text ≡ symbol → verdict_of known wants symbol ≡ None
       → after ≡ with_symbols notes (option_to_list symbol) → IsTold after begin None size all
   bad_exit None is none same =
       told notes begin all _ moved None size after (bad_name (tested known wants) size before name tokens is) same
   bad_exit (Some symbol) is none same = absurd (cc)
 
-  pub last_exit : (symbol : Option Symbol) (answer : Bool) → symbol_in name.sort name.text ≡ symbol
-      → answer_of known wants symbol ≡ Some answer → after ≡ with_symbols notes (option_to_list symbol)
-      → joint_in tokens ≡ None → IsTold after begin (Some (joined_to before answer)) name.end all
-  last_exit None answer is some same none = absurd (cc)
-  last_exit (Some symbol) answer is some same none =
+  pub last_exit : (symbol : Option Symbol) (verdict : Bool) → symbol_in name.sort name.text ≡ symbol
+      → verdict_of known wants symbol ≡ Some verdict → after ≡ with_symbols notes (option_to_list symbol)
+      → joint_in tokens ≡ None → IsTold after begin (Some (joined_to before verdict)) name.end all
+  last_exit None verdict is some same none = absurd (cc)
+  last_exit (Some symbol) verdict is some same none =
       let P : Bool → Type 0 = λ a. IsTold after begin (Some (joined_to before a)) name.end all in
-      subst P (ap (λ (o : Option Bool). answer_or answer o) some)
+      subst P (ap (λ (o : Option Bool). verdict_or verdict o) some)
       (told_last notes begin all _ moved symbol (joined_to before (tested known wants symbol)) name.end after
       (last_name (tested known wants) size before name symbol is tokens none) same)
 
-  pub next_exit : (symbol : Option Symbol) (answer : Bool) (next : JointAt) → symbol_in name.sort name.text ≡ symbol
-      → answer_of known wants symbol ≡ Some answer → after ≡ with_symbols notes (option_to_list symbol)
-      → joint_in tokens ≡ Some next → (left : List Lexeme) → drop 1 tokens ≡ left → (holds : Bool) → holds ≡ joined_to before answer
+  pub next_exit : (symbol : Option Symbol) (verdict : Bool) (next : JointAt) → symbol_in name.sort name.text ≡ symbol
+      → verdict_of known wants symbol ≡ Some verdict → after ≡ with_symbols notes (option_to_list symbol)
+      → joint_in tokens ≡ Some next → (left : List Lexeme) → drop 1 tokens ≡ left → (holds : Bool) → holds ≡ joined_to before verdict
       → Leads after begin (names_in (tested known wants) size (Some (record { holds = holds; joint = next.joint })) left) all
-  next_exit None answer next is some same joint left rest holds joins = absurd (cc)
-  next_exit (Some symbol) answer next is some same joint left rest holds joins =
+  next_exit None verdict next is some same joint left rest holds joins = absurd (cc)
+  next_exit (Some symbol) verdict next is some same joint left rest holds joins =
       let P : Bool → Type 0 = λ a.
       Leads after begin (names_in (tested known wants) size (Some (record { holds = a; joint = next.joint })) left) all in
       let Q : List Lexeme → Type 0 = λ ts.
       Leads after begin (names_in (tested known wants) size
       (Some (record { holds = joined_to before (tested known wants symbol); joint = next.joint })) ts) all in
-      subst P (ap (λ (o : Option Bool). joined_to before (answer_or answer o)) some ∙ sym joins)
+      subst P (ap (λ (o : Option Bool). joined_to before (verdict_or verdict o)) some ∙ sym joins)
       (subst Q rest
       (leads_on notes begin all _ moved symbol _ after (next_name (tested known wants) size before name symbol is tokens next joint) same))

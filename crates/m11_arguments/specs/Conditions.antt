@@ -21,7 +21,7 @@ use Rattle.m11_statements.specs.Statements.{letter_if}
 use Rattle.m11_statements.specs.declared.actuals.Actual.{Actual}
 use Rattle.m11_statements.specs.declared.actuals.Separator.{Separator}
 use Rattle.m11_values.specs.declared.names.Symbol.{Symbol}
-use Rattle.m11_arguments.specs.declared.conditions.Answer.{Answer}
+use Rattle.m11_arguments.specs.declared.conditions.Verdict.{Verdict}
 use Rattle.m11_arguments.specs.declared.conditions.Finding.{Finding}
 use Rattle.m11_arguments.specs.Definedness.{Tested, is_as, names_at}
 use Rattle.m11_arguments.specs.Expressions.{Known, number_at, number_letters, symbols_at}
@@ -40,8 +40,8 @@ abbrev pub IsFound : Finding → Asked → Type 0
 IsFound finding asked =
     (finding.holds ≡ asked.holds) × (finding.end ≡ asked.end) × (bits_of finding.letters ≡ asked.letters)
 
-abbrev pub answer_of : Asked → Answer
-answer_of asked = record { holds = asked.holds; end = asked.end }
+abbrev pub verdict_of : Asked → Verdict
+verdict_of asked = record { holds = asked.holds; end = asked.end }
 
 abbrev pub notes_of : Asked → Notes
 notes_of asked = noting asked.letters asked.symbols
@@ -76,10 +76,10 @@ abbrev pub numeric : Known → Bytes → ℕ → Condition → Asked
 numeric known line place condition =
     if has_token (tokens_from line place) then compared known line place condition else refused place
 
--- DF NDF: the answer of names
+-- DF NDF: the verdict of names
 abbrev pub named : Bytes → ℕ → Option Bool → Tested → Asked
-named line place (Some answer) names =
-    record { holds = answer; end = names.end; letters = skip_letters line place names.end; symbols = names.symbols }
+named line place (Some verdict) names =
+    record { holds = verdict; end = names.end; letters = skip_letters line place names.end; symbols = names.symbols }
 named line place None names = record {
   holds = false;
   end = names.end;
@@ -88,7 +88,7 @@ named line place None names = record {
 }
 
 abbrev pub asked_names : Bytes → ℕ → Tested → Asked
-asked_names line place names = named line place names.answer names
+asked_names line place names = named line place names.verdict names
 
 abbrev pub defined : Known → Bytes → ℕ → Bool → Asked
 defined known line place wants_defined = asked_names line place (names_at known wants_defined line place)

@@ -26,23 +26,23 @@ is_defined meaning = bit_and meaning.letters letter_U == 0
 abbrev pub is_as : Bool → Bool → Bool
 is_as wanted found = if wanted then found else not found
 
--- the answer of one name, for DF or for NDF
+-- the verdict of one name, for DF or for NDF
 abbrev pub tested : Known → Bool → Symbol → Bool
 tested known wants_defined symbol = is_as wants_defined (is_defined (known.stands_for symbol))
 
-abbrev pub answer_of : Known → Bool → Option Symbol → Option Bool
-answer_of known wants_defined (Some symbol) = Some (tested known wants_defined symbol)
-answer_of known wants_defined None = None
+abbrev pub verdict_of : Known → Bool → Option Symbol → Option Bool
+verdict_of known wants_defined (Some symbol) = Some (tested known wants_defined symbol)
+verdict_of known wants_defined None = None
 
--- an answer joined to one before it
+-- a verdict joined to one before it
 abbrev pub both : Joint → Bool → Bool → Bool
-both joints.And so_far answer = so_far && answer
-both joints.Or so_far answer = so_far || answer
+both joints.And so_far verdict = so_far && verdict
+both joints.Or so_far verdict = so_far || verdict
 
--- an answer joined to what stands before it, if something does
+-- a verdict joined to what stands before it, if something does
 abbrev pub joined_to : Option SoFar → Bool → Bool
-joined_to None answer = answer
-joined_to (Some so_far) answer = both so_far.joint so_far.holds answer
+joined_to None verdict = verdict
+joined_to (Some so_far) verdict = both so_far.joint so_far.holds verdict
 
 -- how a token joins the names before and after it, if it does
 abbrev pub joining : Sort → Option Joint
@@ -59,20 +59,20 @@ abbrev pub joint_in : List Lexeme → Option JointAt
 joint_in [] = None
 joint_in (mark ∷ tokens) = joint_at mark.end (joining mark.sort)
 
--- what names tell: their answer, the place after them, the symbols that were read; at a bad one there is no answer
+-- what names tell: their verdict, the place after them, the symbols that were read; at a bad one there is no verdict
 pub record Tested : Type 0 where
-  pub answer : Option Bool
+  pub verdict : Option Bool
   pub end : ℕ
   pub symbols : List Symbol
 
 abbrev pub at_bad : ℕ → Tested
-at_bad size = record { answer = None; end = size; symbols = [] }
+at_bad size = record { verdict = None; end = size; symbols = [] }
 
 abbrev pub at_last : Bool → ℕ → Tested
-at_last answer end = record { answer = Some answer; end = end; symbols = [] }
+at_last verdict end = record { verdict = Some verdict; end = end; symbols = [] }
 
 abbrev pub symbol_first : Symbol → Tested → Tested
-symbol_first symbol more = record { answer = more.answer; end = more.end; symbols = symbol ∷ more.symbols }
+symbol_first symbol more = record { verdict = more.verdict; end = more.end; symbols = symbol ∷ more.symbols }
 
 -- a name, and what stands after it; no name
 abbrev pub after_symbol : ℕ → Option Symbol → (Symbol → Tested) → Tested
@@ -81,8 +81,8 @@ after_symbol size (Some symbol) more = symbol_first symbol (more symbol)
 
 -- a further name, or none
 abbrev pub after_joint : Bool → ℕ → Option Joint → (Option SoFar → Tested) → Tested
-after_joint answer end None more = at_last answer end
-after_joint answer end (Some joint) more = more (Some (record { holds = answer; joint = joint }))
+after_joint verdict end None more = at_last verdict end
+after_joint verdict end (Some joint) more = more (Some (record { holds = verdict; joint = joint }))
 
 -- names joined by `&` and `!` from left to right, at some tokens of a line of a size
 abbrev pub names_in : (Symbol → Bool) → ℕ → Option SoFar → List Lexeme → Tested

@@ -96,26 +96,26 @@ pub record MacroNamed : Type 0 where
   pub formals : List MacroFormal
 
 -- what a `.MACRO` tells; without a name nothing is defined
-pub record Told : Type 0 where
+pub record MacroHeader : Type 0 where
   pub named : Option MacroNamed
   pub letters : ℕ
 
-abbrev pub without_name : Bytes → ℕ → Told
+abbrev pub without_name : Bytes → ℕ → MacroHeader
 without_name line place = record { named = None; letters = bit_or letter_A (rest_letters line place) }
 
-abbrev pub with_name : Bytes → ℕ → Name → FormalList → Told
+abbrev pub with_name : Bytes → ℕ → Name → FormalList → MacroHeader
 with_name line place name formals = record {
   named = Some (record { name = name; formals = formals.list });
   letters = bit_or (letters_before line place) formals.letters;
 }
 
-abbrev pub told_by : Bytes → ℕ → Option NameAt → Told
-told_by line place None = without_name line place
-told_by line place (Some name) = with_name line place name.name (formals_after line name.end)
+abbrev pub header_by : Bytes → ℕ → Option NameAt → MacroHeader
+header_by line place None = without_name line place
+header_by line place (Some name) = with_name line place name.name (formals_after line name.end)
 
 -- the header that stands at a place of a line
-abbrev pub header : Bytes → ℕ → Told
-header line place = told_by line place (name_at (tokens_from line place))
+abbrev pub header : Bytes → ℕ → MacroHeader
+header line place = header_by line place (name_at (tokens_from line place))
 
 -- the header that the code holds
 abbrev pub named_seen : Header → MacroNamed

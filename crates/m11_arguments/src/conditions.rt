@@ -5,7 +5,7 @@ ghost use Rattle.m11_scan.specs.Cutting.{tokens_from};
 ghost use Rattle.m11_scan.specs.Views.{bits_of, lexeme};
 ghost use Rattle.m11_statements.specs.Actuals.{separator_at};
 ghost use Rattle.m11_arguments.specs.Conditions as spec;
-ghost use Rattle.m11_arguments.specs.Conditions.{IsFound, answer_of, notes_of};
+ghost use Rattle.m11_arguments.specs.Conditions.{IsFound, verdict_of, notes_of};
 ghost use Rattle.m11_arguments.specs.Expressions.{known_by};
 ghost use Rattle.m11_arguments.specs.Notes.{joined, with_symbols};
 
@@ -20,7 +20,7 @@ use std::alloc::AllocError;
 
 /// What a condition tells.
 #[derive(Clone, Copy, PartialEq, Eq, Debug)]
-pub struct Answer {
+pub struct Verdict {
     /// Whether it holds.
     pub holds: bool,
     /// The place after it. What stands from there on isn't the condition's.
@@ -42,18 +42,18 @@ pub fn condition<N: Names>(
     place: usize,
     names: &N,
     notes: &mut Notes,
-) -> Result<Answer, AllocError>
+) -> Result<Verdict, AllocError>
     requires { place ≤ length line.now.text }
-    ensures answer { IfOk result (λ answer. answer ≡ answer_of
+    ensures verdict { IfOk result (λ verdict. verdict ≡ verdict_of
         (spec.condition (known_by (N.base names.now) (N.stands_for names.now)) line.now.text place)) }
     ensures notes { IfOk result (λ _. notes.new ≡ joined notes.old (notes_of
         (spec.condition (known_by (N.base names.now) (N.stands_for names.now)) line.now.text place))) }
-    ensures most { IfOk result (λ answer. answer.end ≤ length line.now.text) }
+    ensures most { IfOk result (λ verdict. verdict.end ≤ length line.now.text) }
 {
     let before = letters_before(line, place);
     let finding = named_by(line, place, names, notes)?;
     notes.add_letters(before.with(finding.letters));
-    Ok(Answer {
+    Ok(Verdict {
         holds: finding.holds,
         end: finding.end,
     })
@@ -212,9 +212,9 @@ fn defined<N: Names>(
 {
     let tested = names_at(line, place, wants_defined, names, notes)?;
     let skipped = skip_letters(line, place, usize::from(tested.end));
-    match tested.answer {
-        Some(answer) => Ok(Finding {
-            holds: answer,
+    match tested.verdict {
+        Some(verdict) => Ok(Finding {
+            holds: verdict,
             end: tested.end,
             letters: skipped,
         }),

@@ -23,7 +23,7 @@ pub enum Joint {
     Or,
 }
 
-// The answer of some names, and how the next one is joined to it.
+// The verdict of some names, and how the next one is joined to it.
 #[derive(Clone, Copy, PartialEq, Eq, Debug)]
 pub struct SoFar {
     pub(crate) holds: bool,
@@ -40,8 +40,8 @@ pub struct JointAt {
 // What names tell.
 #[derive(Clone, Copy, PartialEq, Eq, Debug)]
 pub(crate) struct NamesAsked {
-    // Their answer, unless one of them is bad or missing.
-    pub answer: Option<bool>,
+    // Their verdict, unless one of them is bad or missing.
+    pub verdict: Option<bool>,
     // The place after them, or the line's end after a bad one.
     pub end: u8,
 }
@@ -55,8 +55,8 @@ pub(crate) fn names_at<N: Names>(
     notes: &mut Notes,
 ) -> Result<NamesAsked, AllocError>
     requires { place ≤ length line.now.text }
-    ensures answer { IfOk result (λ tested. tested.answer ≡ (spec.names_at
-        (known_by (N.base names.now) (N.stands_for names.now)) wants_defined line.now.text place).answer) }
+    ensures verdict { IfOk result (λ tested. tested.verdict ≡ (spec.names_at
+        (known_by (N.base names.now) (N.stands_for names.now)) wants_defined line.now.text place).verdict) }
     ensures end { IfOk result (λ tested. tested.end ≡ (spec.names_at
         (known_by (N.base names.now) (N.stands_for names.now)) wants_defined line.now.text place).end) }
     ensures least { IfOk result (λ tested. place ≤ tested.end) }
@@ -67,18 +67,18 @@ pub(crate) fn names_at<N: Names>(
     let mut before = None;
     let mut begin = place;
     'names: while let Some(name) = next_token(line, begin) {
-        let Some(answer) = name_answer(line, name, wants_defined, names, notes)? else {
+        let Some(verdict) = name_verdict(line, name, wants_defined, names, notes)? else {
             return Ok(at_bad(line));
         };
-        let answer = joined_to(before, answer);
+        let verdict = joined_to(before, verdict);
         let Some(next) = joint_after(line, name) else {
             return Ok(NamesAsked {
-                answer: Some(answer),
+                verdict: Some(verdict),
                 end: name.end,
             });
         };
         before = Some(SoFar {
-            holds: answer,
+            holds: verdict,
             joint: next.joint,
         });
         begin = usize::from(next.end);
@@ -86,34 +86,34 @@ pub(crate) fn names_at<N: Names>(
     Ok(at_bad(line))
 }
 
-// The answer of the name that a token is, if it is one. Its symbol is noted.
-fn name_answer<N: Names>(
+// The verdict of the name that a token is, if it is one. Its symbol is noted.
+fn name_verdict<N: Names>(
     line: &Line,
     token: Token,
     wants_defined: bool,
     names: &N,
     notes: &mut Notes,
 ) -> Result<Option<bool>, AllocError>
-    ensures answer { IfOk result (λ answer. answer ≡ spec.answer_of
+    ensures verdict { IfOk result (λ verdict. verdict ≡ spec.verdict_of
         (known_by (N.base names.now) (N.stands_for names.now)) wants_defined
         (symbol_in token.sort (text_between line.now.text token.start token.end))) }
     ensures notes { IfOk result (λ _. notes.new ≡ with_symbols notes.old
         (option_to_list (symbol_in token.sort (text_between line.now.text token.start token.end)))) }
 {
     match symbol_of(line, token) {
-        Some(symbol) => Ok(Some(symbol_answer(&symbol, wants_defined, names, notes)?)),
+        Some(symbol) => Ok(Some(symbol_verdict(&symbol, wants_defined, names, notes)?)),
         None => Ok(None),
     }
 }
 
-// The answer of a symbol, which is noted.
-fn symbol_answer<N: Names>(
+// The verdict of a symbol, which is noted.
+fn symbol_verdict<N: Names>(
     symbol: &Symbol,
     wants_defined: bool,
     names: &N,
     notes: &mut Notes,
 ) -> Result<bool, AllocError>
-    ensures answer { IfOk result (λ answer. answer
+    ensures verdict { IfOk result (λ verdict. verdict
         ≡ spec.tested (known_by (N.base names.now) (N.stands_for names.now)) wants_defined symbol.now) }
     ensures notes { IfOk result (λ _. notes.new ≡ with_symbols notes.old (symbol.now ∷ [])) }
 {
@@ -122,11 +122,11 @@ fn symbol_answer<N: Names>(
 }
 
 fn at_bad(line: &Line) -> NamesAsked
-    ensures answer { result.answer ≡ None }
+    ensures verdict { result.verdict ≡ None }
     ensures end { result.end ≡ length line.now.text }
 {
     NamesAsked {
-        answer: None,
+        verdict: None,
         end: line.text().len() as u8,
     }
 }
@@ -142,7 +142,7 @@ fn symbol_of(line: &Line, token: Token) -> Option<Symbol>
     }
 }
 
-// The answer of one name.
+// The verdict of one name.
 fn tested<N: Names>(names: &N, symbol: Symbol, wants_defined: bool) -> bool
     ensures { result ≡ spec.tested (known_by (N.base names.now) (N.stands_for names.now)) wants_defined symbol }
 {
@@ -162,22 +162,22 @@ fn is_defined(meaning: Value) -> bool
     meaning.letters.bits() & Letters::U.bits() == 0
 }
 
-// An answer joined to what stands before it, if something does.
-fn joined_to(before: Option<SoFar>, answer: bool) -> bool
-    ensures { result ≡ spec.joined_to before answer }
+// A verdict joined to what stands before it, if something does.
+fn joined_to(before: Option<SoFar>, verdict: bool) -> bool
+    ensures { result ≡ spec.joined_to before verdict }
 {
     match before {
-        Some(so_far) => both(so_far.joint, so_far.holds, answer),
-        None => answer,
+        Some(so_far) => both(so_far.joint, so_far.holds, verdict),
+        None => verdict,
     }
 }
 
-fn both(joint: Joint, so_far: bool, answer: bool) -> bool
-    ensures { result ≡ spec.both joint so_far answer }
+fn both(joint: Joint, so_far: bool, verdict: bool) -> bool
+    ensures { result ≡ spec.both joint so_far verdict }
 {
     match joint {
-        Joint::And => so_far && answer,
-        Joint::Or => so_far || answer,
+        Joint::And => so_far && verdict,
+        Joint::Or => so_far || verdict,
     }
 }
 

@@ -39,12 +39,12 @@ pub fn immediate_condition<N: Names>(
         (spec.notes (known_by (N.base names.now) (N.stands_for names.now)) line.now.text place)) }
     ensures within { IfOk result (λ immediate. IfSome immediate.statement (λ begin. begin ≤ length line.now.text)) }
 {
-    let answer = condition(line, place, names, notes)?;
-    let end = usize::from(answer.end);
+    let verdict = condition(line, place, names, notes)?;
+    let end = usize::from(verdict.end);
     let statement = after_comma(line, end);
     notes.add_letters(comma_letters(line, end, statement));
     Ok(Immediate {
-        holds: answer.holds,
+        holds: verdict.holds,
         statement,
     })
 }

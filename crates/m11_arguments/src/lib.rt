@@ -18,7 +18,7 @@ mod notes;
 mod repeats;
 
 pub use actuals::actuals_from;
-pub use conditions::{Answer, actual_letters, condition};
+pub use conditions::{Verdict, actual_letters, condition};
 pub use directives::{Directive, directive_named, directive_of, operator};
 pub use expressions::{note_symbols, value_at};
 pub use filling::{FIRST_CREATED, Filled, fill};

@@ -1,7 +1,7 @@
 -- What a first pass keeps of a source tells the same as the source's lines.
 use Rattle.std.proofs.Common.{◌≡◌, ◌≤◌, length, List, ap, arith}
 use Rattle.m11_base.specs.Rad50.{Name}
-use Rattle.m11_directory.specs.FirstPass.{Told}
+use Rattle.m11_directory.specs.FirstPass.{DirectoryFacts}
 use Rattle.m11_directory.specs.Laws as directory
 use Rattle.m11_directory.specs.Names.{has_name}
 use Rattle.m11_directory.specs.Rows.{directory_rows}
@@ -12,24 +12,24 @@ use Rattle.m11_maps.proofs.MapsAlike.{maps_same}
 use Rattle.m11_passes.specs.Lines.{Numbered, givens}
 use Rattle.m11_placement.specs.Limits.{most_sections}
 use Rattle.m11_placing.specs.Mentioned.{Gathered}
-use Rattle.m11_second.specs.Program.{all_names, mentioned_in, program_in, program_kept, program_of, told_in, told_of}
+use Rattle.m11_second.specs.Program.{all_names, mentioned_in, program_in, program_kept, program_of, directory_facts_in, directory_facts_of}
 use Rattle.m11_symbols.specs.Sections.{section_entries}
 use Rattle.m11_symbols.specs.Symbols.{symbol_entries}
 use Rattle.m11_asm.proofs.ProgramsAlike.{AlikePrograms}
 
 -- the laws of first passes that tell the same: they have the same rows, names and sections
 pub record TellAlike : Type 0 where
-  pub rows : (one other : Told) → directory.TellTheSame one other → directory_rows one ≡ directory_rows other
-  pub symbols : (one other : Told) (names others : List Name) → directory.TellTheSame one other → directory.HaveTheSame names others
+  pub rows : (one other : DirectoryFacts) → directory.TellTheSame one other → directory_rows one ≡ directory_rows other
+  pub symbols : (one other : DirectoryFacts) (names others : List Name) → directory.TellTheSame one other → directory.HaveTheSame names others
       → symbol_entries one names ≡ symbol_entries other others
-  pub sections : (one other : Told) → directory.TellTheSame one other → section_entries one ≡ section_entries other
+  pub sections : (one other : DirectoryFacts) → directory.TellTheSame one other → section_entries one ≡ section_entries other
 
 module _ (source : List SourceLine) (lines : List Numbered) (first : FirstState) (taken : Taken source lines first.going first.facts)
     (few : length first.going.kept.table.sections ≤ most_sections) (laws : TellAlike) where
   referred_same : first.going.gathered ≡ mentioned_in (givens lines)
   referred_same = taken.stands.gathered
 
-  told_same : directory.TellTheSame (told_in first.going.kept first.going.gathered first.facts) (told_of (givens lines))
+  told_same : directory.TellTheSame (directory_facts_in first.going.kept first.going.gathered first.facts) (directory_facts_of (givens lines))
   told_same = record {
     tables = taken.stands.matches.alike;
     sizes = λ number within. taken.stands.matches.sizes number (omega (arith, within, few));

@@ -9,7 +9,7 @@ use Rattle.m11_placement.specs.declared.sections.Section.{Section}
 use Rattle.m11_placement.specs.Tables.{Table}
 use Rattle.m11_values.specs.Quantities.{Quantity}
 use Rattle.m11_asm_laws.specs.Linked.{linked_bytes}
-use Rattle.m11_asm_laws.specs.Targets.{AreWords, LiesAt, address_of, told}
+use Rattle.m11_asm_laws.specs.Targets.{AreWords, LiesAt, address_of, stored_address}
 use Rattle.m11_asm_laws.proofs.Rows.{displaced_global_row, displaced_section_row, global_row, section_row}
 
 -- two places of one section lie as far from each other as before
@@ -28,7 +28,7 @@ module _ (found : Findings) (index own location place number : ℕ) (words : Are
     (known : number < 65536) (lies : location ≡ modulo (own + place)) where
   pub tells : (origin : Origin) (is_relative moves : Bool) → (moves ≡ false → own ≡ 0)
       → linked_bytes found index own location (Word (stored_as is_relative (relocation_by is_relative moves (row_of origin)) place number))
-      ≡ word_bytes (told is_relative location (address_of found index own origin number))
+      ≡ word_bytes (stored_address is_relative location (address_of found index own origin number))
   tells Here false moves absolute = refl
   tells Here true true absolute = ap word_bytes (same_distance own place number location within known lies)
   tells Here true false absolute = ap word_bytes (same_distance own place number location within known lies)
@@ -45,7 +45,7 @@ module _ (found : Findings) (index own location place number : ℕ) (words : Are
 pub values_told : (found : Findings) (index own location place : ℕ) (whole : List Section) (table : Table) (is_relative : Bool)
     (value : Quantity) → AreWords found → LiesAt table own place location → value.number < 65536
     → linked_bytes found index own location (Word (stored whole table is_relative place value))
-    ≡ word_bytes (told is_relative location (address_of found index own (origin_of whole table value.kind) value.number))
+    ≡ word_bytes (stored_address is_relative location (address_of found index own (origin_of whole table value.kind) value.number))
 values_told found index own location place whole table is_relative value words lies known =
     tells found index own location place value.number words lies.within known lies.moved (origin_of whole table value.kind)
     is_relative (is_moved table) lies.absolute

@@ -14,9 +14,9 @@ address_of found module_index own (InSection name) number = modulo (found.base m
 address_of found module_index own (InObject name) number = modulo (symbol found name + number)
 
 -- a relative operand tells how far the address is from the place after it
-abbrev pub told : Bool → ℕ → ℕ → ℕ
-told true location address = less address (following location)
-told false location address = address
+abbrev pub stored_address : Bool → ℕ → ℕ → ℕ
+stored_address true location address = less address (following location)
+stored_address false location address = address
 
 -- bases and the values of globals are words
 pub record AreWords (found : Findings) : Type 0 where

@@ -12,7 +12,7 @@ ghost use Rattle.m11_placement.specs.declared.sections.Section.{Section};
 ghost use Rattle.m11_placement.specs.Tables.{Table};
 ghost use Rattle.m11_values.specs.Quantities.{Quantity};
 ghost use Rattle.m11_asm_laws.specs.Linked.{linked_byte, linked_bytes, linked_word};
-ghost use Rattle.m11_asm_laws.specs.Targets.{AreWords, LiesAt, address_of, told};
+ghost use Rattle.m11_asm_laws.specs.Targets.{AreWords, LiesAt, address_of, stored_address};
 
 /// A fixed value stands as it is, and of a byte its low byte.
 pub fn fixed_values_stay()
@@ -75,5 +75,5 @@ pub fn linked_values_tell_where_their_targets_lie()
     ensures { (found : Findings) (index own location place : ℕ) (whole : List Section) (table : Table)
         (is_relative : Bool) (value : Quantity) → AreWords found → LiesAt table own place location → value.number < 65536
         → linked_bytes found index own location (Word (stored whole table is_relative place value))
-        ≡ word_bytes (told is_relative location (address_of found index own (origin_of whole table value.kind) value.number)) }
+        ≡ word_bytes (stored_address is_relative location (address_of found index own (origin_of whole table value.kind) value.number)) }
 {}

@@ -76,16 +76,16 @@ failure_of count calls bytes none =
 
 -- a call that the fuse passes on
 module _ (count inner : ℕ) (unfailed : inner ≢ last_count) where
-  unknown_gives : (new : Option Text) (answer : Result (Option ℕ) DeviceFault) → Gives None new count answer
+  unknown_gives : (new : Option Text) (result : Result (Option ℕ) DeviceFault) → Gives None new count result
   unknown_gives new (Ok None) = tt
   unknown_gives new (Ok (Some byte)) = tt
   unknown_gives new (Err e) = tt
 
   known_through : (calls : ℕ) (bytes : List ℕ) (ending : Ending) (new : Option Text)
-      (answer : Result (Option ℕ) DeviceFault)
-      → Gives (Some (text bytes ending)) new inner answer
-      → Gives (text_through_fuse (suc calls) (Some (text bytes ending))) (text_through_fuse calls new) count answer
-  known_through calls bytes MayFail new answer h = unknown_gives (text_through_fuse calls new) answer
+      (result : Result (Option ℕ) DeviceFault)
+      → Gives (Some (text bytes ending)) new inner result
+      → Gives (text_through_fuse (suc calls) (Some (text bytes ending))) (text_through_fuse calls new) count result
+  known_through calls bytes MayFail new result h = unknown_gives (text_through_fuse calls new) result
   known_through calls bytes Ends new (Ok None) h = rw h.1 (end_of calls bytes Fails MayFail MayFail≢Fails h.0.0)
   known_through calls bytes Ends new (Ok (Some byte)) h = rw h.2 (byte_of calls byte bytes h.0 Fails MayFail h.1)
   known_through calls bytes Ends new (Err e) h = elim h.0 [ inl bad ↦ absurd bad | inr last ↦ absurd (unfailed last) ]
@@ -94,17 +94,17 @@ module _ (count inner : ℕ) (unfailed : inner ≢ last_count) where
   known_through calls bytes Fails new (Err e) h =
       elim h.0 [ inl none ↦ rw h.1 (failure_of count calls bytes none) | inr last ↦ absurd (unfailed last) ]
 
-  gives_through : (calls : ℕ) (old new : Option Text) (answer : Result (Option ℕ) DeviceFault)
-      → Gives old new inner answer
-      → Gives (text_through_fuse (suc calls) old) (text_through_fuse calls new) count answer
-  gives_through calls None new answer h = unknown_gives (text_through_fuse calls new) answer
-  gives_through calls (Some t) new answer h = known_through calls t.bytes t.ending new answer h
+  gives_through : (calls : ℕ) (old new : Option Text) (result : Result (Option ℕ) DeviceFault)
+      → Gives old new inner result
+      → Gives (text_through_fuse (suc calls) old) (text_through_fuse calls new) count result
+  gives_through calls None new result h = unknown_gives (text_through_fuse calls new) result
+  gives_through calls (Some t) new result h = known_through calls t.bytes t.ending new result h
 
-  pub gives_through_fuse : (calls : ℕ) (old new : Option Text) (answer : Result (Option ℕ) DeviceFault)
-      → 0 < calls → Gives old new inner answer
-      → Gives (text_through_fuse calls old) (text_through_fuse (calls - 1) new) count answer
-  gives_through_fuse zero old new answer some h = absurd (omega arith)
-  gives_through_fuse (suc calls) old new answer some h = rw sub-one (gives_through calls old new answer h)
+  pub gives_through_fuse : (calls : ℕ) (old new : Option Text) (result : Result (Option ℕ) DeviceFault)
+      → 0 < calls → Gives old new inner result
+      → Gives (text_through_fuse calls old) (text_through_fuse (calls - 1) new) count result
+  gives_through_fuse zero old new result some h = absurd (omega arith)
+  gives_through_fuse (suc calls) old new result some h = rw sub-one (gives_through calls old new result h)
 
 -- ---- bytes that are ready
 

@@ -55,13 +55,13 @@ GivesFailure (Some t) new count =
 
 -- one call of a feed: what its text was, what it is, what was returned
 abbrev pub Gives : {E : Type 0} → Option Text → Option Text → ℕ → Result (Option ℕ) E → Type 0
-Gives old new count answer = MatchResult answer
+Gives old new count result = MatchResult result
     (λ byte. MatchOption byte (GivesEnd old new) (GivesByte old new))
     (λ _. GivesFailure old new count)
 
 -- one byte of a reader is read, or its end is found, or it fails and keeps what it holds
 abbrev pub ReadsByte : {E : Type 0} → Option Bytes → Option Bytes → Result (Option ℕ) E → Type 0
-ReadsByte old new answer = MatchResult answer
+ReadsByte old new result = MatchResult result
     (λ byte. MatchOption byte (Consumes old new [] × OnSome old (IsAtEnd new)) (λ b. Consumes old new (b ∷ [])))
     (λ _. Keeps old new)
 

@@ -10,9 +10,9 @@ pub record FusedFeed (F : Type 0) : Type 0 where
   pub faults : ℕ
 
 -- what a call of a feed returned, by what its text and its count of failures were and are
-abbrev pub Answers : {E : Type 0} → Option Text → Option Text → ℕ → ℕ → Result (Option ℕ) E → Type 0
-Answers old new old_count new_count answer = Gives old new old_count answer
-    × MatchResult answer (λ _. new_count ≡ old_count) (λ _. Rises old_count new_count)
+abbrev pub GivesAndCounts : {E : Type 0} → Option Text → Option Text → ℕ → ℕ → Result (Option ℕ) E → Type 0
+GivesAndCounts old new old_count new_count result = Gives old new old_count result
+    × MatchResult result (λ _. new_count ≡ old_count) (λ _. Rises old_count new_count)
 
 -- the sink, how many calls it is still to be passed, with how many bytes each at most, and how
 -- often a call of the fuse failed, or took none of the bytes that were there

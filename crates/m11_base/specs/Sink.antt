@@ -6,8 +6,8 @@ use Rattle.m11_base.specs.Devices.{Bytes, Rises}
 
 -- one call of a sink: it added as many bytes, from the front, as it returned, and none at an error
 abbrev pub Takes : {E : Type 0} → Option Bytes → Option Bytes → Result ℕ E → Bytes → Type 0
-Takes old new answer bytes =
-    MatchResult answer (λ n. Appends old new (take n bytes)) (λ _. Appends old new [])
+Takes old new result bytes =
+    MatchResult result (λ n. Appends old new (take n bytes)) (λ _. Appends old new [])
 
 -- a count of failures: it rises where the call failed or took none of the bytes that were there
 abbrev pub CountsAt : ℕ → ℕ → ℕ → ℕ → Type 0
@@ -16,8 +16,8 @@ CountsAt old new zero (suc n) = Rises old new
 CountsAt old new (suc n) m = new ≡ old
 
 abbrev pub Counts : {E : Type 0} → ℕ → ℕ → Result ℕ E → Bytes → Type 0
-Counts old new answer bytes =
-    MatchResult answer (λ n. CountsAt old new n (length bytes)) (λ _. Rises old new)
+Counts old new result bytes =
+    MatchResult result (λ n. CountsAt old new n (length bytes)) (λ _. Rises old new)
 
 -- a known text grew by a beginning of the bytes, perhaps by none or by all of them
 abbrev pub AppendsBeginning : Option Bytes → Option Bytes → Bytes → Type 0

@@ -3,7 +3,7 @@
 ghost use Rattle.std.specs.Prelude.{◌≡◌, ◌≢◌, ◌≤◌, ◌<◌, ◌+◌, ◌-◌, length, take, MatchResult, MatchOption, IfOk, IsErr};
 ghost use Rattle.m11_base.specs.Devices.{Rises, last_count};
 ghost use Rattle.m11_base.specs.Feed.{Gives, GivesBytes, ready_within, text_through_fuse};
-ghost use Rattle.m11_base.specs.Fuse.{Answers};
+ghost use Rattle.m11_base.specs.Fuse.{GivesAndCounts};
 ghost use Rattle.m11_base.specs.Sink.{Takes, Counts};
 
 use crate::fault::DeviceFault;
@@ -71,7 +71,7 @@ impl<F: Feed> Feed for FuseFeed<F> {
         ensures blows { self.old.calls ≡ 0 → IsErr result }
         // while calls are left, the result is the feed's own
         ensures passes { 0 < self.old.calls → self.old.faults ≢ last_count
-            → Answers (F.text self.old.feed) (F.text self.new.feed) (F.faults self.old.feed)
+            → GivesAndCounts (F.text self.old.feed) (F.text self.new.feed) (F.faults self.old.feed)
             (F.faults self.new.feed) result }
     {
         if self.faults == u64::MAX {
@@ -82,11 +82,11 @@ impl<F: Feed> Feed for FuseFeed<F> {
             return Err(DeviceFault);
         }
         self.calls -= 1;
-        let answer = self.feed.next();
-        if answer.is_err() {
+        let returned = self.feed.next();
+        if returned.is_err() {
             self.faults += 1;
         }
-        answer
+        returned
     }
 
     fn ready(&self) -> &[u8] {
@@ -180,10 +180,10 @@ impl<S: Sink> Sink for FuseSink<S> {
         }
         self.calls -= 1;
         let front = &bytes[..bytes.len().min(self.most)];
-        let answer = self.sink.put(front);
-        if answer.is_err() || (matches!(answer, Ok(0)) && !bytes.is_empty()) {
+        let returned = self.sink.put(front);
+        if returned.is_err() || (matches!(returned, Ok(0)) && !bytes.is_empty()) {
             self.faults += 1;
         }
-        answer
+        returned
     }
 }

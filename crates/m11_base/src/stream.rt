@@ -118,11 +118,11 @@ impl<W: Write> Sink for WriterSink<W> {
         if self.faults == u64::MAX {
             return Err(DeviceFault);
         }
-        let answer = write_some(&mut self.writer, bytes);
-        if answer.is_err() || (matches!(answer, Ok(0)) && !bytes.is_empty()) {
+        let returned = write_some(&mut self.writer, bytes);
+        if returned.is_err() || (matches!(returned, Ok(0)) && !bytes.is_empty()) {
             self.faults += 1;
         }
-        answer
+        returned
     }
 }
 

@@ -88,8 +88,8 @@ module _ (a b : Place) where
             (then_stops count after_count c d e n counted why (first_stops word (after_address n) d e why s)))
 
         module _ (address : ℕ) (placed : Reads {Fault = TapeFault} word d e address) (f : Place) where
-          part_after : (answer : Result TapePart TapeFault) → ReadsPart (λ part. part) (part_of n address) e f answer
-              → ReadsPart (λ part. part) first_part a f answer
+          part_after : (result : Result TapePart TapeFault) → ReadsPart (λ part. part) (part_of n address) e f result
+              → ReadsPart (λ part. part) first_part a f result
           unfolding first_part
           part_after (Ok part) r = then_reads start after_start a b f tt started part
               (then_reads second after_second b c f tt begun part
@@ -100,9 +100,9 @@ module _ (a b : Place) where
               (then_stops count after_count c d f n counted (why_of fault)
               (then_stops word (after_address n) d e f address placed (why_of fault) s)))
 
-          pub part_transfer : n ≡ 0 → (answer : Result TapePart TapeFault)
-              → ReadsPart (λ part. part) (transfer address) e f answer → ReadsPart (λ part. part) first_part a f answer
-          part_transfer none answer r = part_after answer (rw none r)
+          pub part_transfer : n ≡ 0 → (result : Result TapePart TapeFault)
+              → ReadsPart (λ part. part) (transfer address) e f result → ReadsPart (λ part. part) first_part a f result
+          part_transfer none result r = part_after result (rw none r)
 
         pub part_data : n ≢ 0 → (address : ℕ) → Reads {Fault = TapeFault} word d e address → Reads first_part a e (Data address n)
         part_data some address placed = part_after address placed e (Ok (Data address n))
@@ -118,8 +118,8 @@ module _ (total : ℕ) (a b : Place) where
   unfolding next_part
   next_sum_stops why s = first_stops (summed total) after_sum a b why s
 
-  pub next_read : Reads (summed total) a b tt → (c : Place) (answer : Result TapePart TapeFault)
-      → ReadsPart (λ part. part) first_part b c answer → ReadsPart (λ part. part) (next_part total) a c answer
+  pub next_read : Reads (summed total) a b tt → (c : Place) (result : Result TapePart TapeFault)
+      → ReadsPart (λ part. part) first_part b c result → ReadsPart (λ part. part) (next_part total) a c result
   unfolding next_part
   next_read summed_up c (Ok part) r = then_reads (summed total) after_sum a b c tt summed_up part r
   next_read summed_up c (Err fault) s = then_stops (summed total) after_sum a b c tt summed_up (why_of fault) s

@@ -176,20 +176,20 @@ ReadsPart view read old new (Err e) = Stops read old new (why_of e)
 
 -- what the next part is, and where the reader stands then
 abbrev pub ReadsNext : TapeStage → Place → Place → TapeStage → Result TapePart TapeFault → Type 0
-ReadsNext BeforeBlock old new after answer =
-    ReadsPart (λ part. part) first_part old new answer × (after ≡ stage_after answer)
-ReadsNext (InBlock left total) old new after answer =
-    ReadsPart (λ part. part) (next_part total) old new answer × (after ≡ stage_after answer)
-ReadsNext (AtEnd address) old new after answer = answer ≡ Ok (Start address)
-ReadsNext AfterFault old new after answer = answer ≡ Err fault.Failed
+ReadsNext BeforeBlock old new after result =
+    ReadsPart (λ part. part) first_part old new result × (after ≡ stage_after result)
+ReadsNext (InBlock left total) old new after result =
+    ReadsPart (λ part. part) (next_part total) old new result × (after ≡ stage_after result)
+ReadsNext (AtEnd address) old new after result = result ≡ Ok (Start address)
+ReadsNext AfterFault old new after result = result ≡ Err fault.Failed
 
 -- what the next byte of the open block is, and where the reader stands then
 abbrev pub ReadsByte : TapeStage → Place → Place → TapeStage → Result ℕ TapeFault → Type 0
-ReadsByte BeforeBlock old new after answer = ⊤
-ReadsByte (InBlock left total) old new after answer =
-    ReadsPart (λ byte. byte) data_byte old new answer × (after ≡ stage_within left total answer)
-ReadsByte (AtEnd address) old new after answer = ⊤
-ReadsByte AfterFault old new after answer = answer ≡ Err fault.Failed
+ReadsByte BeforeBlock old new after result = ⊤
+ReadsByte (InBlock left total) old new after result =
+    ReadsPart (λ byte. byte) data_byte old new result × (after ≡ stage_within left total result)
+ReadsByte (AtEnd address) old new after result = ⊤
+ReadsByte AfterFault old new after result = result ≡ Err fault.Failed
 
 -- ---- how a fault is reported
 

@@ -191,8 +191,8 @@ impl BlockReader {
         if self.has_failed {
             return Err(BlockFault::Failed);
         }
-        let answer = read_block(feed, &mut self.room, block);
-        self.has_failed = answer.is_err();
-        answer
+        let returned = read_block(feed, &mut self.room, block);
+        self.has_failed = returned.is_err();
+        returned
     }
 }

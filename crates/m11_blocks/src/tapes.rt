@@ -170,11 +170,11 @@ fn read_byte<F: Feed>(feed: &mut F, room: &mut u32) -> Result<u8, TapeFault>
 }
 
 // Where a reader stands after a byte, before which n were left.
-fn stage_within(left: u16, total: u8, answer: &Result<u8, TapeFault>) -> TapeStage
+fn stage_within(left: u16, total: u8, returned: &Result<u8, TapeFault>) -> TapeStage
     requires { 0 < left }
-    ensures { result ≡ stage_within left total answer.now }
+    ensures { result ≡ stage_within left total returned.now }
 {
-    match answer {
+    match returned {
         Ok(byte) => TapeStage::InBlock {
             left: left - 1,
             total: total.wrapping_add(*byte),
@@ -184,11 +184,11 @@ fn stage_within(left: u16, total: u8, answer: &Result<u8, TapeFault>) -> TapeSta
 }
 
 // Where a reader stands after a result.
-fn stage_after(answer: &Result<TapePart, TapeFault>) -> TapeStage
-    requires { IfOk answer.now PartFits }
-    ensures { result ≡ stage_after answer.now }
+fn stage_after(returned: &Result<TapePart, TapeFault>) -> TapeStage
+    requires { IfOk returned.now PartFits }
+    ensures { result ≡ stage_after returned.now }
 {
-    match answer {
+    match returned {
         Ok(TapePart::Data { address, count }) => TapeStage::InBlock {
             left: *count,
             total: header_total(*address, *count),
@@ -256,14 +256,14 @@ impl TapeReader {
             (λ _. self.new.stage ≡ AfterFault) }
         ensures stays { HasStopped self.old.stage → (self.new ≡ self.old) × (feed.new ≡ feed.old) }
     {
-        let answer = match self.stage {
+        let returned = match self.stage {
             TapeStage::BeforeBlock => read_part(feed, &mut self.room),
             TapeStage::InBlock { total, .. } => read_next(feed, &mut self.room, total),
             TapeStage::AtEnd(address) => return Ok(TapePart::Start(address)),
             TapeStage::AfterFault => return Err(TapeFault::Failed),
         };
-        self.stage = stage_after(&answer);
-        answer
+        self.stage = stage_after(&returned);
+        returned
     }
 
     /// The next byte of the open block, of which one must be left. After a fault each call returns
@@ -280,9 +280,9 @@ impl TapeReader {
     {
         match self.stage {
             TapeStage::InBlock { left, total } => {
-                let answer = read_byte(feed, &mut self.room);
-                self.stage = stage_within(left, total, &answer);
-                answer
+                let returned = read_byte(feed, &mut self.room);
+                self.stage = stage_within(left, total, &returned);
+                returned
             }
             TapeStage::AfterFault => Err(TapeFault::Failed),
             TapeStage::BeforeBlock | TapeStage::AtEnd(_) => unreachable!(),

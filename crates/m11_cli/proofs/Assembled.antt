@@ -22,9 +22,9 @@ module _ {F : Type 0} (text : F → Option Text) (faults : F → ℕ) where
       → FailReading (λ s. s.text) (λ s. s.faults) (seen text faults olds) (seen text faults news) reading
   fail olds news reading h = (h.0, h.1, one text faults olds news h.0 h.1 h.2, h.3)
 
-  first : (olds news : List F) (answer : Result (List Numbered) AsmFault)
-      → ReadsFirst (pass_of text faults olds news) answer
-      → ReadsFirst (pass_of (λ s. s.text) (λ s. s.faults) (seen text faults olds) (seen text faults news)) answer
+  first : (olds news : List F) (result : Result (List Numbered) AsmFault)
+      → ReadsFirst (pass_of text faults olds news) result
+      → ReadsFirst (pass_of (λ s. s.text) (λ s. s.faults) (seen text faults olds) (seen text faults news)) result
   first olds news (Ok lines) h = (h.0, have olds news h.0 h.1, h.2, h.3)
   first olds news (Err fault.Read) h = (h.0, fail olds news _ h.1, h.2, h.3)
   first olds news (Err (fault.Write output)) h = absurd h
@@ -34,10 +34,10 @@ module _ {F : Type 0} (text : F → Option Text) (faults : F → ℕ) where
   first olds news (Err fault.TooMuchSource) h = (h.0, have olds news h.0 h.1, h.2, h.3)
   first olds news (Err fault.NoMemory) h = none text faults olds news h
 
-  second : (olds news : List F) (program : Program) (old new : Outputs) (answer : Result AsmDone AsmFault)
-      → ReadsSecond (pass_of text faults olds news) program old new answer
+  second : (olds news : List F) (program : Program) (old new : Outputs) (result : Result AsmDone AsmFault)
+      → ReadsSecond (pass_of text faults olds news) program old new result
       → ReadsSecond (pass_of (λ s. s.text) (λ s. s.faults) (seen text faults olds) (seen text faults news)) program old new
-      answer
+      result
   second olds news program old new (Ok done) h = (h.0, have olds news h.0 h.1, h.2)
   second olds news program old new (Err fault.Read) h = (h.0, fail olds news _ h.1, h.2, h.3, h.4)
   second olds news program old new (Err (fault.Write output)) h = (h.0, have olds news h.0 h.1, h.2)
@@ -47,10 +47,10 @@ module _ {F : Type 0} (text : F → Option Text) (faults : F → ℕ) where
   second olds news program old new (Err fault.TooMuchSource) h = (h.0, have olds news h.0 h.1, h.2, h.3, h.4)
   second olds news program old new (Err fault.NoMemory) h = (h.0, have olds news h.0 h.1, h.2)
 
-  pub asm_runs : (olds news again later : List F) (old new : Outputs) (answer : Result AsmDone AsmFault)
-      → AsmRuns (pass_of text faults olds news) (pass_of text faults again later) old new answer
+  pub asm_runs : (olds news again later : List F) (old new : Outputs) (result : Result AsmDone AsmFault)
+      → AsmRuns (pass_of text faults olds news) (pass_of text faults again later) old new result
       → AsmRuns (pass_of (λ s. s.text) (λ s. s.faults) (seen text faults olds) (seen text faults news))
-      (pass_of (λ s. s.text) (λ s. s.faults) (seen text faults again) (seen text faults later)) old new answer
+      (pass_of (λ s. s.text) (λ s. s.faults) (seen text faults again) (seen text faults later)) old new result
   asm_runs olds news again later old new (Ok done) h =
       (h.0, first olds news (Ok h.0) h.1, second again later (program_of (givens h.0)) old new (Ok done) h.2)
   asm_runs olds news again later old new (Err stopped) (inl h) =

@@ -71,9 +71,9 @@ module _ {F : Type 0} (text : F → Option Text) (faults : F → ℕ) where
       × (items : List Item) × GiveItems (λ s. s.text) (seen text faults olds) items × P items
   carried olds news P h = (none text faults olds news h.0, h.1, given olds h.1 h.2, h.3)
 
-  first : (olds news : List F) (bottom : ℕ) (answer : Result Planned LinkFault)
-      → ReadsFirst (pass_of text faults olds news) bottom answer
-      → ReadsFirst (pass_of (λ s. s.text) (λ s. s.faults) (seen text faults olds) (seen text faults news)) bottom answer
+  first : (olds news : List F) (bottom : ℕ) (result : Result Planned LinkFault)
+      → ReadsFirst (pass_of text faults olds news) bottom result
+      → ReadsFirst (pass_of (λ s. s.text) (λ s. s.faults) (seen text faults olds) (seen text faults news)) bottom result
   first olds news bottom (Ok plan) h =
       (none text faults olds news h.0, h.1, given olds h.1 h.2, h.3, h.4, h.5)
   first olds news bottom (Err fault.Read) h = (h.0, failed olds news h.0 h.1, h.2)
@@ -92,9 +92,9 @@ module _ {F : Type 0} (text : F → Option Text) (faults : F → ℕ) where
   first olds news bottom (Err (fault.Write output)) h = carried olds news _ h
   first olds news bottom (Err fault.NoMemory) h = none text faults olds news h
 
-  second : (olds news : List F) (plan : Planned) (old new : Outputs) (answer : Result LinkDone LinkFault)
-      → ReadsSecond (pass_of text faults olds news) plan old new answer
-      → ReadsSecond (pass_of (λ s. s.text) (λ s. s.faults) (seen text faults olds) (seen text faults news)) plan old new answer
+  second : (olds news : List F) (plan : Planned) (old new : Outputs) (result : Result LinkDone LinkFault)
+      → ReadsSecond (pass_of text faults olds news) plan old new result
+      → ReadsSecond (pass_of (λ s. s.text) (λ s. s.faults) (seen text faults olds) (seen text faults news)) plan old new result
   second olds news plan old new (Ok done) h =
       (none text faults olds news h.0, h.1, given olds h.1 h.2, h.3, h.4, h.5, h.6)
   second olds news plan old new (Err fault.Read) h = (h.0, failed olds news h.0 h.1, h.2, h.3)
@@ -127,10 +127,10 @@ module _ {F : Type 0} (text : F → Option Text) (faults : F → ℕ) where
   second olds news plan old new (Err fault.NoMemory) h =
       (none text faults olds news h.0, h.1, given olds h.1 h.2, h.3, h.4)
 
-  pub link_runs : (olds news again later : List F) (bottom : ℕ) (old new : Outputs) (answer : Result LinkDone LinkFault)
-      → LinkRuns (pass_of text faults olds news) (pass_of text faults again later) bottom old new answer
+  pub link_runs : (olds news again later : List F) (bottom : ℕ) (old new : Outputs) (result : Result LinkDone LinkFault)
+      → LinkRuns (pass_of text faults olds news) (pass_of text faults again later) bottom old new result
       → LinkRuns (pass_of (λ s. s.text) (λ s. s.faults) (seen text faults olds) (seen text faults news))
-      (pass_of (λ s. s.text) (λ s. s.faults) (seen text faults again) (seen text faults later)) bottom old new answer
+      (pass_of (λ s. s.text) (λ s. s.faults) (seen text faults again) (seen text faults later)) bottom old new result
   link_runs olds news again later bottom old new (Ok done) h =
       (h.0, first olds news bottom (Ok h.0) h.1, second again later h.0 old new (Ok done) h.2)
   link_runs olds news again later bottom old new (Err stopped) (inl h) =

@@ -51,9 +51,9 @@ pub carried : (words : List Text) (t : Task) (outcome : Outcome) (old new : Stor
 carried words (task.Asm asm) (Usage fault) old new before after planned h = absurd h
 carried words (task.Link link) (Usage fault) old new before after planned h = absurd h
 carried words (task.Sim sim) (Usage fault) old new before after planned h = absurd h
-carried words t (Asm answer) old new before after planned h = (t, planned, h)
-carried words t (Link answer) old new before after planned h = (t, planned, h)
-carried words t (Sim answer) old new before after planned h = (t, planned, h)
+carried words t (Asm result) old new before after planned h = (t, planned, h)
+carried words t (Link result) old new before after planned h = (t, planned, h)
+carried words t (Sim result) old new before after planned h = (t, planned, h)
 carried words t NotOpened old new before after planned h = (t, planned, h)
 
 -- a beginning of a text is one of a longer text, also after a text that was written whole

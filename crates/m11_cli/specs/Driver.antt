@@ -102,7 +102,7 @@ asm_outputs_of object listing reported = assembled.outputs_of known known known 
 -- the sources are the files of their paths, in both passes. By their texts the object and the listing, which are empty at
 -- first, and what is reported become what an assembly makes of them; object and listing are created in this order, and
 -- kept under their paths
-pub record Assembles (asm : AsmTask) (old new : Store) (reported reported' : Output) (answer : Result AsmDone AsmFault)
+pub record Assembles (asm : AsmTask) (old new : Store) (reported reported' : Output) (result : Result AsmDone AsmFault)
     : Type 0 where
   pub first : List Input
   pub first' : List Input
@@ -118,14 +118,14 @@ pub record Assembles (asm : AsmTask) (old new : Store) (reported reported' : Out
   pub emptied-listing : IsEmptiedSome (λ l. l.text) old.files asm.listing listing
   pub runs : AsmRuns (assembling.pass_of (λ s. s.text) (λ s. s.faults) first first')
       (assembling.pass_of (λ s. s.text) (λ s. s.faults) second second')
-      (asm_outputs_of object listing reported) (asm_outputs_of object' listing' reported') answer
+      (asm_outputs_of object listing reported) (asm_outputs_of object' listing' reported') result
   pub kept : new.files ≡ keeping_some (λ l. l.text) asm.listing listing'
       (keeping asm.object.now object'.text (creating (asm_outputs asm) old.files))
   pub opened : new.refusals ≡ old.refusals
 
 abbrev pub MayAssemble : AsmTask → Store → Store → Output → Output → Result AsmDone AsmFault → Type 0
-MayAssemble asm old new reported reported' answer = Assembles asm old new reported reported' answer
-    ⊎ ((answer ≡ Err asm-fault.NoMemory) × RunsOutOpening (asm_inputs asm) (asm_outputs asm) old new reported reported')
+MayAssemble asm old new reported reported' result = Assembles asm old new reported reported' result
+    ⊎ ((result ≡ Err asm-fault.NoMemory) × RunsOutOpening (asm_inputs asm) (asm_outputs asm) old new reported reported')
 
 -- ---- a link
 
@@ -136,7 +136,7 @@ outputs tape map reported = outputs_of known known known tape map reported
 -- the objects are the files of their paths, in both passes. By their texts the tape and the map, which are empty at
 -- first, and what is reported become what a link from this bottom on makes of them; tape and map are created in this
 -- order, and kept under their paths
-pub record Links (task : LinkTask) (old new : Store) (reported reported' : Output) (answer : Result LinkDone LinkFault)
+pub record Links (task : LinkTask) (old new : Store) (reported reported' : Output) (result : Result LinkDone LinkFault)
     : Type 0 where
   pub first : List Input
   pub first' : List Input
@@ -152,19 +152,19 @@ pub record Links (task : LinkTask) (old new : Store) (reported reported' : Outpu
   pub emptied-map : IsEmptiedSome (λ m. m.text) old.files task.map map
   pub runs : linking.LinkRuns (pass_of (λ s. s.text) (λ s. s.faults) first first')
       (pass_of (λ s. s.text) (λ s. s.faults) second second') task.bottom
-      (outputs tape map reported) (outputs tape' map' reported') answer
+      (outputs tape map reported) (outputs tape' map' reported') result
   pub kept : new.files ≡ keeping_some (λ m. m.text) task.map map'
       (keeping task.tape.now tape'.text (creating (link_outputs task) old.files))
   pub opened : new.refusals ≡ old.refusals
 
 abbrev pub MayLink : LinkTask → Store → Store → Output → Output → Result LinkDone LinkFault → Type 0
-MayLink task old new reported reported' answer = Links task old new reported reported' answer
-    ⊎ ((answer ≡ Err link-fault.NoMemory) × RunsOutOpening (link_inputs task) (link_outputs task) old new reported reported')
+MayLink task old new reported reported' result = Links task old new reported reported' result
+    ⊎ ((result ≡ Err link-fault.NoMemory) × RunsOutOpening (link_inputs task) (link_outputs task) old new reported reported')
 
 -- ---- a run
 
 -- the tape is the file of its path, and is run by what the task says, with the console
-pub record RunsTape (sim : SimTask) (old new : Store) (before after : Streams) (answer : Result SimDone SimFault)
+pub record RunsTape (sim : SimTask) (old new : Store) (before after : Streams) (result : Result SimDone SimFault)
     : Type 0 where
   pub tape : Input
   pub tape' : Input
@@ -172,12 +172,12 @@ pub record RunsTape (sim : SimTask) (old new : Store) (before after : Streams) (
   pub runs : Simulates (request_of sim.start sim.words sim.limit)
       (run_devices tape (both before.input.text before.input.faults before.printed.text before.printed.faults) before.reported)
       (run_devices tape' (both after.input.text after.input.faults after.printed.text after.printed.faults) after.reported)
-      answer
+      result
   pub kept : new ≡ old
 
 abbrev pub MayRun : SimTask → Store → Store → Streams → Streams → Result SimDone SimFault → Type 0
-MayRun sim old new before after answer = RunsTape sim old new before after answer
-    ⊎ ((answer ≡ Err sim-fault.NoMemory) × (after ≡ before) × (new ≡ old))
+MayRun sim old new before after result = RunsTape sim old new before after result
+    ⊎ ((result ≡ Err sim-fault.NoMemory) × (after ≡ before) × (new ≡ old))
 
 -- ---- a command
 
@@ -197,11 +197,11 @@ outputs_of_task (task.Sim sim) = []
 abbrev pub Carries : Task → Outcome → Store → Store → Streams → Streams → Type 0
 Carries task NotOpened old new before after = (after.input ≡ before.input) × (after.printed ≡ before.printed)
     × RefusesFile (inputs_of task) (outputs_of_task task) old new before.reported after.reported
-Carries (task.Asm asm) (Asm answer) old new before after = (after.input ≡ before.input)
-    × (after.printed ≡ before.printed) × MayAssemble asm old new before.reported after.reported answer
-Carries (task.Link link) (Link answer) old new before after = (after.input ≡ before.input)
-    × (after.printed ≡ before.printed) × MayLink link old new before.reported after.reported answer
-Carries (task.Sim sim) (Sim answer) old new before after = MayRun sim old new before after answer
+Carries (task.Asm asm) (Asm result) old new before after = (after.input ≡ before.input)
+    × (after.printed ≡ before.printed) × MayAssemble asm old new before.reported after.reported result
+Carries (task.Link link) (Link result) old new before after = (after.input ≡ before.input)
+    × (after.printed ≡ before.printed) × MayLink link old new before.reported after.reported result
+Carries (task.Sim sim) (Sim result) old new before after = MayRun sim old new before after result
 Carries task outcome old new before after = ⊥
 
 -- the words are refused, with one of the refusals that they have, and no file is opened; or a task that they ask for is

@@ -100,5 +100,5 @@ status_of NotOpened = 3
 
 -- what a command that runs no tape leaves of the console: all
 abbrev pub LeavesConsole : {I : Type 0} → Outcome → I → I → Type 0
-LeavesConsole (Sim answer) old new = ⊤
+LeavesConsole (Sim result) old new = ⊤
 LeavesConsole outcome old new = new ≡ old

@@ -208,7 +208,7 @@ fn run_asm<F: Opens, E: Sink>(
         mut object,
         mut listing,
     } = opened;
-    let answer = asm_run(
+    let returned = asm_run(
         alloc,
         sources.first.as_mut_slice(),
         sources.second.as_mut_slice(),
@@ -218,7 +218,7 @@ fn run_asm<F: Opens, E: Sink>(
     );
     files.keep(task.object, object);
     keep_some(files, task.listing, listing);
-    answer
+    returned
 }
 
 // A link, where its files open.
@@ -261,7 +261,7 @@ fn run_link<F: Opens, E: Sink>(
         mut tape,
         mut map,
     } = opened;
-    let answer = link_run(
+    let returned = link_run(
         alloc,
         objects.first.as_mut_slice(),
         objects.second.as_mut_slice(),
@@ -272,7 +272,7 @@ fn run_link<F: Opens, E: Sink>(
     );
     files.keep(task.tape, tape);
     keep_some(files, task.map, map);
-    answer
+    returned
 }
 
 // Hands back the output of a path, if there is one.

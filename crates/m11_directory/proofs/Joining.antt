@@ -9,13 +9,13 @@ use Rattle.m11_base.specs.Names.{blank_name}
 use Rattle.m11_object_text.specs.declared.directory.DirectoryRow.{DirectoryRow}
 use Rattle.m11_placement.specs.declared.sections.Section.{Section}
 use Rattle.m11_placement.specs.Sections.{numbered, of_program, section}
-use Rattle.m11_directory.specs.FirstPass.{Told}
+use Rattle.m11_directory.specs.FirstPass.{DirectoryFacts}
 use Rattle.m11_directory.specs.Rows.{all_section_rows, directory_rows, identification_rows, module_row, section_rows}
 use Rattle.m11_directory.specs.Transfers.{transfer_row}
 
-module _ (told : Told) where
+module _ (facts : DirectoryFacts) where
   abbrev sections : List Section
-  sections = told.table.sections
+  sections = facts.table.sections
 
   abbrev numbers : List (ℕ × Section)
   numbers = enumerate_from 0 sections
@@ -33,35 +33,35 @@ module _ (told : Told) where
       ∙ ap (λ (n : ℕ). (n, numbered number sections)) (zero-add number))
 
   pub section_added : (before rows after : List DirectoryRow) (number : ℕ) → number < length sections
-      → rows ≡ before ++ flat_map (section_rows told) (take number numbers)
-      → after ≡ rows ++ section_rows told (number, numbered number sections)
-      → after ≡ before ++ flat_map (section_rows told) (take (number + 1) numbers)
+      → rows ≡ before ++ flat_map (section_rows facts) (take number numbers)
+      → after ≡ rows ++ section_rows facts (number, numbered number sections)
+      → after ≡ before ++ flat_map (section_rows facts) (take (number + 1) numbers)
   section_added before rows after number within e f =
-      let next = section_rows told (number, numbered number sections) in
-      let so_far = flat_map (section_rows told) (take number numbers) in
+      let next = section_rows facts (number, numbered number sections) in
+      let so_far = flat_map (section_rows facts) (take number numbers) in
       f
       ∙ ap (λ (r : List DirectoryRow). r ++ next) e
       ∙ append_assoc before so_far next
       ∙ ap (λ (r : List DirectoryRow). before ++ (so_far ++ r)) (sym (append-nil next))
       ∙ ap (λ (r : List DirectoryRow). before ++ r)
-      (sym (flat_map-append (section_rows told) (take number numbers) ((number, numbered number sections) ∷ [])))
-      ∙ ap (λ (ns : List (ℕ × Section)). before ++ flat_map (section_rows told) ns) (sym (one_more number within))
+      (sym (flat_map-append (section_rows facts) (take number numbers) ((number, numbered number sections) ∷ [])))
+      ∙ ap (λ (ns : List (ℕ × Section)). before ++ flat_map (section_rows facts) ns) (sym (one_more number within))
 
   pub sections_done : (before rows : List DirectoryRow) (count : ℕ) → count ≡ length sections
-      → rows ≡ before ++ flat_map (section_rows told) (take count numbers) → rows ≡ before ++ all_section_rows told
+      → rows ≡ before ++ flat_map (section_rows facts) (take count numbers) → rows ≡ before ++ all_section_rows facts
   sections_done before rows count e f =
       f
-      ∙ ap (λ (n : ℕ). before ++ flat_map (section_rows told) (take n numbers)) (e ∙ sym (length-enumerate_from 0 sections))
-      ∙ ap (λ (ns : List (ℕ × Section)). before ++ flat_map (section_rows told) ns) (take-length numbers)
+      ∙ ap (λ (n : ℕ). before ++ flat_map (section_rows facts) (take n numbers)) (e ∙ sym (length-enumerate_from 0 sections))
+      ∙ ap (λ (ns : List (ℕ × Section)). before ++ flat_map (section_rows facts) ns) (take-length numbers)
 
   -- the rows of a directory, one part after another
-  pub parts_joined : (start named identified filled all : List DirectoryRow) → start ≡ [] → named ≡ start ++ module_row told.title ∷ []
-      → identified ≡ named ++ identification_rows told.identification → filled ≡ identified ++ all_section_rows told
-      → all ≡ filled ++ transfer_row told.table.sections told.transfer ∷ [] → all ≡ directory_rows told
+  pub parts_joined : (start named identified filled all : List DirectoryRow) → start ≡ [] → named ≡ start ++ module_row facts.title ∷ []
+      → identified ≡ named ++ identification_rows facts.identification → filled ≡ identified ++ all_section_rows facts
+      → all ≡ filled ++ transfer_row facts.table.sections facts.transfer ∷ [] → all ≡ directory_rows facts
   unfolding directory_rows
   parts_joined start named identified filled all e f g h k =
-      let last = transfer_row told.table.sections told.transfer ∷ [] in
-      let first : named ≡ module_row told.title ∷ [] = f ∙ ap (λ (r : List DirectoryRow). r ++ module_row told.title ∷ []) e in
+      let last = transfer_row facts.table.sections facts.transfer ∷ [] in
+      let first : named ≡ module_row facts.title ∷ [] = f ∙ ap (λ (r : List DirectoryRow). r ++ module_row facts.title ∷ []) e in
       k ∙ ap (λ (r : List DirectoryRow). r ++ last) h
-      ∙ ap (λ (r : List DirectoryRow). r ++ all_section_rows told ++ last) g
-      ∙ ap (λ (r : List DirectoryRow). r ++ identification_rows told.identification ++ all_section_rows told ++ last) first
+      ∙ ap (λ (r : List DirectoryRow). r ++ all_section_rows facts ++ last) g
+      ∙ ap (λ (r : List DirectoryRow). r ++ identification_rows facts.identification ++ all_section_rows facts ++ last) first

@@ -15,7 +15,7 @@ use Rattle.m11_placement.specs.declared.sections.Section.{Section}
 use Rattle.m11_placement.specs.Tables.{Table}
 use Rattle.m11_table.specs.Alike.{Alike}
 use Rattle.m11_directory.specs.Definitions.{definition_row, definition_rows, row_by}
-use Rattle.m11_directory.specs.FirstPass.{Told}
+use Rattle.m11_directory.specs.FirstPass.{DirectoryFacts}
 use Rattle.m11_directory.specs.Laws.{TellTheSame}
 use Rattle.m11_directory.specs.Names.{has_name, ordered}
 use Rattle.m11_directory.specs.References.{is_open, is_open_by, reference_row, reference_rows, references}
@@ -71,14 +71,14 @@ has_filtered p name names =
     any-filter_same (λ (other : Name). is_same_name other name) p (p name)
     (λ other e. ap p (same_name_equal other name e)) names
 
-has_open : (told : Told) (name : Name) → has_name name (filter (is_open told.table) (told.referred ++ told.table.globals))
-    ≡ (is_open told.table name && (has_name name told.referred || has_name name told.table.globals))
-has_open told name =
-    has_filtered (is_open told.table) name (told.referred ++ told.table.globals)
-    ∙ ap (λ (b : Bool). is_open told.table name && b)
-    (list_any-append (λ (other : Name). is_same_name other name) told.referred told.table.globals)
+has_open : (facts : DirectoryFacts) (name : Name) → has_name name (filter (is_open facts.table) (facts.referred ++ facts.table.globals))
+    ≡ (is_open facts.table name && (has_name name facts.referred || has_name name facts.table.globals))
+has_open facts name =
+    has_filtered (is_open facts.table) name (facts.referred ++ facts.table.globals)
+    ∙ ap (λ (b : Bool). is_open facts.table name && b)
+    (list_any-append (λ (other : Name). is_same_name other name) facts.referred facts.table.globals)
 
-module _ (one other : Told) (same : TellTheSame one other) where
+module _ (one other : DirectoryFacts) (same : TellTheSame one other) where
   references_same : references one ≡ references other
   references_same =
       ordered_same (filter (is_open one.table) (one.referred ++ one.table.globals))

@@ -6,7 +6,7 @@ use Rattle.m11_placement.specs.Tables.{Table}
 use Rattle.m11_values.specs.Quantities.{Quantity, quantity}
 use Rattle.m11_directory.specs.declared.first_pass.FirstPass.{FirstPass}
 
-pub record Told : Type 0 where
+pub record DirectoryFacts : Type 0 where
   -- the table after the last line
   pub table : Table
   -- the size of the section of a number
@@ -20,8 +20,8 @@ pub record Told : Type 0 where
   pub transfer : Option Quantity
 
 -- what the code has of it
-abbrev pub told_by : FirstPass → Told
-told_by first = record {
+abbrev pub directory_facts : FirstPass → DirectoryFacts
+directory_facts first = record {
   table = first.table.now;
   size_of = λ number. slice_index first.sizes.now number;
   referred = first.referred.now.keys;

@@ -4,7 +4,7 @@ use Rattle.std.specs.Prelude.{◌≡◌, ℕ, ◌<◌, List, length}
 use Rattle.std.specs.List.Sorted.{IsStrictlySortedBy}
 use Rattle.m11_base.specs.Rad50.{Name}
 use Rattle.m11_table.specs.Alike.{Alike}
-use Rattle.m11_directory.specs.FirstPass.{Told}
+use Rattle.m11_directory.specs.FirstPass.{DirectoryFacts}
 use Rattle.m11_directory.specs.Names.{has_name, name_order}
 
 -- two lists have the same names, however often and in whatever order
@@ -20,7 +20,7 @@ pub record AreInOrder (list names : List Name) : Type 0 where
   pub ordered : AreOrdered list
   pub same : HaveTheSame list names
 
-pub record TellTheSame (one other : Told) : Type 0 where
+pub record TellTheSame (one other : DirectoryFacts) : Type 0 where
   pub tables : Alike one.table other.table
   pub sizes : (number : ℕ) → number < length one.table.sections → one.size_of number ≡ other.size_of number
   pub referred : HaveTheSame one.referred other.referred

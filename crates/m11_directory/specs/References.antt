@@ -10,7 +10,7 @@ use Rattle.m11_placement.specs.declared.definitions.Definition.{Definition}
 use Rattle.m11_placement.specs.declared.definitions.Key.TheVariants.{Named}
 use Rattle.m11_placement.specs.Definitions.{last_definition}
 use Rattle.m11_placement.specs.Tables.{Table}
-use Rattle.m11_directory.specs.FirstPass.{Told}
+use Rattle.m11_directory.specs.FirstPass.{DirectoryFacts}
 use Rattle.m11_directory.specs.Names.{has_name, ordered}
 
 -- no line defines the name, or it is global and its last definition has an unknown value
@@ -22,8 +22,8 @@ abbrev pub is_open : Table → Name → Bool
 is_open table name = is_open_by table name (last_definition (Named name) table.definitions)
 
 -- of the names that lines refer to or make global those that are open
-abbrev pub references : Told → List Name
-references told = ordered (filter (is_open told.table) (told.referred ++ told.table.globals))
+abbrev pub references : DirectoryFacts → List Name
+references facts = ordered (filter (is_open facts.table) (facts.referred ++ facts.table.globals))
 
 abbrev pub reference_row : List Name → Name → DirectoryRow
 reference_row weak name = row.Reference name (has_name name weak)

@@ -9,7 +9,7 @@ use Rattle.m11_object_text.specs.declared.directory.DirectoryRow.{DirectoryRow}
 use Rattle.m11_object_text.specs.declared.directory.DirectoryRow.TheVariants as row
 use Rattle.m11_placement.specs.declared.sections.Section.{Section}
 use Rattle.m11_directory.specs.Definitions.{definition_rows}
-use Rattle.m11_directory.specs.FirstPass.{Told}
+use Rattle.m11_directory.specs.FirstPass.{DirectoryFacts}
 use Rattle.m11_directory.specs.Names.{ordered}
 use Rattle.m11_directory.specs.References.{reference_rows, references}
 use Rattle.m11_directory.specs.Transfers.{transfer_row}
@@ -35,23 +35,23 @@ section_row section size = row.Section section.name (record { 0 = section.attrib
 abbrev pub references_under : ℕ → List DirectoryRow → List DirectoryRow
 references_under number rows = if number == 0 then rows else []
 
-abbrev pub rows_under : Told → ℕ → List DirectoryRow
-rows_under told number =
-    definition_rows told.table number (ordered told.table.globals)
-    ++ references_under number (reference_rows told.weak (references told))
+abbrev pub rows_under : DirectoryFacts → ℕ → List DirectoryRow
+rows_under facts number =
+    definition_rows facts.table number (ordered facts.table.globals)
+    ++ references_under number (reference_rows facts.weak (references facts))
 
-abbrev pub section_rows : Told → ℕ × Section → List DirectoryRow
-section_rows told numbered = section_row numbered.1 (told.size_of numbered.0) ∷ rows_under told numbered.0
+abbrev pub section_rows : DirectoryFacts → ℕ × Section → List DirectoryRow
+section_rows facts numbered = section_row numbered.1 (facts.size_of numbered.0) ∷ rows_under facts numbered.0
 
 -- ---- the directory
 
 -- sections stand in the order of their numbers
-abbrev pub all_section_rows : Told → List DirectoryRow
-all_section_rows told = flat_map (section_rows told) (enumerate_from 0 told.table.sections)
+abbrev pub all_section_rows : DirectoryFacts → List DirectoryRow
+all_section_rows facts = flat_map (section_rows facts) (enumerate_from 0 facts.table.sections)
 
-unfoldable pub directory_rows : Told → List DirectoryRow
-directory_rows told =
-    module_row told.title ∷ []
-    ++ identification_rows told.identification
-    ++ all_section_rows told
-    ++ transfer_row told.table.sections told.transfer ∷ []
+unfoldable pub directory_rows : DirectoryFacts → List DirectoryRow
+directory_rows facts =
+    module_row facts.title ∷ []
+    ++ identification_rows facts.identification
+    ++ all_section_rows facts
+    ++ transfer_row facts.table.sections facts.transfer ∷ []

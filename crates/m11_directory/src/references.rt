@@ -3,7 +3,7 @@
 
 ghost use Rattle.std.specs.Prelude.{◌≡◌, ◌++◌, IfOk, filter};
 ghost use Rattle.m11_placement.specs.Assigning.{is_unknown_as};
-ghost use Rattle.m11_directory.specs.FirstPass.{told_by};
+ghost use Rattle.m11_directory.specs.FirstPass.{directory_facts};
 ghost use Rattle.m11_directory.specs.References.{is_open, reference_row, reference_rows, references};
 
 use crate::first_pass::FirstPass;
@@ -47,7 +47,7 @@ fn push_open(needed: &mut Vec<Name>, table: &Table, names: &[Name]) -> Result<()
 
 /// The names that another object has to define, in order.
 pub(crate) fn references(alloc: Global, first: &FirstPass<'_>) -> Result<Vec<Name>, AllocError>
-    ensures { IfOk result (λ names. names.items ≡ references (told_by first.now)) }
+    ensures { IfOk result (λ names. names.items ≡ references (directory_facts first.now)) }
 {
     let mut needed = Vec::new(alloc);
     push_open(&mut needed, first.table, first.referred.as_slice())?;

@@ -2,7 +2,7 @@
 //! Language Reference Manual, ".TITLE directive" and ".IDENT directive".)
 
 ghost use Rattle.std.specs.Prelude.{◌≡◌, ◌<◌, ◌≤◌, ◌++◌, IfOk, length};
-ghost use Rattle.m11_directory.specs.FirstPass.{told_by};
+ghost use Rattle.m11_directory.specs.FirstPass.{directory_facts};
 ghost use Rattle.m11_directory.specs.Names.{ordered};
 ghost use Rattle.m11_directory.specs.References.{references};
 ghost use Rattle.m11_directory.specs.Rows.{all_section_rows, directory_rows, identification_rows, main_name, module_row, section_row, section_rows};
@@ -59,9 +59,9 @@ fn push_section(
 ) -> Result<(), AllocError>
     requires number { number < 64 }
     requires globals { globals.now ≡ ordered first.now.table.now.globals }
-    requires needed { needed.now ≡ references (told_by first.now) }
+    requires needed { needed.now ≡ references (directory_facts first.now) }
     ensures { IfOk result (λ _. rows.new.items ≡ rows.old.items
-        ++ section_rows (told_by first.now) (number, numbered number first.now.table.now.sections)) }
+        ++ section_rows (directory_facts first.now) (number, numbered number first.now.table.now.sections)) }
 {
     let size = first.sizes[usize::from(number)];
     rows.push(section_row(first.table.section(number), size))?;
@@ -81,8 +81,8 @@ fn push_sections(
 ) -> Result<(), AllocError>
     requires sections { length first.now.table.now.sections ≤ 64 }
     requires globals { globals.now ≡ ordered first.now.table.now.globals }
-    requires needed { needed.now ≡ references (told_by first.now) }
-    ensures { IfOk result (λ _. rows.new.items ≡ rows.old.items ++ all_section_rows (told_by first.now)) }
+    requires needed { needed.now ≡ references (directory_facts first.now) }
+    ensures { IfOk result (λ _. rows.new.items ≡ rows.old.items ++ all_section_rows (directory_facts first.now)) }
 {
     let count = first.table.section_count();
     'sections: for number in 0..count {
@@ -107,7 +107,7 @@ fn push_identification(
 /// under the absolute section, and where the program begins.
 pub fn directory_rows(alloc: Global, first: &FirstPass<'_>) -> Result<Vec<DirectoryRow>, AllocError>
     requires { length first.now.table.now.sections ≤ 64 }
-    ensures { IfOk result (λ rows. rows.items ≡ directory_rows (told_by first.now)) }
+    ensures { IfOk result (λ rows. rows.items ≡ directory_rows (directory_facts first.now)) }
 {
     let globals = ordered_names(alloc, first.table.globals())?;
     let needed = references(alloc, first)?;

@@ -57,7 +57,7 @@ impl OpenBody {
         is_close(nesting, self.depth)
     }
 
-    /// Takes a line, unless it is the one that ends the body. The answer is whether it is.
+    /// Takes a line, unless it is the one that ends the body. Returns whether it is.
     ///
     /// Errors: want of memory. What was taken is then unchanged.
     pub fn take(&mut self, text: &[u8], nesting: Nesting) -> Result<bool, AllocError>

@@ -11,7 +11,7 @@ ghost use Rattle.m11_placement.specs.Exports as exports;
 ghost use Rattle.m11_placement.specs.Lines.{after_line};
 ghost use Rattle.m11_placement.specs.Meanings.{empty_map};
 ghost use Rattle.m11_placement.specs.Sources.{last_or};
-ghost use Rattle.m11_placement.specs.Tables.{Table as Told};
+ghost use Rattle.m11_placement.specs.Tables.{Table as LineTable};
 ghost use Rattle.m11_table.specs.Alike.{Alike};
 ghost use Rattle.m11_unfolding.specs.Unfolding.{Given};
 ghost use Rattle.m11_values.specs.Quantities.{quantity};
@@ -96,7 +96,7 @@ impl Facts {
 
     /// Notes what a placed line tells, where the table is that after the line.
     pub fn note(&mut self, line: &PlacedLine, table: &Table) -> Result<(), AllocError>
-        ensures { IfOk result (λ _. (before : Told) (given : Given) (put : Put) → IsPlaced empty_map before given line.now put
+        ensures { IfOk result (λ _. (before : LineTable) (given : Given) (put : Put) → IsPlaced empty_map before given line.now put
             → Alike table.now (after_line empty_map before given) → self.new ≡ with_line before given self.old) }
     {
         // what stands in a line lies in it

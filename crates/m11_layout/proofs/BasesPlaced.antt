@@ -79,44 +79,44 @@ uncapped next size e = grind (arith, nat_tests)
 
 -- one section more, where the others lead to this result
 module _ (onto : List (Name × ℕ) → ℕ → Option Bases) (bases : List (Name × ℕ)) (name : Name) (next size : ℕ)
-    (more : Bool) (answer : Bases)
+    (more : Bool) (returned : Bases)
     (last : (value : ℕ) → insert_entry is_same_name bases name value ≡ bases ++ (name, value) ∷ []) where
   lower : (high : Bool) → (high ≡ false → min 65536 size ≡ size)
-      → onto (bases ++ (name, next) ∷ []) (next + size) ≡ (if more then None else Some answer)
+      → onto (bases ++ (name, next) ∷ []) (next + size) ≡ (if more then None else Some returned)
       → option_and_then (λ (following : Bases). onto following.bases following.top)
       (if high then None else Some
       (record { bases = insert_entry is_same_name bases name next; top = next + min 65536 size }))
-      ≡ (if high || more then None else Some answer)
+      ≡ (if high || more then None else Some returned)
   lower true u h = refl
   lower false u h =
       let P : List (Name × ℕ) → Type 0 = λ entries. onto entries (next + min 65536 size)
-      ≡ (if more then None else Some answer) in
-      let Q : ℕ → Type 0 = λ n. onto (bases ++ (name, next) ∷ []) (next + n) ≡ (if more then None else Some answer) in
+      ≡ (if more then None else Some returned) in
+      let Q : ℕ → Type 0 = λ n. onto (bases ++ (name, next) ∷ []) (next + n) ≡ (if more then None else Some returned) in
       subst P (sym (last next)) (subst Q (sym (u refl)) h)
 
   pub one_placed : (relocatable : Bool) (base : ℕ) → base ≡ next
       → onto (bases ++ (name, (if relocatable then base else 0)) ∷ []) (next + (if relocatable then size else 0))
-      ≡ (if more then None else Some answer)
+      ≡ (if more then None else Some returned)
       → option_and_then (λ (following : Bases). onto following.bases following.top)
       (if relocatable
       then (if nat_lt 57344 (next + min 65536 size) then None
       else Some (record { bases = insert_entry is_same_name bases name next; top = next + min 65536 size }))
       else Some (record { bases = insert_entry is_same_name bases name 0; top = next }))
-      ≡ (if (relocatable && nat_lt 57344 ((if relocatable then base else 0) + size)) || more then None else Some answer)
+      ≡ (if (relocatable && nat_lt 57344 ((if relocatable then base else 0) + size)) || more then None else Some returned)
   one_placed true base e h =
       let P : Bool → Type 0 = λ b. option_and_then (λ (following : Bases). onto following.bases following.top)
       (if b then None else Some (record { bases = insert_entry is_same_name bases name next; top = next + min 65536 size }))
-      ≡ (if nat_lt 57344 (base + size) || more then None else Some answer) in
+      ≡ (if nat_lt 57344 (base + size) || more then None else Some returned) in
       let Q : ℕ → Type 0 = λ n. option_and_then (λ (following : Bases). onto following.bases following.top)
       (if nat_lt 57344 (next + size) then None else Some
       (record { bases = insert_entry is_same_name bases name next; top = next + min 65536 size }))
-      ≡ (if nat_lt 57344 (n + size) || more then None else Some answer) in
-      let R : ℕ → Type 0 = λ n. onto (bases ++ (name, n) ∷ []) (next + size) ≡ (if more then None else Some answer) in
+      ≡ (if nat_lt 57344 (n + size) || more then None else Some returned) in
+      let R : ℕ → Type 0 = λ n. onto (bases ++ (name, n) ∷ []) (next + size) ≡ (if more then None else Some returned) in
       subst P (sym (capped_test next size)) (subst Q (sym e)
       (lower (nat_lt 57344 (next + size)) (uncapped next size) (subst R e h)))
   one_placed false base e h =
-      let P : List (Name × ℕ) → Type 0 = λ entries. onto entries next ≡ (if more then None else Some answer) in
-      let Q : ℕ → Type 0 = λ n. onto (bases ++ (name, 0) ∷ []) n ≡ (if more then None else Some answer) in
+      let P : List (Name × ℕ) → Type 0 = λ entries. onto entries next ≡ (if more then None else Some returned) in
+      let Q : ℕ → Type 0 = λ n. onto (bases ++ (name, 0) ∷ []) n ≡ (if more then None else Some returned) in
       subst P (sym (last 0)) (subst Q (add_zero next) h)
 
 module _ (attributes size : Name → ℕ) (bottom : ℕ) (all : List Name) where
@@ -150,15 +150,15 @@ module _ (attributes size : Name → ℕ) (bottom : ℕ) (all : List Name) where
       let a : list_any (is_same_name name) done ≡ false = apart_before done name rest (subst A (sym e) d) in
       let B : List Name → Type 0 = λ names. names_before name names ≡ done in
       let b : names_before name all ≡ done = subst B e (before_it done name rest a) in
-      let answer : Bases = record { bases = based all; top = bottom + sum_by room all } in
+      let returned : Bases = record { bases = based all; top = bottom + sum_by room all } in
       let onto : List (Name × ℕ) → ℕ → Option Bases =
       λ bases next. bases_onto bases next (map (λ name. (name, total_at name)) rest) in
       let more = bases_walked (done ++ name ∷ []) rest (append_snoc done name rest ∙ e) d in
       let P : List (Name × ℕ) → Type 0 = λ bases. onto bases (bottom + sum_by room (done ++ name ∷ []))
-      ≡ (if list_any too_high rest then None else Some answer) in
+      ≡ (if list_any too_high rest then None else Some returned) in
       let Q : ℕ → Type 0 = λ n. onto (based done ++ (name, base name) ∷ []) n
-      ≡ (if list_any too_high rest then None else Some answer) in
-      one_placed onto (based done) name (bottom + sum_by room done) (size name) (list_any too_high rest) answer
+      ≡ (if list_any too_high rest then None else Some returned) in
+      one_placed onto (based done) name (bottom + sum_by room done) (size name) (list_any too_high rest) returned
       (λ value. inserted_last base done name value a) (is_relocatable (attributes name))
       (bottom + sum_by room (names_before name all))
       (ap (λ names. bottom + sum_by room names) b)

@@ -83,13 +83,13 @@ bases_are bottom parts sections s =
     ap (λ these. bases_onto [] bottom these) (sections_are parts sections s)
     ∙ bases_placed bottom parts (apart_names parts sections s)
 
-there : (b : Bool) (reported answer : Bases) → (if b then None else Some answer) ≡ Some reported → (b ≡ false) × (reported ≡ answer)
-there true reported answer e = search
-there false reported answer e = (refl, cc)
+there : (b : Bool) (reported result : Bases) → (if b then None else Some result) ≡ Some reported → (b ≡ false) × (reported ≡ result)
+there true reported result e = search
+there false reported result e = (refl, cc)
 
-nowhere : (b : Bool) (answer : Bases) → (if b then None else Some answer) ≡ None → b ≡ true
-nowhere true answer e = refl
-nowhere false answer e = search
+nowhere : (b : Bool) (result : Bases) → (if b then None else Some result) ≡ None → b ≡ true
+nowhere true result e = refl
+nowhere false result e = search
 
 pub too_large_is : (bottom : ℕ) (parts : List Part) → first_fault [] parts ≡ None
     → bases_onto [] bottom (gathered_after_all bottom nothing_gathered parts).sections ≡ None

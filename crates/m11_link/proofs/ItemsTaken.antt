@@ -19,24 +19,24 @@ use Rattle.m11_layout.specs.declared.fault.LinkFault.TheVariants as fault
 use Rattle.m11_layout.proofs.Walking.{head_none, rest_none}
 use Rattle.m11_link.specs.Objects.{◌>>=◌, Item, BlockOf, ObjectEnds, parts_or_fault, parts_by, taken, taken_item, taken_parts, unless_fault}
 
-abbrev pub Answer : Type 0
-Answer = Result (List Part) LinkFault
+abbrev pub PartsOrFault : Type 0
+PartsOrFault = Result (List Part) LinkFault
 
-pub bind_ok : (r : Answer) (f : List Part → Answer) (parts : List Part) → (r >>= f) ≡ Ok parts
+pub bind_ok : (r : PartsOrFault) (f : List Part → PartsOrFault) (parts : List Part) → (r >>= f) ≡ Ok parts
     → (middle : List Part) × (r ≡ Ok middle) × (f middle ≡ Ok parts)
 bind_ok (Ok middle) f parts e = (middle, refl, e)
 bind_ok (Err stopped) f parts e = absurd cc
 
-pub bind_on : (r : Answer) (f : List Part → Answer) (middle : List Part) → r ≡ Ok middle → (r >>= f) ≡ f middle
-bind_on r f middle e = ap (λ (a : Answer). a >>= f) e
+pub bind_on : (r : PartsOrFault) (f : List Part → PartsOrFault) (middle : List Part) → r ≡ Ok middle → (r >>= f) ≡ f middle
+bind_on r f middle e = ap (λ (a : PartsOrFault). a >>= f) e
 
-pub bind_stops : (r : Answer) (f : List Part → Answer) (stopped : LinkFault) → r ≡ Err stopped
+pub bind_stops : (r : PartsOrFault) (f : List Part → PartsOrFault) (stopped : LinkFault) → r ≡ Err stopped
     → (r >>= f) ≡ Err stopped
-bind_stops r f stopped e = ap (λ (a : Answer). a >>= f) e
+bind_stops r f stopped e = ap (λ (a : PartsOrFault). a >>= f) e
 
 -- ---- more items
 
-same_parts : (xs ys : List Part) → ◌≡◌ {A = Answer} (Ok xs) (Ok ys) → xs ≡ ys
+same_parts : (xs ys : List Part) → ◌≡◌ {A = PartsOrFault} (Ok xs) (Ok ys) → xs ≡ ys
 same_parts xs ys e = cc
 
 pub taken_after : (before : List Part) (xs ys : List Item) (parts : List Part) → taken before xs ≡ Ok parts
@@ -47,7 +47,7 @@ taken_after before (x ∷ xs) ys parts e =
     bind_on (taken_item before x) (λ these. taken these (xs ++ ys)) first.0 first.1
     ∙ taken_after first.0 xs ys parts first.2
 
-split_fault : (r : Answer) (f g : List Part → Answer) (stopped : LinkFault) → (r >>= f) ≡ Err stopped
+split_fault : (r : PartsOrFault) (f g : List Part → PartsOrFault) (stopped : LinkFault) → (r >>= f) ≡ Err stopped
     → ((middle : List Part) → f middle ≡ Err stopped → g middle ≡ Err stopped) → (r >>= g) ≡ Err stopped
 split_fault (Ok middle) f g stopped e h = h middle e
 split_fault (Err other) f g stopped e h = e
@@ -60,11 +60,11 @@ fault_after before (x ∷ xs) ys stopped e =
     split_fault (taken_item before x) (λ these. taken these xs) (λ these. taken these (xs ++ ys)) stopped e
     (λ middle h. fault_after middle xs ys stopped h)
 
-pub one_taken : (before : List Part) (item : Item) (answer : Answer) → taken_item before item ≡ answer
-    → taken before (item ∷ []) ≡ answer
-one_taken before item answer e = alone (taken_item before item) ∙ e
+pub one_taken : (before : List Part) (item : Item) (result : PartsOrFault) → taken_item before item ≡ result
+    → taken before (item ∷ []) ≡ result
+one_taken before item result e = alone (taken_item before item) ∙ e
   where
-    alone : (r : Answer) → (r >>= λ these. taken these []) ≡ r
+    alone : (r : PartsOrFault) → (r >>= λ these. taken these []) ≡ r
     alone (Ok parts) = refl
     alone (Err stopped) = refl
 

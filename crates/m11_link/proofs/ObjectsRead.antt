@@ -79,10 +79,10 @@ walk_begins text faults = record {
 }
 
 -- a reader that gave a result goes on
-pub reads_on : {X : Type 0} (has_failed : Bool) (answer : X) → (IsTrue has_failed ↔ IsErr {E = BlockFault} (Ok answer))
+pub reads_on : {X : Type 0} (has_failed : Bool) (returned : X) → (IsTrue has_failed ↔ IsErr {E = BlockFault} (Ok returned))
     → has_failed ≡ false
-reads_on false answer h = refl
-reads_on {X} true answer h = absurd (let bad = h.0 refl in cc)
+reads_on false returned h = refl
+reads_on {X} true returned h = absurd (let bad = h.0 refl in cc)
 
 -- each block takes some of the room
 pub block_falls : (here there : Place) (content : List ℕ) → Reads first_block here there content

@@ -26,7 +26,7 @@ use Rattle.m11_link.specs.Outputs.{Outputs, Write, Gains, StopsBetween, StopsIn,
 use Rattle.m11_base.proofs.FeedsRead.{SoFar, begin, all_read, failed_here, given_more, none_failed, read_more}
 use Rattle.m11_link.proofs.FirstRead.{are_after, one_object}
 use Rattle.m11_link.proofs.Steady.{objects_come}
-use Rattle.m11_link.proofs.ItemsTaken.{fault_after, Answer, Decides, block_taken, decides_more, decides_then, end_decides, end_taken, ends_again, no_record_decides, one_taken, parts_decide, taken_after}
+use Rattle.m11_link.proofs.ItemsTaken.{fault_after, PartsOrFault, Decides, block_taken, decides_more, decides_then, end_decides, end_taken, ends_again, no_record_decides, one_taken, parts_decide, taken_after}
 use Rattle.m11_link.proofs.ObjectsRead.{StopsObject, Walked, walk_begins, walk_ends, walk_more, walk_stops, walk_whole}
 use Rattle.m11_writes.proofs.Writing.{gains_nothing, gains_then, stops_after}
 use Rattle.m11_layout.proofs.Standing.{sound_after}
@@ -190,7 +190,7 @@ refused_alone : (parts : List Part) (item : Item) (stopped : LinkFault) → take
     → taken_item parts item ≡ Err stopped
 refused_alone parts item stopped e = alone (taken_item parts item) e
   where
-    alone : (r : Answer) → (r >>= λ these. taken these []) ≡ Err stopped → r ≡ Err stopped
+    alone : (r : PartsOrFault) → (r >>= λ these. taken these []) ≡ Err stopped → r ≡ Err stopped
     alone (Ok these) h = absurd cc
     alone (Err other) h = h
 

@@ -8,7 +8,7 @@ use Rattle.m11_modules.specs.declared.fault.ModuleFault.{ModuleFault}
 use Rattle.m11_modules.specs.Parts.{Part, EndOfFile, parts_in, parts_of, record_parts}
 use Rattle.m11_modules.specs.Rules.{first_fault}
 use Rattle.m11_link.specs.Objects.{◌>>=◌, Item, BlockOf, ObjectEnds, Refused, parts_or_fault, taken, taken_item, taken_parts, unless_fault}
-use Rattle.m11_link.proofs.ItemsTaken.{Answer, bind_ok}
+use Rattle.m11_link.proofs.ItemsTaken.{PartsOrFault, bind_ok}
 
 -- the parts that an item has, if it has any
 abbrev pub parts_within : Item → List Part
@@ -36,7 +36,7 @@ item_is before ObjectEnds these e =
     unless_is (first_fault before (EndOfFile ∷ [])) (before ++ EndOfFile ∷ []) these e
 item_is before (Refused refused) these e = absurd cc
 
-same_parts : (xs ys : List Part) → ◌≡◌ {A = Answer} (Ok xs) (Ok ys) → ys ≡ xs
+same_parts : (xs ys : List Part) → ◌≡◌ {A = PartsOrFault} (Ok xs) (Ok ys) → ys ≡ xs
 same_parts xs ys e = cc
 
 pub parts_are : (before : List Part) (items : List Item) (parts : List Part) → taken before items ≡ Ok parts

@@ -23,7 +23,7 @@ use Rattle.m11_layout.proofs.Walking.{head_none, rest_none}
 use Rattle.m11_link.specs.Objects.{◌>>=◌, BlockOf, Item, ObjectEnds, Refused, parts_by, parts_or_fault, taken, taken_item, taken_parts, outcome, unless_fault, unless_too_large}
 use Rattle.m11_link_text.specs.Findings.{findings_of}
 use Rattle.m11_link.specs.Written.{link_writes}
-use Rattle.m11_link.proofs.ItemsTaken.{Answer, bind_ok, fault_after, one_taken, taken_after}
+use Rattle.m11_link.proofs.ItemsTaken.{PartsOrFault, bind_ok, fault_after, one_taken, taken_after}
 use Rattle.m11_link_laws.specs.Joining.{LinkAlike}
 use Rattle.m11_link_laws.proofs.ItemsParts.{items_parts, parts_are, parts_within}
 use Rattle.m11_link_laws.proofs.JoiningEnds.{end_left, known_same, stage_same, without_append, without_ends}
@@ -115,7 +115,7 @@ taken_in_order items parts e =
 -- ---- the same items after parts that are the same but for the ends of files
 
 -- parts that are the same but for the ends of files, or the same fault
-abbrev pub Same : Answer → Answer → Type 0
+abbrev pub Same : PartsOrFault → PartsOrFault → Type 0
 Same (Ok parts) (Ok others) = without_ends parts ≡ without_ends others
 Same (Err stopped) (Err other) = stopped ≡ other
 Same one other = ⊥
@@ -135,7 +135,7 @@ stage_alike : (before other : List Part) → without_ends before ≡ without_end
 stage_alike before other same = sym (stage_same Between before) ∙ ap (λ these. stage_from Between these) same
     ∙ stage_same Between other
 
-same_then : (one other : Answer) (f g : List Part → Answer) → Same one other
+same_then : (one other : PartsOrFault) (f g : List Part → PartsOrFault) → Same one other
     → ((parts others : List Part) → without_ends parts ≡ without_ends others → Same (f parts) (g others))
     → Same (one >>= f) (other >>= g)
 same_then (Ok parts) (Ok others) f g same h = h parts others same
@@ -157,16 +157,16 @@ module _ (before other : List Part) (same : without_ends before ≡ without_ends
       (unless_same (first_fault before parts) (before ++ parts) (other ++ parts)
       (without_append before parts ∙ ap (λ these. these ++ without_ends parts) same ∙ sym (without_append other parts)))
 
-  answer_same : (answer : Answer) → Same (answer >>= taken_parts before) (answer >>= taken_parts other)
-  answer_same (Ok parts) = parts_same parts
-  answer_same (Err stopped) = refl
+  parts_or_fault_same : (result : PartsOrFault) → Same (result >>= taken_parts before) (result >>= taken_parts other)
+  parts_or_fault_same (Ok parts) = parts_same parts
+  parts_or_fault_same (Err stopped) = refl
 
 taken_same : (items : List Item) (before other : List Part) → without_ends before ≡ without_ends other
     → Same (taken before items) (taken other items)
 taken_same [] before other same = same
 taken_same (item ∷ items) before other same =
     same_then (taken_item before item) (taken_item other item) (λ these. taken these items) (λ these. taken these items)
-    (answer_same before other same (parts_by item)) (λ parts others k. taken_same items parts others k)
+    (parts_or_fault_same before other same (parts_by item)) (λ parts others k. taken_same items parts others k)
 
 -- ---- files, and their blocks in one file
 
@@ -219,10 +219,10 @@ end_taken : (before : List Part) (items : List Item) → stage_from Between befo
 end_taken before items s =
     ap (λ broken. unless_fault broken (before ++ EndOfFile ∷ []) >>= λ these. taken these items) (end_sound before s)
 
-to_same : (one one' other other' : Answer) → one ≡ one' → other ≡ other' → Same one' other' → Same one other
+to_same : (one one' other other' : PartsOrFault) → one ≡ one' → other ≡ other' → Same one' other' → Same one other
 to_same one one' other other' e f h =
-    let P : Answer → Type 0 = λ r. Same r other in
-    let Q : Answer → Type 0 = λ r. Same one' r in
+    let P : PartsOrFault → Type 0 = λ r. Same r other in
+    let Q : PartsOrFault → Type 0 = λ r. Same one' r in
     subst P (sym e) (subst Q (sym f) h)
 
 module _ (contents : List (List ℕ)) (more others : List Item) (before other : List Part) (w : IsWhole contents)
@@ -230,8 +230,8 @@ module _ (contents : List (List ℕ)) (more others : List Item) (before other : 
     (rest : (parts those : List Part) → stage_from Between parts ≡ Between → without_ends parts ≡ without_ends those
     → Same (taken parts more) (taken those others))
   where
-    file_then : (one answer : Answer) → taken before (blocks contents) ≡ one → taken other (blocks contents) ≡ answer
-        → Same one answer
+    file_then : (one result : PartsOrFault) → taken before (blocks contents) ≡ one → taken other (blocks contents) ≡ result
+        → Same one result
         → Same (taken before (blocks contents ++ ObjectEnds ∷ more)) (taken other (blocks contents ++ others))
     file_then (Ok parts) (Ok those) e f same =
         let closed = closes contents w before parts s e in
@@ -276,21 +276,21 @@ module _ (bottom : ℕ) where
   size_alike parts others same = sym (too_large_same bottom parts) ∙ ap (λ these. is_too_large bottom these) same
       ∙ too_large_same bottom others
 
-  answers_alike : (one other : Answer) → Same one other
+  outcomes_alike : (one other : PartsOrFault) → Same one other
       → ((parts : List Part) → one ≡ Ok parts → InOrder Between parts)
       → ((parts : List Part) → other ≡ Ok parts → InOrder Between parts)
       → LinkAlike bottom (one >>= unless_too_large bottom) (other >>= unless_too_large bottom)
-  answers_alike (Ok parts) (Ok others) same h k =
+  outcomes_alike (Ok parts) (Ok others) same h k =
       let P : Bool → Type 0 = λ large. LinkAlike bottom (unless_too_large bottom parts)
       (if large then Err fault.TooLarge else Ok others) in
       subst P (size_alike parts others same) (by_size (is_too_large bottom parts) parts others
       (written_alike bottom parts others (h parts refl) (k others refl) same))
-  answers_alike (Ok parts) (Err other) same h k = absurd same
-  answers_alike (Err stopped) (Ok others) same h k = absurd same
-  answers_alike (Err stopped) (Err other) same h k = same
+  outcomes_alike (Ok parts) (Err other) same h k = absurd same
+  outcomes_alike (Err stopped) (Ok others) same h k = absurd same
+  outcomes_alike (Err stopped) (Err other) same h k = same
 
   pub files_alike : (files : List (List (List ℕ))) → AllByRecursion IsWhole files
       → LinkAlike bottom (outcome bottom (files_items files)) (outcome bottom (joined_items files))
   files_alike files h =
-      answers_alike (taken [] (files_items files)) (taken [] (joined_items files)) (files_taken files h [] [] refl refl)
+      outcomes_alike (taken [] (files_items files)) (taken [] (joined_items files)) (files_taken files h [] [] refl refl)
       (λ parts e. taken_in_order (files_items files) parts e) (λ parts e. taken_in_order (joined_items files) parts e)

@@ -15,27 +15,27 @@ use Rattle.m11_link.specs.SecondPass.{LinkRuns, ReadsSecond}
 use Rattle.m11_link.specs.Written.{counted, link_writes}
 use Rattle.m11_link.specs.declared.emit.LinkDone.{LinkDone}
 use Rattle.m11_link.proofs.Agreeing.{written_by_definition}
-use Rattle.m11_link.proofs.ItemsTaken.{Answer}
+use Rattle.m11_link.proofs.ItemsTaken.{PartsOrFault}
 use Rattle.m11_link.proofs.Sole.{objects_same}
 use Rattle.m11_link_laws.specs.Runs.{AreKnown, IsDecided, IsKnown, IsRefusal, MayStop}
 
 -- ---- answers
 
-no_both : (r : Answer) (parts : List Part) (stopped : LinkFault) → r ≡ Ok parts → r ≡ Err stopped → ⊥
-no_both r parts stopped e f = let g : ◌≡◌ {A = Answer} (Ok parts) (Err stopped) = sym e ∙ f in cc
+no_both : (r : PartsOrFault) (parts : List Part) (stopped : LinkFault) → r ≡ Ok parts → r ≡ Err stopped → ⊥
+no_both r parts stopped e f = let g : ◌≡◌ {A = PartsOrFault} (Ok parts) (Err stopped) = sym e ∙ f in cc
 
-one_parts : (r : Answer) (xs ys : List Part) → r ≡ Ok xs → r ≡ Ok ys → xs ≡ ys
-one_parts r xs ys e f = let g : ◌≡◌ {A = Answer} (Ok xs) (Ok ys) = sym e ∙ f in cc
+one_parts : (r : PartsOrFault) (xs ys : List Part) → r ≡ Ok xs → r ≡ Ok ys → xs ≡ ys
+one_parts r xs ys e f = let g : ◌≡◌ {A = PartsOrFault} (Ok xs) (Ok ys) = sym e ∙ f in cc
 
-one_fault : (r : Answer) (x y : LinkFault) → r ≡ Err x → r ≡ Err y → x ≡ y
-one_fault r x y e f = let g : ◌≡◌ {A = Answer} (Err x) (Err y) = sym e ∙ f in cc
+one_fault : (r : PartsOrFault) (x y : LinkFault) → r ≡ Err x → r ≡ Err y → x ≡ y
+one_fault r x y e f = let g : ◌≡◌ {A = PartsOrFault} (Err x) (Err y) = sym e ∙ f in cc
 
-small : (b : Bool) (these parts : List Part) → ◌≡◌ {A = Answer} (if b then Err fault.TooLarge else Ok these) (Ok parts)
-    → ◌≡◌ {A = Answer} (Ok these) (Ok parts)
+small : (b : Bool) (these parts : List Part) → ◌≡◌ {A = PartsOrFault} (if b then Err fault.TooLarge else Ok these) (Ok parts)
+    → ◌≡◌ {A = PartsOrFault} (Ok these) (Ok parts)
 small true these parts e = absurd cc
 small false these parts e = e
 
-taken_of : (bottom : ℕ) (r : Answer) (parts : List Part) → (r >>= unless_too_large bottom) ≡ Ok parts → r ≡ Ok parts
+taken_of : (bottom : ℕ) (r : PartsOrFault) (parts : List Part) → (r >>= unless_too_large bottom) ≡ Ok parts → r ≡ Ok parts
 taken_of bottom (Ok these) parts e = small (is_too_large bottom these) these parts e
 taken_of bottom (Err stopped) parts e = absurd cc
 
@@ -112,7 +112,7 @@ module _ {F : Type 0} (text : F → Option Text) (faults : F → ℕ) (bottom : 
   same_refused refused fault.NoMemory e = tt
   same_refused refused stopped e = e
 
-  stops_or : (stopped : LinkFault) (r : Answer) (parts : List Part) → r ≡ Ok parts → MayStop stopped ⊎ (r ≡ Err stopped)
+  stops_or : (stopped : LinkFault) (r : PartsOrFault) (parts : List Part) → r ≡ Ok parts → MayStop stopped ⊎ (r ≡ Err stopped)
       → MayStop stopped
   stops_or stopped r parts e (inl h) = h
   stops_or stopped r parts e (inr f) = absurd (no_both r parts stopped e f)
@@ -145,7 +145,7 @@ module _ {F : Type 0} (text : F → Option Text) (faults : F → ℕ) (bottom : 
         let G : List Write → Type 0 = λ these. Gains old new these in
         (subst G ws wrote.2, wrote.3 ∙ ap (λ these. counted 0 these) ws)
 
-    decided : (o : Answer) → outcome bottom items ≡ o → (result : Result LinkDone LinkFault)
+    decided : (o : PartsOrFault) → outcome bottom items ≡ o → (result : Result LinkDone LinkFault)
         → LinkRuns (pass_of text faults first first') (pass_of text faults second second') bottom old new result → IsDecided bottom o old new result
     decided (Ok parts) e (Ok done) h = all_written parts done e h.0 h.1 h.2
     decided (Ok parts) e (Err stopped) (inl h) =

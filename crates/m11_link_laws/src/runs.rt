@@ -18,8 +18,8 @@ use m11_base::Feed;
 #[tactic(auto, using(crate::proofs::RunsDecided::run_decided))]
 pub fn known_objects_decide_the_run<F: Feed>()
     ensures { (first again second later : List F) (bottom : ℕ) (sources : List (List ℕ)) (items : List Item)
-        (old new : Outputs) (answer : Result LinkDone LinkFault) → AreItems sources items → AreKnown F.text first sources
+        (old new : Outputs) (returned : Result LinkDone LinkFault) → AreItems sources items → AreKnown F.text first sources
         → AreKnown F.text second sources
-        → LinkRuns (pass_of F.text F.faults first again) (pass_of F.text F.faults second later) bottom old new answer
-        → IsDecided bottom (outcome bottom items) old new answer }
+        → LinkRuns (pass_of F.text F.faults first again) (pass_of F.text F.faults second later) bottom old new returned
+        → IsDecided bottom (outcome bottom items) old new returned }
 {}

@@ -10,7 +10,7 @@ use m11_base::{Name, octal6};
 use m11_obj::SectionFlags;
 use m11_print::{Line, ended, put, put_attributes};
 
-/// The value that a name has at the end of the first reading.
+/// The value that a name has at the end of the first pass.
 #[derive(Clone, Copy, Debug, PartialEq, Eq)]
 pub enum SymbolValue {
     Unknown,

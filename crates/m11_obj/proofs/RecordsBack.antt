@@ -201,8 +201,8 @@ pub all_bytes : (bytes : List ℕ) → ((k : ℕ) → FitsWidth w8 (get_or bytes
 all_bytes bytes fits = λ k d lt.
     let at = fits k in omega (arith, at, get_or_default bytes k d 0 lt)
 
-pub some_content : (bytes : List ℕ) (answer : Result (Unit {0}) RecordFault) → All (λ byte. byte < 256) bytes
-    → length bytes ≤ content_limit → answer ≡ checked (content_of bytes) → OnOk answer (SaysWhatStands bytes)
+pub some_content : (bytes : List ℕ) (result : Result (Unit {0}) RecordFault) → All (λ byte. byte < 256) bytes
+    → length bytes ≤ content_limit → result ≡ checked (content_of bytes) → OnOk result (SaysWhatStands bytes)
 some_content bytes (Ok x) all le e =
     let found = content_found (content_of bytes) e in
     (found.0, found.1, read_stands bytes found.0 all le found.1)

@@ -28,7 +28,7 @@ use Rattle.m11_placement.specs.declared.meanings.Context.TheVariants.{Knows}
 use Rattle.m11_placement.specs.Operators.{is_even}
 use Rattle.m11_placement.specs.Sections.{numbered}
 use Rattle.m11_placement.specs.Tables.{Table, firm_table, first_table, place}
-use Rattle.m11_placement.specs.Unfolded.{told}
+use Rattle.m11_placement.specs.Unfolded.{known_after_labels}
 use Rattle.m11_placement.specs.declared.sections.Section.{Section}
 use Rattle.m11_placement.specs.declared.settings.Settings.{Settings}
 use Rattle.m11_placing.proofs.Alike.{alike_itself, alike_known, alike_place}
@@ -84,7 +84,7 @@ module _ (unfolder : Unfolding) (kept : Kept) (gathered mentioned : Gathered)
 pub acts_told : (names : FirmAsked) (table : Table) (at : ℕ) (text : Bytes) (before after : Stage) (result : Result Acting UnfoldFault)
     → names ≡ firm_asked table at → at ≡ place table
     → Acts (known_by names.table.settings.radix (stands_for empty_map Knows (firm_table names.table) names.place)) text before after result
-    → Acts (told table) text before after result
+    → Acts (known_after_labels table) text before after result
 acts_told names table at text before after result is there acts =
     let P : FirmAsked → Type 0 = λ n.
     Acts (known_by n.table.settings.radix (stands_for empty_map Knows (firm_table n.table) n.place)) text before after result in
@@ -120,7 +120,7 @@ module _ (map_ : Map) (live : Live) (before : Stage) (old new : Going) (stood : 
     (done : Act) (of : Deed)
     (labels : Labels map_ old.gathered.names live.line.text old.kept stood found)
     (named_are : named ≡ with_all (mentions_of_labels live.line.text) old.gathered)
-    (acts : IsActOf (told stood.table) live.line.text before new.unfolder.stage done)
+    (acts : IsActOf (known_after_labels stood.table) live.line.text before new.unfolder.stage done)
     (deed_is : of ≡ deed done.is_own live.line.text) where
   abbrev text : Bytes
   text = live.line.text

@@ -26,7 +26,7 @@ use Rattle.m11_placement.specs.declared.meanings.Context.TheVariants.{Knows}
 use Rattle.m11_placement.specs.Mentions.{Mention, deed_mentions, mention, mentions}
 use Rattle.m11_placement.specs.Tables.{Table, firm_table, place}
 use Rattle.m11_placement.specs.declared.sections.Section.{Section}
-use Rattle.m11_placement.specs.Unfolded.{told}
+use Rattle.m11_placement.specs.Unfolded.{known_after_labels}
 use Rattle.m11_placing.proofs.Alike.{alike_known, alike_place}
 use Rattle.m11_placing.proofs.Gathering.{all_joined}
 use Rattle.m11_placing.proofs.LinesAlike.{firm_alike}
@@ -44,7 +44,7 @@ use Rattle.m11_passes.specs.declared.fault.PassFault.TheVariants.{TooManySymbols
 
 -- ---- what unfolding is told
 
-told_alike : (one other : Table) → Alike one other → told one ≡ told other
+told_alike : (one other : Table) → Alike one other → known_after_labels one ≡ known_after_labels other
 told_alike one other alike =
     alike_known (firm_table one) (firm_table other) (firm_alike one other alike) empty_map Knows (place one)
     ∙ ap (λ (p : ℕ). firm_known other p) (alike_place one other alike)
@@ -145,14 +145,14 @@ pub record IsActOf (known : Known) (text : Bytes) (before after : Stage) (done :
 
 module _ (map_ : Map) (table : Table) (live : Live) (before after : Stage) (done : Act) (stood : Kept) (gathered : Gathered)
     (stand : Matches stood (labels_stand table live.line.text))
-    (acts : IsActOf (told stood.table) live.line.text before after done) where
+    (acts : IsActOf (known_after_labels stood.table) live.line.text before after done) where
   abbrev text : Bytes
   text = live.line.text
 
   abbrev line : Given
   line = given_by table live before
 
-  known_so : told stood.table ≡ line.known
+  known_so : known_after_labels stood.table ≡ line.known
   known_so = told_alike stood.table (labels_stand table text) stand.alike
 
   own_so : done.is_own ≡ line.is_own

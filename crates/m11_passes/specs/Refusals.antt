@@ -19,7 +19,7 @@ use Rattle.m11_placement.specs.Lines.{after_line}
 use Rattle.m11_placement.specs.Meanings.{Map}
 use Rattle.m11_placement.specs.Mentions.{Mention, label_mentions, mentions}
 use Rattle.m11_placement.specs.Tables.{Table}
-use Rattle.m11_placement.specs.Unfolded.{told}
+use Rattle.m11_placement.specs.Unfolded.{known_after_labels}
 use Rattle.m11_passes.specs.Faults.{of_unfolding}
 use Rattle.m11_passes.specs.declared.fault.PassFault.{PassFault}
 use Rattle.m11_passes.specs.declared.fault.PassFault.TheVariants.{TooManySymbols, TooManySections}
@@ -47,7 +47,7 @@ labels_fault names table line =
 
 -- a live line, told what the table before it says once the labels of the line stand
 abbrev pub given_by : Table → Live → Stage → Given
-given_by table live stage = given (told (labels_stand table live.line.text)) live stage
+given_by table live stage = given (known_after_labels (labels_stand table live.line.text)) live stage
 
 abbrev pub placing_fault : Map → Table → List Name → Given → Option PassFault
 placing_fault map table names given =

@@ -2,7 +2,7 @@
 
 ghost use Rattle.std.specs.Prelude.{◌≡◌, ◌<◌, ◌≤◌, ◌+◌, ◌^◌, IfOk, IfErr, length};
 ghost use Rattle.m11_placement.specs.Labels.{labels_stand};
-ghost use Rattle.m11_placement.specs.Tables.{Table as Told};
+ghost use Rattle.m11_placement.specs.Tables.{Table as LineTable};
 ghost use Rattle.m11_placing.specs.Mentioned.{with_all};
 ghost use Rattle.m11_placing.specs.Passes.{Matches};
 ghost use Rattle.m11_statements.specs.Labels.{labels_at};
@@ -31,10 +31,10 @@ pub(crate) fn define_labels(
     requires few { IsFew pass.old mentioned.old }
     ensures stand { IfOk result (λ letters. Labels map.now mentioned.old.names line.now.text pass.old pass.new letters) }
     ensures mentions { IfOk result (λ _. mentioned.new ≡ with_all (mentions_of_labels line.now.text) mentioned.old) }
-    ensures tables { IfOk result (λ _. tables.Follows pass.old.table pass.new.table (λ told. labels_stand told line.now.text)) }
+    ensures tables { IfOk result (λ _. tables.Follows pass.old.table pass.new.table (λ before. labels_stand before line.now.text)) }
     ensures few { IfOk result (λ _. IsFew pass.new mentioned.new) }
-    ensures refuses { IfErr result (λ fault. (told : Told) → Matches pass.old told
-        → Fails (labels_fault mentioned.old.names told line.now.text) fault) }
+    ensures refuses { IfErr result (λ fault. (before : LineTable) → Matches pass.old before
+        → Fails (labels_fault mentioned.old.names before line.now.text) fault) }
 {
     let letters = pass.define_labels(map, line, labels)?;
     mentioned.add_labels(line, labels)?;

@@ -6,7 +6,7 @@ ghost use Rattle.m11_placement.specs.Changes.{changed};
 ghost use Rattle.m11_placement.specs.Items.{deed_items, is_shown};
 ghost use Rattle.m11_placement.specs.Limits.{most_names, most_sections};
 ghost use Rattle.m11_placement.specs.Lines.{put_by, put_place, section_name};
-ghost use Rattle.m11_placement.specs.Tables.{Table as Told, place};
+ghost use Rattle.m11_placement.specs.Tables.{Table as LineTable, place};
 ghost use Rattle.m11_placing.specs.Deeds.{IsWithin, deed_seen, is_listed};
 ghost use Rattle.m11_placement.specs.Mentions.{deed_mentions, mention};
 ghost use Rattle.m11_placement.specs.declared.meanings.Context.TheVariants.{Knows};
@@ -103,16 +103,16 @@ pub(crate) fn change_line(
     requires block { pass.old.table.settings.block + 1 < 2 ^ 64 }
     requires section { pass.old.table.settings.section < 64 }
     requires sections { length pass.old.table.sections ≤ most_sections }
-    ensures changes { IfOk result (λ _. Follows pass.old pass.new (λ told. changed map.now line.now.text
-        (change_after pass.old.table line.now.text arguments (deed_seen deed.now)) told)) }
-    ensures tables { IfOk result (λ _. tables.Follows pass.old.table pass.new.table (λ told. changed map.now line.now.text
-        (change_after pass.old.table line.now.text arguments (deed_seen deed.now)) told)) }
+    ensures changes { IfOk result (λ _. Follows pass.old pass.new (λ before. changed map.now line.now.text
+        (change_after pass.old.table line.now.text arguments (deed_seen deed.now)) before)) }
+    ensures tables { IfOk result (λ _. tables.Follows pass.old.table pass.new.table (λ before. changed map.now line.now.text
+        (change_after pass.old.table line.now.text arguments (deed_seen deed.now)) before)) }
     ensures sections { IfOk result (λ _. length pass.new.table.sections ≤ most_sections) }
     ensures symbols { IfOk result (λ _. pass.new.local_symbols ≡ pass.old.local_symbols) }
     ensures shows { IfOk result (λ item. option_to_list item ≡ deed_items map.now pass.old.table line.now.text
         (change_after pass.old.table line.now.text arguments (deed_seen deed.now)) (deed_seen deed.now)) }
-    ensures refuses { IfErr result (λ fault. (told : Told) → Matches pass.old told → Refuses fault ⊥ (most_sections < length
-        (changed map.now line.now.text (change_after pass.old.table line.now.text arguments (deed_seen deed.now)) told).sections)) }
+    ensures refuses { IfErr result (λ fault. (before : LineTable) → Matches pass.old before → Refuses fault ⊥ (most_sections < length
+        (changed map.now line.now.text (change_after pass.old.table line.now.text arguments (deed_seen deed.now)) before).sections)) }
 {
     let change = deed_change(pass.table(), line, arguments, deed);
     let assigned = assigned_item(map, pass.table(), line, &change, deed);

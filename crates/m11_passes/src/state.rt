@@ -4,7 +4,7 @@ ghost use Rattle.std.specs.Prelude.{◌≡◌, [], IfOk, false, None};
 ghost use Rattle.std.specs.Int.RustNames.{bit_or};
 ghost use Rattle.m11_arguments.specs.Directives.{every_name};
 ghost use Rattle.m11_placement.specs.Tables.{first_table};
-ghost use Rattle.m11_placement.specs.Unfolded.{told};
+ghost use Rattle.m11_placement.specs.Unfolded.{known_after_labels};
 ghost use Rattle.m11_placing.specs.Lines.{letters_from};
 ghost use Rattle.m11_placing.specs.Passes.{Matches};
 ghost use Rattle.m11_scan.specs.Views.{bits_of};
@@ -140,7 +140,7 @@ impl State {
 fn act_on(unfolder: &mut Unfolder, line: &Line, pass: &Pass) -> Result<Act, UnfoldFault>
     requires free { unfolder.old.has_statement ≡ false }
     requires goes_on { unfolder.old.fault ≡ None }
-    ensures acts { steps.Acts (told pass.now.table) line.now.text unfolder.old.stage unfolder.new.stage result }
+    ensures acts { steps.Acts (known_after_labels pass.now.table) line.now.text unfolder.old.stage unfolder.new.stage result }
     ensures goes_on { IfOk result (λ _. unfolder.new.fault ≡ None) }
     ensures kept { IfOk result (λ _. IsKept unfolder.new.stage) }
 {
@@ -151,7 +151,7 @@ fn act_on(unfolder: &mut Unfolder, line: &Line, pass: &Pass) -> Result<Act, Unfo
 fn act_under(unfolder: &mut Unfolder, line: &Line, table: &Table) -> Result<Act, UnfoldFault>
     requires free { unfolder.old.has_statement ≡ false }
     requires goes_on { unfolder.old.fault ≡ None }
-    ensures acts { steps.Acts (told table.now) line.now.text unfolder.old.stage unfolder.new.stage result }
+    ensures acts { steps.Acts (known_after_labels table.now) line.now.text unfolder.old.stage unfolder.new.stage result }
     ensures goes_on { IfOk result (λ _. unfolder.new.fault ≡ None) }
     ensures kept { IfOk result (λ _. IsKept unfolder.new.stage) }
 {

@@ -7,10 +7,10 @@ use Rattle.m11_placement.proofs.FirmLines.{line_alike, stands_alike}
 use Rattle.m11_placement.specs.Lines.{after_line}
 use Rattle.m11_placement.specs.Meanings.{Knows, Map, empty_map, known_at}
 use Rattle.m11_placement.specs.Tables.{Table, first_table, firm_table, place}
-use Rattle.m11_placement.specs.Unfolded.{AreLines, AreTold}
+use Rattle.m11_placement.specs.Unfolded.{AreLines, KnowLinesBefore}
 
 told_alike : (one other : Map) (lines : List Given) (first second : Table) → firm_table first ≡ firm_table second
-    → AreTold one first lines → AreTold other second lines
+    → KnowLinesBefore one first lines → KnowLinesBefore other second lines
 told_alike one other [] first second same are_told = tt
 told_alike one other (given ∷ lines) first second same are_told = (
   are_told.0 ∙ ap (λ (t : Table). known_at empty_map Knows t (place t)) (stands_alike given first second same),

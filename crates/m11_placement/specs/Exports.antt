@@ -93,7 +93,7 @@ identification_letters_of line start None = bit_or letter_A (rest_letters line s
 abbrev pub identification_letters : Bytes → ℕ → ℕ
 identification_letters line start = identification_letters_of line start (next_part line start true)
 
--- ---- .END e: the address where the program begins. Its value and the letters of that are asked of the first reading, for the whole source
+-- ---- .END e: the address where the program begins. Its value and the letters of that are asked of the first pass, for the whole source
 
 abbrev pub transfer : Map → Table → Bytes → ℕ → Option Quantity
 transfer map table line start =

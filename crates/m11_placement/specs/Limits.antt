@@ -76,11 +76,11 @@ fault_from map table (given ∷ lines) names =
     first_fault (limit_fault (with_mentions (mentions table given) names) (after_line map table given))
     (fault_from map (after_line map table given) lines (with_mentions (mentions table given) names))
 
--- the first line past a limit, in the first reading
-abbrev pub first_reading_fault : List Given → Option LimitFault
-first_reading_fault lines = fault_from empty_map first_table lines []
+-- the first line past a limit, in the first pass
+abbrev pub first_pass_fault : List Given → Option LimitFault
+first_pass_fault lines = fault_from empty_map first_table lines []
 
--- names of both readings count together, and sections for each alone
-abbrev pub second_reading_fault : List Given → Option LimitFault
-second_reading_fault lines =
+-- names of both passes count together, and sections for each alone
+abbrev pub second_pass_fault : List Given → Option LimitFault
+second_pass_fault lines =
     fault_from (program_map lines) first_table lines (names_after empty_map first_table lines [])

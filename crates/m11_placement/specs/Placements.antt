@@ -1,5 +1,5 @@
 -- The placement of a whole source: what its live lines give, one after the other. (MACRO-11 Language Reference Manual, "Symbols and
--- expressions" and "Assembler directives". That a source is read twice, and that the second reading has what the first gave each name in
+-- expressions" and "Assembler directives". That a source is read twice, and that the second pass has what the first gave each name in
 -- the end, is this project's own.)
 use Rattle.std.specs.Prelude.{ℕ, List, [], ◌∷◌}
 use Rattle.m11_object_text.specs.declared.pieces.Piece.{Piece}

@@ -1,6 +1,6 @@
 -- What a source gives beside its pieces: title, identification, weak names, where its program begins, and the letters of its lines.
 -- (MACRO-11 Language Reference Manual, ".TITLE directive", ".IDENT directive", ".WEAK directive" and ".END directive". That the last title
--- and the last identification hold, and that the address is the first reading's, is this project's own.)
+-- and the last identification hold, and that the address is the first pass's, is this project's own.)
 use Rattle.std.specs.Prelude.{ℕ, List, [], ◌∷◌, map, Option, Some, None}
 use Rattle.std.specs.List.{flat_map}
 use Rattle.std.specs.Int.RustNames.{bit_or}
@@ -90,7 +90,7 @@ line_weak_names given = weak_in given.live.line.text (directed given)
 abbrev pub weak_names : List Given → List Name
 weak_names lines = flat_map line_weak_names lines
 
--- ---- where the program begins: the expression of the `.END` that became live, as the first reading finds it
+-- ---- where the program begins: the expression of the `.END` that became live, as the first pass finds it
 
 abbrev pub transfer_by : Map → Table → Bytes → Directive → ℕ → Option Quantity
 transfer_by map table line word.End start = transfer map table line start
@@ -111,7 +111,7 @@ transfer_after map table (given ∷ lines) =
 abbrev pub source_transfer : List Given → Option Quantity
 source_transfer lines = transfer_after empty_map first_table lines
 
--- ---- the letters of each line, as the second reading reports them: those of an address are the first reading's
+-- ---- the letters of each line, as the second pass reports them: those of an address are the first pass's
 
 abbrev pub end_by : ℕ → Directive → ℕ
 end_by letters word.End = letters

@@ -10,15 +10,15 @@ use Rattle.m11_placement.specs.Lines.{after_line, stands}
 use Rattle.m11_placement.specs.Meanings.{Map, firm_known}
 use Rattle.m11_placement.specs.Tables.{Table, first_table, place}
 
--- what conditions, repeats and macros are told once the labels of their line stand
-abbrev pub told : Table → Known
-told stood = firm_known stood (place stood)
+-- what conditions, repeats and macros know once the labels of their line stand
+abbrev pub known_after_labels : Table → Known
+known_after_labels stood = firm_known stood (place stood)
 
--- each line was told what the lines before it say
-abbrev pub AreTold : Map → Table → List Given → Type 0
-AreTold map table [] = ⊤
-AreTold map table (given ∷ lines) = (given.known ≡ told (stands table given)) × AreTold map (after_line map table given) lines
+-- each line knows what the lines before it say
+abbrev pub KnowLinesBefore : Map → Table → List Given → Type 0
+KnowLinesBefore map table [] = ⊤
+KnowLinesBefore map table (given ∷ lines) = (given.known ≡ known_after_labels (stands table given)) × KnowLinesBefore map (after_line map table given) lines
 
 -- the live lines of a source, up to a stage of its unfolding, placed under a map
 abbrev pub AreLines : Map → List SourceLine → List Given → Stage → Type 0
-AreLines map source lines stage = Unfolds source lines stage × AreTold map first_table lines
+AreLines map source lines stage = Unfolds source lines stage × KnowLinesBefore map first_table lines

@@ -6,14 +6,14 @@ use Rattle.m11_expansions.specs.Conditions.{is_skipping}
 use Rattle.m11_placement.specs.Lines.{stands}
 use Rattle.m11_placement.specs.Meanings.{empty_map}
 use Rattle.m11_placement.specs.Placements.{table_after}
-use Rattle.m11_placement.specs.Unfolded.{told}
+use Rattle.m11_placement.specs.Unfolded.{known_after_labels}
 use Rattle.m11_placements.specs.Worked.{plain}
 use Rattle.m11_scan.specs.Letters.{letters_text}
 use Rattle.m11_unfolding.specs.Acting.{Acted, act}
 use Rattle.m11_unfolding.specs.Stages.{start}
 
 -- whether a condition holds, and its letters
-pub record Answer : Type 0 where
+pub record Verdict : Type 0 where
   pub holds : Bool
   pub letters : Bytes
 
@@ -21,28 +21,28 @@ pub record Answer : Type 0 where
 pub record ConditionRow : Type 0 where
   pub before : List Bytes
   pub line : Bytes
-  pub answer : Answer
+  pub verdict : Verdict
 
-abbrev pub answer_of : Acted → Answer
-answer_of acted = record {
+abbrev pub verdict_of : Acted → Verdict
+verdict_of acted = record {
   holds = not (is_skipping acted.after.conditions);
   letters = letters_text acted.notes.letters;
 }
 
 -- the operator of a line, by what the lines before it and its own labels tell
-abbrev pub answered : List Bytes → Bytes → Answer
-answered before line =
-    answer_of (act (told (stands (table_after empty_map (map plain before)) (plain line))) (start []) line)
+abbrev pub judged : List Bytes → Bytes → Verdict
+judged before line =
+    verdict_of (act (known_after_labels (stands (table_after empty_map (map plain before)) (plain line))) (start []) line)
 
-abbrev pub found_answer : ConditionRow → Answer
-found_answer row = answered row.before row.line
+abbrev pub found_verdict : ConditionRow → Verdict
+found_verdict row = judged row.before row.line
 
-abbrev pub told_answer : ConditionRow → Answer
-told_answer row = row.answer
+abbrev pub expected_verdict : ConditionRow → Verdict
+expected_verdict row = row.verdict
 
 abbrev pub row : List Bytes → Bytes → Bool → Bytes → ConditionRow
 row before line holds letters =
-    record { before = before; line = line; answer = record { holds = holds; letters = letters } }
+    record { before = before; line = line; verdict = record { holds = holds; letters = letters } }
 
 -- a label of the condition's own line counts, but for one on a name that has a definition
 abbrev pub label_rows : List ConditionRow

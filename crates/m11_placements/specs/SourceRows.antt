@@ -67,8 +67,8 @@ gives_of lines = record {
 abbrev pub given_by : SourceRow → Gives
 given_by row = gives_of (map plain row.source)
 
-abbrev pub told_by : SourceRow → Gives
-told_by row = row.gives
+abbrev pub expected_by : SourceRow → Gives
+expected_by row = row.gives
 
 abbrev pub source_rows : List SourceRow
 source_rows =

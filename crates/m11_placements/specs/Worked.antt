@@ -34,7 +34,7 @@ pub record Shown : Type 0 where
 abbrev pub pieces_of : List Placed → List Piece
 pieces_of lines = flat_map (λ line. line.pieces) lines
 
--- what the second reading of a source gives, under the map of the first
+-- what the second pass of a source gives, under the map of the first
 abbrev pub assembled : List Given → Shown
 assembled lines = record {
   letters = map letters_text (reported lines);
@@ -53,8 +53,8 @@ row source letters pieces = record { source = source; letters = letters; pieces 
 abbrev pub found : Row → Shown
 found row = assembled (map plain row.source)
 
-abbrev pub told : Row → Shown
-told row = record { letters = row.letters; pieces = row.pieces }
+abbrev pub expected : Row → Shown
+expected row = record { letters = row.letters; pieces = row.pieces }
 
 -- ---- pieces of the blank section
 

@@ -3,26 +3,26 @@
 ghost use Rattle.std.specs.Prelude.{◌≡◌, map};
 ghost use Rattle.m11_placements.specs.DirectiveRows.{place_rows, setting_rows, text_rows, word_rows};
 ghost use Rattle.m11_placements.specs.ItemRows.{found_items, found_listed, told_items, told_listed};
-ghost use Rattle.m11_placements.specs.Worked.{found, told};
+ghost use Rattle.m11_placements.specs.Worked.{found, expected};
 
 /// Lists of words and bytes, and lines without an operator.
 pub fn words_are_as_worked()
-    ensures { map found word_rows ≡ map told word_rows }
+    ensures { map found word_rows ≡ map expected word_rows }
 {}
 
 /// Even and odd places, room that is left, and the counter.
 pub fn places_are_as_worked()
-    ensures { map found place_rows ≡ map told place_rows }
+    ensures { map found place_rows ≡ map expected place_rows }
 {}
 
 /// Texts, and what stands in brackets in them.
 pub fn texts_are_as_worked()
-    ensures { map found text_rows ≡ map told text_rows }
+    ensures { map found text_rows ≡ map expected text_rows }
 {}
 
 /// The radix, labels, assignments, and directives that place nothing.
 pub fn settings_are_as_worked()
-    ensures { map found setting_rows ≡ map told setting_rows }
+    ensures { map found setting_rows ≡ map expected setting_rows }
 {}
 
 /// What a listing shows of assignments, of what is put, and of lines that show nothing.

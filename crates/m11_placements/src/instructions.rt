@@ -2,29 +2,29 @@
 
 ghost use Rattle.std.specs.Prelude.{◌≡◌, map};
 ghost use Rattle.m11_placements.specs.InstructionRows.{branch_rows, missing_rows, operand_rows, place_rows, register_rows};
-ghost use Rattle.m11_placements.specs.Worked.{found, told};
+ghost use Rattle.m11_placements.specs.Worked.{found, expected};
 
 /// Operands in registers, by registers and in the words after an instruction.
 pub fn operands_are_as_worked()
-    ensures { map found operand_rows ≡ map told operand_rows }
+    ensures { map found operand_rows ≡ map expected operand_rows }
 {}
 
 /// Relative operands, and places as numbers.
 pub fn relative_operands_are_as_worked()
-    ensures { map found place_rows ≡ map told place_rows }
+    ensures { map found place_rows ≡ map expected place_rows }
 {}
 
 /// Operands that are missing or not closed, and registers where none may be.
 pub fn missing_operands_are_as_worked()
-    ensures { map found missing_rows ≡ map told missing_rows }
+    ensures { map found missing_rows ≡ map expected missing_rows }
 {}
 
 /// Registers whose expressions have names that aren't firm.
 pub fn registers_are_as_worked()
-    ensures { map found register_rows ≡ map told register_rows }
+    ensures { map found register_rows ≡ map expected register_rows }
 {}
 
 /// Branches, SOB, and numbers in a code.
 pub fn branches_are_as_worked()
-    ensures { map found branch_rows ≡ map told branch_rows }
+    ensures { map found branch_rows ≡ map expected branch_rows }
 {}

@@ -3,22 +3,22 @@
 ghost use Rattle.std.specs.Prelude.{◌≡◌, map};
 ghost use Rattle.m11_placements.specs.LimitRows.{faults, told_faults};
 ghost use Rattle.m11_placements.specs.RelocationRows.{name_rows, section_rows};
-ghost use Rattle.m11_placements.specs.SourceRows.{given_by, source_rows, told_by};
-ghost use Rattle.m11_placements.specs.Worked.{found, told};
+ghost use Rattle.m11_placements.specs.SourceRows.{given_by, source_rows, expected_by};
+ghost use Rattle.m11_placements.specs.Worked.{found, expected};
 
 /// Names of other objects, labels, and the limits of a program.
 pub fn names_are_as_worked()
-    ensures { map found name_rows ≡ map told name_rows }
+    ensures { map found name_rows ≡ map expected name_rows }
 {}
 
 /// Sections, their attributes, and values that move with them.
 pub fn sections_are_as_worked()
-    ensures { map found section_rows ≡ map told section_rows }
+    ensures { map found section_rows ≡ map expected section_rows }
 {}
 
 /// Titles, identifications, weak names, addresses, and the names that lines mention.
 pub fn sources_are_as_worked()
-    ensures { map given_by source_rows ≡ map told_by source_rows }
+    ensures { map given_by source_rows ≡ map expected_by source_rows }
 {}
 
 /// As many sections as a source may have, and one more.

@@ -9,8 +9,8 @@ use Rattle.m11_statements.specs.declared.labels.Label.{Label}
 -- the table is changed, and there are letters
 abbrev pub Defines : Kept → Kept → ℕ → (Table → Table) → (Table → ℕ) → Type 0
 Defines old new letters change letters_of =
-    (told : Table) → Matches old told → Matches new (change told) × (letters ≡ letters_of told)
+    (table : Table) → Matches old table → Matches new (change table) × (letters ≡ letters_of table)
 
 abbrev pub DefinesAll : Bytes → List Label → Kept → Kept → ℕ → Type 0
 DefinesAll line labels old new letters =
-    Defines old new letters (λ told. with_labels line told labels) (λ told. labels_letters line told labels)
+    Defines old new letters (λ table. with_labels line table labels) (λ table. labels_letters line table labels)

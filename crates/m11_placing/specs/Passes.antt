@@ -16,14 +16,14 @@ abbrev pub size_at : List ℕ → ℕ → ℕ
 size_at sizes number = get_or sizes number 0
 
 -- a table of all definitions, as the lines of a source make it, of which a pass keeps what counts
-pub record Matches (kept : Kept) (told : Table) : Type 0 where
-  pub alike : Alike kept.table told
-  pub local_symbols : kept.local_symbols ≡ local_count told
-  pub sizes : (number : ℕ) → number < 64 → size_at kept.sizes number ≡ size_in number told.moves
+pub record Matches (kept : Kept) (table : Table) : Type 0 where
+  pub alike : Alike kept.table table
+  pub local_symbols : kept.local_symbols ≡ local_count table
+  pub sizes : (number : ℕ) → number < 64 → size_at kept.sizes number ≡ size_in number table.moves
 
 -- what is kept before and after a change of the table
 abbrev pub Follows : Kept → Kept → (Table → Table) → Type 0
-Follows old new change = (told : Table) → Matches old told → Matches new (change told)
+Follows old new change = (table : Table) → Matches old table → Matches new (change table)
 
 -- before the first line each section has size 0
 unfoldable pub no_sizes : List ℕ

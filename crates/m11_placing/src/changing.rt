@@ -9,7 +9,7 @@ ghost use Rattle.m11_placement.specs.Assignments as assignments;
 ghost use Rattle.m11_placement.specs.Changes.{changed, numbered, with_globals, with_number, with_value};
 ghost use Rattle.m11_placement.specs.Labels.{with_definition};
 ghost use Rattle.m11_placement.specs.Limits.{most_sections};
-ghost use Rattle.m11_placement.specs.Tables.{Table as Told};
+ghost use Rattle.m11_placement.specs.Tables.{Table as LineTable};
 ghost use Rattle.m11_placing.specs.Faults.{Refuses};
 ghost use Rattle.m11_placing.specs.Passes.{Follows, Matches};
 ghost use Rattle.m11_table.specs.Alike as tables;
@@ -37,13 +37,13 @@ impl Pass {
         requires block { self.old.table.settings.block + 1 < 2 ^ 64 }
         requires section { self.old.table.settings.section < 64 }
         requires sections { length self.old.table.sections ≤ most_sections }
-        ensures takes { IfOk result (λ _. Follows self.old self.new (λ told. changed map.now line.now.text (change_seen change.now) told)) }
+        ensures takes { IfOk result (λ _. Follows self.old self.new (λ before. changed map.now line.now.text (change_seen change.now) before)) }
         ensures tables { IfOk result (λ _. tables.Follows self.old.table self.new.table
-            (λ told. changed map.now line.now.text (change_seen change.now) told)) }
+            (λ before. changed map.now line.now.text (change_seen change.now) before)) }
         ensures sections { IfOk result (λ _. length self.new.table.sections ≤ most_sections) }
         ensures symbols { IfOk result (λ _. self.new.local_symbols ≡ self.old.local_symbols) }
-        ensures refuses { IfErr result (λ fault. (told : Told) → Matches self.old told → Refuses fault ⊥
-            (most_sections < length (changed map.now line.now.text (change_seen change.now) told).sections)) }
+        ensures refuses { IfErr result (λ fault. (before : LineTable) → Matches self.old before → Refuses fault ⊥
+            (most_sections < length (changed map.now line.now.text (change_seen change.now) before).sections)) }
     {
         match change {
             Change::Keeps => Ok(()),
@@ -100,9 +100,9 @@ impl Pass {
         start: u8,
     ) -> Result<(), PlacingFault>
         ensures defines { IfOk result (λ _. Follows self.old self.new
-            (λ told. with_definition (assignments.assigned map.now told (Named name) line.now.text start) told)) }
+            (λ before. with_definition (assignments.assigned map.now before (Named name) line.now.text start) before)) }
         ensures tables { IfOk result (λ _. tables.Follows self.old.table self.new.table
-            (λ told. with_definition (assignments.assigned map.now told (Named name) line.now.text start) told)) }
+            (λ before. with_definition (assignments.assigned map.now before (Named name) line.now.text start) before)) }
         ensures symbols { IfOk result (λ _. self.new.local_symbols ≡ self.old.local_symbols) }
         ensures refuses { IfErr result (λ fault. fault ≡ NoMemory) }
     {

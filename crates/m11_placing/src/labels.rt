@@ -5,7 +5,7 @@ ghost use Rattle.std.specs.Prelude.{◌≡◌, ◌<◌, ◌≤◌, ◌+◌, ◌^
 ghost use Rattle.m11_placement.specs.Labels as spec;
 ghost use Rattle.m11_placement.specs.Labels.{with_definition};
 ghost use Rattle.m11_placement.specs.Limits.{local_count, most_local_symbols};
-ghost use Rattle.m11_placement.specs.Tables.{Table as Told};
+ghost use Rattle.m11_placement.specs.Tables.{Table as LineTable};
 ghost use Rattle.m11_placing.specs.Faults.{Refuses};
 ghost use Rattle.m11_placing.specs.Labels.{Defines, DefinesAll};
 ghost use Rattle.m11_placing.specs.Moved.{moved_letters};
@@ -46,13 +46,13 @@ impl Pass {
     ) -> Result<LabelLetters, PlacingFault>
         requires { self.old.table.settings.block + length labels.now < 2 ^ 64 }
         ensures defines { IfOk result (λ letters. DefinesAll line.now.text labels.now self.old self.new (bits_of letters.doubled)) }
-        ensures moved { IfOk result (λ letters. (told : Told) → Matches self.old told
-            → bits_of letters.moved ≡ moved_letters map.now line.now.text told labels.now) }
+        ensures moved { IfOk result (λ letters. (before : LineTable) → Matches self.old before
+            → bits_of letters.moved ≡ moved_letters map.now line.now.text before labels.now) }
         ensures tables { IfOk result (λ _. tables.Follows self.old.table self.new.table
-            (λ told. spec.with_labels line.now.text told labels.now)) }
+            (λ before. spec.with_labels line.now.text before labels.now)) }
         ensures few { IfOk result (λ _. self.old.local_symbols ≤ most_local_symbols → self.new.local_symbols ≤ most_local_symbols) }
-        ensures refuses { IfErr result (λ fault. (told : Told) → Matches self.old told
-            → Refuses fault (most_local_symbols < local_count (spec.with_labels line.now.text told labels.now)) ⊥) }
+        ensures refuses { IfErr result (λ fault. (before : LineTable) → Matches self.old before
+            → Refuses fault (most_local_symbols < local_count (spec.with_labels line.now.text before labels.now)) ⊥) }
     {
         match labels {
             [] => Ok(LabelLetters {
@@ -75,14 +75,14 @@ impl Pass {
     fn define_label(&mut self, line: &Line, label: &Label) -> Result<Letters, PlacingFault>
         requires { self.old.table.settings.block + 1 < 2 ^ 64 }
         ensures defines { IfOk result (λ letters. Defines self.old self.new (bits_of letters)
-            (λ told. spec.with_label line.now.text told label.now)
-            (λ told. spec.kind_letters told (spec.label_name line.now.text label.now) label.now.kind)) }
+            (λ before. spec.with_label line.now.text before label.now)
+            (λ before. spec.kind_letters before (spec.label_name line.now.text label.now) label.now.kind)) }
         ensures tables { IfOk result (λ _. tables.Follows self.old.table self.new.table
-            (λ told. spec.with_label line.now.text told label.now)) }
+            (λ before. spec.with_label line.now.text before label.now)) }
         ensures few { IfOk result (λ _. self.old.local_symbols ≤ most_local_symbols → self.new.local_symbols ≤ most_local_symbols) }
         ensures block { IfOk result (λ _. self.new.table.settings.block ≤ self.old.table.settings.block + 1) }
-        ensures refuses { IfErr result (λ fault. (told : Told) → Matches self.old told
-            → Refuses fault (most_local_symbols < local_count (spec.with_label line.now.text told label.now)) ⊥) }
+        ensures refuses { IfErr result (λ fault. (before : LineTable) → Matches self.old before
+            → Refuses fault (most_local_symbols < local_count (spec.with_label line.now.text before label.now)) ⊥) }
     {
         match label.kind {
             LabelKind::Ordinary => self.define_name_of(read_name(label.name.text(line)), false),
@@ -100,9 +100,9 @@ impl Pass {
     ) -> Result<Letters, PlacingFault>
         requires { self.old.table.settings.block + 1 < 2 ^ 64 }
         ensures defines { IfOk result (λ letters. Defines self.old self.new (bits_of letters)
-            (λ told. spec.with_name is_global told name) (λ told. spec.name_letters told name)) }
+            (λ before. spec.with_name is_global before name) (λ before. spec.name_letters before name)) }
         ensures tables { IfOk result (λ _. tables.Follows self.old.table self.new.table
-            (λ told. spec.with_name is_global told name)) }
+            (λ before. spec.with_name is_global before name)) }
         ensures few { IfOk result (λ _. self.old.local_symbols ≤ most_local_symbols → self.new.local_symbols ≤ most_local_symbols) }
         ensures block { IfOk result (λ _. self.new.table.settings.block ≤ self.old.table.settings.block + 1) }
         ensures refuses { IfErr result (λ fault. fault ≡ NoMemory) }
@@ -124,9 +124,9 @@ impl Pass {
     fn define_new_name(&mut self, name: Name, is_global: bool) -> Result<(), PlacingFault>
         requires { self.old.table.settings.block + 1 < 2 ^ 64 }
         ensures defines { IfOk result (λ _. Follows self.old self.new
-            (λ told. spec.global_if is_global name (spec.with_block (with_definition (spec.labelled told (Named name)) told)))) }
+            (λ before. spec.global_if is_global name (spec.with_block (with_definition (spec.labelled before (Named name)) before)))) }
         ensures tables { IfOk result (λ _. tables.Follows self.old.table self.new.table
-            (λ told. spec.global_if is_global name (spec.with_block (with_definition (spec.labelled told (Named name)) told)))) }
+            (λ before. spec.global_if is_global name (spec.with_block (with_definition (spec.labelled before (Named name)) before)))) }
         ensures symbols { IfOk result (λ _. self.new.local_symbols ≡ self.old.local_symbols) }
         ensures block { IfOk result (λ _. self.new.table.settings.block ≤ self.old.table.settings.block + 1) }
         ensures refuses { IfErr result (λ fault. fault ≡ NoMemory) }
@@ -143,14 +143,14 @@ impl Pass {
     // A local symbol belongs to the block that is open.
     fn define_local(&mut self, number: u16) -> Result<Letters, PlacingFault>
         ensures defines { IfOk result (λ letters. Defines self.old self.new (bits_of letters)
-            (λ told. spec.with_key (Numbered told.settings.block number) told)
-            (λ told. spec.key_letters told (Numbered told.settings.block number))) }
+            (λ before. spec.with_key (Numbered before.settings.block number) before)
+            (λ before. spec.key_letters before (Numbered before.settings.block number))) }
         ensures tables { IfOk result (λ _. tables.Follows self.old.table self.new.table
-            (λ told. spec.with_key (Numbered told.settings.block number) told)) }
+            (λ before. spec.with_key (Numbered before.settings.block number) before)) }
         ensures few { IfOk result (λ _. self.old.local_symbols ≤ most_local_symbols → self.new.local_symbols ≤ most_local_symbols) }
         ensures block { IfOk result (λ _. self.new.table.settings.block ≤ self.old.table.settings.block) }
-        ensures refuses { IfErr result (λ fault. (told : Told) → Matches self.old told
-            → Refuses fault (most_local_symbols < local_count (spec.with_key (Numbered told.settings.block number) told)) ⊥) }
+        ensures refuses { IfErr result (λ fault. (before : LineTable) → Matches self.old before
+            → Refuses fault (most_local_symbols < local_count (spec.with_key (Numbered before.settings.block number) before)) ⊥) }
     {
         let block = self.table.settings().block;
         let key = Key::Numbered(block, number);

@@ -20,17 +20,17 @@ ghost use Rattle.m11_placing.specs.Passes.{Follows, Kept, Matches};
 /// that `line_letters` joins.
 #[tactic(auto, using(crate::proofs::LinesTaken::line_written, crate::proofs::LinesTaken::line_mentioned))]
 pub fn a_line_goes_through_a_pass()
-    ensures takes { (old stood new : Kept) (letters : ℕ) (map : Map) (told : Table) (given : Given) → Matches old told
+    ensures takes { (old stood new : Kept) (letters : ℕ) (map : Map) (before : Table) (given : Given) → Matches old before
         → DefinesAll given.live.line.text (labels_at given.live.line.text) old stood letters
         → Follows stood new (λ table. changed map given.live.line.text (change_by stood.table given) table)
-        → Matches new (after_line map told given)
-        × (letters ≡ labels_letters given.live.line.text told (labels_at given.live.line.text)) }
-    ensures puts { (stood : Kept) (map : Map) (told : Table) (given : Given) → Matches stood (stands told given)
-        → written_by map stood.table given ≡ line_put map (stands told given) given }
-    ensures mentions { (stood : Kept) (told : Table) (given : Given) → Matches stood (stands told given)
-        → mentions_by stood.table given ≡ mentions_by (stands told given) given }
-    ensures letters { (map : Map) (told : Table) (given : Given) → letters map told given
+        → Matches new (after_line map before given)
+        × (letters ≡ labels_letters given.live.line.text before (labels_at given.live.line.text)) }
+    ensures puts { (stood : Kept) (map : Map) (before : Table) (given : Given) → Matches stood (stands before given)
+        → written_by map stood.table given ≡ line_put map (stands before given) given }
+    ensures mentions { (stood : Kept) (before : Table) (given : Given) → Matches stood (stands before given)
+        → mentions_by stood.table given ≡ mentions_by (stands before given) given }
+    ensures letters { (map : Map) (before : Table) (given : Given) → letters map before given
         ≡ letters_from given.live.line.text (labels_end given.live.line.text) (body_of every_name given.live.line.text)
-        (label_letters given.live.line) (labels_letters given.live.line.text told (labels_at given.live.line.text))
-        (line_put map (stands told given) given).letters given.notes.letters }
+        (label_letters given.live.line) (labels_letters given.live.line.text before (labels_at given.live.line.text))
+        (line_put map (stands before given) given).letters given.notes.letters }
 {}

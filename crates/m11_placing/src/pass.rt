@@ -6,7 +6,7 @@ ghost use Rattle.m11_directives.specs.Changes.{move_seen};
 ghost use Rattle.m11_placement.specs.Changes.{with_move, with_section, with_settings};
 ghost use Rattle.m11_placement.specs.Labels.{new_block, with_block, with_definition, with_doubled, with_global};
 ghost use Rattle.m11_placement.specs.Limits.{local_count, most_local_symbols, most_sections};
-ghost use Rattle.m11_placement.specs.Tables.{Table as Told, first_table};
+ghost use Rattle.m11_placement.specs.Tables.{Table as LineTable, first_table};
 ghost use Rattle.m11_placing.specs.Faults.{Refuses};
 ghost use Rattle.m11_placing.specs.Passes.{Follows, Matches, no_sizes, size_at, with_size};
 ghost use Rattle.m11_table.specs.Alike as tables;
@@ -110,8 +110,8 @@ impl Pass {
         ensures tables { IfOk result (λ _. tables.Follows self.old.table self.new.table (with_definition definition.now)) }
         ensures few { IfOk result (λ _. self.new.local_symbols ≤ most_local_symbols) }
         ensures settings { IfOk result (λ _. self.new.table.settings ≡ self.old.table.settings) }
-        ensures refuses { IfErr result (λ fault. (told : Told) → Matches self.old told
-            → Refuses fault (most_local_symbols < local_count (with_definition definition.now told)) ⊥) }
+        ensures refuses { IfErr result (λ fault. (before : LineTable) → Matches self.old before
+            → Refuses fault (most_local_symbols < local_count (with_definition definition.now before)) ⊥) }
     {
         if self.local_symbols >= MOST_LOCAL_SYMBOLS {
             return Err(PlacingFault::TooManySymbols);
@@ -173,8 +173,8 @@ impl Pass {
         ensures tables { IfOk result (λ _. tables.Follows self.old.table self.new.table (with_section name attributes)) }
         ensures sections { IfOk result (λ _. length self.new.table.sections ≤ most_sections) }
         ensures symbols { IfOk result (λ _. self.new.local_symbols ≡ self.old.local_symbols) }
-        ensures refuses { IfErr result (λ fault. (told : Told) → Matches self.old told
-            → Refuses fault ⊥ (most_sections < length (with_section name attributes told).sections)) }
+        ensures refuses { IfErr result (λ fault. (before : LineTable) → Matches self.old before
+            → Refuses fault ⊥ (most_sections < length (with_section name attributes before).sections)) }
     {
         let is_new = self.table.section_number(name).is_none();
         if is_new && self.table.section_count() >= MOST_SECTIONS {

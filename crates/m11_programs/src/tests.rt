@@ -93,11 +93,11 @@ impl<F: Feed> Feed for CountedFeed<F> {
     ghost ready_bytes = { λ s. F.ready_bytes s.feed };
 
     fn next(&mut self) -> Result<Option<u8>, DeviceFault> {
-        let answer = self.feed.next();
-        if matches!(answer, Ok(Some(_))) {
+        let returned = self.feed.next();
+        if matches!(returned, Ok(Some(_))) {
             self.given = self.given.saturating_add(1);
         }
-        answer
+        returned
     }
 
     fn ready(&self) -> &[u8] {

@@ -37,7 +37,7 @@ use Rattle.m11_symbols.specs.Symbols.{symbol_entries}
 use Rattle.m11_unfolding.specs.Taking.{Live}
 use Rattle.m11_values.specs.Quantities.{Quantity}
 use Rattle.m11_writes.proofs.Writing.{gains_nothing, stops_after, stops_before, writes_then}
-use Rattle.m11_second.specs.Program.{Program, all_names, program_kept, told_in}
+use Rattle.m11_second.specs.Program.{Program, all_names, program_kept, directory_facts_in}
 use Rattle.m11_second.specs.Writing.{Writing, WritingStands, begun, counted, counted_last, is_some_line, most_counted, opened}
 use Rattle.m11_second.specs.Written.{added_writes, closing_writes, flagged_count, flagged_in, head_before, is_flagged, letter_E, letters_at, line_writes, message_writes, pieces_in}
 use Rattle.m11_second.proofs.LinesWritten.{flagged_more, none_flagged, pieces_more}
@@ -292,9 +292,9 @@ module _ (program : Program) (lines : List Numbered) (old begun_ new : Writing) 
 
 pub stands_first : (kept : Kept) (gathered : Gathered) (facts : Facts) (rows : List DirectoryRow) (transfer : Option Quantity)
     (symbols : List SymbolEntry) (sections : List SectionEntry) (text : Option TextParts)
-    → rows ≡ directory_rows (told_in kept gathered facts) → transfer ≡ facts.transfer
-    → symbols ≡ symbol_entries (told_in kept gathered facts) (all_names gathered)
-    → sections ≡ section_entries (told_in kept gathered facts) → IsOpenAfter [] text
+    → rows ≡ directory_rows (directory_facts_in kept gathered facts) → transfer ≡ facts.transfer
+    → symbols ≡ symbol_entries (directory_facts_in kept gathered facts) (all_names gathered)
+    → sections ≡ section_entries (directory_facts_in kept gathered facts) → IsOpenAfter [] text
     → WritingStands (program_kept kept gathered facts) [] (record {
       rows = rows;
       transfer = transfer;

@@ -2,7 +2,7 @@
 -- directive" and "Table of contents and symbol table". That a source is read twice, is this project's own.)
 use Rattle.std.specs.Prelude.{List, ◌++◌, Option, slice_index}
 use Rattle.m11_base.specs.Rad50.{Name}
-use Rattle.m11_directory.specs.FirstPass.{Told}
+use Rattle.m11_directory.specs.FirstPass.{DirectoryFacts}
 use Rattle.m11_directory.specs.Rows.{directory_rows}
 use Rattle.m11_first.specs.Facts.{Facts, facts_of}
 use Rattle.m11_first.specs.First.{Symbols}
@@ -43,8 +43,8 @@ all_names mentioned = mentioned.names ++ mentioned.registers
 abbrev pub mentioned_in : List Given → Gathered
 mentioned_in lines = gathered_after empty_map first_table lines none_gathered
 
-abbrev pub told_of : List Given → Told
-told_of lines = record {
+abbrev pub directory_facts_of : List Given → DirectoryFacts
+directory_facts_of lines = record {
   table = table_after empty_map lines;
   size_of = λ number. size_in number (table_after empty_map lines).moves;
   referred = (mentioned_in lines).referred;
@@ -58,16 +58,16 @@ abbrev pub program_of : List Given → Program
 program_of lines = record {
   map = program_map lines;
   mentioned = mentioned_in lines;
-  rows = directory_rows (told_of lines);
-  symbols = symbol_entries (told_of lines) (all_names (mentioned_in lines));
-  sections = section_entries (told_of lines);
+  rows = directory_rows (directory_facts_of lines);
+  symbols = symbol_entries (directory_facts_of lines) (all_names (mentioned_in lines));
+  sections = section_entries (directory_facts_of lines);
   transfer = (facts_of lines).transfer;
 }
 
 -- ---- as a first pass keeps it
 
-abbrev pub told_in : Kept → Gathered → Facts → Told
-told_in kept gathered facts = record {
+abbrev pub directory_facts_in : Kept → Gathered → Facts → DirectoryFacts
+directory_facts_in kept gathered facts = record {
   table = kept.table;
   size_of = λ number. slice_index kept.sizes number;
   referred = gathered.referred;
@@ -81,9 +81,9 @@ unfoldable pub program_kept : Kept → Gathered → Facts → Program
 program_kept kept gathered facts = record {
   map = map_of kept.table;
   mentioned = gathered;
-  rows = directory_rows (told_in kept gathered facts);
-  symbols = symbol_entries (told_in kept gathered facts) (all_names gathered);
-  sections = section_entries (told_in kept gathered facts);
+  rows = directory_rows (directory_facts_in kept gathered facts);
+  symbols = symbol_entries (directory_facts_in kept gathered facts) (all_names gathered);
+  sections = section_entries (directory_facts_in kept gathered facts);
   transfer = facts.transfer;
 }
 

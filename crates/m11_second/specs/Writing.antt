@@ -10,7 +10,7 @@ use Rattle.m11_passes.specs.Lines.{Numbered}
 use Rattle.m11_second.specs.Program.{Program}
 use Rattle.m11_second.specs.Written.{flagged_in, is_flagged, letter_E, pieces_in}
 
--- the rows, the value and the entries of the symbol table that the first pass told, the text that is open, whether the head is written,
+-- the rows, the value and the entries of the symbol table that the first pass found, the text that is open, whether the head is written,
 -- and the count of flagged lines
 pub record Writing : Type 0 where
   pub rows : List DirectoryRow

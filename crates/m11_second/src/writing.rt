@@ -5,7 +5,7 @@
 ghost use Rattle.std.specs.Prelude.{◌≡◌, ◌≤◌, ◌++◌, ◌∷◌, [], List, IfOk, length, option_map};
 ghost use Rattle.m11_asm_outputs.specs.Object.{IsOpenAfter, content_writes, records_closed_by};
 ghost use Rattle.m11_asm_outputs.specs.Outputs.{Writes, outputs, outputs_of};
-ghost use Rattle.m11_directory.specs.FirstPass.{told_by};
+ghost use Rattle.m11_directory.specs.FirstPass.{directory_facts};
 ghost use Rattle.m11_listed.specs.Listed.{listing_writes};
 ghost use Rattle.m11_object_text.specs.declared.pieces.Piece.{Piece};
 ghost use Rattle.m11_passes.specs.Lines.{Numbered, table_at};
@@ -18,7 +18,7 @@ ghost use Rattle.m11_placement.specs.Sources.{directed_in, end_in};
 ghost use Rattle.m11_placement.specs.Tables.{Table};
 ghost use Rattle.m11_placing.specs.Deeds.{deed_seen};
 ghost use Rattle.m11_scan.specs.Views.{bits_of};
-ghost use Rattle.m11_second.specs.Program.{Program, program_kept, told_in};
+ghost use Rattle.m11_second.specs.Program.{Program, program_kept, directory_facts_in};
 ghost use Rattle.m11_second.specs.Writing.{WritingStands, begun, counted, counted_last, most_counted, opened};
 ghost use Rattle.m11_second.specs.Written.{added_writes, closing_writes, flagged_count, head_before, last_place, last_writes, line_writes, message_writes};
 ghost use Rattle.m11_unfolding.specs.Unfolding.{Given};
@@ -50,7 +50,7 @@ use std::marker::Model;
 #[derive(Drop)]
 pub struct Writing {
     alloc: Global,
-    // What the first pass told: the rows of the directory, where the program begins, and the entries of the symbol table.
+    // What the first pass found: the rows of the directory, where the program begins, and the entries of the symbol table.
     rows: Vec<DirectoryRow>,
     transfer: Option<Value>,
     symbols: Vec<SymbolEntry>,
@@ -94,13 +94,13 @@ impl Writing {
         requires { length first.now.table.sections ≤ most_sections }
         ensures { IfOk result (λ writing. WritingStands (program_kept first.now mentioned.now facts.now) [] writing) }
     {
-        let told = told(first, mentioned, facts);
+        let first_pass = first_pass_of(first, mentioned, facts);
         Ok(Writing {
             alloc,
-            rows: directory_rows(alloc, &told)?,
+            rows: directory_rows(alloc, &first_pass)?,
             transfer: facts.transfer(),
-            symbols: symbol_entries(alloc, &told, mentioned.names(), mentioned.registers())?,
-            sections: section_entries(alloc, &told)?,
+            symbols: symbol_entries(alloc, &first_pass, mentioned.names(), mentioned.registers())?,
+            sections: section_entries(alloc, &first_pass)?,
             items: Vec::new(alloc),
             text: open_text(),
             has_begun: false,
@@ -301,10 +301,10 @@ impl Writing {
     }
 }
 
-// What a first pass tells of the directory and of the symbol table.
-fn told<'a>(first: &'a Pass, mentioned: &'a Mentioned, facts: &'a Facts) -> FirstPass<'a>
+// What a first pass found of the directory and of the symbol table.
+fn first_pass_of<'a>(first: &'a Pass, mentioned: &'a Mentioned, facts: &'a Facts) -> FirstPass<'a>
     ensures table { result.table.now ≡ first.now.table }
-    ensures told { told_by result ≡ told_in first.now mentioned.now facts.now }
+    ensures facts { directory_facts result ≡ directory_facts_in first.now mentioned.now facts.now }
 {
     FirstPass {
         table: first.table(),

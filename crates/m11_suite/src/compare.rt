@@ -8,7 +8,7 @@ use std::fmt;
 
 /// What a command left.
 #[derive(Drop)]
-pub(crate) struct Answer<'a> {
+pub(crate) struct Found<'a> {
     pub(crate) status: u8,
     pub(crate) printed: &'a [u8],
     pub(crate) reported: &'a [u8],
@@ -43,7 +43,7 @@ impl fmt::Display for Difference<'_> {
 /// error, and the files.
 pub(crate) fn first_difference<'a>(
     wanted: &'a Command,
-    found: &Answer<'a>,
+    found: &Found<'a>,
 ) -> Option<Difference<'a>> {
     if found.status != wanted.status {
         return Some(Difference::Status(found.status));

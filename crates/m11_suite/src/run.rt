@@ -1,7 +1,7 @@
 //! The commands of a case, run one after another over files in memory.
 
 use crate::case::Command;
-use crate::compare::{Answer, first_difference};
+use crate::compare::{Found, first_difference};
 use m11_base::{MemoryFeed, MemorySink};
 use m11_cli::{MadeFile, MemoryFile, MemoryFiles, command};
 use std::alloc::{AllocError, Global};
@@ -98,13 +98,13 @@ fn difference_of(
     left: &Left,
     number: u64,
 ) -> Result<Option<String>, AllocError> {
-    let answer = Answer {
+    let found = Found {
         status: left.status,
         printed: left.printed.bytes(),
         reported: left.reported.bytes(),
         outputs: left.outputs.as_slice(),
     };
-    match first_difference(given, &answer) {
+    match first_difference(given, &found) {
         Some(what) => Ok(Some(format!(in alloc; "command {number}: {what}")?)),
         None => Ok(None),
     }

@@ -5,7 +5,7 @@ use Rattle.std.proofs.lemmas.List.Folds.{list_any-append}
 use Rattle.std.proofs.lemmas.Map.Views.{any-filter_same}
 use Rattle.m11_base.specs.Rad50.{Name, is_same_name}
 use Rattle.m11_base.proofs.SameNames.{same_name_equal}
-use Rattle.m11_directory.specs.FirstPass.{Told}
+use Rattle.m11_directory.specs.FirstPass.{DirectoryFacts}
 use Rattle.m11_directory.specs.Laws.{AreInOrder}
 use Rattle.m11_directory.specs.Names.{has_name, ordered}
 use Rattle.m11_directory.specs.References.{is_open, is_open_by}
@@ -25,26 +25,26 @@ defined true false false = refl
 defined false false true = refl
 defined false false false = refl
 
-module _ (told : Told) (name : Name) where
+module _ (facts : DirectoryFacts) (name : Name) where
   by_found : (definition : Option Definition)
-      → (has_name name told.table.globals
-      || (is_open_by told.table name definition && (has_name name told.referred || has_name name told.table.globals)))
-      ≡ (has_name name told.table.globals || (has_name name told.referred && is_none definition))
-  by_found None = undefined (has_name name told.table.globals) (has_name name told.referred)
+      → (has_name name facts.table.globals
+      || (is_open_by facts.table name definition && (has_name name facts.referred || has_name name facts.table.globals)))
+      ≡ (has_name name facts.table.globals || (has_name name facts.referred && is_none definition))
+  by_found None = undefined (has_name name facts.table.globals) (has_name name facts.referred)
   by_found (Some definition) =
-      defined (is_unknown_as definition.standing) (has_name name told.table.globals) (has_name name told.referred)
+      defined (is_unknown_as definition.standing) (has_name name facts.table.globals) (has_name name facts.referred)
 
-  has_open : has_name name (filter (is_open told.table) (told.referred ++ told.table.globals))
-      ≡ (is_open told.table name && (has_name name told.referred || has_name name told.table.globals))
+  has_open : has_name name (filter (is_open facts.table) (facts.referred ++ facts.table.globals))
+      ≡ (is_open facts.table name && (has_name name facts.referred || has_name name facts.table.globals))
   has_open =
-      any-filter_same (λ (other : Name). is_same_name other name) (is_open told.table) (is_open told.table name)
-      (λ other e. ap (is_open told.table) (same_name_equal other name e)) (told.referred ++ told.table.globals)
-      ∙ ap (λ (b : Bool). is_open told.table name && b)
-      (list_any-append (λ (other : Name). is_same_name other name) told.referred told.table.globals)
+      any-filter_same (λ (other : Name). is_same_name other name) (is_open facts.table) (is_open facts.table name)
+      (λ other e. ap (is_open facts.table) (same_name_equal other name e)) (facts.referred ++ facts.table.globals)
+      ∙ ap (λ (b : Bool). is_open facts.table name && b)
+      (list_any-append (λ (other : Name). is_same_name other name) facts.referred facts.table.globals)
 
   pub global_or_needed : ((names : List Name) → AreInOrder (ordered names) names)
-      → is_global told name ≡ (has_name name told.table.globals || is_needed told name)
+      → is_global facts name ≡ (has_name name facts.table.globals || is_needed facts name)
   global_or_needed in_order =
-      ap (λ (b : Bool). has_name name told.table.globals || b)
-      ((in_order (filter (is_open told.table) (told.referred ++ told.table.globals))).same name ∙ has_open)
-      ∙ by_found (definition_of told name)
+      ap (λ (b : Bool). has_name name facts.table.globals || b)
+      ((in_order (filter (is_open facts.table) (facts.referred ++ facts.table.globals))).same name ∙ has_open)
+      ∙ by_found (definition_of facts name)

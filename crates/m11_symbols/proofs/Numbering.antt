@@ -5,15 +5,15 @@ use Rattle.std.proofs.lemmas.List.{map-append, take_more}
 use Rattle.std.proofs.lemmas.List.FromFn.{get_or-enumerate_from, length-enumerate_from}
 use Rattle.std.proofs.Math.Seq.{take-length}
 use Rattle.m11_base.specs.Names.{blank_name}
-use Rattle.m11_directory.specs.FirstPass.{Told}
+use Rattle.m11_directory.specs.FirstPass.{DirectoryFacts}
 use Rattle.m11_listing.specs.declared.symbol_table.SectionEntry.{SectionEntry}
 use Rattle.m11_placement.specs.declared.sections.Section.{Section}
 use Rattle.m11_placement.specs.Sections.{numbered, of_program, section}
 use Rattle.m11_symbols.specs.Sections.{section_entries, section_entry}
 
-module _ (told : Told) where
+module _ (facts : DirectoryFacts) where
   abbrev sections : List Section
-  sections = told.table.sections
+  sections = facts.table.sections
 
   abbrev numbers : List (ℕ × Section)
   numbers = enumerate_from 0 sections
@@ -31,19 +31,19 @@ module _ (told : Told) where
       ∙ ap (λ (n : ℕ). (n, numbered number sections)) (zero-add number))
 
   pub entry_added : (entries after : List SectionEntry) (number : ℕ) → number < length sections
-      → entries ≡ map (section_entry told) (take number numbers)
-      → after ≡ entries ++ section_entry told (number, numbered number sections) ∷ []
-      → after ≡ map (section_entry told) (take (number + 1) numbers)
+      → entries ≡ map (section_entry facts) (take number numbers)
+      → after ≡ entries ++ section_entry facts (number, numbered number sections) ∷ []
+      → after ≡ map (section_entry facts) (take (number + 1) numbers)
   entry_added entries after number within e f =
       f
-      ∙ ap (λ (es : List SectionEntry). es ++ section_entry told (number, numbered number sections) ∷ []) e
-      ∙ sym (map-append (section_entry told) (take number numbers) ((number, numbered number sections) ∷ []))
-      ∙ ap (λ (ns : List (ℕ × Section)). map (section_entry told) ns) (sym (one_more number within))
+      ∙ ap (λ (es : List SectionEntry). es ++ section_entry facts (number, numbered number sections) ∷ []) e
+      ∙ sym (map-append (section_entry facts) (take number numbers) ((number, numbered number sections) ∷ []))
+      ∙ ap (λ (ns : List (ℕ × Section)). map (section_entry facts) ns) (sym (one_more number within))
 
   pub entries_done : (entries : List SectionEntry) (count : ℕ) → count ≡ length sections
-      → entries ≡ map (section_entry told) (take count numbers) → entries ≡ section_entries told
+      → entries ≡ map (section_entry facts) (take count numbers) → entries ≡ section_entries facts
   unfolding section_entries
   entries_done entries count e f =
       f
-      ∙ ap (λ (n : ℕ). map (section_entry told) (take n numbers)) (e ∙ sym (length-enumerate_from 0 sections))
-      ∙ ap (λ (ns : List (ℕ × Section)). map (section_entry told) ns) (take-length numbers)
+      ∙ ap (λ (n : ℕ). map (section_entry facts) (take n numbers)) (e ∙ sym (length-enumerate_from 0 sections))
+      ∙ ap (λ (ns : List (ℕ × Section)). map (section_entry facts) ns) (take-length numbers)

@@ -3,7 +3,7 @@ use Rattle.std.proofs.Common.{◌≡◌, ◌∙◌, ℕ, ◌+◌, ◌<◌, ◌�
 use Rattle.std.specs.Prelude.{is_none}
 use Rattle.std.specs.List.{enumerate_from}
 use Rattle.m11_base.specs.Rad50.{Name}
-use Rattle.m11_directory.specs.FirstPass.{Told}
+use Rattle.m11_directory.specs.FirstPass.{DirectoryFacts}
 use Rattle.m11_directory.specs.Laws.{AreInOrder, HaveTheSame, TellTheSame}
 use Rattle.m11_directory.specs.Names.{has_name, ordered}
 use Rattle.m11_listing.specs.declared.symbol_table.SectionEntry.{SectionEntry}
@@ -20,7 +20,7 @@ both {A} {B} {C} f a b c d e h = ap (λ (x : A). f x c) e ∙ ap (λ (y : B). f 
 
 -- ---- sections
 
-module _ (one other : Told) (same : TellTheSame one other) where
+module _ (one other : DirectoryFacts) (same : TellTheSame one other) where
   entries_from : (number : ℕ) (sections : List Section) → number + length sections ≤ length one.table.sections
       → map (section_entry one) (enumerate_from number sections) ≡ map (section_entry other) (enumerate_from number sections)
   entries_from number [] within = refl
@@ -41,18 +41,18 @@ module _ (one other : Told) (same : TellTheSame one other) where
 
 -- ---- names
 
-names_of : (told : Told) (names : List Name) → entry_names (map (symbol_entry told) names) ≡ names
-names_of told [] = refl
-names_of told (name ∷ names) = ap (λ (others : List Name). name ∷ others) (names_of told names)
+names_of : (facts : DirectoryFacts) (names : List Name) → entry_names (map (symbol_entry facts) names) ≡ names
+names_of facts [] = refl
+names_of facts (name ∷ names) = ap (λ (others : List Name). name ∷ others) (names_of facts names)
 
 module _ (in_order : (names : List Name) → AreInOrder (ordered names) names) where
-  pub names_in_order : (told : Told) (names : List Name) → AreInOrder (entry_names (symbol_entries told names)) names
+  pub names_in_order : (facts : DirectoryFacts) (names : List Name) → AreInOrder (entry_names (symbol_entries facts names)) names
   unfolding symbol_entries
-  names_in_order told names =
+  names_in_order facts names =
       let P : List Name → Type 0 = λ list. AreInOrder list names in
-      subst P (sym (names_of told (ordered names))) (in_order names)
+      subst P (sym (names_of facts (ordered names))) (in_order names)
 
-  module _ (one other : Told) (same : TellTheSame one other) where
+  module _ (one other : DirectoryFacts) (same : TellTheSame one other) where
     global_same : (name : Name) → is_global one name ≡ is_global other name
     global_same name =
         global_or_needed one name in_order

@@ -2,7 +2,7 @@
 -- directives". That they stand in the order of their numbers is this project's own.)
 use Rattle.std.specs.Prelude.{ℕ, List, map}
 use Rattle.std.specs.List.{enumerate_from}
-use Rattle.m11_directory.specs.FirstPass.{Told}
+use Rattle.m11_directory.specs.FirstPass.{DirectoryFacts}
 use Rattle.m11_listing.specs.declared.symbol_table.SectionEntry.{SectionEntry}
 use Rattle.m11_placement.specs.declared.sections.Section.{Section}
 
@@ -14,8 +14,8 @@ sized_entry number section size = record {
   attributes = record { 0 = section.attributes };
 }
 
-abbrev pub section_entry : Told → ℕ × Section → SectionEntry
-section_entry told numbered = sized_entry numbered.0 numbered.1 (told.size_of numbered.0)
+abbrev pub section_entry : DirectoryFacts → ℕ × Section → SectionEntry
+section_entry facts numbered = sized_entry numbered.0 numbered.1 (facts.size_of numbered.0)
 
-unfoldable pub section_entries : Told → List SectionEntry
-section_entries told = map (section_entry told) (enumerate_from 0 told.table.sections)
+unfoldable pub section_entries : DirectoryFacts → List SectionEntry
+section_entries facts = map (section_entry facts) (enumerate_from 0 facts.table.sections)

@@ -2,7 +2,7 @@
 -- stand by their two RADIX-50 words, and that references have `G` too, is this project's own.)
 use Rattle.std.specs.Prelude.{◌&&◌, ◌||◌, Bool, is_none, List, map, Option}
 use Rattle.m11_base.specs.Rad50.{Name}
-use Rattle.m11_directory.specs.FirstPass.{Told}
+use Rattle.m11_directory.specs.FirstPass.{DirectoryFacts}
 use Rattle.m11_directory.specs.Names.{has_name, ordered}
 use Rattle.m11_directory.specs.References.{references}
 use Rattle.m11_listing.specs.declared.symbol_table.SymbolEntry.{SymbolEntry}
@@ -12,16 +12,16 @@ use Rattle.m11_placement.specs.Definitions.{last_definition}
 use Rattle.m11_symbols.specs.Values.{is_assigned, symbol_value}
 
 -- its last definition, if it has one
-abbrev pub definition_of : Told → Name → Option Definition
-definition_of told name = last_definition (Named name) told.table.definitions
+abbrev pub definition_of : DirectoryFacts → Name → Option Definition
+definition_of facts name = last_definition (Named name) facts.table.definitions
 
 -- `G` stands for what lines made global, and for what another object has to define
-abbrev pub is_global : Told → Name → Bool
-is_global told name = has_name name told.table.globals || has_name name (references told)
+abbrev pub is_global : DirectoryFacts → Name → Bool
+is_global facts name = has_name name facts.table.globals || has_name name (references facts)
 
 -- lines refer to the name, and no line defines it
-abbrev pub is_needed : Told → Name → Bool
-is_needed told name = has_name name told.referred && is_none (definition_of told name)
+abbrev pub is_needed : DirectoryFacts → Name → Bool
+is_needed facts name = has_name name facts.referred && is_none (definition_of facts name)
 
 abbrev pub entry_by : Name → Option Definition → Bool → SymbolEntry
 entry_by name definition is_global = record {
@@ -31,12 +31,12 @@ entry_by name definition is_global = record {
   is_global = is_global;
 }
 
-abbrev pub symbol_entry : Told → Name → SymbolEntry
-symbol_entry told name = entry_by name (definition_of told name) (is_global told name)
+abbrev pub symbol_entry : DirectoryFacts → Name → SymbolEntry
+symbol_entry facts name = entry_by name (definition_of facts name) (is_global facts name)
 
 -- names in order, each once
-unfoldable pub symbol_entries : Told → List Name → List SymbolEntry
-symbol_entries told names = map (symbol_entry told) (ordered names)
+unfoldable pub symbol_entries : DirectoryFacts → List Name → List SymbolEntry
+symbol_entries facts names = map (symbol_entry facts) (ordered names)
 
 abbrev pub entry_names : List SymbolEntry → List Name
 entry_names entries = map (λ entry. entry.name) entries

@@ -9,7 +9,7 @@ use Rattle.std.specs.Prelude.{◌==◌, Bool, true, false, if◌then◌else◌, 
 use Rattle.m11_base.specs.Devices.{Bytes}
 use Rattle.m11_base.specs.Names.{name_in_words}
 use Rattle.m11_base.specs.Rad50.{Name}
-use Rattle.m11_directory.specs.FirstPass.{Told}
+use Rattle.m11_directory.specs.FirstPass.{DirectoryFacts}
 use Rattle.m11_listing.specs.SymbolTable.{last_lines}
 use Rattle.m11_placement.specs.declared.definitions.Definition.{Definition}
 use Rattle.m11_placement.specs.declared.definitions.Key.TheVariants.{Named}
@@ -41,8 +41,8 @@ table = record first_table {
   globals = name (codes "A     ") ∷ [];
 }
 
-abbrev pub told : Told
-told = record {
+abbrev pub facts : DirectoryFacts
+facts = record {
   table = table;
   size_of = λ number. if number == 1 then 4 else 0;
   referred = name (codes "Q     ") ∷ name (codes "R1    ") ∷ [];
@@ -58,7 +58,7 @@ mentioned =
     ∷ name (codes "R1    ") ∷ []
 
 abbrev pub found_lines : List Bytes
-found_lines = last_lines (symbol_entries told mentioned) (section_entries told) 2
+found_lines = last_lines (symbol_entries facts mentioned) (section_entries facts) 2
 
 abbrev pub told_lines : List Bytes
 told_lines =

@@ -2,7 +2,7 @@
 
 ghost use Rattle.std.specs.Prelude.{◌≡◌, List};
 ghost use Rattle.m11_base.specs.Rad50.{Name};
-ghost use Rattle.m11_directory.specs.FirstPass.{Told};
+ghost use Rattle.m11_directory.specs.FirstPass.{DirectoryFacts};
 ghost use Rattle.m11_directory.specs.Laws.{AreInOrder, HaveTheSame, TellTheSame};
 ghost use Rattle.m11_symbols.specs.Sections.{section_entries};
 ghost use Rattle.m11_symbols.specs.Symbols.{entry_names, symbol_entries};
@@ -12,7 +12,7 @@ use m11_directory::{names_in_order_are_these_alone, ordered_names_are_in_order};
 
 /// The entries of names are of these names, each once, each before the next one.
 pub fn each_name_stands_once_and_in_order()
-    ensures { (told : Told) (names : List Name) → AreInOrder (entry_names (symbol_entries told names)) names }
+    ensures { (facts : DirectoryFacts) (names : List Name) → AreInOrder (entry_names (symbol_entries facts names)) names }
 {
     ordered_names_are_in_order();
 }
@@ -20,7 +20,7 @@ pub fn each_name_stands_once_and_in_order()
 /// Entries depend on the last definition of each name, on which names are mentioned, global and referred to, and on nothing else
 /// of how a table keeps them: first passes that tell the same have the same entries of the same names.
 pub fn first_passes_that_tell_the_same_have_the_same_symbols()
-    ensures { (one other : Told) (names others : List Name) → TellTheSame one other → HaveTheSame names others
+    ensures { (one other : DirectoryFacts) (names others : List Name) → TellTheSame one other → HaveTheSame names others
         → symbol_entries one names ≡ symbol_entries other others }
 {
     ordered_names_are_in_order();
@@ -29,7 +29,7 @@ pub fn first_passes_that_tell_the_same_have_the_same_symbols()
 
 /// The same of sections.
 pub fn first_passes_that_tell_the_same_have_the_same_sections()
-    ensures { (one other : Told) → TellTheSame one other → section_entries one ≡ section_entries other }
+    ensures { (one other : DirectoryFacts) → TellTheSame one other → section_entries one ≡ section_entries other }
 {}
 
 /// The last lines of a listing whose names are of every kind.

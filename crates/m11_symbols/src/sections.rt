@@ -2,7 +2,7 @@
 //! directives".)
 
 ghost use Rattle.std.specs.Prelude.{◌≡◌, ◌<◌, ◌≤◌, IfOk, length};
-ghost use Rattle.m11_directory.specs.FirstPass.{told_by};
+ghost use Rattle.m11_directory.specs.FirstPass.{directory_facts};
 ghost use Rattle.m11_placement.specs.Sections.{numbered};
 ghost use Rattle.m11_symbols.specs.Sections as spec;
 
@@ -15,7 +15,7 @@ use std::alloc::{AllocError, Global};
 // The entry of the section of a number.
 fn section_entry(first: &FirstPass<'_>, number: u16) -> SectionEntry
     requires { number < 64 }
-    ensures { result ≡ spec.section_entry (told_by first.now) (number, numbered number first.now.table.now.sections) }
+    ensures { result ≡ spec.section_entry (directory_facts first.now) (number, numbered number first.now.table.now.sections) }
 {
     let section = first.table.section(number);
     SectionEntry {
@@ -32,7 +32,7 @@ pub fn section_entries(
     first: &FirstPass<'_>,
 ) -> Result<Vec<SectionEntry>, AllocError>
     requires { length first.now.table.now.sections ≤ 64 }
-    ensures { IfOk result (λ entries. entries.items ≡ spec.section_entries (told_by first.now)) }
+    ensures { IfOk result (λ entries. entries.items ≡ spec.section_entries (directory_facts first.now)) }
 {
     let mut entries = Vec::new(alloc);
     let count = first.table.section_count();

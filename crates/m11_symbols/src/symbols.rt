@@ -1,7 +1,7 @@
 //! The names of the symbol table. (MACRO-11 Language Reference Manual, "Table of contents and symbol table" and ".GLOBL directive".)
 
 ghost use Rattle.std.specs.Prelude.{◌≡◌, ◌++◌, IfOk, map};
-ghost use Rattle.m11_directory.specs.FirstPass.{told_by};
+ghost use Rattle.m11_directory.specs.FirstPass.{directory_facts};
 ghost use Rattle.m11_directory.specs.Names.{ordered};
 ghost use Rattle.m11_symbols.specs.Symbols as spec;
 
@@ -15,14 +15,14 @@ use std::alloc::{AllocError, Global};
 
 // Whether lines refer to a name, and no line defines it.
 fn is_needed(first: &FirstPass<'_>, name: Name) -> bool
-    ensures { result ≡ spec.is_needed (told_by first.now) name }
+    ensures { result ≡ spec.is_needed (directory_facts first.now) name }
 {
     first.referred.contains(&name) && first.table.definition(&Key::Named(name)).is_none()
 }
 
 // Whether lines made a name global, or another object has to define it.
 fn is_global(first: &FirstPass<'_>, name: Name) -> bool
-    ensures { result ≡ spec.is_global (told_by first.now) name }
+    ensures { result ≡ spec.is_global (directory_facts first.now) name }
 {
     ordered_names_are_in_order();
     first.table.is_global(name) || is_needed(first, name)
@@ -30,7 +30,7 @@ fn is_global(first: &FirstPass<'_>, name: Name) -> bool
 
 // The entry of a name by its last definition, if it has one.
 fn symbol_entry(first: &FirstPass<'_>, name: Name) -> SymbolEntry
-    ensures { result ≡ spec.symbol_entry (told_by first.now) name }
+    ensures { result ≡ spec.symbol_entry (directory_facts first.now) name }
 {
     let is_global = is_global(first, name);
     match first.table.definition(&Key::Named(name)) {
@@ -56,7 +56,7 @@ fn push_symbols(
     names: &[Name],
 ) -> Result<(), AllocError>
     ensures { IfOk result (λ _. entries.new.items
-        ≡ entries.old.items ++ map (spec.symbol_entry (told_by first.now)) names.now) }
+        ≡ entries.old.items ++ map (spec.symbol_entry (directory_facts first.now)) names.now) }
 {
     let mut rest = names;
     'names: while let [name, others @ ..] = rest {
@@ -84,7 +84,7 @@ pub fn symbol_entries(
     registers: &IndexSet<Name>,
 ) -> Result<Vec<SymbolEntry>, AllocError>
     ensures { IfOk result (λ entries. entries.items
-        ≡ spec.symbol_entries (told_by first.now) (names.now.keys ++ registers.now.keys)) }
+        ≡ spec.symbol_entries (directory_facts first.now) (names.now.keys ++ registers.now.keys)) }
 {
     let list = joined_names(alloc, names.as_slice(), registers.as_slice())?;
     let mut entries = Vec::new(alloc);

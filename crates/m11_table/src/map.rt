@@ -1,4 +1,4 @@
-//! What a whole source gives its names in the end, and its sections, as a second reading is told it. (MACRO-11 Language Reference Manual, "Symbols".)
+//! What a whole source gives its names in the end, and its sections, as a second pass knows it. (MACRO-11 Language Reference Manual, "Symbols".)
 
 ghost use Rattle.std.specs.Prelude.{◌≡◌};
 ghost use Rattle.m11_placement.specs.Assigning.{is_exported};
@@ -11,7 +11,7 @@ use m11_base::Name;
 use m11_placement::{Definition, Key, Section};
 use std::marker::Model;
 
-/// What a whole source gives its names: nothing in the first reading, the table after the first one in the second.
+/// What a whole source gives its names: nothing in the first pass, the table after the first one in the second.
 #[derive(Drop)]
 pub struct Map<'a> {
     table: Option<&'a Table>,
@@ -28,14 +28,14 @@ impl<'a> Model for Map<'a> {
 }
 
 impl<'a> Map<'a> {
-    /// That of the first reading: nothing is known.
+    /// That of the first pass: nothing is known.
     pub fn none() -> Map<'a>
         ensures { result ≡ empty_map }
     {
         Map { table: None }
     }
 
-    /// That of the second reading: what the first one left.
+    /// That of the second pass: what the first one left.
     pub fn of(table: &'a Table) -> Map<'a>
         ensures { result ≡ map_of table.now }
     {

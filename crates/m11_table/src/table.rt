@@ -53,10 +53,10 @@ pub struct Table {
 }
 
 impl Model for Table {
-    ghost use Rattle.m11_placement.specs.Tables.{Table as Told};
+    ghost use Rattle.m11_placement.specs.Tables.{Table as LineTable};
     ghost use Rattle.m11_table.specs.Entries.{table_of};
 
-    ghost Value = { Told };
+    ghost Value = { LineTable };
 
     ghost view = { λ t. table_of t.names.entries t.local_symbols.entries t.doubled_names.keys t.doubled_symbols.keys t.globals.keys
         t.sections.entries t.counters t.settings };

@@ -4,7 +4,7 @@ use Rattle.std.proofs.lemmas.List.{length-append}
 use Rattle.std.specs.Prelude.{true}
 use Rattle.m11_arguments.specs.Actuals.{Given, actuals_from, given_as, given_by, wanted_by}
 use Rattle.m11_arguments.specs.Expressions.{Known}
-use Rattle.m11_arguments.specs.Macros.{FormalList, NextListed, Ending, Formally, formals_by, formals_within, header, listed_at, name_at, told_by}
+use Rattle.m11_arguments.specs.Macros.{FormalList, NextListed, Ending, Formally, formals_by, formals_within, header, listed_at, name_at, header_by}
 use Rattle.m11_arguments.specs.declared.macros.NameAt.{NameAt}
 use Rattle.m11_lines.specs.Line.{line_limit}
 use Rattle.m11_scan.specs.Cutting.{tokens_from}
@@ -46,7 +46,7 @@ few_formals (suc bound) line place =
     one_listed bound (λ next. formals_within bound line next) (λ next. few_formals bound line next)
     (listed_at line (separator_at line place).end)
 
-few_told : (line : List ℕ) (place : ℕ) (name : Option NameAt) → IsFew (told_by line place name).named
+few_told : (line : List ℕ) (place : ℕ) (name : Option NameAt) → IsFew (header_by line place name).named
 few_told line place None = tt
 few_told line place (Some name) = few_formals line_limit line name.end
 

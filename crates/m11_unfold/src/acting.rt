@@ -28,7 +28,7 @@ use m11_values::Names;
 use std::alloc::{AllocError, Global};
 
 impl State {
-    // Does a directive, whose arguments stand in a line from a place on. The answer is whether the line is unfolding's own.
+    // Does a directive, whose arguments stand in a line from a place on. Returns whether the line is unfolding's own.
     #[tactic(auto, using(crate::proofs::Noting::nothing_more))]
     pub(crate) fn direct<N: Names>(
         &mut self,
@@ -120,9 +120,9 @@ impl State {
         ensures notes { IfOk result (λ _. notes.new ≡ joined notes.old (spec.condition_opened line.now.text (asked_condition
             (known_by (N.base names.now) (N.stands_for names.now)) line.now.text place) (stage_of self.old)).notes) }
     {
-        let answer = condition(line, place, names, notes)?;
-        notes.add_letters(left_over(line, usize::from(answer.end)));
-        self.conditions.enter(answer.holds);
+        let verdict = condition(line, place, names, notes)?;
+        notes.add_letters(left_over(line, usize::from(verdict.end)));
+        self.conditions.enter(verdict.holds);
         Ok(())
     }
 

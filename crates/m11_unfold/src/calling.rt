@@ -26,7 +26,7 @@ use m11_values::Names;
 use std::alloc::{AllocError, Global};
 
 impl State {
-    // Does the operator of a live line. The answer is whether the line is unfolding's own.
+    // Does the operator of a live line. Returns whether the line is unfolding's own.
     #[tactic(auto, using(crate::proofs::Noting::nothing_more))]
     pub(crate) fn act<N: Names>(
         &mut self,

@@ -8,7 +8,7 @@ use m11_arguments::{Directive, directive_of};
 use m11_expansions::{Conditions, Nesting};
 use m11_scan::Line;
 
-// Skips a line, unless it is live. The answer is whether it is skipped.
+// Skips a line, unless it is live. Returns whether it is skipped.
 pub(crate) fn skip(conditions: &mut Conditions, line: &Line) -> bool
     requires { conditions.old.nested < 4294967295 }
     ensures skipped { result ≡ true → spec.skipped conditions.old line.now.text ≡ Some conditions.new }

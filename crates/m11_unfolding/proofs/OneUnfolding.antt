@@ -3,7 +3,7 @@ use Rattle.std.proofs.Common.{◌≡◌, ◌∙◌, List, [], ◌∷◌, ◌++�
 use Rattle.std.specs.Prelude.{◌⊎◌}
 use Rattle.m11_arguments.specs.Expressions.{Known}
 use Rattle.m11_unfolding.specs.Acting.{act}
-use Rattle.m11_unfolding.specs.Histories.{GoesOn, IsTold}
+use Rattle.m11_unfolding.specs.Histories.{GoesOn, IsKnownBy}
 use Rattle.m11_unfolding.specs.Stages.{Stage}
 use Rattle.m11_unfolding.specs.Taking.{Gives, Live, Passes, Rests, move}
 use Rattle.m11_unfolding.specs.Unfolding.{Given, Leads, given}
@@ -75,7 +75,7 @@ passes_too stage after other done later more fault moves whole (Gave next live k
 -- where the first gives one line further, the second gave the same, or is no further
 gives_too : (tells : List Given → Live → Known) (stage after other : Stage) (done later more : List Given) (live : Live) (known : Known)
     → next_fault stage ≡ None → move stage ≡ Gives live after → act_fault after live.line.text ≡ None
-    → IsTold tells (done ++ given known live after ∷ []) → IsTold tells later → later ≡ done ++ more → Begins stage more other
+    → IsKnownBy tells (done ++ given known live after ∷ []) → IsKnownBy tells later → later ≡ done ++ more → Begins stage more other
     → GoesOn (done ++ given known live after ∷ []) (act known after live.line.text).after later other
     ⊎ GoesOn later other (done ++ given known live after ∷ []) (act known after live.line.text).after
 gives_too tells stage after other done later more live known fault moves acts told told' whole (Still none same) =
@@ -107,12 +107,12 @@ gives_too tells stage after other done later more live known fault moves acts to
     })
 
 -- what a front of the lines was told
-front_told : (tells : List Given → Live → Known) (done more : List Given) → IsTold tells (done ++ more) → IsTold tells done
+front_told : (tells : List Given → Live → Known) (done more : List Given) → IsKnownBy tells (done ++ more) → IsKnownBy tells done
 front_told tells done more told earlier later one is =
     told earlier (later ++ more) one (ap (λ (d : List Given). d ++ more) is ∙ append_assoc earlier (one ∷ later) more)
 
-pub compared : (tells : List Given → Live → Known) (before first second : Stage) (done later : List Given) → IsTold tells done
-    → IsTold tells later → Leads before done first → Leads before later second
+pub compared : (tells : List Given → Live → Known) (before first second : Stage) (done later : List Given) → IsKnownBy tells done
+    → IsKnownBy tells later → Leads before done first → Leads before later second
     → GoesOn done first later second ⊎ GoesOn later second done first
 compared tells before _ second _ later told told' steps.Leads.Stays leads' =
     inl (record { more = later; whole = refl; leads = leads' })
@@ -160,8 +160,8 @@ same_end done later first second rests on =
     let still = stays_there first second on.more rests (first_step first second on.more on.leads) in
     (on.whole ∙ ap (λ (m : List Given). done ++ m) still.0 ∙ append-nil done, still.1)
 
-pub one_end : (tells : List Given → Live → Known) (before first second : Stage) (done later : List Given) → IsTold tells done
-    → IsTold tells later → Leads before done first → Leads before later second → move first ≡ Rests → move second ≡ Rests
+pub one_end : (tells : List Given → Live → Known) (before first second : Stage) (done later : List Given) → IsKnownBy tells done
+    → IsKnownBy tells later → Leads before done first → Leads before later second → move first ≡ Rests → move second ≡ Rests
     → (done ≡ later) × (first ≡ second)
 one_end tells before first second done later told told' leads leads' rests rests' =
     go (compared tells before first second done later told told' leads leads')

@@ -16,7 +16,7 @@ use Rattle.m11_arguments.specs.Expressions.{Known}
 use Rattle.m11_arguments.specs.Filling.{Filled, filled}
 use Rattle.m11_arguments.specs.Immediate as immediate
 use Rattle.m11_arguments.specs.Indefinite.{Repeated, Repetition, character_repeat, indefinite_repeat}
-use Rattle.m11_arguments.specs.Macros.{MacroNamed, Told, header}
+use Rattle.m11_arguments.specs.Macros.{MacroNamed, MacroHeader, header}
 use Rattle.m11_arguments.specs.LeftOvers.{left_over}
 use Rattle.m11_arguments.specs.Notes.{Notes, no_notes, noting, with_letters}
 use Rattle.m11_arguments.specs.Repeats as repeats
@@ -141,8 +141,8 @@ abbrev pub defining : Option MacroNamed → Purpose
 defining (Some macro) = Defines macro.name macro.formals
 defining None = Drops
 
-abbrev pub acted_header : Told → Stage → Acted
-acted_header told stage = own (noting told.letters []) (opens (defining told.named) stage)
+abbrev pub acted_header : MacroHeader → Stage → Acted
+acted_header header stage = own (noting header.letters []) (opens (defining header.named) stage)
 
 -- `.IRP` and `.IRPC`: one formal, and one actual in each round; no round where an argument is bad or missing
 abbrev pub alone : Bytes → List Bytes

@@ -6,9 +6,9 @@ use Rattle.m11_unfolding.specs.Stages.{Stage, line_left}
 use Rattle.m11_unfolding.specs.Taking.{Live}
 use Rattle.m11_unfolding.specs.Unfolding.{Given, Leads}
 
--- what is known at each line is what is told by the lines before it, and by the line itself
-abbrev pub IsTold : (List Given → Live → Known) → List Given → Type 0
-IsTold tells done = (earlier later : List Given) (one : Given) → done ≡ earlier ++ one ∷ later → one.known ≡ tells earlier one.live
+-- what is known at each line is what the lines before it and the line itself say
+abbrev pub IsKnownBy : (List Given → Live → Known) → List Given → Type 0
+IsKnownBy known_by done = (earlier later : List Given) (one : Given) → done ≡ earlier ++ one ∷ later → one.known ≡ known_by earlier one.live
 
 -- an unfolding goes on where another one stands
 pub record GoesOn (done : List Given) (stage : Stage) (all : List Given) (after : Stage) : Type 0 where

@@ -15,7 +15,7 @@ ghost use Rattle.m11_expansions.specs.declared.open_body.Nesting.TheVariants.{Cl
 ghost use Rattle.m11_lines.specs.Line.{SourceLine, line_of};
 ghost use Rattle.m11_unfolding.specs.Acting.{act, flagged};
 ghost use Rattle.m11_unfolding.specs.Constructs.{Block, HasConditionLeft, HasRoom, IsCall, IsPlainBody, after_block, after_call, before_block, before_call, condition_notes, expanded_given, repeated_lines, times};
-ghost use Rattle.m11_unfolding.specs.Histories.{GoesOn, IsTold, with_more};
+ghost use Rattle.m11_unfolding.specs.Histories.{GoesOn, IsKnownBy, with_more};
 ghost use Rattle.m11_unfolding.specs.Laws.{AreForeign, IsDirective, IsLive, after_exit, after_lines, before_exit, before_lines, exit_given, foreign_given, own_given};
 ghost use Rattle.m11_unfolding.specs.Limits.{most_lines};
 ghost use Rattle.m11_unfolding.specs.Stages.{Stage};
@@ -107,10 +107,10 @@ pub fn unfoldings_follow_each_other()
 /// more in either, they have the same lines and end at the same stage.
 pub fn a_source_has_one_unfolding()
     ensures compared { (tells : List Given → Live → Known) (before first second : Stage) (done later : List Given)
-        → IsTold tells done → IsTold tells later → Leads before done first → Leads before later second
+        → IsKnownBy tells done → IsKnownBy tells later → Leads before done first → Leads before later second
         → GoesOn done first later second ⊎ GoesOn later second done first }
     ensures ended { (tells : List Given → Live → Known) (before first second : Stage) (done later : List Given)
-        → IsTold tells done → IsTold tells later → Leads before done first → Leads before later second
+        → IsKnownBy tells done → IsKnownBy tells later → Leads before done first → Leads before later second
         → move first ≡ Rests → move second ≡ Rests → (done ≡ later) × (first ≡ second) }
 {}
 

@@ -64,7 +64,7 @@ trait Keeps {
     fn keep(&mut self, live: &LiveLine, act: &Act) -> Result<(), AllocError>;
 }
 
-// Takes what is left. The answer is whether the next line of the source is needed.
+// Takes what is left. Returns whether the next line of the source is needed.
 fn take_rest<K: Keeps>(unfolder: &mut Unfolder, kept: &mut K) -> Result<bool, UnfoldFault>
     ensures { result ≡ Ok true → unfolder.new.stage.left ≡ [] }
 {
@@ -84,7 +84,7 @@ fn take_rest<K: Keeps>(unfolder: &mut Unfolder, kept: &mut K) -> Result<bool, Un
 // Some lines that are alike, and how many they are.
 type Lines = (&'static str, u32);
 
-// Feeds as many of a line, and keeps what becomes live. The answer is whether the next line of the source is needed.
+// Feeds as many of a line, and keeps what becomes live. Returns whether the next line of the source is needed.
 fn feed_all<K: Keeps>(
     unfolder: &mut Unfolder,
     lines: Lines,

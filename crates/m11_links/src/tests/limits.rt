@@ -142,7 +142,7 @@ static FILES: [(&str, Made, Option<LinkFault>); 15] = [
     ("32 modules", Modules(32), None),
     ("33 modules", Modules(33), Some(LinkFault::TooManyModules)),
     (
-        "a module too many is told before its entries",
+        "a module too many is reported before its entries",
         ModulesAndSections(32),
         Some(LinkFault::TooManyModules),
     ),
@@ -174,7 +174,7 @@ static FILES: [(&str, Made, Option<LinkFault>); 15] = [
         Some(LinkFault::TooManyGlobals),
     ),
     (
-        "an entry out of order is told before a global too many",
+        "an entry out of order is reported before a global too many",
         EntriesAndTwo(
             8_191,
             WEAK_REFERENCE,
@@ -194,7 +194,7 @@ static FILES: [(&str, Made, Option<LinkFault>); 15] = [
         Some(LinkFault::TooManyGlobals),
     ),
     (
-        "the place of a relocation is told before a global too many",
+        "the place of a relocation is reported before a global too many",
         Relocations(5, 9_001),
         Some(LinkFault::BadDisplacement),
     ),

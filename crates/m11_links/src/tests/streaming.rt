@@ -144,7 +144,7 @@ fn change(files: &mut [Vec<u8>]) {
 }
 
 #[test]
-fn a_second_reading_that_differs_is_refused_where_it_does(rt: HostRuntime) -> Result<(), Fail> {
+fn a_second_pass_that_differs_is_refused_where_it_does(rt: HostRuntime) -> Result<(), Fail> {
     let objects = [READS_F, DEFINES_F];
     let first = files_of(rt.alloc(), &objects)?;
     let mut second = files_of(rt.alloc(), &objects)?;
@@ -204,7 +204,7 @@ fn reports_after_prog(
 }
 
 #[test]
-fn a_section_that_only_the_second_reading_enters_gives_no_message(
+fn a_section_that_only_the_second_pass_enters_gives_no_message(
     rt: HostRuntime,
 ) -> Result<(), Fail> {
     reports_after_prog(&rt, OF_PROG_AND_DATA, &[])?;

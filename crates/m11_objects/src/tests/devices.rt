@@ -10,22 +10,22 @@ use std::process::Abort;
 use std::test::Fail;
 
 // What a call of a feed returns: a byte, its end, or a failure.
-pub(crate) type Answer = Result<Option<u8>, DeviceFault>;
+pub(crate) type NextByte = Result<Option<u8>, DeviceFault>;
 
-pub(crate) const A: Answer = Ok(Some(b'a'));
+pub(crate) const A: NextByte = Ok(Some(b'a'));
 
-pub(crate) const B: Answer = Ok(Some(b'b'));
+pub(crate) const B: NextByte = Ok(Some(b'b'));
 
-pub(crate) const C: Answer = Ok(Some(b'c'));
+pub(crate) const C: NextByte = Ok(Some(b'c'));
 
-pub(crate) const END: Answer = Ok(None);
+pub(crate) const END: NextByte = Ok(None);
 
-pub(crate) const FAILS: Answer = Err(DeviceFault);
+pub(crate) const FAILS: NextByte = Err(DeviceFault);
 
 // The calls of a feed return these, one after another.
-pub(crate) fn answers<F: Feed>(rt: &impl Abort, feed: &mut F, name: &str, wanted: &[Answer]) {
-    for answer in wanted {
-        same(rt, &name, &feed.next(), answer);
+pub(crate) fn gives<F: Feed>(rt: &impl Abort, feed: &mut F, name: &str, wanted: &[NextByte]) {
+    for byte in wanted {
+        same(rt, &name, &feed.next(), byte);
     }
 }
 
@@ -33,16 +33,16 @@ pub(crate) fn answers<F: Feed>(rt: &impl Abort, feed: &mut F, name: &str, wanted
 fn feeds_give_their_bytes_and_then_their_end_again_and_again(rt: HostRuntime) -> Result<(), Fail> {
     let bytes: &[u8] = b"abc";
     let wanted = [A, B, C, END, END];
-    answers(&rt, &mut MemoryFeed::new(bytes), "memory", &wanted);
-    answers(&rt, &mut ReaderFeed::new(bytes), "a reader", &wanted);
+    gives(&rt, &mut MemoryFeed::new(bytes), "memory", &wanted);
+    gives(&rt, &mut ReaderFeed::new(bytes), "a reader", &wanted);
     let buffer = BufReader::with_capacity(rt.alloc(), 2, bytes)?;
-    answers(&rt, &mut BufferedFeed::new(buffer), "a buffer", &wanted);
+    gives(&rt, &mut BufferedFeed::new(buffer), "a buffer", &wanted);
     Ok(())
 }
 
 // A fuse passes n calls, of which the end is one, and then fails at each; of two fuses the shorter one fails
 // first.
-static FUSED: [(&str, u64, u64, &[Answer]); 4] = [
+static FUSED: [(&str, u64, u64, &[NextByte]); 4] = [
     ("2 calls", 2, u64::MAX, &[A, B, FAILS, FAILS]),
     ("4 calls", 4, u64::MAX, &[A, B, C, END, FAILS, FAILS]),
     ("2 and 3 calls", 2, 3, &[A, B, FAILS, FAILS]),
@@ -53,7 +53,7 @@ static FUSED: [(&str, u64, u64, &[Answer]); 4] = [
 fn a_fused_feed_passes_its_calls_and_then_fails_at_each(rt: HostRuntime) {
     for (name, inner, outer, wanted) in &FUSED {
         let fused = FuseFeed::new(MemoryFeed::new(b"abc"), *inner);
-        answers(&rt, &mut FuseFeed::new(fused, *outer), name, wanted);
+        gives(&rt, &mut FuseFeed::new(fused, *outer), name, wanted);
     }
 }
 
@@ -146,7 +146,7 @@ fn a_fused_sink_passes_its_calls_and_then_fails_at_each(rt: HostRuntime) -> Resu
     Ok(())
 }
 
-// What is answered to a put of five bytes through a fuse of n calls, of n bytes at most.
+// What is returned to a put of five bytes through a fuse of n calls, of n bytes at most.
 fn put_five(written: &mut Vec<u8>, calls: u64, most: usize) -> Result<(), PutFault> {
     put_all(
         &mut FuseSink::new(WriterSink::new(written), calls, most),
@@ -154,7 +154,7 @@ fn put_five(written: &mut Vec<u8>, calls: u64, most: usize) -> Result<(), PutFau
     )
 }
 
-// How many calls pass, and of how many bytes each; what is written, and what is answered.
+// How many calls pass, and of how many bytes each; what is written, and what is returned.
 static PUT: [(u64, usize, &[u8], Result<(), PutFault>); 5] = [
     (3, 2, b"abcde", Ok(())),
     (2, 2, b"abcd", Err(PutFault::Device)),
@@ -166,10 +166,15 @@ static PUT: [(u64, usize, &[u8], Result<(), PutFault>); 5] = [
 
 #[test]
 fn all_is_put_or_the_beginning_before_the_failure(rt: HostRuntime) -> Result<(), Fail> {
-    for (calls, most, wanted, answer) in &PUT {
+    for (calls, most, wanted, returned) in &PUT {
         let mut written = Vec::with_capacity(rt.alloc(), 8)?;
         let put = put_five(&mut written, *calls, *most);
-        same(&rt, calls, &(put, written.as_slice()), &(*answer, *wanted));
+        same(
+            &rt,
+            calls,
+            &(put, written.as_slice()),
+            &(*returned, *wanted),
+        );
         drop(written);
     }
     Ok(())

@@ -1,6 +1,6 @@
 //! Feeds and sinks over readers and writers whose second call fails.
 
-use super::devices::{A, Answer, B, END, FAILS, Put, answers, takes};
+use super::devices::{A, B, END, FAILS, NextByte, Put, gives, takes};
 use super::same;
 use m11_base::{BufferedFeed, ReaderFeed, WriterSink};
 use std::io;
@@ -53,7 +53,7 @@ impl<W: Write> Write for SecondCallFails<W> {
 }
 
 // An interrupted call is made again; another that fails is the device's failure, and the next call goes on.
-static CALLS: [(ErrorKind, &[Answer]); 2] = [
+static CALLS: [(ErrorKind, &[NextByte]); 2] = [
     (ErrorKind::Interrupted, &[A, B, END, END]),
     (ErrorKind::Other, &[A, FAILS, B, END]),
 ];
@@ -63,9 +63,9 @@ fn an_interrupted_read_is_tried_again_and_a_failed_one_is_not(rt: HostRuntime) -
     let bytes: &[u8] = b"ab";
     for (kind, wanted) in &CALLS {
         let reader = SecondCallFails::new(bytes, *kind);
-        answers(&rt, &mut ReaderFeed::new(reader), "a reader", wanted);
+        gives(&rt, &mut ReaderFeed::new(reader), "a reader", wanted);
         let filled = BufReader::with_capacity(rt.alloc(), 1, SecondCallFails::new(bytes, *kind))?;
-        answers(&rt, &mut BufferedFeed::new(filled), "a buffer", wanted);
+        gives(&rt, &mut BufferedFeed::new(filled), "a buffer", wanted);
     }
     Ok(())
 }

@@ -36,7 +36,7 @@ static PROGRAMS: [Called<'static>; 3] = [
         ],
     ),
     (
-        "A step after a stack fault answers it and changes nothing",
+        "A step after a stack fault returns it and changes nothing",
         &[(0o1000, &[0o104000, 0o005200])],
         &[
             (Call::Step(Stopped(StackFault)), &[]),

@@ -5,40 +5,40 @@ use Rattle.m11_arguments.specs.Expressions.{known_by}
 use Rattle.m11_arguments.proofs.Tests.{bad_exit, last_exit, next_exit}
 use Rattle.m11_arguments.proofs.definedness.names_at.Goals as goal
 
-pub returns-in_default-2-clause-answer : goal.returns-in_default-2-clause-answer
-returns-in_default-2-clause-answer g c =
-    c.at_bad.ensures.answer
+pub returns-in_default-2-clause-verdict : goal.returns-in_default-2-clause-verdict
+returns-in_default-2-clause-verdict g c =
+    c.at_bad.ensures.verdict
     ∙ (bad_exit (known_by (g.N.Names.base c.args.names.now) (g.N.Names.stands_for c.args.names.now)) c.args.wants_defined
     (length c.args.line.now.text) c.names.before (lexeme c.args.line.now.text c.in-Some.name) _ _ _ _ _ _ c.in-Some.ensures.token
-    c.names.invariant.leads _ refl (sym c.in_ok-answer.ensures.answer ∙ c.in_default-2.is) c.in_ok-answer.ensures.notes).answer
+    c.names.invariant.leads _ refl (sym c.in_ok-verdict.ensures.verdict ∙ c.in_default-2.is) c.in_ok-verdict.ensures.notes).verdict
 
 pub returns-in_default-2-clause-end : goal.returns-in_default-2-clause-end
 returns-in_default-2-clause-end g c =
     c.at_bad.ensures.end
     ∙ (bad_exit (known_by (g.N.Names.base c.args.names.now) (g.N.Names.stands_for c.args.names.now)) c.args.wants_defined
     (length c.args.line.now.text) c.names.before (lexeme c.args.line.now.text c.in-Some.name) _ _ _ _ _ _ c.in-Some.ensures.token
-    c.names.invariant.leads _ refl (sym c.in_ok-answer.ensures.answer ∙ c.in_default-2.is) c.in_ok-answer.ensures.notes).end
+    c.names.invariant.leads _ refl (sym c.in_ok-verdict.ensures.verdict ∙ c.in_default-2.is) c.in_ok-verdict.ensures.notes).end
 
 pub returns-in_default-2-clause-notes : goal.returns-in_default-2-clause-notes
 returns-in_default-2-clause-notes g c =
     (bad_exit (known_by (g.N.Names.base c.args.names.now) (g.N.Names.stands_for c.args.names.now)) c.args.wants_defined
     (length c.args.line.now.text) c.names.before (lexeme c.args.line.now.text c.in-Some.name) _ _ _ _ _ _ c.in-Some.ensures.token
-    c.names.invariant.leads _ refl (sym c.in_ok-answer.ensures.answer ∙ c.in_default-2.is) c.in_ok-answer.ensures.notes).symbols
+    c.names.invariant.leads _ refl (sym c.in_ok-verdict.ensures.verdict ∙ c.in_default-2.is) c.in_ok-verdict.ensures.notes).symbols
 
-pub returns-in_default-joint_after-clause-answer : goal.returns-in_default-joint_after-clause-answer
-returns-in_default-joint_after-clause-answer g c =
-    ap (λ (a : Bool). Some a) c.joined_to-answer.ensures
+pub returns-in_default-joint_after-clause-verdict : goal.returns-in_default-joint_after-clause-verdict
+returns-in_default-joint_after-clause-verdict g c =
+    ap (λ (a : Bool). Some a) c.joined_to-verdict.ensures
     ∙ (last_exit (known_by (g.N.Names.base c.args.names.now) (g.N.Names.stands_for c.args.names.now)) c.args.wants_defined
     (length c.args.line.now.text) c.names.before (lexeme c.args.line.now.text c.in-Some.name) _ _ _ _ _ _ c.in-Some.ensures.token
-    c.names.invariant.leads _ c.in-Some-2.answer refl (sym c.in_ok-answer.ensures.answer ∙ c.in-Some-2.is)
-    c.in_ok-answer.ensures.notes (sym c.in_default-joint_after.ensures.joint)).answer
+    c.names.invariant.leads _ c.in-Some-2.verdict refl (sym c.in_ok-verdict.ensures.verdict ∙ c.in-Some-2.is)
+    c.in_ok-verdict.ensures.notes (sym c.in_default-joint_after.ensures.joint)).verdict
 
 pub returns-in_default-joint_after-clause-end : goal.returns-in_default-joint_after-clause-end
 returns-in_default-joint_after-clause-end g c =
     (last_exit (known_by (g.N.Names.base c.args.names.now) (g.N.Names.stands_for c.args.names.now)) c.args.wants_defined
     (length c.args.line.now.text) c.names.before (lexeme c.args.line.now.text c.in-Some.name) _ _ _ _ _ _ c.in-Some.ensures.token
-    c.names.invariant.leads _ c.in-Some-2.answer refl (sym c.in_ok-answer.ensures.answer ∙ c.in-Some-2.is)
-    c.in_ok-answer.ensures.notes (sym c.in_default-joint_after.ensures.joint)).end
+    c.names.invariant.leads _ c.in-Some-2.verdict refl (sym c.in_ok-verdict.ensures.verdict ∙ c.in-Some-2.is)
+    c.in_ok-verdict.ensures.notes (sym c.in_default-joint_after.ensures.joint)).end
 
 pub names-preserved : goal.names-preserved
 names-preserved g c =
@@ -52,11 +52,11 @@ names-preserved g c =
       leads =
           next_exit (known_by (g.N.Names.base c.args.names.now) (g.N.Names.stands_for c.args.names.now)) c.args.wants_defined
           (length c.args.line.now.text) c.names.before (lexeme c.args.line.now.text c.in-Some.name) _ _ _ _ _ _ c.in-Some.ensures.token
-          c.names.invariant.leads _ c.in-Some-2.answer c.in-Some-joint_after.next refl
-          (sym c.in_ok-answer.ensures.answer ∙ c.in-Some-2.is) c.in_ok-answer.ensures.notes
+          c.names.invariant.leads _ c.in-Some-2.verdict c.in-Some-joint_after.next refl
+          (sym c.in_ok-verdict.ensures.verdict ∙ c.in-Some-2.is) c.in_ok-verdict.ensures.notes
           (sym c.in-Some-joint_after.ensures.joint) _
           (c.in-Some-joint_after.ensures.rest ∙ ap (λ n. tokens_from c.args.line.now.text n) (sym c.from-begin.ensures)) _
-          c.joined_to-answer.ensures;
+          c.joined_to-verdict.ensures;
       least = omega arith;
       most = omega arith;
     }

@@ -8,5 +8,5 @@ returns-clause-notes g c =
     noted_at_once c.args.line.now.text c.args.notes.now c.condition.new.notes _
     (condition (known_by (g.N.Names.base c.args.names.now) (g.N.Names.stands_for c.args.names.now)) c.args.line.now.text
     c.args.place)
-    c.in_ok-answer.answer _ _ c.in_ok-answer.ensures.answer c.in_ok-answer.ensures.notes c.from-end.ensures
+    c.in_ok-verdict.verdict _ _ c.in_ok-verdict.ensures.verdict c.in_ok-verdict.ensures.notes c.from-end.ensures
     c.after_comma-statement.ensures.statement c.comma_letters.ensures c.add_letters.ensures

@@ -18,25 +18,25 @@ returns g c =
     let first = c.args.opened.sources.first.items in
     let second = c.args.opened.sources.second.items in
     let object = seen_sink sink c.args.opened.object in
-    let object' = seen_sink sink c.asm_run-answer.new.object in
+    let object' = seen_sink sink c.asm_run-returned.new.object in
     let listing = seen_output sink c.args.opened.listing in
-    let listing' = seen_output sink c.asm_run-answer.new.listing in
+    let listing' = seen_output sink c.asm_run-returned.new.listing in
     let reported = seen_sink g.E.Sink c.args.err.now in
-    let reported' = seen_sink g.E.Sink c.asm_run-answer.new.messages in
-    let ran : AsmRuns (pass_of text faults first c.asm_run-answer.new.first)
-    (pass_of text faults second c.asm_run-answer.new.second)
-    (asm_outputs_of object listing reported) (asm_outputs_of object' listing' reported') c.asm_run-answer.result =
+    let reported' = seen_sink g.E.Sink c.asm_run-returned.new.messages in
+    let ran : AsmRuns (pass_of text faults first c.asm_run-returned.new.first)
+    (pass_of text faults second c.asm_run-returned.new.second)
+    (asm_outputs_of object listing reported) (asm_outputs_of object' listing' reported') c.asm_run-returned.result =
     rw (
       c.as_mut_slice.ensures.value,
       c.as_mut_slice-2.ensures.value,
       same_output sink c.args.opened.listing,
-      same_output sink c.asm_run-answer.new.listing,
-    ) at c.asm_run-answer.ensures.runs in
+      same_output sink c.asm_run-returned.new.listing,
+    ) at c.asm_run-returned.ensures.runs in
     λ before read again emptied-object emptied-listing created same. record {
       first = seen text faults first;
-      first' = seen text faults c.asm_run-answer.new.first;
+      first' = seen text faults c.asm_run-returned.new.first;
       second = seen text faults second;
-      second' = seen text faults c.asm_run-answer.new.second;
+      second' = seen text faults c.asm_run-returned.new.second;
       object = object;
       object' = object';
       listing = listing;
@@ -45,11 +45,11 @@ returns g c =
       read-again = are text faults before.files (asm_inputs task) second again;
       emptied = emptied-object;
       emptied-listing = emptied sink before.files task.listing c.args.opened.listing emptied-listing;
-      runs = asm_runs text faults _ _ _ _ _ _ c.asm_run-answer.result ran;
+      runs = asm_runs text faults _ _ _ _ _ _ c.asm_run-returned.result ran;
       kept = c.keep_some.ensures.keeps
-          ∙ kept sink task.listing c.asm_run-answer.new.listing _
+          ∙ kept sink task.listing c.asm_run-returned.new.listing _
           ∙ ap (λ files. keeping_some (λ output. output.text) task.listing listing' files)
           (c.keep.ensures.keeps
-          ∙ ap (λ files. keeping task.object.now (sink.text c.asm_run-answer.new.object) files) created);
+          ∙ ap (λ files. keeping task.object.now (sink.text c.asm_run-returned.new.object) files) created);
       opened = c.keep_some.ensures.counts ∙ c.keep.ensures.counts ∙ same;
     }

@@ -1,5 +1,5 @@
 use Rattle.std.proofs.Common.{◌∙◌, ◌||◌, Bool, sym, ap}
-use Rattle.m11_directory.specs.FirstPass.{told_by}
+use Rattle.m11_directory.specs.FirstPass.{directory_facts}
 use Rattle.m11_symbols.specs.Symbols.{is_needed}
 use Rattle.m11_symbols.proofs.Needed.{global_or_needed}
 use Rattle.m11_symbols.proofs.symbols.is_global.Goals as goal
@@ -8,5 +8,5 @@ pub returns-else-is_global : goal.returns-else-is_global
 returns-else-is_global c =
     c.is_needed.ensures
     ∙ sym
-    (global_or_needed (told_by c.args.first.now) c.args.name c.ordered_names_are_in_order.ensures
-    ∙ ap (λ (b : Bool). b || is_needed (told_by c.args.first.now) c.args.name) (sym c.is_global.ensures ∙ c.if-is_global.false))
+    (global_or_needed (directory_facts c.args.first.now) c.args.name c.ordered_names_are_in_order.ensures
+    ∙ ap (λ (b : Bool). b || is_needed (directory_facts c.args.first.now) c.args.name) (sym c.is_global.ensures ∙ c.if-is_global.false))

@@ -1,12 +1,12 @@
 use Rattle.std.proofs.Common.{◌≡◌, ◌++◌, length, map}
-use Rattle.m11_directory.specs.FirstPass.{told_by}
+use Rattle.m11_directory.specs.FirstPass.{directory_facts}
 use Rattle.m11_symbols.specs.Symbols.{symbol_entry}
 use Rattle.m11_symbols.proofs.symbols.push_symbols.Given as goal
 
 abbrev pub invariant-names : goal.invariant-names
 invariant-names l =
-    l.entries.items ++ map (symbol_entry (told_by l.first)) l.rest
-    ≡ l.initial.entries.items ++ map (symbol_entry (told_by l.first)) l.names
+    l.entries.items ++ map (symbol_entry (directory_facts l.first)) l.rest
+    ≡ l.initial.entries.items ++ map (symbol_entry (directory_facts l.first)) l.names
 
 abbrev pub decreases-names : goal.decreases-names
 decreases-names l = length l.rest

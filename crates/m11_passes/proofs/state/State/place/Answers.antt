@@ -1,7 +1,7 @@
 use Rattle.std.proofs.Common.{◌≡◌, ◌∙◌, ◌≤◌, ℕ, List, length, refl, sym, ap, subst, arith}
 use Rattle.std.specs.Int.RustNames.{bit_or}
 use Rattle.m11_arguments.specs.Directives.{every_name}
-use Rattle.m11_placement.specs.Unfolded.{told}
+use Rattle.m11_placement.specs.Unfolded.{known_after_labels}
 use Rattle.m11_placing.specs.Deeds.{deed_seen}
 use Rattle.m11_placing.specs.Lines.{letters_from}
 use Rattle.m11_scan.specs.Views.{bits_of}
@@ -180,7 +180,7 @@ returns-clause-places c =
 pub returns-clause-taken : goal.returns-clause-taken
 returns-clause-taken c =
     ap (λ (s : Stage). s.taken) c.in_ok-act.ensures.acts.1
-    ∙ act_takes (told c.define_labels.new.pass.table) c.args.self.now.unfolder.stage c.args.live.line.text
+    ∙ act_takes (known_after_labels c.define_labels.new.pass.table) c.args.self.now.unfolder.stage c.args.live.line.text
 
 pub returns-clause-sound : goal.returns-clause-sound
 returns-clause-sound c =
@@ -193,7 +193,7 @@ returns-clause-sound c =
     let same = c.in_ok-assigned.ensures.symbols in
     let taken : c.act_on.new.unfolder.stage.taken ≡ c.args.self.now.unfolder.stage.taken
     = ap (λ (s : Stage). s.taken) c.in_ok-act.ensures.acts.1
-    ∙ act_takes (told c.define_labels.new.pass.table) c.args.self.now.unfolder.stage c.args.live.line.text in
+    ∙ act_takes (known_after_labels c.define_labels.new.pass.table) c.args.self.now.unfolder.stage c.args.live.line.text in
     record {
       room = subst (λ (n : ℕ). HasRoom n 0 0 c.change_line.new.pass.table) (sym taken)
           (changed_room c.args.self.now.unfolder.stage.taken c.args.map.now c.define_labels.new.pass.table

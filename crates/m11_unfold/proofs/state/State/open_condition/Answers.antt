@@ -3,7 +3,7 @@ use Rattle.m11_arguments.specs.Conditions.{condition, notes_of}
 use Rattle.m11_arguments.specs.Expressions.{known_by}
 use Rattle.m11_arguments.specs.LeftOvers.{left_over}
 use Rattle.m11_arguments.specs.Notes.{Notes, joined, with_letters}
-use Rattle.m11_arguments.specs.declared.conditions.Answer.{Answer}
+use Rattle.m11_arguments.specs.declared.conditions.Verdict.{Verdict}
 use Rattle.m11_scan.specs.Views.{bits_of}
 use Rattle.m11_unfold.proofs.Noting.{letters_after}
 use Rattle.m11_unfold.proofs.state.State.open_condition.Goals as goal
@@ -13,8 +13,8 @@ returns-clause-notes g c =
     let known = known_by (g.N.Names.base c.args.names.now) (g.N.Names.stands_for c.args.names.now) in
     let text = c.args.line.now.text in
     let asked = condition known text c.args.place in
-    let end = c.from.ensures ∙ ap (λ (a : Answer). a.end) c.in_ok-answer.ensures.answer in
-    c.add_letters.ensures ∙ ap (λ (n : Notes). with_letters n (bits_of c.left_over.result)) c.in_ok-answer.ensures.notes
+    let end = c.from.ensures ∙ ap (λ (a : Verdict). a.end) c.in_ok-verdict.ensures.verdict in
+    c.add_letters.ensures ∙ ap (λ (n : Notes). with_letters n (bits_of c.left_over.result)) c.in_ok-verdict.ensures.notes
     ∙ ap (λ (l : ℕ). with_letters (joined c.args.notes.now (notes_of asked)) l)
     (c.left_over.ensures ∙ ap (λ (n : ℕ). left_over text n) end)
     ∙ letters_after c.args.notes.now (notes_of asked) (left_over text asked.end)
