@@ -16,7 +16,7 @@ use Rattle.m11_arguments.specs.declared.definedness.SoFar.{SoFar}
 use Rattle.m11_arguments.specs.Expressions.{Known}
 
 abbrev pub letter_U : ℕ
-letter_U = 8192
+letter_U = 0o20000
 
 -- a name is defined where what it stands for has no U
 abbrev pub is_defined : Quantity → Bool

@@ -134,8 +134,8 @@ pub fn directive_named(name: &[u8]) -> Option<Directive>
     }
 }
 
-// Any name may be an operator.
-struct EveryName;
+/// Each name is taken for one of an operator: whether it is one is asked where it stands.
+pub struct EveryName;
 
 impl Operators for EveryName {
     ghost known = { λ _. every_name };

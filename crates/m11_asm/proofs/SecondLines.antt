@@ -135,7 +135,7 @@ module _ {F : Type 0} (text : F → Option Text) (faults : F → ℕ) (program :
         begun_more : Begun (pass_of text faults initial later) all
         begun_more = begun text faults initial later reader' all more
 
-        pub second_goes_on : SecondTakes program so.source line old now new second second' (Ok tt)
+        pub second_goes_on : SecondTakes program so.source line old (record { before = now; now = new; old = second; new = second' }) (Ok tt)
             → SecondSoFar text faults initial later reader' program old new second'
         second_goes_on (inl idle) = absurd (true_false (sym idle.ended ∙ goes))
           where
@@ -167,7 +167,7 @@ module _ {F : Type 0} (text : F → Option Text) (faults : F → ℕ) (program :
           s.gains,
         )
 
-        pub second_refuses : (stopped : AsmFault) → SecondTakes program so.source line old now new second second' (Err stopped)
+        pub second_refuses : (stopped : AsmFault) → SecondTakes program so.source line old (record { before = now; now = new; old = second; new = second' }) (Err stopped)
             → ReadsSecond (pass_of text faults initial later) program old new (Err stopped)
         second_refuses stopped s = fails_so stopped s.1
 

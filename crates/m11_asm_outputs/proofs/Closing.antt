@@ -10,7 +10,7 @@ use Rattle.m11_object_text.proofs.TextCuts.{begins, closes, goes_in}
 use Rattle.m11_object_text.proofs.RecordCuts.{row_closes, row_goes_in}
 use Rattle.m11_object_text.specs.Directory as directory
 use Rattle.m11_object_text.specs.Fronts.{fronts_of}
-use Rattle.m11_object_text.specs.OpenText.{Stands, last_section, records_in, takes_in, with_piece}
+use Rattle.m11_object_text.specs.OpenText.{IsOpenText, last_section, records_in, takes_in, with_piece}
 use Rattle.m11_object_text.specs.Texts.{TextParts, records_of, text_of, text_records, texts_after}
 use Rattle.m11_object_text.specs.declared.directory.DirectoryRow.{DirectoryRow}
 use Rattle.m11_object_text.specs.declared.pieces.Piece.{Piece}
@@ -32,7 +32,7 @@ unfolding closed_records fronts_of
 no_closed_records = refl
 
 -- what was written is the records of the closed texts
-pub written_is : (pieces : List Piece) (written : List Content) (text : Option TextParts) → Stands pieces written text
+pub written_is : (pieces : List Piece) (written : List Content) (text : Option TextParts) → IsOpenText pieces written text
     → written ≡ closed_records pieces
 unfolding closed_records
 written_is pieces written None h = h.1 ∙ sym no_closed_records ∙ ap closed_records (sym h.0)
@@ -42,18 +42,18 @@ written_is pieces written (Some text) h =
     ∙ ap (λ (t : List TextParts). flat_map records_of (without_last t)) (texts-split None h.closed h.first h.rest)
     ∙ ap (λ (t : List TextParts). flat_map records_of t) (growing.without_last-push (texts_after None h.closed) last))
 
-pub nothing_open : (text : Option TextParts) → Stands [] [] text → IsOpenAfter [] text
+pub nothing_open : (text : Option TextParts) → IsOpenText [] [] text → IsOpenAfter [] text
 nothing_open text h =
-    let P : List Content → Type 0 = λ written. Stands [] written text in subst P (written_is [] [] text h) h
+    let P : List Content → Type 0 = λ written. IsOpenText [] written text in subst P (written_is [] [] text h) h
 
 -- a text stands for these pieces when more was written
 record Grown (pieces : List Piece) (written : List Content) : Type 0 where
   more : List Content
   text : Option TextParts
-  stands : Stands pieces (written ++ more) text
+  stands : IsOpenText pieces (written ++ more) text
 
 one_more : (pieces : List Piece) (written : List Content) (text : Option TextParts) (p : Piece)
-    → Stands pieces written text → Grown (pieces ++ p ∷ []) written
+    → IsOpenText pieces written text → Grown (pieces ++ p ∷ []) written
 one_more pieces written None p h = record {
   more = [];
   text = Some (text_of None p []);
@@ -73,14 +73,14 @@ one_more pieces written (Some text) p h = by_test (takes_in text p) refl
       stands = closes pieces written p text (text_of (Some text.section) p []) h e refl;
     }
 
-grown_all : (items pieces : List Piece) (written : List Content) (text : Option TextParts) → Stands pieces written text
+grown_all : (items pieces : List Piece) (written : List Content) (text : Option TextParts) → IsOpenText pieces written text
     → Grown (pieces ++ items) written
 grown_all [] pieces written text h = record {
   more = [];
   text = text;
   stands =
-      let P : List Piece → Type 0 = λ these. Stands these (written ++ []) text in
-      let Q : List Content → Type 0 = λ these. Stands pieces these text in
+      let P : List Piece → Type 0 = λ these. IsOpenText these (written ++ []) text in
+      let Q : List Content → Type 0 = λ these. IsOpenText pieces these text in
       subst P (sym (append-nil pieces)) (subst Q (sym (append-nil written)) h);
 }
 grown_all (p ∷ items) pieces written text h =
@@ -90,8 +90,8 @@ grown_all (p ∷ items) pieces written text h =
       more = one.more ++ all.more;
       text = all.text;
       stands =
-          let P : List Piece → Type 0 = λ these. Stands these (written ++ (one.more ++ all.more)) all.text in
-          let Q : List Content → Type 0 = λ these. Stands ((pieces ++ p ∷ []) ++ items) these all.text in
+          let P : List Piece → Type 0 = λ these. IsOpenText these (written ++ (one.more ++ all.more)) all.text in
+          let Q : List Content → Type 0 = λ these. IsOpenText ((pieces ++ p ∷ []) ++ items) these all.text in
           subst P (append_assoc pieces (p ∷ []) items)
           (subst Q (append_assoc written one.more all.more) all.stands);
     }
@@ -122,14 +122,14 @@ closed_from_nothing pieces =
 
 -- a piece that was taken
 module _ (pieces : List Piece) (p : Piece) (more : List Content) (text : Option TextParts)
-    (h : Stands (pieces ++ p ∷ []) (closed_records pieces ++ more) text) where
+    (h : IsOpenText (pieces ++ p ∷ []) (closed_records pieces ++ more) text) where
   pub closed_by_piece : more ≡ records_closed_by pieces (p ∷ [])
   closed_by_piece = growing.added_is closed_records closed-grows pieces (p ∷ []) more
       (sym (written_is (pieces ++ p ∷ []) (closed_records pieces ++ more) text h))
 
   pub open_after_piece : IsOpenAfter (pieces ++ p ∷ []) text
   open_after_piece =
-      let P : List Content → Type 0 = λ written. Stands (pieces ++ p ∷ []) written text in
+      let P : List Content → Type 0 = λ written. IsOpenText (pieces ++ p ∷ []) written text in
       subst P (written_is (pieces ++ p ∷ []) (closed_records pieces ++ more) text h) h
 
 -- the closed texts and the last one are all
@@ -160,7 +160,7 @@ unfolding full_records fronts_of
 no_full_records = refl
 
 pub filled_is : (rows : List DirectoryRow) (written : List Content) (waiting : List GsdEntry)
-    → directory.Stands rows written waiting → written ≡ full_records rows
+    → directory.IsOpenDirectory rows written waiting → written ≡ full_records rows
 unfolding full_records
 filled_is rows written [] h = h.1 ∙ sym no_full_records ∙ ap full_records (sym h.0)
 filled_is rows written (first ∷ rest) h =
@@ -169,18 +169,18 @@ filled_is rows written (first ∷ rest) h =
     ∙ ap without_last (map-append gsd h.closed ((first ∷ rest) ∷ []))
     ∙ growing.without_last-push (map gsd h.closed) (gsd (first ∷ rest)))
 
-pub nothing_waits : (waiting : List GsdEntry) → directory.Stands [] [] waiting → WaitsAfter [] waiting
+pub nothing_waits : (waiting : List GsdEntry) → directory.IsOpenDirectory [] [] waiting → WaitsAfter [] waiting
 nothing_waits waiting h =
-    let P : List Content → Type 0 = λ written. directory.Stands [] written waiting in
+    let P : List Content → Type 0 = λ written. directory.IsOpenDirectory [] written waiting in
     subst P (filled_is [] [] waiting h) h
 
 record Filled (rows : List DirectoryRow) (written : List Content) : Type 0 where
   more : List Content
   waiting : List GsdEntry
-  stands : directory.Stands rows (written ++ more) waiting
+  stands : directory.IsOpenDirectory rows (written ++ more) waiting
 
 one_filled : (rows : List DirectoryRow) (written : List Content) (waiting : List GsdEntry) (row : DirectoryRow)
-    → directory.Stands rows written waiting → Filled (rows ++ row ∷ []) written
+    → directory.IsOpenDirectory rows written waiting → Filled (rows ++ row ∷ []) written
 one_filled rows written waiting row h = elim (cases_lt (length waiting) 15) [
   | inl room ↦ record {
     more = [];
@@ -195,13 +195,13 @@ one_filled rows written waiting row h = elim (cases_lt (length waiting) 15) [
 ]
 
 filled_all : (items rows : List DirectoryRow) (written : List Content) (waiting : List GsdEntry)
-    → directory.Stands rows written waiting → Filled (rows ++ items) written
+    → directory.IsOpenDirectory rows written waiting → Filled (rows ++ items) written
 filled_all [] rows written waiting h = record {
   more = [];
   waiting = waiting;
   stands =
-      let P : List DirectoryRow → Type 0 = λ these. directory.Stands these (written ++ []) waiting in
-      let Q : List Content → Type 0 = λ these. directory.Stands rows these waiting in
+      let P : List DirectoryRow → Type 0 = λ these. directory.IsOpenDirectory these (written ++ []) waiting in
+      let Q : List Content → Type 0 = λ these. directory.IsOpenDirectory rows these waiting in
       subst P (sym (append-nil rows)) (subst Q (sym (append-nil written)) h);
 }
 filled_all (row ∷ items) rows written waiting h =
@@ -212,8 +212,8 @@ filled_all (row ∷ items) rows written waiting h =
       waiting = all.waiting;
       stands =
           let P : List DirectoryRow → Type 0 =
-          λ these. directory.Stands these (written ++ (one.more ++ all.more)) all.waiting in
-          let Q : List Content → Type 0 = λ these. directory.Stands ((rows ++ row ∷ []) ++ items) these all.waiting in
+          λ these. directory.IsOpenDirectory these (written ++ (one.more ++ all.more)) all.waiting in
+          let Q : List Content → Type 0 = λ these. directory.IsOpenDirectory ((rows ++ row ∷ []) ++ items) these all.waiting in
           subst P (append_assoc rows (row ∷ []) items)
           (subst Q (append_assoc written one.more all.more) all.stands);
     }
@@ -232,14 +232,14 @@ pub full-append : (before rows : List DirectoryRow)
 full-append before rows = growing.made-append full_records full-grows before rows
 
 module _ (rows : List DirectoryRow) (row : DirectoryRow) (more : List Content) (waiting : List GsdEntry)
-    (h : directory.Stands (rows ++ row ∷ []) (full_records rows ++ more) waiting) where
+    (h : directory.IsOpenDirectory (rows ++ row ∷ []) (full_records rows ++ more) waiting) where
   pub filled_by_row : more ≡ records_filled_by rows (row ∷ [])
   filled_by_row = growing.added_is full_records full-grows rows (row ∷ []) more
       (sym (filled_is (rows ++ row ∷ []) (full_records rows ++ more) waiting h))
 
   pub waits_after_row : WaitsAfter (rows ++ row ∷ []) waiting
   waits_after_row =
-      let P : List Content → Type 0 = λ written. directory.Stands (rows ++ row ∷ []) written waiting in
+      let P : List Content → Type 0 = λ written. directory.IsOpenDirectory (rows ++ row ∷ []) written waiting in
       subst P (filled_is (rows ++ row ∷ []) (full_records rows ++ more) waiting h) h
 
 pub all_directory : (rows : List DirectoryRow) → full_records rows ++ rest_records rows ≡ directory.directory_records rows

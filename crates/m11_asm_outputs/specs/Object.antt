@@ -63,7 +63,7 @@ records_closed_by before pieces = added closed_records before pieces
 
 -- the last text of pieces is open; the records of the texts before it are written
 abbrev pub IsOpenAfter : List Piece → Option TextParts → Type 0
-IsOpenAfter pieces last = text.Stands pieces (closed_records pieces) last
+IsOpenAfter pieces last = text.IsOpenText pieces (closed_records pieces) last
 
 -- the same of a directory: its records but the last one, which may still take entries
 unfoldable pub full_records : List DirectoryRow → List Content
@@ -76,7 +76,7 @@ abbrev pub records_filled_by : List DirectoryRow → List DirectoryRow → List 
 records_filled_by before rows = added full_records before rows
 
 abbrev pub WaitsAfter : List DirectoryRow → List GsdEntry → Type 0
-WaitsAfter rows waiting = directory.Stands rows (full_records rows) waiting
+WaitsAfter rows waiting = directory.IsOpenDirectory rows (full_records rows) waiting
 
 -- ---- blocks
 

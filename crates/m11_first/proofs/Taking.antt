@@ -19,7 +19,7 @@ use Rattle.m11_passes.specs.Lines.{Numbered, givens, numbered, table_at}
 use Rattle.m11_passes.specs.Placed.{IsPlaced, live_in}
 use Rattle.m11_passes.specs.Reaching.{PlacesLine, Reaches, Refused}
 use Rattle.m11_passes.specs.Refusals.{given_by}
-use Rattle.m11_passes.specs.States.{Going, PassState, Stands, fed}
+use Rattle.m11_passes.specs.States.{Going, PassState, PassStands, fed}
 use Rattle.m11_passes.specs.Turns.{Turns}
 use Rattle.m11_passes.specs.declared.fault.PassFault.{PassFault}
 use Rattle.m11_passes.specs.declared.placed.PlacedLine.{PlacedLine}
@@ -32,12 +32,12 @@ use Rattle.m11_first.proofs.Telling.{tells_more}
 -- the law of the calls of a pass
 abbrev pub Feeds : Type 0
 Feeds = (map : Map) (before : Gathered) (source : List SourceLine) (lines : List Numbered) (line : SourceLine) (going : Going)
-    → Stands map before source lines going → going.unfolder.stage.left ≡ [] → going.unfolder.stage.has_ended ≡ false
-    → Stands map before (source ++ line ∷ []) lines (fed line going)
+    → PassStands map before source lines going → going.unfolder.stage.left ≡ [] → going.unfolder.stage.has_ended ≡ false
+    → PassStands map before (source ++ line ∷ []) lines (fed line going)
 
 abbrev pub TurnsSo : Type 0
 TurnsSo = (map : Map) (before : Gathered) (source : List SourceLine) (lines : List Numbered) (old new : Going)
-    (result : Result Turn PassFault) → Stands map before source lines old → Turns map old new result
+    (result : Result Turn PassFault) → PassStands map before source lines old → Turns map old new result
     → Reaches map before source lines new result
 
 -- ---- one line more
@@ -121,11 +121,11 @@ module _ (turn : TurnsSo) (source : List SourceLine) (old new : Going) (facts : 
 
 -- before the first one
 pub begins : (going : Going) (gathered : Gathered) (facts : Facts) (fault : Option PassFault)
-    → ((map : Map) → Stands map gathered [] [] going) → gathered ≡ none_gathered → going.unfolder.stage ≡ start []
+    → ((map : Map) → PassStands map gathered [] [] going) → gathered ≡ none_gathered → going.unfolder.stage ≡ start []
     → facts ≡ no_facts → fault ≡ None
     → FirstStands [] (record { going = going; facts = facts; has_ended = false; fault = fault })
 begins going gathered facts fault stands none first untold goes =
-    let P : Gathered → Type 0 = λ g. Stands empty_map g [] [] going in
+    let P : Gathered → Type 0 = λ g. PassStands empty_map g [] [] going in
     record {
       lines = [];
       taken = record { stands = subst P none (stands empty_map); facts_are = untold };

@@ -7,7 +7,7 @@ use Rattle.m11_placing.specs.Mentioned.{Gathered, none_gathered}
 use Rattle.m11_placing.specs.Passes.{Kept}
 use Rattle.m11_passes.specs.Lines.{Numbered, givens}
 use Rattle.m11_passes.specs.Reaching.{Refused}
-use Rattle.m11_passes.specs.States.{Going, PassState, Stands}
+use Rattle.m11_passes.specs.States.{Going, PassState, PassStands}
 use Rattle.m11_passes.specs.declared.fault.PassFault.{PassFault}
 use Rattle.m11_first.specs.Facts.{Facts, facts_of}
 
@@ -25,7 +25,7 @@ pub record GoesOn (fault : Option PassFault) (has_ended : Bool) (pass : PassStat
 
 -- these are the live lines of a source, and what they tell
 pub record Taken (source : List SourceLine) (lines : List Numbered) (going : Going) (facts : Facts) : Type 0 where
-  pub stands : Stands empty_map none_gathered source lines going
+  pub stands : PassStands empty_map none_gathered source lines going
   pub facts_are : facts ≡ facts_of (givens lines)
 
 -- all that follows from lines of the source is done

@@ -7,7 +7,7 @@ use Rattle.m11_obj.specs.declared.gsd.GsdEntry.{GsdEntry}
 use Rattle.m11_obj.specs.Records.{Content, Gsd}
 use Rattle.m11_object_text.specs.declared.directory.DirectoryRow.{DirectoryRow}
 use Rattle.m11_object_text.specs.Fronts.{fronts_of}
-use Rattle.m11_object_text.specs.Directory.{entry_of, is_one_record, record_cutting, directory_records, Stands, written_by}
+use Rattle.m11_object_text.specs.Directory.{entry_of, is_one_record, record_cutting, directory_records, IsOpenDirectory, written_by}
 use Rattle.m11_object_text.proofs.Cutting.{first_front, fronts-grown, fronts-opened}
 
 pub right_of : (a b : Bool) → (a && b) ≡ true → b ≡ true
@@ -51,8 +51,8 @@ entries-push rows row = ap (fronts_of is_one_record) (map-append entry_of rows (
 
 -- a row goes in where the record has room
 pub row_goes_in : (rows : List DirectoryRow) (written : List Content) (row : DirectoryRow) (waiting : List GsdEntry)
-    → Stands rows written waiting → length waiting < 15
-    → Stands (rows ++ row ∷ []) (written ++ []) (waiting ++ entry_of row ∷ [])
+    → IsOpenDirectory rows written waiting → length waiting < 15
+    → IsOpenDirectory (rows ++ row ∷ []) (written ++ []) (waiting ++ entry_of row ∷ [])
 row_goes_in rows written row [] h room = record {
   closed = [];
   cut = ap (λ (t : List DirectoryRow). record_cutting (t ++ row ∷ [])) h.0
@@ -68,8 +68,8 @@ row_goes_in rows written row (x ∷ xs) h room = record {
 
 -- or a full record is written, and the row begins another one
 pub row_closes : (rows : List DirectoryRow) (written : List Content) (row : DirectoryRow) (waiting : List GsdEntry)
-    → Stands rows written waiting → 15 ≤ length waiting
-    → Stands (rows ++ row ∷ []) (written ++ written_by waiting) (entry_of row ∷ [])
+    → IsOpenDirectory rows written waiting → 15 ≤ length waiting
+    → IsOpenDirectory (rows ++ row ∷ []) (written ++ written_by waiting) (entry_of row ∷ [])
 row_closes rows written row [] h full = absurd (omega arith)
 row_closes rows written row (x ∷ xs) h full = record {
   closed = h.closed ++ (x ∷ xs) ∷ [];
@@ -84,7 +84,7 @@ no_records : directory_records [] ≡ []
 unfolding fronts_of
 no_records = refl
 
-pub rows_end : (rows : List DirectoryRow) (written : List Content) (waiting : List GsdEntry) → Stands rows written waiting
+pub rows_end : (rows : List DirectoryRow) (written : List Content) (waiting : List GsdEntry) → IsOpenDirectory rows written waiting
     → written ++ written_by waiting ≡ directory_records rows
 rows_end rows written [] h = append-nil written ∙ h.1 ∙ sym no_records ∙ ap directory_records (sym h.0)
 rows_end rows written (x ∷ xs) h =

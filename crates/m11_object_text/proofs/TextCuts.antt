@@ -20,7 +20,7 @@ use Rattle.m11_object_text.specs.declared.pieces.PieceContent.TheVariants.{Byte,
 use Rattle.m11_object_text.specs.Fronts.{fronts_of}
 use Rattle.m11_object_text.specs.Pieces.{target_of, relocation, content_bytes, size_of, last_place, relocation_at, text_bytes, relocations_from, relocations_of}
 use Rattle.m11_object_text.specs.Texts.{TextParts, follows, are_contiguous, is_one_text, cutting, place_after, text_of, texts_after, records_of, text_records}
-use Rattle.m11_object_text.specs.OpenText.{relocations_in, takes_in, with_piece, last_section, Stands, records_in}
+use Rattle.m11_object_text.specs.OpenText.{relocations_in, takes_in, with_piece, last_section, IsOpenText, records_in}
 use Rattle.m11_object_text.proofs.Cutting.{first_front, the_last_passes, fronts-grown, fronts-opened}
 
 -- ---- bytes and relocations of pieces, one list of them after another
@@ -235,9 +235,9 @@ records-split closed first rest = ap (λ (t : List TextParts). flat_map records_
 
 -- ---- the open text
 
-pub begins : (pieces : List Piece) (written : List Content) (p : Piece) (text : TextParts) → Stands pieces written None
+pub begins : (pieces : List Piece) (written : List Content) (p : Piece) (text : TextParts) → IsOpenText pieces written None
     → text ≡ text_of None p []
-    → Stands (pieces ++ p ∷ []) (written ++ []) (Some text)
+    → IsOpenText (pieces ++ p ∷ []) (written ++ []) (Some text)
 begins pieces written p text h e = record {
   closed = [];
   first = p;
@@ -248,8 +248,8 @@ begins pieces written p text h e = record {
 }
 
 pub goes_in : (pieces : List Piece) (written : List Content) (p : Piece) (text text' : TextParts)
-    → Stands pieces written (Some text) → takes_in text p ≡ true → text' ≡ with_piece text p
-    → Stands (pieces ++ p ∷ []) (written ++ []) (Some text')
+    → IsOpenText pieces written (Some text) → takes_in text p ≡ true → text' ≡ with_piece text p
+    → IsOpenText (pieces ++ p ∷ []) (written ++ []) (Some text')
 goes_in pieces written p text text' h takes e =
     let before = last_section None h.closed in
     let one = the_last_passes is_one_text nothing beginning alone pieces h.closed (h.first ∷ h.rest) h.cut in
@@ -264,8 +264,8 @@ goes_in pieces written p text text' h takes e =
     }
 
 pub closes : (pieces : List Piece) (written : List Content) (p : Piece) (text text' : TextParts)
-    → Stands pieces written (Some text) → takes_in text p ≡ false → text' ≡ text_of (Some text.section) p []
-    → Stands (pieces ++ p ∷ []) (written ++ records_in (Some text)) (Some text')
+    → IsOpenText pieces written (Some text) → takes_in text p ≡ false → text' ≡ text_of (Some text.section) p []
+    → IsOpenText (pieces ++ p ∷ []) (written ++ records_in (Some text)) (Some text')
 closes pieces written p text text' h takes e =
     let before = last_section None h.closed in
     let one = the_last_passes is_one_text nothing beginning alone pieces h.closed (h.first ∷ h.rest) h.cut in
@@ -286,7 +286,7 @@ no_texts : text_records [] ≡ []
 unfolding fronts_of
 no_texts = refl
 
-pub ends : (pieces : List Piece) (written : List Content) (text : Option TextParts) → Stands pieces written text
+pub ends : (pieces : List Piece) (written : List Content) (text : Option TextParts) → IsOpenText pieces written text
     → written ++ records_in text ≡ text_records pieces
 ends pieces written None h =
     append-nil written ∙ h.1 ∙ sym no_texts ∙ ap text_records (sym h.0)

@@ -59,9 +59,9 @@ pub record IsLast (rows : List DirectoryRow) (written : List Content) (waiting :
   pub records : written ≡ map (λ entries. Gsd entries) closed
 
 -- what was written, and what waits, are those of the rows so far
-abbrev pub Stands : List DirectoryRow → List Content → List GsdEntry → Type 0
-Stands rows written [] = (rows ≡ []) × (written ≡ [])
-Stands rows written (first ∷ rest) = IsLast rows written (first ∷ rest)
+abbrev pub IsOpenDirectory : List DirectoryRow → List Content → List GsdEntry → Type 0
+IsOpenDirectory rows written [] = (rows ≡ []) × (written ≡ [])
+IsOpenDirectory rows written (first ∷ rest) = IsLast rows written (first ∷ rest)
 
 -- the record of entries, if there are any
 abbrev pub written_by : List GsdEntry → List Content

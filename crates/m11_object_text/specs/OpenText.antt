@@ -51,9 +51,9 @@ pub record IsLast (pieces : List Piece) (written : List Content) (text : TextPar
   pub opened : text ≡ text_of (last_section None closed) first rest
 
 -- what was written, and the open text, are those of the pieces so far
-abbrev pub Stands : List Piece → List Content → Option TextParts → Type 0
-Stands pieces written None = (pieces ≡ []) × (written ≡ [])
-Stands pieces written (Some text) = IsLast pieces written text
+abbrev pub IsOpenText : List Piece → List Content → Option TextParts → Type 0
+IsOpenText pieces written None = (pieces ≡ []) × (written ≡ [])
+IsOpenText pieces written (Some text) = IsLast pieces written text
 
 -- the records of a text that is there
 abbrev pub records_in : Option TextParts → List Content

@@ -4,7 +4,7 @@ ghost use Rattle.std.specs.Prelude.{◌≡◌, ◌≤◌, List, [], ◌∷◌, �
 ghost use Rattle.std.specs.Option.{option_to_list};
 ghost use Rattle.m11_obj.specs.Records.{Content};
 ghost use Rattle.m11_object_text.specs.Blocks.{AreRecords};
-ghost use Rattle.m11_object_text.specs.Directory.{entry, entry_of, definition_flags, reference_flags, Stands, directory_records, written_by};
+ghost use Rattle.m11_object_text.specs.Directory.{entry, entry_of, definition_flags, reference_flags, IsOpenDirectory, directory_records, written_by};
 
 use bitflags::Flags;
 use m11_base::{Name, absolute_section};
@@ -128,7 +128,7 @@ impl OpenDirectory {
     /// Before the first row.
     pub fn new() -> OpenDirectory
         ensures empty { result ≡ [] }
-        ensures stands { Stands [] [] result }
+        ensures stands { IsOpenDirectory [] [] result }
     {
         OpenDirectory {
             places: [entry(absolute_section(), 0, GsdKind::ModuleName, 0); MOST_ENTRIES],
@@ -157,8 +157,8 @@ impl OpenDirectory {
 
     /// Takes a row. Where the record is full, it is handed out and is to be written as a block; the row then begins another one.
     pub fn take(&mut self, row: &DirectoryRow) -> Option<Block>
-        ensures { (rows : List DirectoryRow) (written : List Content) → Stands rows written self.old
-            → (more : List Content) × Stands (rows ++ row.now ∷ []) (written ++ more) self.new
+        ensures { (rows : List DirectoryRow) (written : List Content) → IsOpenDirectory rows written self.old
+            → (more : List Content) × IsOpenDirectory (rows ++ row.now ∷ []) (written ++ more) self.new
             × AreRecords (option_to_list result) more }
     {
         if self.count < MOST_ENTRIES {
@@ -173,7 +173,7 @@ impl OpenDirectory {
 
     /// The last record, if there was a row. It is to be written as a block.
     pub fn end(self) -> Option<Block>
-        ensures { (rows : List DirectoryRow) (written : List Content) → Stands rows written self
+        ensures { (rows : List DirectoryRow) (written : List Content) → IsOpenDirectory rows written self
             → (more : List Content) × (written ++ more ≡ directory_records rows)
             × AreRecords (option_to_list result) more }
     {

@@ -3,7 +3,7 @@
 ghost use Rattle.std.specs.Prelude.{◌≡◌, List, [], ◌∷◌, ◌++◌};
 ghost use Rattle.m11_obj.specs.Records.{Content};
 ghost use Rattle.m11_object_text.specs.declared.pieces.Piece.{Piece};
-ghost use Rattle.m11_object_text.specs.OpenText.{Stands, records_in};
+ghost use Rattle.m11_object_text.specs.OpenText.{IsOpenText, records_in};
 ghost use Rattle.m11_object_text.specs.Texts.{text_records};
 
 use crate::pieces::Piece;
@@ -29,7 +29,7 @@ impl Model for OpenText {
 impl OpenText {
     /// Before the first piece.
     pub fn new() -> OpenText
-        ensures { Stands [] [] result }
+        ensures { IsOpenText [] [] result }
     {
         OpenText { text: None }
     }
@@ -37,8 +37,8 @@ impl OpenText {
     /// Takes a piece. Where the open text can't hold it too, that text is handed out and is to be written; the piece opens another
     /// one.
     pub fn take(&mut self, piece: &Piece) -> Option<Text>
-        ensures { (pieces : List Piece) (written : List Content) → Stands pieces written self.old
-            → Stands (pieces ++ piece.now ∷ []) (written ++ records_in result) self.new }
+        ensures { (pieces : List Piece) (written : List Content) → IsOpenText pieces written self.old
+            → IsOpenText (pieces ++ piece.now ∷ []) (written ++ records_in result) self.new }
     {
         let Some(text) = &mut self.text else {
             self.text = Some(Text::start(None, piece));
@@ -54,7 +54,7 @@ impl OpenText {
 
     /// The last text, if there was a piece.
     pub fn end(self) -> Option<Text>
-        ensures { (pieces : List Piece) (written : List Content) → Stands pieces written self
+        ensures { (pieces : List Piece) (written : List Content) → IsOpenText pieces written self
             → written ++ records_in result ≡ text_records pieces }
     {
         self.text

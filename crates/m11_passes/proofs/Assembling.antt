@@ -52,7 +52,7 @@ use Rattle.m11_passes.specs.Lines as lines
 use Rattle.m11_passes.specs.Operated.{change_after, mentions_after}
 use Rattle.m11_passes.specs.Placed.{live_in}
 use Rattle.m11_passes.specs.Refusals.{given_by, line_fault, mentions_of_labels}
-use Rattle.m11_passes.specs.States.{Going, GoesOnUntil, Stands}
+use Rattle.m11_passes.specs.States.{Going, GoesOnUntil, PassStands}
 use Rattle.m11_passes.specs.Turns.{Places, PlacesAfter}
 use Rattle.m11_passes.specs.declared.fault.PassFault.{PassFault}
 use Rattle.m11_passes.specs.declared.fault.PassFault.TheVariants.{TooManySymbols, TooManySections, Unfold, NoMemory}
@@ -74,7 +74,7 @@ module _ (unfolder : Unfolding) (kept : Kept) (gathered mentioned : Gathered)
       (subst S (sym is_fresh) (first_sound kept gathered matches (subst N (sym same) few)), subst G (sym is_fresh) refl)
 
   pub new_stands : (put : Put) (map_ : Map)
-      → Stands map_ mentioned [] [] (record { unfolder = unfolder; kept = kept; gathered = gathered; put = put })
+      → PassStands map_ mentioned [] [] (record { unfolder = unfolder; kept = kept; gathered = gathered; put = put })
   new_stands put map_ =
       let L : Unfolding → Type 0 = λ u. PassLines map_ mentioned.names [] [] u.stage in
       record { lines_are = subst L (sym is_fresh) lines.PassLines.Begins; matches = matches; gathered = same }

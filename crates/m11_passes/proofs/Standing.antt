@@ -25,7 +25,7 @@ use Rattle.m11_passes.specs.Placed.{live_in}
 use Rattle.m11_passes.specs.Reaching.{Exceeds, PlacesLine, Reaches, Refused}
 use Rattle.m11_passes.specs.Reaching as reaching
 use Rattle.m11_passes.specs.Refusals.{given_by, line_fault}
-use Rattle.m11_passes.specs.States.{Going, Stands, fed, gathered_after}
+use Rattle.m11_passes.specs.States.{Going, PassStands, fed, gathered_after}
 use Rattle.m11_passes.specs.Turns.{FailsAt, IsUnplaced, PlacesAfter, PlacesNext, Turns}
 use Rattle.m11_passes.specs.Turns as turning
 use Rattle.m11_passes.specs.declared.fault.PassFault.{PassFault}
@@ -71,21 +71,21 @@ module _ (map_ : Map) (before : Gathered) where
       ∙ gathered_more map_ first_table (givens all) one.given before
 
   pub feeds : (source : List SourceLine) (all : List Numbered) (line : SourceLine) (going : Going)
-      → Stands map_ before source all going → going.unfolder.stage.left ≡ [] → going.unfolder.stage.has_ended ≡ false
-      → Stands map_ before (source ++ line ∷ []) all (fed line going)
+      → PassStands map_ before source all going → going.unfolder.stage.left ≡ [] → going.unfolder.stage.has_ended ≡ false
+      → PassStands map_ before (source ++ line ∷ []) all (fed line going)
   feeds source all line going stands none goes = record {
     lines_are = lines.PassLines.Reading source all going.unfolder.stage line stands.lines_are none goes;
     matches = stands.matches;
     gathered = stands.gathered;
   }
 
-  module _ (source : List SourceLine) (all : List Numbered) (old : Going) (stands : Stands map_ before source all old) where
+  module _ (source : List SourceLine) (all : List Numbered) (old : Going) (stands : PassStands map_ before source all old) where
     -- the names that were mentioned so far
     names_so : old.gathered.names ≡ names_at map_ before.names all
     names_so = ap (λ (g : Gathered). g.names) stands.gathered ∙ names_gathered map_ first_table (givens all) before
 
     rests : (new : Going) → IsUnplaced old new → PassLines map_ before.names source all new.unfolder.stage
-        → Stands map_ before source all new
+        → PassStands map_ before source all new
     rests new unplaced lines_are =
         let P : Kept → Type 0 = λ k. Matches k (table_at map_ all) in
         record {
@@ -165,6 +165,6 @@ module _ (map_ : Map) (before : Gathered) where
     turned new (Err fault) fails = refused fault fails
 
 pub turns : (map_ : Map) (before : Gathered) (source : List SourceLine) (all : List Numbered) (old new : Going)
-    (result : Result Turn PassFault) → Stands map_ before source all old → Turns map_ old new result
+    (result : Result Turn PassFault) → PassStands map_ before source all old → Turns map_ old new result
     → Reaches map_ before source all new result
 turns map_ before source all old new result stands turned_so = turned map_ before source all old stands new result turned_so

@@ -12,7 +12,7 @@ use Rattle.m11_passes.specs.Faults.{of_unfolding}
 use Rattle.m11_passes.specs.Lines.{Numbered, PassLines, names_at, numbered, table_at}
 use Rattle.m11_passes.specs.Placed.{IsPlaced, live_in}
 use Rattle.m11_passes.specs.Refusals.{given_by, line_fault}
-use Rattle.m11_passes.specs.States.{Going, Stands}
+use Rattle.m11_passes.specs.States.{Going, PassStands}
 use Rattle.m11_passes.specs.declared.fault.PassFault.{PassFault}
 use Rattle.m11_passes.specs.declared.fault.PassFault.TheVariants.{NoMemory}
 use Rattle.m11_passes.specs.declared.placed.PlacedLine.{PlacedLine}
@@ -36,13 +36,13 @@ Refused map names source lines fault = Exceeds map names source lines fault
 pub record PlacesLine (map : Map) (before : Gathered) (source : List SourceLine) (lines : List Numbered) (new : Going)
     (placed : PlacedLine) : Type 0 where
   pub stage : Stage
-  pub stands : Stands map before source
+  pub stands : PassStands map before source
       (lines ++ numbered (length source) (given_by (table_at map lines) (live_in placed) stage) ∷ []) new
   pub placed_so : IsPlaced map (table_at map lines) (given_by (table_at map lines) (live_in placed) stage) placed new.put
 
 abbrev pub Reaches : Map → Gathered → List SourceLine → List Numbered → Going → Result Turn PassFault → Type 0
 Reaches map before source lines new (Ok NeedLine) =
-    Stands map before source lines new × (new.unfolder.stage.left ≡ []) × (new.unfolder.stage.has_ended ≡ false)
-Reaches map before source lines new (Ok End) = Stands map before source lines new × (new.unfolder.stage.has_ended ≡ true)
+    PassStands map before source lines new × (new.unfolder.stage.left ≡ []) × (new.unfolder.stage.has_ended ≡ false)
+Reaches map before source lines new (Ok End) = PassStands map before source lines new × (new.unfolder.stage.has_ended ≡ true)
 Reaches map before source lines new (Ok (Placed placed)) = PlacesLine map before source lines new placed
 Reaches map before source lines new (Err fault) = Refused map before.names source lines fault

@@ -52,7 +52,7 @@ gathered_after map table (given ∷ lines) gathered =
     gathered_after map (after_line map table given) lines (with_all (mentions table given) gathered)
 
 -- a pass under a map, which began after names that were mentioned before, stands after the live lines of a source
-pub record Stands (map : Map) (before : Gathered) (source : List SourceLine) (lines : List Numbered) (going : Going) : Type 0 where
+pub record PassStands (map : Map) (before : Gathered) (source : List SourceLine) (lines : List Numbered) (going : Going) : Type 0 where
   pub lines_are : PassLines map before.names source lines going.unfolder.stage
   pub matches : Matches going.kept (table_at map lines)
   pub gathered : going.gathered ≡ gathered_after map first_table (givens lines) before

@@ -6,7 +6,7 @@ ghost use Rattle.m11_placement.specs.Meanings.{Map};
 ghost use Rattle.m11_placing.specs.Mentioned.{Gathered};
 ghost use Rattle.m11_passes.specs.Lines.{Numbered};
 ghost use Rattle.m11_passes.specs.Reaching.{Reaches};
-ghost use Rattle.m11_passes.specs.States.{Going, Stands, fed};
+ghost use Rattle.m11_passes.specs.States.{Going, PassStands, fed};
 ghost use Rattle.m11_passes.specs.Turns.{Turns};
 ghost use Rattle.m11_passes.specs.declared.fault.PassFault.{PassFault};
 ghost use Rattle.m11_passes.specs.declared.turns.Turn.{Turn};
@@ -17,9 +17,9 @@ ghost use Rattle.m11_passes.specs.declared.turns.Turn.{Turn};
 #[tactic(auto, using(crate::proofs::Standing::feeds, crate::proofs::Standing::turns))]
 pub fn the_calls_place_the_lines_of_a_source()
     ensures feeds { (map : Map) (before : Gathered) (source : List SourceLine) (lines : List Numbered) (line : SourceLine) (going : Going)
-        → Stands map before source lines going → going.unfolder.stage.left ≡ [] → going.unfolder.stage.has_ended ≡ false
-        → Stands map before (source ++ line ∷ []) lines (fed line going) }
+        → PassStands map before source lines going → going.unfolder.stage.left ≡ [] → going.unfolder.stage.has_ended ≡ false
+        → PassStands map before (source ++ line ∷ []) lines (fed line going) }
     ensures turns { (map : Map) (before : Gathered) (source : List SourceLine) (lines : List Numbered) (old new : Going)
-        (result : Result Turn PassFault) → Stands map before source lines old → Turns map old new result
+        (result : Result Turn PassFault) → PassStands map before source lines old → Turns map old new result
         → Reaches map before source lines new result }
 {}

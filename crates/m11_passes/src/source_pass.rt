@@ -5,7 +5,7 @@ ghost use Rattle.std.specs.Result.{result_err};
 ghost use Rattle.m11_placement.specs.Limits.{most_names, most_sections};
 ghost use Rattle.m11_placing.specs.Passes.{size_at};
 ghost use Rattle.m11_unfolding.specs.Stages.{start};
-ghost use Rattle.m11_passes.specs.States.{Stands, fed};
+ghost use Rattle.m11_passes.specs.States.{PassStands, fed};
 ghost use Rattle.m11_passes.specs.Turns.{IsEmpty, IsNext, Turns};
 ghost use Rattle.m11_placement.specs.Meanings.{Map as Meanings};
 
@@ -44,7 +44,7 @@ impl SourcePass {
     /// Before the first line. The names that an earlier pass mentioned count with those of this one.
     pub fn new(alloc: Global, mentioned: Mentioned) -> Result<SourcePass, AllocError>
         requires { length mentioned.names ≤ most_names }
-        ensures stands { IfOk result (λ pass. (map : Meanings) → Stands map mentioned [] [] pass.going) }
+        ensures stands { IfOk result (λ pass. (map : Meanings) → PassStands map mentioned [] [] pass.going) }
         ensures begins { IfOk result (λ pass. pass.going.unfolder.stage ≡ start []) }
         ensures goes_on { IfOk result (λ pass. pass.fault ≡ None) }
     {

@@ -2,7 +2,6 @@
 
 ghost use Rattle.std.specs.Prelude.{◌≡◌, [], IfOk, false, None};
 ghost use Rattle.std.specs.Int.RustNames.{bit_or};
-ghost use Rattle.m11_arguments.specs.Directives.{every_name};
 ghost use Rattle.m11_placement.specs.Tables.{first_table};
 ghost use Rattle.m11_placement.specs.Unfolded.{known_after_labels};
 ghost use Rattle.m11_placing.specs.Lines.{letters_from};
@@ -23,12 +22,11 @@ use crate::operating::{
 };
 use crate::placed::PlacedLine;
 use crate::turns::Turn;
-use m11_arguments::Notes;
-use m11_base::Name;
+use m11_arguments::{EveryName, Notes};
 use m11_contents::Put;
 use m11_placing::{LabelLetters, Mentioned, Pass, deed_after_labels, line_letters};
 use m11_scan::{Letters, Line};
-use m11_statements::{Operators, Statement, statement};
+use m11_statements::{Statement, statement};
 use m11_table::{FirmNames, Map, Table};
 use m11_unfold::{Act, LiveLine, Step, Unfolder};
 use m11_unfolding::UnfoldFault;
@@ -42,17 +40,6 @@ pub struct State {
     pub(crate) mentioned: Mentioned,
     // What the last line put.
     pub(crate) put: Put,
-}
-
-// Each name is that of an operator: what is none of them is told by its place.
-struct EveryName;
-
-impl Operators for EveryName {
-    ghost known = { λ _. every_name };
-
-    fn is_known(&self, _name: Name) -> bool {
-        true
-    }
 }
 
 impl State {

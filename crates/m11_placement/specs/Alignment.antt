@@ -5,7 +5,7 @@ use Rattle.m11_statements.specs.Statements.{letter_if}
 
 -- the set of the letter B
 abbrev pub letter_B : ℕ
-letter_B = 2
+letter_B = 0o2
 
 -- how many bytes a place lies before the next even one
 abbrev pub to_even : ℕ → ℕ

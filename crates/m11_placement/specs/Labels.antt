@@ -15,7 +15,7 @@ use Rattle.m11_placement.specs.Tables.{Settings, Table, kind_here, place}
 
 -- the set of the letter M
 abbrev pub letter_M : ℕ
-letter_M = 64
+letter_M = 0o100
 
 -- a place is firm as soon as its label stands
 abbrev pub labelled : Table → Key → Definition

@@ -37,7 +37,7 @@ map_of table = record {
 
 -- the set of the letter D
 abbrev pub letter_D : ℕ
-letter_D = 4
+letter_D = 0o4
 
 -- a number, or 0 with U where none is known
 abbrev pub quantity_of : ℕ → Standing → Quantity

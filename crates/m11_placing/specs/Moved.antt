@@ -22,7 +22,7 @@ use Rattle.m11_placement.specs.declared.definitions.Standing.TheVariants.{Known,
 
 -- the set of the letter P
 abbrev pub letter_P : ℕ
-letter_P = 512
+letter_P = 0o1000
 
 -- both count from 0, or from the beginning of one section
 abbrev pub is_same_kind : Kind → Kind → Bool

@@ -8,23 +8,23 @@ use Rattle.m11_scan.specs.declared.letters.Row.{Row}
 abbrev pub with_bit : ℕ → ℕ → Row
 with_bit letter bit = record { letter = letter; bit = bit }
 
--- the letters in the order of the alphabet, each with its bit
+-- the letters in the order of the alphabet, A B D E I L M N O P Q R T U, each with its bit
 abbrev pub letter_rows : List Row
 letter_rows =
-    with_bit 65 1
-    ∷ with_bit 66 2
-    ∷ with_bit 68 4
-    ∷ with_bit 69 8
-    ∷ with_bit 73 16
-    ∷ with_bit 76 32
-    ∷ with_bit 77 64
-    ∷ with_bit 78 128
-    ∷ with_bit 79 256
-    ∷ with_bit 80 512
-    ∷ with_bit 81 1024
-    ∷ with_bit 82 2048
-    ∷ with_bit 84 4096
-    ∷ with_bit 85 8192
+    with_bit 0o101 0o1
+    ∷ with_bit 0o102 0o2
+    ∷ with_bit 0o104 0o4
+    ∷ with_bit 0o105 0o10
+    ∷ with_bit 0o111 0o20
+    ∷ with_bit 0o114 0o40
+    ∷ with_bit 0o115 0o100
+    ∷ with_bit 0o116 0o200
+    ∷ with_bit 0o117 0o400
+    ∷ with_bit 0o120 0o1000
+    ∷ with_bit 0o121 0o2000
+    ∷ with_bit 0o122 0o4000
+    ∷ with_bit 0o124 0o10000
+    ∷ with_bit 0o125 0o20000
     ∷ []
 
 -- those letters of rows that are in a set
@@ -39,19 +39,19 @@ letters_text set = letters_in letter_rows set
 
 -- the sets of one letter
 abbrev pub letter_A : ℕ
-letter_A = 1
+letter_A = 0o1
 
 abbrev pub letter_I : ℕ
-letter_I = 16
+letter_I = 0o20
 
 abbrev pub letter_L : ℕ
-letter_L = 32
+letter_L = 0o40
 
 abbrev pub letter_N : ℕ
-letter_N = 128
+letter_N = 0o200
 
 abbrev pub letter_Q : ℕ
-letter_Q = 1024
+letter_Q = 0o2000
 
 abbrev pub letter_T : ℕ
-letter_T = 4096
+letter_T = 0o10000

@@ -7,7 +7,7 @@ use Rattle.m11_first.specs.Facts.{Facts}
 use Rattle.m11_first.specs.First.{Symbols}
 use Rattle.m11_lines.specs.Line.{SourceLine}
 use Rattle.m11_passes.specs.Lines.{Numbered}
-use Rattle.m11_passes.specs.States.{Going, PassState, Stands}
+use Rattle.m11_passes.specs.States.{Going, PassState, PassStands}
 use Rattle.m11_pass_laws.proofs.Counting.{at_most}
 use Rattle.m11_placement.specs.Meanings.{Map, map_of}
 use Rattle.m11_placement.specs.Places.{place_in}
@@ -36,7 +36,7 @@ begins_so pass fault first goes = record {
 }
 
 module _ (kept : Kept) (gathered : Gathered) (facts : Facts) (going : Going) (writing : Writing) (fault : Option AsmFault)
-    (stands : (map : Map) → Stands map gathered [] [] going) (first_stage : going.unfolder.stage ≡ start [])
+    (stands : (map : Map) → PassStands map gathered [] [] going) (first_stage : going.unfolder.stage ≡ start [])
     (keeps : WritingStands (program_kept kept gathered facts) [] writing) (goes : fault ≡ None) where
   begun : (first now : Outputs) → Gains first now []
       → SecondStands (program_in (record { kept = kept; gathered = gathered; facts = facts })) [] first now

@@ -9,18 +9,18 @@ use Rattle.m11_lines.specs.Line.{SourceLine}
 use Rattle.m11_lines.specs.Lines.{most_lines}
 use Rattle.m11_passes.specs.Lines as lines
 use Rattle.m11_passes.specs.Lines.{Numbered, with_line}
-use Rattle.m11_passes.specs.States.{Going, PassState, Stands, fed}
+use Rattle.m11_passes.specs.States.{Going, PassState, PassStands, fed}
 use Rattle.m11_placement.specs.Meanings.{Map}
 use Rattle.m11_placing.specs.Mentioned.{Gathered}
 use Rattle.m11_second.specs.Program.{Program}
-use Rattle.m11_second.specs.Second.{SecondFails, SecondStands, SecondState, SecondTakes, Taken, TakesAll, TakesLeft}
+use Rattle.m11_second.specs.Second.{LineCall, SecondFails, SecondStands, SecondState, SecondTakes, Taken, TakesAll, TakesLeft}
 use Rattle.m11_second.specs.Writing.{Writing}
 
 -- the law of the calls of a pass
 abbrev pub Feeds : Type 0
 Feeds = (map : Map) (before : Gathered) (source : List SourceLine) (lines : List Numbered) (line : SourceLine) (going : Going)
-    → Stands map before source lines going → going.unfolder.stage.left ≡ [] → going.unfolder.stage.has_ended ≡ false
-    → Stands map before (source ++ line ∷ []) lines (fed line going)
+    → PassStands map before source lines going → going.unfolder.stage.left ≡ [] → going.unfolder.stage.has_ended ≡ false
+    → PassStands map before (source ++ line ∷ []) lines (fed line going)
 
 one_longer : (source : List SourceLine) (line : SourceLine) → length (source ++ line ∷ []) ≡ length source + 1
 one_longer source line = length-append source (line ∷ [])
@@ -28,6 +28,9 @@ one_longer source line = length-append source (line ∷ [])
 abbrev pub state_of : Map → Going → Writing → ℕ → Bool → Option AsmFault → SecondState
 state_of map going writing read has_ended fault =
     record { map = map; going = going; writing = writing; read = read; has_ended = has_ended; fault = fault }
+
+abbrev pub between : Outputs → Outputs → SecondState → SecondState → LineCall
+between before now old new = record { before = before; now = now; old = old; new = new }
 
 module _ (program : Program) (source : List SourceLine) (line : SourceLine) (first before : Outputs) (map_ : Map) (going : Going)
     (writing : Writing) (read : ℕ) (has_ended : Bool) (stopped : Option AsmFault) (goes : has_ended ≡ false)
@@ -51,7 +54,7 @@ module _ (program : Program) (source : List SourceLine) (line : SourceLine) (fir
   -- there are too many lines
   pub line_refused : (numbers : Result ℕ AsmFault) (came : AsmFault) (new : SecondState) (result : Result (Unit {0}) AsmFault)
       → IfErr numbers (λ f. (f ≡ fault.TooMuchSource) × (read ≡ most_lines)) → Err came ≡ numbers → IsErrAnd result (λ f. f ≡ came)
-      → SecondTakes program source line first before before (state_of map_ going writing read has_ended stopped) new result
+      → SecondTakes program source line first (between before before (state_of map_ going writing read has_ended stopped) new) result
   line_refused numbers came new (Ok done) refuses same is = absurd is
   line_refused numbers came new (Err other) refuses same is =
       let R : Result ℕ AsmFault → Type 0 = λ r. IfErr r (λ f. (f ≡ fault.TooMuchSource) × (read ≡ most_lines)) in
@@ -73,7 +76,7 @@ module _ (program : Program) (source : List SourceLine) (line : SourceLine) (fir
     left : TakesLeft program (source ++ line ∷ []) first now new_going new_writing outcome
     left =
         let all : List SourceLine = source ++ line ∷ [] in
-        let G : Going → Type 0 = λ g. Stands program.map program.mentioned all stands.lines g in
+        let G : Going → Type 0 = λ g. PassStands program.map program.mentioned all stands.lines g in
         let fed_so : fed line going ≡ fed_pass.going =
         ap (fed line) (sym going_is) ∙ sym (ap (λ (p : PassState). p.going) fed_is) in
         takes program all stands.lines first (map_is ∙ stands.map_is)
@@ -87,7 +90,7 @@ module _ (program : Program) (source : List SourceLine) (line : SourceLine) (fir
 
     pub line_fails : (came : AsmFault) (new : SecondState) (result : Result (Unit {0}) AsmFault) → Err came ≡ outcome
         → IsErrAnd result (λ f. f ≡ came)
-        → SecondTakes program source line first before now (state_of map_ going writing read has_ended stopped) new result
+        → SecondTakes program source line first (between before now (state_of map_ going writing read has_ended stopped) new) result
     line_fails came new (Ok done) same is = absurd is
     line_fails came new (Err other) same is =
         let P : Result Bool AsmFault → Type 0 =
@@ -99,8 +102,8 @@ module _ (program : Program) (source : List SourceLine) (line : SourceLine) (fir
     pub line_takes : (ended : Bool) (kept : Option AsmFault) (before_fault : Option AsmFault) → Ok ended ≡ outcome
         → IfOk outcome (λ e. e ≡ false → new_going.unfolder.stage.left ≡ [])
         → kept ≡ option_or before_fault (result_err outcome) → before_fault ≡ None
-        → SecondTakes program source line first before now (state_of map_ going writing read has_ended stopped)
-        (state_of map_ new_going new_writing number ended kept) (Ok tt)
+        → SecondTakes program source line first (between before now (state_of map_ going writing read has_ended stopped)
+        (state_of map_ new_going new_writing number ended kept)) (Ok tt)
     line_takes ended kept before_fault same needs kept_is none =
         let all : List SourceLine = source ++ line ∷ [] in
         let P : Result Bool AsmFault → Type 0 = λ r. TakesLeft program all first now new_going new_writing r in

@@ -9,7 +9,7 @@ use Rattle.m11_passes.specs.Lines.{Numbered, numbered, table_at}
 use Rattle.m11_passes.specs.Placed.{IsPlaced, live_in}
 use Rattle.m11_passes.specs.Reaching.{PlacesLine, Reaches, Refused}
 use Rattle.m11_passes.specs.Refusals.{given_by}
-use Rattle.m11_passes.specs.States.{Going, Stands}
+use Rattle.m11_passes.specs.States.{Going, PassStands}
 use Rattle.m11_passes.specs.Turns.{Turns}
 use Rattle.m11_passes.specs.declared.fault.PassFault.{PassFault}
 use Rattle.m11_passes.specs.declared.fault.PassFault.TheVariants as pass
@@ -30,7 +30,7 @@ use Rattle.m11_second.proofs.LinesWritten.{next_writes, written_more}
 -- the law of the calls of a pass
 abbrev pub TurnsSo : Type 0
 TurnsSo = (map : Map) (before : Gathered) (source : List SourceLine) (lines : List Numbered) (old new : Going)
-    (result : Result Turn PassFault) → Stands map before source lines old → Turns map old new result
+    (result : Result Turn PassFault) → PassStands map before source lines old → Turns map old new result
     → Reaches map before source lines new result
 
 -- some lines were taken and written, whichever

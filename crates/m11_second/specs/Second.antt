@@ -7,7 +7,7 @@ use Rattle.m11_unfolding.specs.Stages.{Stage}
 use Rattle.m11_placement.specs.Meanings.{Map}
 use Rattle.m11_passes.specs.Lines.{Numbered, PassLines}
 use Rattle.m11_passes.specs.Reaching.{Exceeds}
-use Rattle.m11_passes.specs.States.{Going, PassState, Stands}
+use Rattle.m11_passes.specs.States.{Going, PassState, PassStands}
 use Rattle.m11_passes.specs.declared.fault.PassFault.{PassFault}
 use Rattle.m11_asm_outputs.specs.Outputs.{Gains, Outputs, StopsBetween, StopsIn, Write, Writes}
 use Rattle.m11_asm_outputs.specs.declared.fault.AsmFault.{AsmFault}
@@ -35,7 +35,7 @@ pub record GoesOn (fault : Option AsmFault) (has_ended : Bool) (pass : PassState
 -- these are the live lines of a source, and exactly what they write was written, on outputs that were the first ones
 pub record Taken (program : Program) (source : List SourceLine) (lines : List Numbered) (first now : Outputs) (going : Going)
     (writing : Writing) : Type 0 where
-  pub stands : Stands program.map program.mentioned source lines going
+  pub stands : PassStands program.map program.mentioned source lines going
   pub keeps : WritingStands program lines writing
   pub gains : Gains first now (written program lines)
 
@@ -86,12 +86,18 @@ pub record IsIdle (old new : SecondState) (before now : Outputs) : Type 0 where
   pub state : new ≡ old
   pub outputs : now ≡ before
 
-abbrev pub SecondTakes : Program → List SourceLine → SourceLine → Outputs → Outputs → Outputs → SecondState → SecondState
-    → Result (Unit {0}) AsmFault → Type 0
-SecondTakes program source line first before now old new (Ok done) = IsIdle old new before now
-    ⊎ ((old.has_ended ≡ false) × SecondStands program (source ++ line ∷ []) first now new)
-SecondTakes program source line first before now old new (Err stopped) =
-    (old.has_ended ≡ false) × SecondFails program (source ++ line ∷ []) first now stopped
+-- what a call found, and what it left
+pub record LineCall : Type 0 where
+  pub before : Outputs
+  pub now : Outputs
+  pub old : SecondState
+  pub new : SecondState
+
+abbrev pub SecondTakes : Program → List SourceLine → SourceLine → Outputs → LineCall → Result (Unit {0}) AsmFault → Type 0
+SecondTakes program source line first call (Ok done) = IsIdle call.old call.new call.before call.now
+    ⊎ ((call.old.has_ended ≡ false) × SecondStands program (source ++ line ∷ []) first call.now call.new)
+SecondTakes program source line first call (Err stopped) =
+    (call.old.has_ended ≡ false) × SecondFails program (source ++ line ∷ []) first call.now stopped
 
 -- ---- between the live lines of one line of the source
 

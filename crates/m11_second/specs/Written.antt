@@ -36,7 +36,7 @@ reported_letters program table given =
 
 -- the set of the letter E
 abbrev pub letter_E : ℕ
-letter_E = 8
+letter_E = 0o10
 
 abbrev pub is_flagged : ℕ → Bool
 is_flagged letters = not (letters == 0)

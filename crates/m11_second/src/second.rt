@@ -90,9 +90,12 @@ impl Second {
     ) -> Result<(), AsmFault>
         ensures takes { (program : Program) (source : List SourceLine) (first : Outputs) → SecondStands program source first
             (outputs_of S.Sink T.Sink U.Sink object.old listing.old messages.old) self.old
-            → SecondTakes program source line first
-            (outputs_of S.Sink T.Sink U.Sink object.old listing.old messages.old)
-            (outputs_of S.Sink T.Sink U.Sink object.new listing.new messages.new) self.old self.new result }
+            → SecondTakes program source line first (record {
+              before = outputs_of S.Sink T.Sink U.Sink object.old listing.old messages.old;
+              now = outputs_of S.Sink T.Sink U.Sink object.new listing.new messages.new;
+              old = self.old;
+              new = self.new;
+            }) result }
         ensures again { (fault : AsmFault) → self.old.fault ≡ Some fault → (result ≡ Err fault) × (self.new ≡ self.old)
             × (object.new ≡ object.old) × (listing.new ≡ listing.old) × (messages.new ≡ messages.old) }
         ensures fault { self.new.fault ≡ result_err result }

@@ -17,9 +17,10 @@ use Rattle.m11_placement.specs.Tables.{Table}
 use Rattle.m11_table.specs.declared.entries.Entry.{Entry}
 use Rattle.m11_table.specs.Alike.{Follows}
 use Rattle.m11_placement.specs.declared.settings.Settings.{Settings}
-use Rattle.m11_table.specs.Entries.{definition, definitions_by, is_same_symbol, symbol_key, table_of}
+use Rattle.m11_table.specs.Entries.{definition, definitions_by, is_same_symbol, symbol_key}
 use Rattle.m11_table.proofs.Found.{last_after, last_more, none_found}
 use Rattle.m11_table.proofs.Inserting.{entry_inserted, key_inserted}
+use Rattle.m11_table.proofs.Parts.{table_with}
 
 -- ---- names and local symbols are told apart by their tests
 
@@ -173,16 +174,16 @@ with_key_doubled old new other has definitions globals sections moves settings t
 
 module _ (names : List (Name × Entry)) (symbols : List ((ℕ × ℕ) × Entry)) (doubled_names : List Name)
     (doubled_symbols : List (ℕ × ℕ)) (globals : List Name) (sections : List (Name × ℕ)) (counters : List ℕ) (settings : Settings)
-    (old : Table) (told : table_of names symbols doubled_names doubled_symbols globals sections counters settings ≡ old) where
+    (old : Table) (told : table_with names symbols doubled_names doubled_symbols globals sections counters settings ≡ old) where
   pub name_follows : (name : Name) (found : Definition) (after : List (Name × Entry))
       → after ≡ insert_entry is_same_name names name (kept found) → found.key ≡ Named name
-      → Follows old (table_of after symbols doubled_names doubled_symbols globals sections counters settings) (with_definition found)
+      → Follows old (table_with after symbols doubled_names doubled_symbols globals sections counters settings) (with_definition found)
   name_follows name found after e k =
       let P : Table → Type 0 = λ t. Follows t
-      (table_of after symbols doubled_names doubled_symbols globals sections counters settings) (with_definition found) in
+      (table_with after symbols doubled_names doubled_symbols globals sections counters settings) (with_definition found) in
       subst P told
-      (with_definitions (table_of names symbols doubled_names doubled_symbols globals sections counters settings)
-      (table_of after symbols doubled_names doubled_symbols globals sections counters settings) found
+      (with_definitions (table_with names symbols doubled_names doubled_symbols globals sections counters settings)
+      (table_with after symbols doubled_names doubled_symbols globals sections counters settings) found
       (λ key. ap (λ (ns : List (Name × Entry)). last_definition key (all_definitions ns symbols)) e
       ∙ name_last key name (kept found) names symbols
       ∙ ap (λ (d : Definition). one_more key d (all_definitions names symbols)) (with_key (Named name) found k))
@@ -190,13 +191,13 @@ module _ (names : List (Name × Entry)) (symbols : List ((ℕ × ℕ) × Entry))
 
   pub symbol_follows : (block number : ℕ) (found : Definition) (after : List ((ℕ × ℕ) × Entry))
       → after ≡ insert_entry is_same_symbol symbols (block, number) (kept found) → found.key ≡ Numbered block number
-      → Follows old (table_of names after doubled_names doubled_symbols globals sections counters settings) (with_definition found)
+      → Follows old (table_with names after doubled_names doubled_symbols globals sections counters settings) (with_definition found)
   symbol_follows block number found after e k =
       let P : Table → Type 0 = λ t. Follows t
-      (table_of names after doubled_names doubled_symbols globals sections counters settings) (with_definition found) in
+      (table_with names after doubled_names doubled_symbols globals sections counters settings) (with_definition found) in
       subst P told
-      (with_definitions (table_of names symbols doubled_names doubled_symbols globals sections counters settings)
-      (table_of names after doubled_names doubled_symbols globals sections counters settings) found
+      (with_definitions (table_with names symbols doubled_names doubled_symbols globals sections counters settings)
+      (table_with names after doubled_names doubled_symbols globals sections counters settings) found
       (λ key. ap (λ (ss : List ((ℕ × ℕ) × Entry)). last_definition key (all_definitions names ss)) e
       ∙ symbol_last key (block, number) (kept found) names symbols
       ∙ ap (λ (d : Definition). one_more key d (all_definitions names symbols)) (with_key (Numbered block number) found k))
@@ -204,14 +205,14 @@ module _ (names : List (Name × Entry)) (symbols : List ((ℕ × ℕ) × Entry))
 
   pub name_doubles : (name : Name) (key : Key) (after : List Name) → after ≡ insert_key is_same_name doubled_names name
       → key ≡ Named name
-      → Follows old (table_of names symbols after doubled_symbols globals sections counters settings) (with_doubled key)
+      → Follows old (table_with names symbols after doubled_symbols globals sections counters settings) (with_doubled key)
   name_doubles name other after e k =
       let P : Table → Type 0 = λ t. Follows t
-      (table_of names symbols after doubled_symbols globals sections counters settings) (with_doubled other) in
+      (table_with names symbols after doubled_symbols globals sections counters settings) (with_doubled other) in
       let has_other : (key : Key) → Bool = λ key. has_key key (map Named doubled_names ++ map symbol_key doubled_symbols) in
       subst P told
-      (with_key_doubled (table_of names symbols doubled_names doubled_symbols globals sections counters settings)
-      (table_of names symbols after doubled_symbols globals sections counters settings) other
+      (with_key_doubled (table_with names symbols doubled_names doubled_symbols globals sections counters settings)
+      (table_with names symbols after doubled_symbols globals sections counters settings) other
       (λ key. ap (λ (ns : List Name). has_key key (map Named ns ++ map symbol_key doubled_symbols)) e
       ∙ name_doubled key name doubled_names doubled_symbols
       ∙ ap (λ (o : Key). has_other key || is_same o key) (sym k))
@@ -219,14 +220,14 @@ module _ (names : List (Name × Entry)) (symbols : List ((ℕ × ℕ) × Entry))
 
   pub symbol_doubles : (block number : ℕ) (key : Key) (after : List (ℕ × ℕ))
       → after ≡ insert_key is_same_symbol doubled_symbols (block, number) → key ≡ Numbered block number
-      → Follows old (table_of names symbols doubled_names after globals sections counters settings) (with_doubled key)
+      → Follows old (table_with names symbols doubled_names after globals sections counters settings) (with_doubled key)
   symbol_doubles block number other after e k =
       let P : Table → Type 0 = λ t. Follows t
-      (table_of names symbols doubled_names after globals sections counters settings) (with_doubled other) in
+      (table_with names symbols doubled_names after globals sections counters settings) (with_doubled other) in
       let has_other : (key : Key) → Bool = λ key. has_key key (map Named doubled_names ++ map symbol_key doubled_symbols) in
       subst P told
-      (with_key_doubled (table_of names symbols doubled_names doubled_symbols globals sections counters settings)
-      (table_of names symbols doubled_names after globals sections counters settings) other
+      (with_key_doubled (table_with names symbols doubled_names doubled_symbols globals sections counters settings)
+      (table_with names symbols doubled_names after globals sections counters settings) other
       (λ key. ap (λ (ss : List (ℕ × ℕ)). has_key key (map Named doubled_names ++ map symbol_key ss)) e
       ∙ symbol_doubled key (block, number) doubled_names doubled_symbols
       ∙ ap (λ (o : Key). has_other key || is_same o key) (sym k))

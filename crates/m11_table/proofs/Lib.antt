@@ -5,6 +5,7 @@ mod Following
 mod Found
 mod Inserting
 mod Moving
+mod Parts
 mod Selecting
 mod Starting
 pub mod Defined

@@ -9,8 +9,9 @@ use Rattle.m11_placement.specs.Tables.{Table, place}
 use Rattle.m11_placement.proofs.Counters.{goes_there, stays_there, steps_on}
 use Rattle.m11_table.specs.declared.entries.Entry.{Entry}
 use Rattle.m11_table.specs.Alike.{Alike, Follows}
-use Rattle.m11_table.specs.Entries.{counters_from, table_of}
+use Rattle.m11_table.specs.Entries.{counters_from}
 use Rattle.m11_table.proofs.Counting.{counter_moves, move_of}
+use Rattle.m11_table.proofs.Parts.{table_with}
 
 -- ---- lists
 
@@ -72,10 +73,10 @@ set_by counters number new other moves false e h alike =
 
 module _ (names : List (Name × Entry)) (symbols : List ((ℕ × ℕ) × Entry)) (doubled_names : List Name)
     (doubled_symbols : List (ℕ × ℕ)) (globals : List Name) (sections : List (Name × ℕ)) (counters : List ℕ) (settings : Settings)
-    (old : Table) (told : table_of names symbols doubled_names doubled_symbols globals sections counters settings ≡ old) where
+    (old : Table) (told : table_with names symbols doubled_names doubled_symbols globals sections counters settings ≡ old) where
   set_follows : (new : ℕ) → settings.section < length counters
-      → Follows (table_of names symbols doubled_names doubled_symbols globals sections counters settings)
-      (table_of names symbols doubled_names doubled_symbols globals sections (slice_set counters settings.section new) settings)
+      → Follows (table_with names symbols doubled_names doubled_symbols globals sections counters settings)
+      (table_with names symbols doubled_names doubled_symbols globals sections (slice_set counters settings.section new) settings)
       (with_move (Goes new))
   set_follows new h table alike = record {
     definitions = alike.definitions;
@@ -88,14 +89,14 @@ module _ (names : List (Name × Entry)) (symbols : List ((ℕ × ℕ) × Entry))
   }
 
   pub counter_follows : (number new : ℕ) → number ≡ settings.section → number < length counters
-      → Follows old (table_of names symbols doubled_names doubled_symbols globals sections (slice_set counters number new) settings)
+      → Follows old (table_with names symbols doubled_names doubled_symbols globals sections (slice_set counters number new) settings)
       (with_move (Goes new))
   counter_follows number new e h =
       let P : Table → Type 0 = λ t. Follows t
-      (table_of names symbols doubled_names doubled_symbols globals sections (slice_set counters number new) settings)
+      (table_with names symbols doubled_names doubled_symbols globals sections (slice_set counters number new) settings)
       (with_move (Goes new)) in
-      let Q : ℕ → Type 0 = λ n. Follows (table_of names symbols doubled_names doubled_symbols globals sections counters settings)
-      (table_of names symbols doubled_names doubled_symbols globals sections (slice_set counters n new) settings)
+      let Q : ℕ → Type 0 = λ n. Follows (table_with names symbols doubled_names doubled_symbols globals sections counters settings)
+      (table_with names symbols doubled_names doubled_symbols globals sections (slice_set counters n new) settings)
       (with_move (Goes new)) in
       let R : ℕ → Type 0 = λ n. n < length counters in
       subst P told (subst Q (sym e) (set_follows new (subst R e h)))

@@ -12,8 +12,9 @@ use Rattle.m11_placement.specs.declared.settings.Settings.{Settings}
 use Rattle.m11_placement.specs.Sections.{number_of, section}
 use Rattle.m11_placement.specs.Tables.{Table}
 use Rattle.m11_table.specs.declared.entries.Entry.{Entry}
-use Rattle.m11_table.specs.Entries.{section_in, table_of, with_new_section}
+use Rattle.m11_table.specs.Entries.{section_in, with_new_section}
 use Rattle.m11_table.proofs.Doubling.{section_found}
+use Rattle.m11_table.proofs.Parts.{table_with}
 
 some_none : {X : Type 0} (x : X) → Some x ≡ None → ⊥
 some_none x e = cc
@@ -54,15 +55,15 @@ put_last name value (entry ∷ entries) e =
 
 pub section_added : (names : List (Name × Entry)) (symbols : List ((ℕ × ℕ) × Entry)) (doubled_names : List Name)
     (doubled_symbols : List (ℕ × ℕ)) (globals : List Name) (sections : List (Name × ℕ)) (counters : List ℕ) (settings : Settings)
-    (old : Table) → table_of names symbols doubled_names doubled_symbols globals sections counters settings ≡ old
+    (old : Table) → table_with names symbols doubled_names doubled_symbols globals sections counters settings ≡ old
     → (name : Name) (attributes : ℕ) (after : List (Name × ℕ)) → after ≡ insert_entry is_same_name sections name attributes
     → number_of name old.sections ≡ None
-    → table_of names symbols doubled_names doubled_symbols globals after counters settings
+    → table_with names symbols doubled_names doubled_symbols globals after counters settings
     ≡ with_new_section (section name attributes) old
 section_added names symbols doubled_names doubled_symbols globals sections counters settings old told name attributes after e absent =
     let found : position (is_same_name name) (keys_of sections) ≡ None =
     section_found name sections ∙ ap (λ (t : Table). number_of name t.sections) told ∙ absent in
-    let listed : List Section → Table = λ s. record (table_of names symbols doubled_names doubled_symbols globals sections
+    let listed : List Section → Table = λ s. record (table_with names symbols doubled_names doubled_symbols globals sections
     counters settings) { sections = s } in
     ap (λ (s : List (Name × ℕ)). listed (map section_in s)) (e ∙ put_last name attributes sections found)
     ∙ ap listed (map-append section_in sections ((name, attributes) ∷ []))

@@ -6,9 +6,9 @@ use Rattle.std.specs.Option.{unwrap_or}
 use Rattle.m11_base.proofs.NameWords.{absolute_words}
 use Rattle.m11_placement.specs.Places.{place_after, place_in}
 use Rattle.m11_placement.specs.Sections.{number_of, of_absolute, of_program, section}
-use Rattle.m11_placement.specs.Tables.{Table, first_settings, first_table}
+use Rattle.m11_placement.specs.Tables.{Table, first_table}
 use Rattle.m11_table.specs.Alike.{Alike, Follows}
-use Rattle.m11_table.specs.Entries.{counters_from, no_counters, table_of, with_new_section, with_registers}
+use Rattle.m11_table.specs.Entries.{counters_from, no_counters, empty_table, with_new_section, with_registers}
 use Rattle.m11_table.proofs.Counting.{move_of}
 use Rattle.m11_table.proofs.Moving.{counter_placed}
 
@@ -26,7 +26,7 @@ nothing_defined = record first_table { definitions = [] }
 
 abbrev with_sections : Table
 with_sections = with_new_section (section blank_name of_program)
-    (with_new_section (section absolute_name of_absolute) (table_of [] [] [] [] [] [] no_counters first_settings))
+    (with_new_section (section absolute_name of_absolute) empty_table)
 
 empty_alike : Alike with_sections nothing_defined
 empty_alike = record {
@@ -38,7 +38,7 @@ empty_alike = record {
   settings = refl;
 }
 
-pub first_alike : (before with_absolute with_blank after : Table) → before ≡ table_of [] [] [] [] [] [] no_counters first_settings
+pub first_alike : (before with_absolute with_blank after : Table) → before ≡ empty_table
     → with_absolute ≡ with_new_section (section absolute_name of_absolute) before
     → with_blank ≡ with_new_section (section blank_name of_program) with_absolute → Follows with_blank after with_registers
     → Alike after first_table
@@ -48,7 +48,7 @@ first_alike before with_absolute with_blank after e f g follows =
     (subst P (sym (g ∙ ap (with_new_section (section blank_name of_program))
     (f ∙ ap (with_new_section (section absolute_name of_absolute)) e))) empty_alike)
 
-pub blank_is_new : (before with_absolute : Table) (blank : Name) → before ≡ table_of [] [] [] [] [] [] no_counters first_settings
+pub blank_is_new : (before with_absolute : Table) (blank : Name) → before ≡ empty_table
     → with_absolute ≡ with_new_section (section absolute_name of_absolute) before → blank ≡ blank_name
     → number_of blank with_absolute.sections ≡ None
 blank_is_new before with_absolute blank e f g =

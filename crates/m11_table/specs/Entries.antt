@@ -10,7 +10,7 @@ use Rattle.m11_placement.specs.declared.settings.Settings.{Settings}
 use Rattle.m11_placement.specs.Definitions.{registers}
 use Rattle.m11_placement.specs.Labels.{with_definition}
 use Rattle.m11_placement.specs.Places.{Goes, Moved, in_section}
-use Rattle.m11_placement.specs.Tables.{Table}
+use Rattle.m11_placement.specs.Tables.{Table, first_settings}
 use Rattle.m11_table.specs.declared.entries.Entry.{Entry}
 
 -- a local symbol by its block and its number
@@ -54,16 +54,39 @@ no_counters = replicate 64 0
 
 -- ---- the table
 
-abbrev pub table_of : List (Name × Entry) → List ((ℕ × ℕ) × Entry) → List Name → List (ℕ × ℕ) → List Name → List (Name × ℕ)
-    → List ℕ → Settings → Table
-table_of names symbols doubled_names doubled_symbols globals sections counters settings = record {
-  definitions = definitions_by Named names ++ definitions_by symbol_key symbols;
-  doubled = map Named doubled_names ++ map symbol_key doubled_symbols;
-  globals = globals;
-  sections = map section_in sections;
-  moves = counters_from 0 counters;
-  settings = settings;
+-- what is kept: sections and counters by the numbers of sections
+pub record KeptTable : Type 0 where
+  pub names : List (Name × Entry)
+  pub local_symbols : List ((ℕ × ℕ) × Entry)
+  pub doubled_names : List Name
+  pub doubled_symbols : List (ℕ × ℕ)
+  pub globals : List Name
+  pub sections : List (Name × ℕ)
+  pub counters : List ℕ
+  pub settings : Settings
+
+abbrev pub table_of : KeptTable → Table
+table_of kept = record {
+  definitions = definitions_by Named kept.names ++ definitions_by symbol_key kept.local_symbols;
+  doubled = map Named kept.doubled_names ++ map symbol_key kept.doubled_symbols;
+  globals = kept.globals;
+  sections = map section_in kept.sections;
+  moves = counters_from 0 kept.counters;
+  settings = kept.settings;
 }
+
+-- nothing is defined, and no section is there
+abbrev pub empty_table : Table
+empty_table = table_of (record {
+  names = [];
+  local_symbols = [];
+  doubled_names = [];
+  doubled_symbols = [];
+  globals = [];
+  sections = [];
+  counters = no_counters;
+  settings = first_settings;
+})
 
 -- with one more section
 abbrev pub with_new_section : Section → Table → Table

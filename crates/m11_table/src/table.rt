@@ -13,11 +13,11 @@ ghost use Rattle.m11_placement.specs.Places.{Goes, Steps};
 ghost use Rattle.m11_placement.specs.ProgramSections.{known_section};
 ghost use Rattle.m11_placement.specs.Relocations.{is_here, is_moved};
 ghost use Rattle.m11_placement.specs.Sections.{number_of, numbered, of_program, section};
-ghost use Rattle.m11_placement.specs.Tables.{first_settings, first_table, kind_here, place};
+ghost use Rattle.m11_placement.specs.Tables.{first_table, kind_here, place};
 ghost use Rattle.m11_placement.specs.declared.definitions.Key.TheVariants.{Named, Numbered};
 ghost use Rattle.m11_table.specs.Alike.{Alike, Follows};
 ghost use Rattle.m11_table.specs.Entries as entries;
-ghost use Rattle.m11_table.specs.Entries.{counter_or, no_counters, table_of, with_new_section, with_registers};
+ghost use Rattle.m11_table.specs.Entries.{counter_or, empty_table, with_new_section, with_registers};
 
 use crate::entries::Entry;
 use indexmap::{IndexMap, IndexSet};
@@ -58,8 +58,16 @@ impl Model for Table {
 
     ghost Value = { LineTable };
 
-    ghost view = { λ t. table_of t.names.entries t.local_symbols.entries t.doubled_names.keys t.doubled_symbols.keys t.globals.keys
-        t.sections.entries t.counters t.settings };
+    ghost view = { λ t. table_of (record {
+      names = t.names.entries;
+      local_symbols = t.local_symbols.entries;
+      doubled_names = t.doubled_names.keys;
+      doubled_symbols = t.doubled_symbols.keys;
+      globals = t.globals.keys;
+      sections = t.sections.entries;
+      counters = t.counters;
+      settings = t.settings;
+    }) };
 }
 
 impl Table {
@@ -77,7 +85,7 @@ impl Table {
     // Nothing but the first settings.
     #[tactic(auto, unfolding(crate::specs::Entries::no_counters))]
     fn empty(alloc: Global) -> Table
-        ensures { result ≡ table_of [] [] [] [] [] [] no_counters first_settings }
+        ensures { result ≡ empty_table }
     {
         Table {
             names: IndexMap::new(alloc),

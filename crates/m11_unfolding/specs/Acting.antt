@@ -42,7 +42,7 @@ pub record Acted : Type 0 where
 
 -- the set of the letter O
 abbrev pub letter_O : ℕ
-letter_O = 256
+letter_O = 0o400
 
 -- ---- operators
 

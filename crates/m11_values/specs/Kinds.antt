@@ -35,7 +35,7 @@ is_register (Reference name) = false
 
 -- the set of the letter R
 abbrev pub letter_R : ℕ
-letter_R = 2048
+letter_R = 0o4000
 
 -- the letter of operands that may not stand where they do: R where one of them is a register, else A
 abbrev pub refusal : Bool → ℕ

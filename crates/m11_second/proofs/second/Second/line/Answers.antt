@@ -2,7 +2,7 @@ use Rattle.std.proofs.Common.{◌∙◌, Ok, ap, subst, refl}
 use Rattle.m11_asm_outputs.specs.Outputs.{Outputs, outputs_of}
 use Rattle.m11_placement.specs.Meanings.{map_of}
 use Rattle.m11_second.specs.Second.{SecondStands, SecondState, SecondTakes}
-use Rattle.m11_second.proofs.LineTaken.{keeps_none, line_fails, line_refused, line_takes, state_of}
+use Rattle.m11_second.proofs.LineTaken.{between, keeps_none, line_fails, line_refused, line_takes, state_of}
 use Rattle.m11_second.proofs.second.Second.line.Goals as goal
 
 pub returns-in_err-read-clause-takes : goal.returns-in_err-read-clause-takes
@@ -11,7 +11,7 @@ returns-in_err-read-clause-takes g c = λ program source first.
     let new : SecondState = state_of (map_of c.self.inside.first.table) c.self.inside.pass.going c.self.inside.writing c.self.inside.read
     c.self.inside.has_ended c.keep.new.self in
     let P : SecondState → Type 0 = λ s. SecondStands program source first before s
-    → SecondTakes program source c.args.line first before before s new c.from_residual-in_err-read.result in
+    → SecondTakes program source c.args.line first (between before before s new) c.from_residual-in_err-read.result in
     subst P c.self.view_is (λ stands.
     line_refused program source c.args.line first before (map_of c.self.inside.first.table) c.self.inside.pass.going c.self.inside.writing c.self.inside.read
     c.self.inside.has_ended c.self.inside.fault c.if-self.false stands c.number_after.result c.in_err-read.field-0.0 new c.from_residual-in_err-read.result
@@ -24,7 +24,7 @@ returns-in_err-self-inside-clause-takes g c = λ program source first.
     let new : SecondState = state_of (map_of c.self.inside.first.table) c.take_left-taken.new.pass.going c.take_left-taken.new.writing
     c.in_ok-read.read c.self.inside.has_ended c.keep-2.new.self in
     let P : SecondState → Type 0 = λ s. SecondStands program source first before s
-    → SecondTakes program source c.args.line first before now s new c.from_residual-in_err-self-inside.result in
+    → SecondTakes program source c.args.line first (between before now s new) c.from_residual-in_err-self-inside.result in
     subst P c.self.view_is (λ stands.
     line_fails program source c.args.line first before (map_of c.self.inside.first.table) c.self.inside.pass.going c.self.inside.writing c.self.inside.read
     c.self.inside.has_ended c.self.inside.fault c.if-self.false stands c.the_calls_place_the_lines_of_a_source.ensures.feeds
@@ -41,7 +41,7 @@ returns-clause-takes g c = λ program source first.
     let new : SecondState = state_of (map_of c.self.inside.first.table) c.take_left-taken.new.pass.going c.take_left-taken.new.writing
     c.in_ok-read.read c.in_ok-self-inside.field-0 c.keep-2.new.self in
     let P : SecondState → Type 0 = λ s. SecondStands program source first before s
-    → SecondTakes program source c.args.line first before now s new (Ok tt) in
+    → SecondTakes program source c.args.line first (between before now s new) (Ok tt) in
     subst P c.self.view_is (λ stands.
     line_takes program source c.args.line first before (map_of c.self.inside.first.table) c.self.inside.pass.going c.self.inside.writing c.self.inside.read
     c.self.inside.has_ended c.self.inside.fault c.if-self.false stands c.the_calls_place_the_lines_of_a_source.ensures.feeds
