@@ -24,7 +24,7 @@ def peak_of(pid):
 
 
 def measured(command, interval):
-    """The run of a command, whose memory is looked at once in so many seconds."""
+    """The run of a command, whose memory is looked at once in `interval` seconds."""
     with tempfile.TemporaryFile() as printed:
         begun = time.perf_counter()
         process = subprocess.Popen(command, stdin=subprocess.DEVNULL, stdout=printed, stderr=printed)

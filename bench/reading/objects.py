@@ -1,4 +1,4 @@
-"""Blocks, records and tapes: made from what is worked by hand, and told in words as the comments of cases."""
+"""Blocks, records and tapes: made from what is worked by hand, and put in words as the comments of cases."""
 
 RAD = " ABCDEFGHIJKLMNOPQRSTUVWXYZ$.%0123456789"
 
@@ -59,7 +59,7 @@ def rld(entries): return block(w(4) + b"".join(entries))
 def words(*values): return b"".join(w(v) for v in values)
 
 
-# --- told in words ---
+# --- put in words ---
 def shown(name):
     name = name.rstrip()
     return name if name else "(blank)"

@@ -1404,7 +1404,7 @@ class Pass:
 
     # --- unfolding ---
     def gap(self, text, i):
-        """Skips blanks, one comma, blanks; tells whether the comma was there."""
+        """Skips blanks, one comma, blanks; returns whether the comma was there."""
         n = len(text)
         while i < n and text[i] in " \t":
             i += 1
@@ -1453,7 +1453,7 @@ class Pass:
         return out
 
     def actuals(self, text, i, most, digits=True):
-        """The actuals from a place on; at most so many are kept."""
+        """The actuals from a place on; at most that many are kept."""
         n = len(text)
         out = []
         while i < n and text[i] in " \t":

@@ -1,5 +1,5 @@
 // Refuses one request for memory. Loaded before the C library (LD_PRELOAD), it counts the calls that ask for memory from when the
-// program's main begins, refuses the one whose number stands in REFUSED, and tells of it on standard error.
+// program's main begins, refuses the one whose number stands in REFUSED, and reports it on standard error.
 
 #include <errno.h>
 #include <stddef.h>
@@ -22,11 +22,11 @@ static long calls;
 
 // Whether this call is the one that is refused.
 static int is_refused(const char *call, size_t bytes) {
-    char told[96];
+    char line[96];
     if (refused == 0 || ++calls != refused)
         return 0;
-    int size = snprintf(told, sizeof told, "refused %s of %zu bytes\n", call, bytes);
-    if (write(2, told, size) != size)
+    int size = snprintf(line, sizeof line, "refused %s of %zu bytes\n", call, bytes);
+    if (write(2, line, size) != size)
         _exit(99);
     errno = ENOMEM;
     return 1;
