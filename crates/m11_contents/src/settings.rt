@@ -13,7 +13,7 @@ use m11_table::{Map, NamesAt, Table};
 use m11_values::{Names, Value};
 use std::marker::Model;
 
-/// Where a line stands: what a whole source gives its names in the end, what the lines before tell, the place, and the line.
+/// Where a line stands: what a whole source gives its names in the end, what the lines before say, the place, and the line.
 #[derive(Drop)]
 pub struct Setting<'a> {
     map: &'a Map<'a>,

@@ -14,7 +14,7 @@ use m11_table::register_letters;
 use m11_values::Value;
 use std::alloc::AllocError;
 
-/// The place so many bytes after another, modulo 65536.
+/// The place `size` bytes after another, modulo 65536.
 pub fn further(place: u16, size: u16) -> u16
     ensures { result ≡ spec.further place size }
 {

@@ -1,4 +1,4 @@
-//! What first passes tell, and the rows of their directories: tests alone, which use only what the crates below hand out. Expected rows
+//! What first passes find, and the rows of their directories: tests alone, which use only what the crates below hand out. Expected rows
 //! were worked by hand from the manuals.
 #![tactic(auto)]
 

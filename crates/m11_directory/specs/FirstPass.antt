@@ -1,4 +1,4 @@
--- What the first pass of a source tells of its object's directory. (MACRO-11 Language Reference Manual, ".TITLE directive", ".IDENT directive",
+-- What the first pass of a source finds for its object's directory. (MACRO-11 Language Reference Manual, ".TITLE directive", ".IDENT directive",
 -- ".WEAK directive" and ".END directive".)
 use Rattle.std.specs.Prelude.{ℕ, List, Option, option_map, slice_index}
 use Rattle.m11_base.specs.Rad50.{Name}

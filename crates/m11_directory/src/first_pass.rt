@@ -1,4 +1,4 @@
-//! What the first pass of a source tells of its object's directory. (MACRO-11 Language Reference Manual, ".TITLE directive", ".IDENT
+//! What the first pass of a source finds for its object's directory. (MACRO-11 Language Reference Manual, ".TITLE directive", ".IDENT
 //! directive", ".WEAK directive" and ".END directive".)
 
 use indexmap::IndexSet;
@@ -6,7 +6,7 @@ use m11_base::Name;
 use m11_table::Table;
 use m11_values::Value;
 
-/// What the first pass tells.
+/// What the first pass finds.
 #[derive(Drop)]
 pub struct FirstPass<'a> {
     /// The table after the last line.

@@ -1,4 +1,4 @@
-//! The rows of an object's directory, from what the first pass of a source tells: the module, its sections, the globals that stand under them,
+//! The rows of an object's directory, from what the first pass of a source finds: the module, its sections, the globals that stand under them,
 //! the references, and where the program begins. (RT-11 Volume and File Formats Manual, "Object file format", GSD block; MACRO-11
 //! Language Reference Manual, ".GLOBL directive", ".WEAK directive", ".TITLE directive", ".IDENT directive" and ".END directive".)
 #![tactic(auto)]

@@ -1,4 +1,4 @@
--- What the lines of a source tell of its module beside names and places, line by line: the last title and identification, the names that
+-- What the lines of a source say of its module beside names and places, line by line: the last title and identification, the names that
 -- are made weak, and where the program begins. (MACRO-11 Language Reference Manual, ".TITLE directive", ".IDENT directive", ".WEAK
 -- directive" and ".END directive".)
 use Rattle.std.specs.Prelude.{List, [], ◌∷◌, Option, None}
@@ -25,7 +25,7 @@ abbrev pub each_once : List Name → List Name → List Name
 each_once names [] = names
 each_once names (name ∷ more) = each_once (insert_key is_same_name names name) more
 
--- with what one more line tells, after a table
+-- with what one more line says, after a table
 abbrev pub with_line : Table → Given → Facts → Facts
 with_line table given facts = record {
   title = last_or (line_title given) facts.title;
@@ -34,7 +34,7 @@ with_line table given facts = record {
   transfer = last_or (line_transfer empty_map table given) facts.transfer;
 }
 
--- what the lines of a source tell in all
+-- what the lines of a source say in all
 abbrev pub facts_of : List Given → Facts
 facts_of lines = record {
   title = source_title lines;

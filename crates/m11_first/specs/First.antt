@@ -11,7 +11,7 @@ use Rattle.m11_passes.specs.States.{Going, PassState, PassStands}
 use Rattle.m11_passes.specs.declared.fault.PassFault.{PassFault}
 use Rattle.m11_first.specs.Facts.{Facts, facts_of}
 
--- the pass, what the lines told beside names and places, whether `.END` became live, and the fault that ended the pass, if one did
+-- the pass, what the lines said beside names and places, whether `.END` became live, and the fault that ended the pass, if one did
 pub record FirstState : Type 0 where
   pub going : Going
   pub facts : Facts
@@ -23,7 +23,7 @@ pub record GoesOn (fault : Option PassFault) (has_ended : Bool) (pass : PassStat
   pub goes_on : fault ≡ None → pass.fault ≡ None
   pub needs : fault ≡ None → has_ended ≡ false → pass.going.unfolder.stage.left ≡ []
 
--- these are the live lines of a source, and what they tell
+-- these are the live lines of a source, and what they say
 pub record Taken (source : List SourceLine) (lines : List Numbered) (going : Going) (facts : Facts) : Type 0 where
   pub stands : PassStands empty_map none_gathered source lines going
   pub facts_are : facts ≡ facts_of (givens lines)
@@ -62,7 +62,7 @@ TakesLeft source new facts (Err fault) = (lines : List Numbered) × Refused empt
 
 -- ---- what the pass gives
 
--- the table after the last line with the sizes of sections, the names that the lines mention, and what they tell beside that
+-- the table after the last line with the sizes of sections, the names that the lines mention, and what they say beside that
 pub record Symbols : Type 0 where
   pub kept : Kept
   pub gathered : Gathered

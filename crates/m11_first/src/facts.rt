@@ -1,4 +1,4 @@
-//! What the lines of a source tell of its module beside names and places. (MACRO-11 Language Reference Manual, ".TITLE directive", ".IDENT
+//! What the lines of a source say of its module beside names and places. (MACRO-11 Language Reference Manual, ".TITLE directive", ".IDENT
 //! directive", ".WEAK directive" and ".END directive".)
 
 ghost use Rattle.std.specs.Prelude.{◌≡◌, ◌≤◌, [], ◌∷◌, IfOk, length, min, option_map};
@@ -29,7 +29,7 @@ use m11_values::Value;
 use std::alloc::{AllocError, Global};
 use std::marker::Model;
 
-/// What the lines of a source tell of its module beside names and places.
+/// What the lines of a source say of its module beside names and places.
 #[derive(Drop)]
 pub struct Facts {
     title: Option<Name>,
@@ -94,7 +94,7 @@ impl Facts {
         self.transfer
     }
 
-    /// Notes what a placed line tells, where the table is that after the line.
+    /// Notes what a placed line says, where the table is that after the line.
     pub fn note(&mut self, line: &PlacedLine, table: &Table) -> Result<(), AllocError>
         ensures { IfOk result (λ _. (before : LineTable) (given : Given) (put : Put) → IsPlaced empty_map before given line.now put
             → Alike table.now (after_line empty_map before given) → self.new ≡ with_line before given self.old) }
@@ -104,7 +104,7 @@ impl Facts {
         self.note_deed(line, table)
     }
 
-    // What stands after its labels tells.
+    // What stands after its labels says.
     fn note_deed(&mut self, line: &PlacedLine, table: &Table) -> Result<(), AllocError>
         ensures { IfOk result (λ _. self.new ≡ with_deed table.now line.now.line.text line.now.deed self.old) }
     {

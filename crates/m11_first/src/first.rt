@@ -100,7 +100,7 @@ impl First {
     }
 }
 
-// Places what is left to take, and notes what it tells: whether `.END` became live.
+// Places what is left to take, and notes what it says: whether `.END` became live.
 fn take_left(pass: &mut SourcePass, facts: &mut Facts) -> Result<bool, PassFault>
     requires { pass.old.fault ≡ None }
     ensures takes { (source : List SourceLine) (lines : List Numbered) → Taken source lines pass.old.going facts.old

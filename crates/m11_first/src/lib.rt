@@ -1,4 +1,4 @@
-//! The first pass of the assembler over the lines of its sources: what they give their names, and what they tell of their module beside
+//! The first pass of the assembler over the lines of its sources: what they give their names, and what they say of their module beside
 //! that. (MACRO-11 Language Reference Manual, "Symbols and expressions", ".TITLE directive", ".IDENT directive", ".WEAK directive" and ".END
 //! directive".)
 #![tactic(auto)]

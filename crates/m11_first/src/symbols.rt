@@ -7,7 +7,7 @@ use crate::facts::Facts;
 use m11_placing::{Mentioned, Pass};
 use std::marker::Model;
 
-/// What the first pass of a source gives: what its lines give their names, which names they mention, and what they tell of their module.
+/// What the first pass of a source gives: what its lines give their names, which names they mention, and what they say of their module.
 #[derive(Drop)]
 pub struct Symbols {
     pass: Pass,
@@ -41,7 +41,7 @@ impl Symbols {
         }
     }
 
-    /// The table after the last line with the sizes of sections, the names that the lines mention, and what they tell beside that.
+    /// The table after the last line with the sizes of sections, the names that the lines mention, and what they say beside that.
     pub fn into_parts(self) -> (Pass, Mentioned, Facts)
         ensures pass { result.0 ≡ self.kept }
         ensures mentioned { result.1 ≡ self.gathered }

@@ -1,4 +1,4 @@
-//! What a source gives its names, told by all of its definitions or by the last of each key: the second pass of an assembly does the same
+//! What a source gives its names, by all of its definitions or by the last of each key: the second pass of an assembly does the same
 //! under both. (MACRO-11 Language Reference Manual, "Symbols".)
 #![tactic(auto)]
 

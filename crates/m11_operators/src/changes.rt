@@ -20,8 +20,8 @@ use m11_scan::Line;
 use m11_strings::{ascii_size, asciz_size, rad50_size};
 use m11_table::{FirmNames, Table};
 
-/// What an operator changes, whose name ends at a place of its line. It is asked of firm names alone. A macro around the line has so many
-/// actuals.
+/// What an operator changes, whose name ends at a place of its line. It is asked of firm names alone. `arguments` is the number of
+/// actuals of the macro around the line.
 #[tactic(auto, using(crate::proofs::FirmEffects::change_firm))]
 pub fn operator_change(
     table: &Table,

@@ -9,7 +9,7 @@ use Rattle.m11_readings.specs.Readings.{Reading}
 use Rattle.m11_second.specs.Program.{Program, program_of}
 use Rattle.m11_second.specs.Written.{Ended, flagged_count, program_writes}
 
--- what the live lines of the first pass tell the second one
+-- what the live lines of the first pass give the second one
 abbrev pub program_after : List Numbered → Program
 program_after lines = program_of (givens lines)
 
@@ -19,7 +19,7 @@ pub record Repeats (reading : Reading) (lines : List Numbered) (ended : Ended) :
   pub unmoved : (before more : List Numbered) (this : Numbered) → lines ≡ before ++ this ∷ more
       → moved_after (program_after lines).map before this ≡ 0
 
--- the first pass tells the outcome: it is refused, and nothing is written; or its live lines are written
+-- the first pass decides the outcome: it is refused, and nothing is written; or its live lines are written
 abbrev pub IsToldByFirst : Reading → Outcome → Type 0
 IsToldByFirst reading (Refused fault writes) = (writes ≡ []) × (lines : List Numbered) × Refuses empty_map [] reading lines fault
 IsToldByFirst reading (Assembled writes flagged) = (lines : List Numbered) × (ended : Ended) × Ends empty_map [] reading lines ended

@@ -51,7 +51,7 @@ pub fn two_sources_after_a_line_feed_are_one_text()
 }
 
 /// Where both passes read the same text, and the first one is not refused, the second one is not refused either: it has the same live lines
-/// up to the same end, and none of their labels has moved. So the first pass alone tells the outcome, and a refusal has written nothing.
+/// up to the same end, and none of their labels has moved. So the first pass alone decides the outcome, and a refusal has written nothing.
 pub fn the_same_text_has_no_moved_label_and_no_second_refusal()
     ensures repeats { (reading : Reading) (lines : List Numbered) (ended : Ended) → Ends empty_map [] reading lines ended
         → Repeats reading lines ended }

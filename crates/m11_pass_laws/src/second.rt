@@ -14,7 +14,7 @@ ghost use Rattle.m11_unfolding.specs.Stages.{Stage};
 
 use m11_placement::{placements_are_the_same_under_every_map, the_map_of_a_source_solves_it};
 
-/// Any two passes read the same lines alike, whatever their maps are and whatever names came before them: no map tells what a live line
+/// Any two passes read the same lines alike, whatever their maps are and whatever names came before them: no map decides what a live line
 /// is, what is known there, and what unfolding notes of it. Of two passes over beginnings of one source, the live lines of one begin with
 /// those of the other. Where one is at its end, its lines begin with those of the other; and where both are, they have read the same lines,
 /// have the same live lines, and stand at the same stage.

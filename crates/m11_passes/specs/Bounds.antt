@@ -11,7 +11,7 @@ use Rattle.m11_passes.specs.declared.fault.PassFault.{PassFault}
 abbrev pub blocks_of_line : ℕ
 blocks_of_line = 67
 
--- after so many lines were taken there is room for so many more blocks, and for so many more levels of listing; the section is one of
+-- after `taken` lines there is room for `blocks` more blocks, and for `levels` more levels of listing; the section is one of
 -- those that there are
 pub record HasRoom (taken blocks levels : ℕ) (table : Table) : Type 0 where
   pub block : table.settings.block + blocks ≤ blocks_of_line * taken
@@ -25,7 +25,7 @@ pub record IsFew (kept : Kept) (gathered : Gathered) : Type 0 where
   pub symbols : kept.local_symbols ≤ most_local_symbols
   pub names : length gathered.names ≤ most_names
 
--- after so many lines were taken
+-- after `taken` lines
 pub record IsSound (taken : ℕ) (kept : Kept) (gathered : Gathered) : Type 0 where
   pub room : HasRoom taken 0 0 kept.table
   pub few : IsFew kept gathered

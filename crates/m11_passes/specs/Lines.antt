@@ -1,5 +1,5 @@
 -- The live lines of a source in one pass over it. Lines are read one after the other; each is unfolded as far as it goes before the next
--- one is read, and what is asked at a live line is told by the lines before it. No line passes a limit. (MACRO-11 Language Reference
+-- one is read, and what is asked at a live line is said by the lines before it. No line passes a limit. (MACRO-11 Language Reference
 -- Manual, "Source program format", "Macro directives" and "Symbols and expressions".)
 use Rattle.std.specs.Prelude.{◌≡◌, ℕ, false, List, [], ◌∷◌, ◌++◌, length, map, None}
 use Rattle.m11_base.specs.Rad50.{Name}

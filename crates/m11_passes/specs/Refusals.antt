@@ -45,7 +45,7 @@ labels_fault names table line =
 
 -- ---- a line
 
--- a live line, told what the table before it says once the labels of the line stand
+-- a live line, which knows what the table before it says once the labels of the line stand
 abbrev pub given_by : Table → Live → Stage → Given
 given_by table live stage = given (known_after_labels (labels_stand table live.line.text)) live stage
 

@@ -1,4 +1,4 @@
-//! One pass over a source: lines go in one after the other, and each live line is placed: unfolded under what the lines before it tell, its
+//! One pass over a source: lines go in one after the other, and each live line is placed: unfolded under what the lines before it say, its
 //! labels defined, and what it puts, mentions and changes found, within the limits of a pass. (MACRO-11 Language Reference Manual, "Source
 //! program format", "Symbols and expressions" and "Macro directives".)
 #![tactic(auto)]

@@ -78,7 +78,7 @@ impl SourcePass {
         self.fault.keep(turn)
     }
 
-    /// What the lines so far tell the next one.
+    /// What the lines so far leave for the next one.
     pub fn table(&self) -> &Table
         ensures { result.now ≡ self.now.going.kept.table }
     {

@@ -48,7 +48,7 @@ abbrev pub contents_size : List PieceContent → ℕ
 contents_size [] = 0
 contents_size (content ∷ contents) = content_size content + contents_size contents
 
--- the place so many bytes after another
+-- the place that is a number of bytes after another
 abbrev pub further : ℕ → ℕ → ℕ
 further place size = (place + size) % 65536
 

@@ -31,7 +31,7 @@ abbrev pub steps : ℕ → ℕ → Change
 steps passed size = Counts (Steps (passed + size))
 
 -- what a directive changes that stands at a place, after some bytes that are passed over. Its arguments begin at a place of its line, and
--- a macro around it has so many actuals
+-- `arguments` is the number of actuals of the macro around it
 abbrev pub directive_change : Table → ℕ → ℕ → Bytes → ℕ → Option ℕ → Directive → Change
 directive_change table passed here line start arguments word.Words = steps passed (storage.word_size line start)
 directive_change table passed here line start arguments word.Bytewise = steps passed (storage.byte_size line start)

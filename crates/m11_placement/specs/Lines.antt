@@ -76,7 +76,7 @@ unfoldable pub line_change : Table → Given → Change
 line_change firm given =
     change_of firm given.live.line.text given.arguments (deed given.is_own given.live.line.text)
 
--- the table after a line: what its operator changes is asked of firm names alone, and no map tells it
+-- the table after a line: what its operator changes is asked of firm names alone, and no map changes it
 abbrev pub after_operator : Map → Table → Given → Table
 after_operator map stood given =
     changed map given.live.line.text (line_change (firm_table stood) given) stood

@@ -1,4 +1,4 @@
--- What the lines done tell the next one. (MACRO-11 Language Reference Manual, "Symbols and expressions" and "General assembler
+-- What the lines done leave for the next one. (MACRO-11 Language Reference Manual, "Symbols and expressions" and "General assembler
 -- directives".)
 use Rattle.std.specs.Prelude.{ℕ, Bool, false, List, [], ◌∷◌}
 use Rattle.m11_base.specs.Rad50.{Name}

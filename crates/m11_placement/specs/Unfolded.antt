@@ -1,4 +1,4 @@
--- The lines of a source under a map: unfolding gives them, and each operator is done by what the lines before it tell. (MACRO-11 Language
+-- The lines of a source under a map: unfolding gives them, and each operator is done by what the lines before it say. (MACRO-11 Language
 -- Reference Manual, "Macro directives", "Conditional assembly directives" and "Symbols and expressions". That conditions and repeats ask
 -- firm names alone is this project's own.)
 use Rattle.std.specs.Prelude.{◌≡◌, List, [], ◌∷◌, ⊤}

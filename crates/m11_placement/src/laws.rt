@@ -108,7 +108,7 @@ pub fn pieces_lie_in_the_order_of_lines()
         → LieFrom 0 (pieces_in section map first_table lines) }
 {}
 
-/// The pieces of each line lie in the same sections, at the same places and with the same sizes under every map: a map tells only what
+/// The pieces of each line lie in the same sections, at the same places and with the same sizes under every map: a map says only what
 /// they hold.
 pub fn pieces_lie_alike_under_every_map()
     ensures { (one other : Map) (lines : List Given) → map shapes_in (placement one lines) ≡ map shapes_in (placement other lines) }

@@ -1,5 +1,5 @@
--- What conditions are told of names, worked by hand. (MACRO-11 Language Reference Manual, "Conditional assembly block directives" and
--- "Symbols". That firm names alone are told, and that a label on a name which has a definition defines nothing, is this project's own.)
+-- What conditions know of names, worked by hand. (MACRO-11 Language Reference Manual, "Conditional assembly block directives" and
+-- "Symbols". That they know firm names alone, and that a label on a name which has a definition defines nothing, is this project's own.)
 use Rattle.std.specs.Prelude.{Bool, true, false, not, List, [], ◌∷◌, codes, map}
 use Rattle.m11_base.specs.Devices.{Bytes}
 use Rattle.m11_expansions.specs.Conditions.{is_skipping}
@@ -29,7 +29,7 @@ verdict_of acted = record {
   letters = letters_text acted.notes.letters;
 }
 
--- the operator of a line, by what the lines before it and its own labels tell
+-- the operator of a line, by what the lines before it and its own labels say
 abbrev pub judged : List Bytes → Bytes → Verdict
 judged before line =
     verdict_of (act (known_after_labels (stands (table_after empty_map (map plain before)) (plain line))) (start []) line)

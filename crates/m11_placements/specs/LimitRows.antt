@@ -8,7 +8,7 @@ use Rattle.m11_placements.specs.Worked.{plain}
 abbrev pub section_line : ℕ → Bytes
 section_line number = codes ".PSECT S" ++ (65 + number / 16) ∷ (65 + number % 16) ∷ []
 
--- so many sections beside the two that each source has
+-- n sections beside the two that each source has
 abbrev pub sections : ℕ → List Bytes
 sections zero = []
 sections (suc number) = section_line number ∷ sections number

@@ -3,7 +3,7 @@
 ghost use Rattle.std.specs.Prelude.{◌≡◌, map};
 ghost use Rattle.m11_placements.specs.ConditionRows.{firm_rows, found_verdict, label_rows, local_rows, expected_verdict};
 
-/// What a condition is told of labels, of local symbols, and of names that aren't firm.
+/// What a condition knows of labels, of local symbols, and of names that aren't firm.
 pub fn conditions_are_as_worked()
     ensures labels { map found_verdict label_rows ≡ map expected_verdict label_rows }
     ensures locals { map found_verdict local_rows ≡ map expected_verdict local_rows }

@@ -20,8 +20,8 @@ use m11_statements::{Assignment, Body};
 use m11_table::{Map, Table};
 use std::alloc::AllocError;
 
-/// What stands after the labels of a line changes for the lines after it. It is asked of firm names alone. A macro around the line has
-/// so many actuals.
+/// What stands after the labels of a line changes for the lines after it. It is asked of firm names alone. `arguments` is the
+/// number of actuals of the macro around the line.
 #[tactic(auto, using(crate::proofs::FirmCounters::counter_firm))]
 pub fn deed_change(table: &Table, line: &Line, arguments: Option<u16>, deed: &Deed) -> Change
     requires within { IsWithin (length line.now.text) deed.now }

@@ -59,7 +59,7 @@ impl Pass {
         })
     }
 
-    /// What the lines so far tell the next one.
+    /// What the lines so far leave for the next one.
     pub fn table(&self) -> &Table
         ensures { result.now ≡ self.now.table }
     {

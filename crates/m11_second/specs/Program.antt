@@ -1,4 +1,4 @@
--- What the first pass over a source tells the second one. (MACRO-11 Language Reference Manual, "Symbols", ".GLOBL directive", ".END
+-- What the first pass over a source gives the second one. (MACRO-11 Language Reference Manual, "Symbols", ".GLOBL directive", ".END
 -- directive" and "Table of contents and symbol table". That a source is read twice, is this project's own.)
 use Rattle.std.specs.Prelude.{List, ◌++◌, Option, slice_index}
 use Rattle.m11_base.specs.Rad50.{Name}

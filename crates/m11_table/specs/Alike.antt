@@ -1,4 +1,4 @@
--- Tables that tell the same: one keeps all definitions and moves of the counters, the other the last of each. (MACRO-11 Language Reference
+-- Tables that say the same: one keeps all definitions and moves of the counters, the other the last of each. (MACRO-11 Language Reference
 -- Manual, "Symbols and expressions" and "Current location counter".)
 use Rattle.std.specs.Prelude.{◌≡◌, ℕ}
 use Rattle.std.specs.List.{list_any}

@@ -37,7 +37,7 @@ const BLANK_ATTRIBUTES: u8 = 0o040;
 // The bit of REL in the attributes of a section.
 const RELOCATABLE: u8 = 0o040;
 
-/// What the lines done tell the next one: of each name and local symbol the last definition, and where the counter of each section stands.
+/// What the lines done leave for the next one: of each name and local symbol the last definition, and where the counter of each section stands.
 #[derive(Drop)]
 pub struct Table {
     names: IndexMap<Name, Entry>,

@@ -103,7 +103,7 @@ pub fn unfoldings_follow_each_other()
         → Leads before (done ++ later) after }
 {}
 
-/// Two unfoldings from one stage, under what their lines tell: one of them goes on where the other stands. Where nothing is taken any
+/// Two unfoldings from one stage, under what their lines say: one of them goes on where the other stands. Where nothing is taken any
 /// more in either, they have the same lines and end at the same stage.
 pub fn a_source_has_one_unfolding()
     ensures compared { (tells : List Given → Live → Known) (before first second : Stage) (done later : List Given)
