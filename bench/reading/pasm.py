@@ -1059,17 +1059,11 @@ class Pass:
         given = []
         while toks[i].k == ",":
             i += 1
-            if toks[i].k == "name" and six(toks[i].t) in ATTR and toks[i + 1].k in (",", "end"):
-                given.append(ATTR[six(toks[i].t)])
-                i += 1
-                continue
             if toks[i].k == "name" and six(toks[i].t) in ATTR:
                 given.append(ATTR[six(toks[i].t)])
                 i += 1
-                break
-            self.flags.add("A")
-            while toks[i].k not in (",", "end"):
-                i += 1
+            else:
+                i = self.past_bad(toks, i)
         self.left(toks, i)
         flags = 0o040
         for mask, bits in given:
@@ -1077,6 +1071,15 @@ class Pass:
         self.select(name, flags, given, True)
 
     # --- names ---
+    def past_bad(self, toks, i):
+        """The place after a bad element of a list: after a name, after which only a comma goes on, or else before the next comma."""
+        self.flags.add("A")
+        if toks[i].k == "name":
+            return i + 1
+        while toks[i].k not in (",", "end"):
+            i += 1
+        return i
+
     def name_list(self, toks, each):
         i = 0
         while True:
@@ -1086,9 +1089,7 @@ class Pass:
                 each(key)
                 i += 1
             else:
-                self.flags.add("A")
-                while toks[i].k not in (",", "end"):
-                    i += 1
+                i = self.past_bad(toks, i)
             if toks[i].k != ",":
                 break
             i += 1
@@ -1154,9 +1155,7 @@ class Pass:
                     self.me = step > 0
                 i += 1
             else:
-                self.flags.add("A")
-                while toks[i].k not in (",", "end"):
-                    i += 1
+                i = self.past_bad(toks, i)
             if toks[i].k != ",":
                 break
             i += 1
@@ -1172,9 +1171,7 @@ class Pass:
             if toks[i].k == "name" and six(toks[i].t) in good:
                 i += 1
             else:
-                self.flags.add("A")
-                while toks[i].k not in (",", "end"):
-                    i += 1
+                i = self.past_bad(toks, i)
             if toks[i].k != ",":
                 break
             i += 1
