@@ -27,7 +27,7 @@ def built(folder, files):
     shutil.copy(TOP / "HANDLES", folder)
     listed = (TOP / "crates.txt").read_text(encoding="utf-8").splitlines()
     kept = [line for line in listed if line.split(":")[0] in CRATES]
-    kept.append("unfold: m11_base m11_lines m11_scan m11_unfold m11_unfolding m11_values")
+    kept.append("unfold: m11_arguments m11_base m11_lines m11_scan m11_unfold m11_unfolding m11_values")
     (folder / "crates.txt").write_text("\n".join(kept) + "\n", encoding="utf-8")
     for name in CRATES:
         shutil.copytree(TOP / "crates" / name, folder / "crates" / name)

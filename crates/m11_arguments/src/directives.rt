@@ -153,7 +153,8 @@ pub fn operator(line: &Line) -> Option<Span>
     operator_in(statement(line, &EveryName).body)
 }
 
-fn operator_in(body: Body) -> Option<Span>
+/// The name of an operator that stands after a line's labels, if one does.
+pub fn operator_in(body: Body) -> Option<Span>
     ensures operator { result ≡ spec.operator_in body }
     ensures within { IfSome result (λ name. (size : ℕ) → end_of body size ≡ name.end) }
 {

@@ -19,7 +19,7 @@ mod repeats;
 
 pub use actuals::actuals_from;
 pub use conditions::{Verdict, actual_letters, condition};
-pub use directives::{Directive, EveryName, directive_named, directive_of, operator};
+pub use directives::{Directive, EveryName, directive_named, directive_of, operator, operator_in};
 pub use expressions::{note_symbols, value_at};
 pub use filling::{FIRST_CREATED, Filled, fill};
 pub use immediate::{Immediate, after_comma, immediate_condition};

@@ -2,11 +2,13 @@
 
 ghost use Rattle.std.specs.Prelude.{◌≡◌, [], IfOk, false, None};
 ghost use Rattle.std.specs.Int.RustNames.{bit_or};
+ghost use Rattle.m11_arguments.specs.Directives.{operator as line_operator};
 ghost use Rattle.m11_placement.specs.Tables.{first_table};
 ghost use Rattle.m11_placement.specs.Unfolded.{known_after_labels};
 ghost use Rattle.m11_placing.specs.Lines.{letters_from};
 ghost use Rattle.m11_placing.specs.Passes.{Matches};
 ghost use Rattle.m11_scan.specs.Views.{bits_of};
+ghost use Rattle.m11_statements.specs.Labels.{labels_at};
 ghost use Rattle.m11_unfold.specs.Kept.{IsKept};
 ghost use Rattle.m11_unfold.specs.Unfolder as steps;
 ghost use Rattle.m11_unfolding.specs.Stages.{start};
@@ -22,11 +24,12 @@ use crate::operating::{
 };
 use crate::placed::PlacedLine;
 use crate::turns::Turn;
-use m11_arguments::{EveryName, Notes};
+use arrayvec::ArrayVec;
+use m11_arguments::{EveryName, Notes, operator_in};
 use m11_contents::Put;
 use m11_placing::{LabelLetters, Mentioned, Pass, deed_after_labels, line_letters};
 use m11_scan::{Letters, Line};
-use m11_statements::{Statement, statement};
+use m11_statements::{LABEL_LIMIT, Label, Span, Statement, labels_of, statement};
 use m11_table::{FirmNames, Map, Table};
 use m11_unfold::{Act, LiveLine, Step, Unfolder};
 use m11_unfolding::UnfoldFault;
@@ -49,12 +52,19 @@ impl State {
         ensures pass { IfOk result (λ state. Matches state.pass first_table) }
         ensures mentioned { IfOk result (λ state. state.mentioned ≡ mentioned) }
     {
-        Ok(State {
-            unfolder: Unfolder::new(alloc),
-            pass: Pass::new(alloc)?,
-            mentioned,
-            put: Put::new(alloc),
-        })
+        match Pass::new(alloc) {
+            Ok(pass) => Ok(State {
+                unfolder: Unfolder::new(alloc),
+                pass,
+                mentioned,
+                put: Put::new(alloc),
+            }),
+            Err(error) => {
+                // by a call, which is proved sooner
+                drop(mentioned);
+                Err(error)
+            }
+        }
     }
 
     // What comes next.
@@ -90,9 +100,16 @@ impl State {
     {
         let line = &live.line;
         let statement = statement(line, &EveryName);
-        let labels = statement.labels.as_slice();
-        let found = define_labels(&mut self.pass, &mut self.mentioned, map, line, labels)?;
-        let act = act_on(&mut self.unfolder, line, &self.pass)?;
+        let labels = labels_by(line, statement.labels_end);
+        let found = define_labels(
+            &mut self.pass,
+            &mut self.mentioned,
+            map,
+            line,
+            labels.as_slice(),
+        )?;
+        let operator = operator_in(statement.body);
+        let act = act_on(&mut self.unfolder, line, operator, &self.pass)?;
         let deed = deed_after_labels(act.is_own, line, statement.body);
         let section = section_name(&self.pass);
         let place = put_place(&self.pass, &deed);
@@ -123,26 +140,50 @@ impl State {
     }
 }
 
+// The labels of a line, by the place after the last one. Most lines have none.
+fn labels_by(line: &Line, labels_end: u8) -> ArrayVec<Label, LABEL_LIMIT>
+    requires { labels_end ≡ 0 → labels_at line.now.text ≡ [] }
+    ensures { result.items ≡ labels_at line.now.text }
+{
+    if labels_end == 0 {
+        ArrayVec::new()
+    } else {
+        labels_of(line)
+    }
+}
+
 // What unfolding does of a line, once its labels stand.
-fn act_on(unfolder: &mut Unfolder, line: &Line, pass: &Pass) -> Result<Act, UnfoldFault>
+fn act_on(
+    unfolder: &mut Unfolder,
+    line: &Line,
+    operator: Option<Span>,
+    pass: &Pass,
+) -> Result<Act, UnfoldFault>
+    requires operator { operator ≡ line_operator line.now.text }
     requires free { unfolder.old.has_statement ≡ false }
     requires goes_on { unfolder.old.fault ≡ None }
     ensures acts { steps.Acts (known_after_labels pass.now.table) line.now.text unfolder.old.stage unfolder.new.stage result }
     ensures goes_on { IfOk result (λ _. unfolder.new.fault ≡ None) }
     ensures kept { IfOk result (λ _. IsKept unfolder.new.stage) }
 {
-    act_under(unfolder, line, pass.table())
+    act_under(unfolder, line, operator, pass.table())
 }
 
 // Under the firm names of a table.
-fn act_under(unfolder: &mut Unfolder, line: &Line, table: &Table) -> Result<Act, UnfoldFault>
+fn act_under(
+    unfolder: &mut Unfolder,
+    line: &Line,
+    operator: Option<Span>,
+    table: &Table,
+) -> Result<Act, UnfoldFault>
+    requires operator { operator ≡ line_operator line.now.text }
     requires free { unfolder.old.has_statement ≡ false }
     requires goes_on { unfolder.old.fault ≡ None }
     ensures acts { steps.Acts (known_after_labels table.now) line.now.text unfolder.old.stage unfolder.new.stage result }
     ensures goes_on { IfOk result (λ _. unfolder.new.fault ≡ None) }
     ensures kept { IfOk result (λ _. IsKept unfolder.new.stage) }
 {
-    unfolder.act(line, &FirmNames::new(table, table.place()))
+    unfolder.act(line, operator, &FirmNames::new(table, table.place()))
 }
 
 // The letters of a line: those that the line's definition has, and P where a label of it has moved.

@@ -5,9 +5,9 @@ ghost use Rattle.m11_scan.specs.Cutting.{tokens_from};
 ghost use Rattle.m11_lines.specs.Line.{line_limit};
 ghost use Rattle.m11_scan.specs.Views.{lexeme};
 ghost use Rattle.m11_statements.specs.Labels as spec;
+ghost use Rattle.m11_statements.specs.Statements.{has_outside, is_outside};
 
 use crate::spans::Span;
-use crate::statements::LABEL_LIMIT;
 use arrayvec::ArrayVec;
 use bitflags::Flags;
 use m11_scan::{Letters, Line, Radix, Sort, Token, digits_length, next_token, read_number};
@@ -37,18 +37,12 @@ pub struct Label {
     pub end: u8,
 }
 
-// The labels of a line, and the place after the last one.
-#[derive(Drop)]
-pub(crate) struct Labels {
-    pub list: ArrayVec<Label, LABEL_LIMIT>,
-    pub end: usize,
-}
+/// The most labels of a line, each of which has two characters or more.
+pub const LABEL_LIMIT: usize = 66;
 
-// The labels that a line begins with.
-pub(crate) fn labels_of(line: &Line) -> Labels
-    ensures list { result.list.items ≡ spec.labels_at line.now.text }
-    ensures end { result.end ≡ spec.labels_end line.now.text }
-    ensures within { result.end ≤ length line.now.text }
+/// The labels that a line begins with, in order.
+pub fn labels_of(line: &Line) -> ArrayVec<Label, LABEL_LIMIT>
+    ensures { result.items ≡ spec.labels_at line.now.text }
 {
     let mut list = ArrayVec::new();
     let mut end = 0;
@@ -56,7 +50,38 @@ pub(crate) fn labels_of(line: &Line) -> Labels
         list.push(label);
         end = usize::from(label.end);
     }
-    Labels { list, end }
+    list
+}
+
+// What a statement keeps of the labels of its line.
+#[derive(Clone, Copy)]
+pub(crate) struct LabelField {
+    // The place after the last label.
+    pub end: usize,
+    // Whether one is a local symbol whose number isn't 1 to 65535.
+    pub has_outside: bool,
+}
+
+// The label field of a line. Without a label it ends where the line begins.
+pub(crate) fn label_field(line: &Line) -> LabelField
+    ensures end { result.end ≡ spec.labels_end line.now.text }
+    ensures outside { result.has_outside ≡ has_outside (spec.labels_at line.now.text) }
+    ensures unlabelled { result.end ≡ 0 → spec.labels_at line.now.text ≡ [] }
+    ensures within { result.end ≤ length line.now.text }
+{
+    let mut end = 0;
+    let mut has_outside = false;
+    'labels: while let Some(label) = label_at(line, end) {
+        has_outside = has_outside || is_outside(label.kind);
+        end = usize::from(label.end);
+    }
+    LabelField { end, has_outside }
+}
+
+fn is_outside(kind: LabelKind) -> bool
+    ensures { result ≡ is_outside kind }
+{
+    matches!(kind, LabelKind::Outside)
 }
 
 // The label that stands next in a line from a place on, if one does.

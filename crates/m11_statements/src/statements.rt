@@ -1,19 +1,12 @@
 //! What a line says. (MACRO-11 Language Reference Manual, "Source program format".)
 
 use crate::bodies::Body;
-use crate::labels::Label;
-use arrayvec::ArrayVec;
 use m11_scan::Letters;
 
-/// The most labels of a line, each of which has two characters or more.
-pub const LABEL_LIMIT: usize = 66;
-
-/// What a line says. It names places of the line that it was read from.
-#[derive(Drop)]
+/// What a line says beside what its labels are. It names places of the line that it was read from.
+#[derive(Clone, Copy)]
 pub struct Statement {
-    /// The labels, in order.
-    pub labels: ArrayVec<Label, LABEL_LIMIT>,
-    /// The place after the last label.
+    /// The place after the last label: 0 where the line has none.
     pub labels_end: u8,
     /// What stands after the labels.
     pub body: Body,

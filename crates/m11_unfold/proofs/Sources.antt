@@ -1,6 +1,6 @@
 -- The calls give the unfolding of the source that was fed.
-use Rattle.std.proofs.Common.{◌≡◌, ◌∙◌, List, [], ◌∷◌, ◌++◌, map, append-nil, None, refl, sym, ap, subst}
-use Rattle.std.specs.Prelude.{Option, Some, Result, Ok, Err}
+use Rattle.std.proofs.Common.{◌≡◌, List, [], ◌∷◌, ◌++◌, append-nil, None, sym, subst}
+use Rattle.std.specs.Prelude.{Result, Ok, Err}
 use Rattle.std.proofs.lemmas.List.{map-append}
 use Rattle.m11_arguments.specs.Expressions.{Known}
 use Rattle.m11_expansions.specs.Left.{Left}
@@ -18,7 +18,6 @@ use Rattle.m11_unfolding.specs.declared.fault.UnfoldFault.{UnfoldFault}
 use Rattle.m11_unfolding.specs.declared.fault.UnfoldFault.TheVariants.{TooDeep, TooManyLines, TooMuchText, TooManyMacros, NoMemory}
 use Rattle.m11_unfold.specs.Sources.{Exceeds, Reaches, Refuses}
 use Rattle.m11_unfold.specs.Unfolder.{Comes, Passes, Steps, Stops, live_of}
-use Rattle.m11_unfold.specs.declared.steps.LiveLine.{LiveLine}
 use Rattle.m11_unfold.specs.declared.steps.Step.{Step}
 use Rattle.m11_unfold.specs.declared.steps.Step.TheVariants.{NeedLine, End, Line}
 

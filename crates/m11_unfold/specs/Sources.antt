@@ -1,5 +1,5 @@
 -- What an unfolder has given of a source, whatever lines of it are still to be fed. (This project's own.)
-use Rattle.std.specs.Prelude.{◌≡◌, List, [], ◌∷◌, ◌++◌, Option, Some, None, Result, Ok, Err}
+use Rattle.std.specs.Prelude.{◌≡◌, List, [], ◌∷◌, ◌++◌, Some, None, Result, Ok, Err}
 use Rattle.m11_arguments.specs.Expressions.{Known}
 use Rattle.m11_lines.specs.Line.{SourceLine}
 use Rattle.m11_unfolding.specs.Acting.{act, act_fault}

@@ -3,6 +3,7 @@
 
 ghost use Rattle.std.specs.Prelude.{◌≡◌, ◌+◌, ◌<◌, ◌≤◌, false, length, None, Some, IfOk, IfErr};
 ghost use Rattle.m11_arguments.specs.Actuals.{actuals_from};
+ghost use Rattle.m11_arguments.specs.Directives.{operator as line_operator};
 ghost use Rattle.m11_arguments.specs.Expressions.{known_by};
 ghost use Rattle.m11_arguments.specs.Notes.{joined};
 ghost use Rattle.m11_base.specs.Mnemonics.{six_of};
@@ -17,10 +18,11 @@ ghost use Rattle.m11_unfold.specs.Views.{stage_of};
 use crate::macros::Macro;
 use crate::rounds::one_round;
 use crate::state::State;
-use m11_arguments::{Notes, actuals_from, directive_named, fill, operator};
+use m11_arguments::{Notes, actuals_from, directive_named, fill};
 use m11_base::Name;
 use m11_expansions::EXPANSION_LIMIT;
 use m11_scan::{Line, read_name};
+use m11_statements::{Span, labels_and_body_stand_in_order};
 use m11_unfolding::UnfoldFault;
 use m11_values::Names;
 use std::alloc::{AllocError, Global};
@@ -32,9 +34,11 @@ impl State {
         &mut self,
         alloc: Global,
         line: &Line,
+        operator: Option<Span>,
         names: &N,
         notes: &mut Notes,
     ) -> Result<bool, UnfoldFault>
+        requires operator { operator ≡ line_operator line.now.text }
         requires room { length self.old.conditions.entered + conditions_open self.old.left.left ≤ most_conditions }
         requires free { self.old.left.has_statement ≡ false }
         ensures own { IfOk result (λ is_own. is_own ≡ (spec.act
@@ -46,7 +50,9 @@ impl State {
         ensures within { IfOk result (λ _. spec.act_fault (stage_of self.old) line.now.text ≡ None) }
         ensures fails { IfErr result (λ fault. Fails (spec.act_fault (stage_of self.old) line.now.text) fault) }
     {
-        let Some(name) = operator(line) else {
+        // the operator lies in the line
+        labels_and_body_stand_in_order();
+        let Some(name) = operator else {
             return Ok(false);
         };
         let place = usize::from(name.end);

@@ -2,6 +2,7 @@
 
 ghost use Rattle.std.specs.Prelude.{◌≡◌, ◌∷◌, [], false, None, Some, Err, IfOk, IfErr};
 ghost use Rattle.std.specs.Result.{result_err};
+ghost use Rattle.m11_arguments.specs.Directives.{operator as line_operator};
 ghost use Rattle.m11_arguments.specs.Expressions.{known_by};
 ghost use Rattle.m11_expansions.specs.Left as lefts;
 ghost use Rattle.m11_unfolding.specs.Stages.{start};
@@ -15,6 +16,7 @@ use crate::taking::Moved;
 use m11_arguments::Notes;
 use m11_base::Latch;
 use m11_scan::Line;
+use m11_statements::Span;
 use m11_unfolding::UnfoldFault;
 use m11_values::Names;
 use std::alloc::Global;
@@ -87,10 +89,17 @@ impl Unfolder {
     }
 
     /// Does the operator of the line that became live last, by the step before, under what is known of names once its labels are defined.
+    /// The operator is where `operator` finds it in the line.
     ///
     /// Errors: `TooDeep` where a call would open the 17th expansion, before an argument is read; and `NoMemory`.
-    pub fn act<N: Names>(&mut self, line: &Line, names: &N) -> Result<Act, UnfoldFault>
-        requires { self.old.has_statement ≡ false }
+    pub fn act<N: Names>(
+        &mut self,
+        line: &Line,
+        operator: Option<Span>,
+        names: &N,
+    ) -> Result<Act, UnfoldFault>
+        requires free { self.old.has_statement ≡ false }
+        requires operator { operator ≡ line_operator line.now.text }
         ensures acts { self.old.fault ≡ None → spec.Acts (known_by (N.base names.now) (N.stands_for names.now))
             line.now.text self.old.stage self.new.stage result }
         ensures again { (fault : UnfoldFault) → self.old.fault ≡ Some fault → result ≡ Err fault }
@@ -100,7 +109,9 @@ impl Unfolder {
         self.fault.check()?;
         let arguments = self.state.left.argument_count();
         let mut notes = Notes::new(self.alloc);
-        let acted = self.state.act(self.alloc, line, names, &mut notes);
+        let acted = self
+            .state
+            .act(self.alloc, line, operator, names, &mut notes);
         let is_own = self.fault.keep(acted)?;
         Ok(Act {
             is_own,

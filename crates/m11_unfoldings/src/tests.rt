@@ -10,6 +10,7 @@ mod noted_lines;
 mod shown_lines;
 mod sources;
 
+use m11_arguments::operator;
 use m11_base::Name;
 use m11_scan::{Letters, Line};
 use m11_unfold::{Act, LiveLine, Step, Unfolder};
@@ -73,7 +74,7 @@ fn take_rest<K: Keeps>(unfolder: &mut Unfolder, kept: &mut K) -> Result<bool, Un
             Step::NeedLine => return Ok(true),
             Step::End => return Ok(false),
             Step::Line(live) => {
-                let act = unfolder.act(&live.line, &Known)?;
+                let act = unfolder.act(&live.line, operator(&live.line), &Known)?;
                 kept.keep(&live, &act)?;
             }
         }

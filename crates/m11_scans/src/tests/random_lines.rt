@@ -3,7 +3,9 @@
 use super::same;
 use super::statements::Known;
 use m11_scan::{Line, Token, blanks_length, skipped_between, tokens};
-use m11_statements::{Body, Statement, next_actual, parts_from, separator_at, statement};
+use m11_statements::{
+    Body, Statement, labels_of, next_actual, parts_from, separator_at, statement,
+};
 use std::process::Abort;
 
 const CHARACTERS: &[u8; 32] = b"'\"<>^\\;:=?AaR$.18,+ \tBD%#(-/!@.:";
@@ -77,7 +79,7 @@ fn ends_of(body: Body, size: u8) -> (u8, u8) {
 
 fn check_statement(rt: &impl Abort, line: &Line, found: &Statement) {
     let mut place = 0;
-    for label in found.labels.iter() {
+    for label in labels_of(line).iter() {
         same(
             rt,
             &"a label",

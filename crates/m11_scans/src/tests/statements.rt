@@ -3,7 +3,7 @@
 use super::same;
 use m11_base::Name;
 use m11_scan::{Line, skipped_between};
-use m11_statements::{Body, Label, LabelKind, Operators, Statement, statement};
+use m11_statements::{Body, Label, LabelKind, Operators, Statement, labels_of, statement};
 use std::process::Abort;
 
 /// Operators that are known by the first three characters of their names: MOV, NOP, RET, and .AS, .EN, .EV, .RA, .TI, .WO.
@@ -426,8 +426,9 @@ fn check(rt: &impl Abort, rows: &[Row]) {
     for row in rows {
         let line = Line::from_bytes(row.line.as_bytes());
         let found = statement(&line, &Known::new());
-        same(rt, &row.line, &found.labels.len(), &row.labels.len());
-        for (label, wanted) in found.labels.iter().zip(row.labels) {
+        let labels = labels_of(&line);
+        same(rt, &row.line, &labels.len(), &row.labels.len());
+        for (label, wanted) in labels.iter().zip(row.labels) {
             same(rt, &row.line, &label_of(label), wanted);
         }
         same(rt, &row.line, &shape_of(found.body), &row.body);

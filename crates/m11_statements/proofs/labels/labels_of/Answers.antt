@@ -1,7 +1,7 @@
 use Rattle.std.proofs.Common.{◌∷◌, ap, ◌∙◌, sym, arith}
 use Rattle.m11_scan.specs.Cutting.{tokens_from}
-use Rattle.m11_statements.specs.Labels.{end_of, labels_in}
-use Rattle.m11_statements.proofs.NextLabels.{end_of-more, label_joins}
+use Rattle.m11_statements.specs.Labels.{labels_in}
+use Rattle.m11_statements.proofs.NextLabels.{label_joins}
 use Rattle.m11_statements.proofs.labels.labels_of.Goals as goal
 
 pub labels-preserved : goal.labels-preserved
@@ -15,8 +15,6 @@ labels-preserved c =
           (c.in-Some.ensures.label
           ∙ ap (λ n. c.in-Some.label ∷ labels_in (tokens_from c.args.line.now.text n)) (sym c.from-end.ensures))
           c.push.ensures.items;
-      last =
-          ap (end_of 0) c.push.ensures.items ∙ end_of-more 0 c.labels.list.items c.in-Some.label ∙ sym c.from-end.ensures;
       room = omega arith;
       within = omega arith;
     }

@@ -1,0 +1,17 @@
+use Rattle.std.proofs.Common.{◌≡◌, ◌≤◌, ◌-◌, length}
+use Rattle.std.specs.Prelude.{◌||◌}
+use Rattle.m11_scan.specs.Cutting.{tokens_from}
+use Rattle.m11_statements.specs.Labels.{end_of, labels_at, labels_end, labels_in}
+use Rattle.m11_statements.specs.Statements.{has_outside}
+use Rattle.m11_statements.proofs.labels.label_field.Given as goal
+
+abbrev pub invariant-labels : goal.invariant-labels
+invariant-labels l = record {
+  last : end_of l.end (labels_in (tokens_from l.line.text l.end)) ≡ labels_end l.line.text;
+  outside : (l.has_outside || has_outside (labels_in (tokens_from l.line.text l.end))) ≡ has_outside (labels_at l.line.text);
+  unlabelled : l.end ≡ 0 → labels_in (tokens_from l.line.text l.end) ≡ labels_at l.line.text;
+  within : l.end ≤ length l.line.text;
+}
+
+abbrev pub decreases-labels : goal.decreases-labels
+decreases-labels l = length l.line.text - l.end
