@@ -33,5 +33,5 @@ change_seen (Counts move) = changes.Counts (move_seen move)
 change_seen (Selects name attributes) = changes.Selects name attributes
 change_seen (Assigns name is_global start) = changes.Assigns name is_global start
 change_seen (Numbers name number) = changes.Numbers name number
-change_seen (Exports names) = changes.Exports (names_among names.items)
+change_seen (Exports start) = changes.Exports start
 change_seen (Sets settings) = changes.Sets settings

@@ -1,13 +1,8 @@
 //! What a line's operator changes for the lines after it. (MACRO-11 Language Reference Manual, "Current location counter", "Program
 //! section directives", "Direct assignment statements", ".GLOBL directive", "Radix control" and "Listing control directives".)
 
-use arrayvec::ArrayVec;
 use m11_base::Name;
 use m11_placement::Settings;
-use m11_scan::LINE_LIMIT;
-
-/// The most names of a line: it has no more than characters, and one.
-pub const NAME_LIMIT: usize = LINE_LIMIT + 1;
 
 /// What a line does to the counter of its section.
 #[derive(Clone, Copy)]
@@ -19,7 +14,7 @@ pub enum Move {
 }
 
 /// What a line changes.
-#[derive(Drop)]
+#[derive(Clone, Copy)]
 pub enum Change {
     /// Nothing.
     Keeps,
@@ -38,8 +33,8 @@ pub enum Change {
     },
     /// A name is assigned a number that no name decides.
     Numbers(Name, u16),
-    /// Names become global. An element that is none is passed over.
-    Exports(ArrayVec<Option<Name>, NAME_LIMIT>),
+    /// The names of the list at a place become global.
+    Exports(u8),
     /// The radix, or what is listed.
     Sets(Settings),
 }

@@ -3,31 +3,35 @@
 ghost use Rattle.std.specs.Prelude.{◌≡◌, ◌+◌, ◌<◌, ◌≤◌, [], ◌∷◌, length};
 ghost use Rattle.arrayvec.specs.ArrayVec.{array_vec_len};
 ghost use Rattle.m11_scan.specs.Views.{bits_of};
-ghost use Rattle.m11_placement.specs.Elements.{bad_letters, names_of, texts_of};
+ghost use Rattle.m11_placement.specs.Changes.{Exports};
+ghost use Rattle.m11_placement.specs.Elements.{bad_letters, listed_names, names_of, texts_of};
 ghost use Rattle.m11_placement.specs.Exports as spec;
 ghost use Rattle.m11_directives.specs.Changes.{change_seen, name_in, names_among};
 ghost use Rattle.m11_directives.specs.Gathering.{names_from};
 
-use crate::changes::{Change, NAME_LIMIT};
+use crate::changes::Change;
 use arrayvec::ArrayVec;
 use m11_arguments::{left_over, skip_letters};
 use m11_base::Name;
 use m11_fields::names_at;
-use m11_scan::{Letters, Line, read_name};
+use m11_scan::{LINE_LIMIT, Letters, Line, read_name};
 use m11_statements::Span;
 
-/// What a `.GLOBL` changes: its names become global.
+/// The most names of a list: it has no more than its line has characters, and one.
+pub const NAME_LIMIT: usize = LINE_LIMIT + 1;
+
+/// What a `.GLOBL` changes: the names of its list become global.
 pub fn global(line: &Line, start: usize) -> Change
     requires { start ≤ length line.now.text }
-    ensures { change_seen result ≡ spec.global line.now.text start }
+    ensures { change_seen result ≡ Exports start }
 {
-    Change::Exports(listed_names(line, start))
+    Change::Exports(start.min(line.text().len()) as u8)
 }
 
 /// The names of a list, as `.GLOBL` and `.WEAK` have one. An element that is no name is none.
 pub fn listed_names(line: &Line, start: usize) -> ArrayVec<Option<Name>, NAME_LIMIT>
     requires { start ≤ length line.now.text }
-    ensures { names_among result.items ≡ spec.listed_names line.now.text start }
+    ensures { names_among result.items ≡ listed_names line.now.text start }
 {
     names_of(line, names_at(line, start).list.as_slice())
 }

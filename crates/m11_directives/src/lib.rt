@@ -17,10 +17,10 @@ mod titles;
 pub use assigning::{
     assignment, assignment_letters, counter_change, counter_letters, known_value, number_letters,
 };
-pub use changes::{Change, Move, NAME_LIMIT};
+pub use changes::{Change, Move};
 pub use counts::{argument_count, argument_letters, character_count, character_letters};
 pub use endings::{end_letters, transfer, transfer_letters};
-pub use exports::{global, global_letters, listed_names};
+pub use exports::{NAME_LIMIT, global, global_letters, listed_names};
 pub use identifications::{identification, identification_letters};
 pub use listing::{
     disable_letters, enable_letters, list, list_letters, page_letters, subtitle_letters, unlist,

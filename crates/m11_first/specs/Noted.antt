@@ -2,7 +2,8 @@
 -- and ".END directive".)
 use Rattle.std.specs.Prelude.{ℕ, min, length}
 use Rattle.m11_base.specs.Devices.{Bytes}
-use Rattle.m11_placement.specs.Exports.{identification, listed_names, title, transfer}
+use Rattle.m11_placement.specs.Elements.{listed_names}
+use Rattle.m11_placement.specs.Exports.{identification, title, transfer}
 use Rattle.m11_placement.specs.Meanings.{empty_map}
 use Rattle.m11_placement.specs.Sources.{last_or}
 use Rattle.m11_placement.specs.Tables.{Table}

@@ -7,6 +7,7 @@ ghost use Rattle.m11_first.specs.Facts.{each_once, no_facts, with_line};
 ghost use Rattle.m11_first.specs.Noted.{with_deed, with_directive, with_operator};
 ghost use Rattle.m11_passes.specs.Placed.{IsPlaced};
 ghost use Rattle.m11_placement.specs.Contents.{Put};
+ghost use Rattle.m11_placement.specs.Elements.{listed_names};
 ghost use Rattle.m11_placement.specs.Exports as exports;
 ghost use Rattle.m11_placement.specs.Lines.{after_line};
 ghost use Rattle.m11_placement.specs.Meanings.{empty_map};
@@ -184,7 +185,7 @@ impl Facts {
     fn note_weak(&mut self, line: &Line, start: usize) -> Result<(), AllocError>
         requires { start ≤ length line.now.text }
         ensures { IfOk result (λ _. self.new
-            ≡ record self.old { weak = each_once self.old.weak (exports.listed_names line.now.text start) }) }
+            ≡ record self.old { weak = each_once self.old.weak (listed_names line.now.text start) }) }
     {
         insert_all(&mut self.weak, listed_names(line, start).as_slice())
     }

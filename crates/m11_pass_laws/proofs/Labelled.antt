@@ -161,7 +161,7 @@ module _ (key : Key) (label : Definition) (is_label : label.is_label ≡ true) w
       global_stays (becomes_global is_global name table) name (with_assigned map (Named name) line start table)
       (assigned_stays (assigned map table (Named name) line start) table stands)
   change_stays map line (Numbers name number) table stands = assigned_stays (numbered name number) table stands
-  change_stays map line (Exports names) table stands = stands
+  change_stays map line (Exports start) table stands = stands
   change_stays map line (Sets settings) table stands = stands
 
   -- ---- lines

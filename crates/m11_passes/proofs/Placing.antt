@@ -112,7 +112,7 @@ changed_counts map_ line (Assigns name is_global start) table =
 changed_counts map_ line (Numbers name number) table =
     choice_counts (is_labelled (Named name) table.definitions) (with_doubled (Named name) table)
     (with_definition (numbered name number) table) (local_count table) refl (named_counts (numbered name number) table refl)
-changed_counts map_ line (Exports names) table = refl
+changed_counts map_ line (Exports start) table = refl
 changed_counts map_ line (Sets settings) table = refl
 
 -- ---- mentions in two parts

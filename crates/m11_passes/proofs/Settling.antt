@@ -120,7 +120,7 @@ IsModest settings (Counts move) = Unit {0}
 IsModest settings (Selects name attributes) = Unit {0}
 IsModest settings (Assigns name is_global start) = Unit {0}
 IsModest settings (Numbers name number) = Unit {0}
-IsModest settings (Exports names) = Unit {0}
+IsModest settings (Exports start) = Unit {0}
 
 near : (settings : Settings) → IsNear settings settings
 near settings = record { block = omega arith; listed = omega arith; unlisted = omega arith; section = refl }
@@ -273,7 +273,7 @@ changed_moves map line (Numbers name number) table modest =
     choice_moves (is_labelled (Named name) table.definitions) table _ _
     (record { block = omega arith; listed = omega arith; unlisted = omega arith; section = λ within. within })
     (record { block = omega arith; listed = omega arith; unlisted = omega arith; section = λ within. within })
-changed_moves map line (Exports names) table modest =
+changed_moves map line (Exports start) table modest =
     record { block = omega arith; listed = omega arith; unlisted = omega arith; section = λ within. within }
 changed_moves map line (Sets settings) table modest = record {
   block = modest.block;

@@ -7,6 +7,7 @@ use Rattle.m11_placement.proofs.FirmLabels.{definition_firm, labelled_firm}
 use Rattle.m11_placement.specs.Assignments.{assigned}
 use Rattle.m11_placement.specs.Changes.{Change, Keeps, Counts, Selects, Assigns, Numbers, Exports, Sets, changed, numbered, with_globals, with_move, with_number, with_section, with_settings, with_value}
 use Rattle.m11_placement.specs.Definitions.{Definition, Named, firm_part, is_labelled}
+use Rattle.m11_placement.specs.Elements.{listed_names}
 use Rattle.m11_placement.specs.Labels.{global_if, with_definition, with_doubled, with_global}
 use Rattle.m11_placement.specs.Meanings.{Map}
 use Rattle.m11_placement.specs.Tables.{Table, firm_table}
@@ -69,5 +70,6 @@ change_alike one other line (Assigns name is_global start) first second same =
     value_alike one other name is_global line start first second same
 change_alike one other line (Numbers name number) first second same =
     number_firm name number first ∙ ap (λ (t : Table). with_number name number t) same ∙ sym (number_firm name number second)
-change_alike one other line (Exports names) first second same = ap (λ (t : Table). with_globals names t) same
+change_alike one other line (Exports start) first second same =
+    ap (λ (t : Table). with_globals (listed_names line start) t) same
 change_alike one other line (Sets settings) first second same = ap (λ (t : Table). with_settings settings t) same

@@ -151,7 +151,7 @@ change_moves map line (Assigns name is_global start) table =
     ∙ sym (append-nil table.moves)
 change_moves map line (Numbers name number) table =
     number_by (is_labelled (Named name) table.definitions) name number table ∙ sym (append-nil table.moves)
-change_moves map line (Exports names) table = sym (append-nil table.moves)
+change_moves map line (Exports start) table = sym (append-nil table.moves)
 change_moves map line (Sets settings) table = sym (append-nil table.moves)
 
 -- ---- the pieces of one line
@@ -246,7 +246,7 @@ grown section other moves (Counts move) = moves_add section other moves move
 grown section other moves (Selects name attributes) = stays section moves
 grown section other moves (Assigns name is_global start) = stays section moves
 grown section other moves (Numbers name number) = stays section moves
-grown section other moves (Exports names) = stays section moves
+grown section other moves (Exports start) = stays section moves
 grown section other moves (Sets settings) = stays section moves
 
 line_grows : (map : Map) (line : List ℕ) (change : Change) (section : ℕ) (stood : Table)

@@ -6,6 +6,7 @@ use Rattle.m11_base.specs.Rad50.{Name}
 use Rattle.m11_values.specs.declared.kinds.Kind.TheVariants.{Absolute}
 use Rattle.m11_placement.specs.Assignments.{with_assigned}
 use Rattle.m11_placement.specs.Definitions.{Definition, Known, Named, is_labelled}
+use Rattle.m11_placement.specs.Elements.{listed_names}
 use Rattle.m11_placement.specs.Labels.{global_if, with_definition, with_doubled}
 use Rattle.m11_placement.specs.Meanings.{Map}
 use Rattle.m11_placement.specs.Places.{Move, in_section}
@@ -23,8 +24,8 @@ pub data Change : Type 0 where
   Assigns : Name → Bool → ℕ → Change
   -- a name is assigned a number that no name decides
   Numbers : Name → ℕ → Change
-  -- names become global
-  Exports : List Name → Change
+  -- the names of the list at a place become global
+  Exports : ℕ → Change
   -- the radix, or what is listed
   Sets : Settings → Change
 
@@ -92,5 +93,5 @@ changed map line (Counts move) table = with_move move table
 changed map line (Selects name attributes) table = with_section name attributes table
 changed map line (Assigns name is_global start) table = with_value map name is_global line start table
 changed map line (Numbers name number) table = with_number name number table
-changed map line (Exports names) table = with_globals names table
+changed map line (Exports start) table = with_globals (listed_names line start) table
 changed map line (Sets settings) table = with_settings settings table

@@ -6,7 +6,7 @@ use Rattle.m11_arguments.specs.LeftOvers.{left_over}
 use Rattle.m11_base.specs.Devices.{Bytes}
 use Rattle.m11_placement.specs.Alignment.{gap, place_for, to_even, to_odd}
 use Rattle.m11_placement.specs.Assigning.{number_letters}
-use Rattle.m11_placement.specs.Changes.{Change, Counts, Keeps}
+use Rattle.m11_placement.specs.Changes.{Change, Counts, Exports, Keeps}
 use Rattle.m11_placement.specs.Contents.{Put, nothing}
 use Rattle.m11_placement.specs.Control as control
 use Rattle.m11_placement.specs.Counts as counts
@@ -49,8 +49,8 @@ directive_change table passed here line start arguments word.InRadix = control.r
 directive_change table passed here line start arguments word.AbsoluteSection = sections.absolute_section
 directive_change table passed here line start arguments word.ControlSection = sections.control_section line start
 directive_change table passed here line start arguments word.ProgramSection = sections.program_section line start
-directive_change table passed here line start arguments word.Global = exports.global line start
-directive_change table passed here line start arguments word.Weak = exports.global line start
+directive_change table passed here line start arguments word.Global = Exports start
+directive_change table passed here line start arguments word.Weak = Exports start
 directive_change table passed here line start arguments word.Lists = control.list table.settings line start
 directive_change table passed here line start arguments word.Unlists = control.unlist table.settings line start
 directive_change table passed here line start arguments word.ArgumentCount = counts.argument_count arguments line start

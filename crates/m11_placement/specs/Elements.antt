@@ -87,6 +87,10 @@ abbrev pub names_of : List Bytes → List Name
 names_of [] = []
 names_of (text ∷ texts) = with_name (name_of text) (names_of texts)
 
+-- the names of a list that begins at a place
+abbrev pub listed_names : Bytes → ℕ → List Name
+listed_names line start = names_of (texts_of line (names_at line start).list)
+
 -- A for an element that is no name
 abbrev pub bad_letters : List (Option Span) → ℕ
 bad_letters [] = 0

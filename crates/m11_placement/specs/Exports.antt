@@ -18,20 +18,13 @@ use Rattle.m11_statements.specs.declared.parts.Part.{Part}
 use Rattle.m11_statements.specs.declared.parts.PartKind.{PartKind}
 use Rattle.m11_statements.specs.declared.parts.PartKind.TheVariants.{Text, Expression}
 use Rattle.m11_values.specs.Quantities.{Quantity}
-use Rattle.m11_placement.specs.Changes.{Change, Exports}
 use Rattle.m11_placement.specs.Contents.{has_expression, register_letters}
-use Rattle.m11_placement.specs.Elements.{Names, bad_letters, names_at, names_of, texts_of}
+use Rattle.m11_placement.specs.Elements.{Names, bad_letters, names_at}
 use Rattle.m11_placement.specs.Meanings.{Knows, Map, known_at}
 use Rattle.m11_placement.specs.Strings.{character_letters, part_text, six_codes}
 use Rattle.m11_placement.specs.Tables.{Table, place}
 
 -- ---- .GLOBL n,.. and .WEAK n,..
-
-abbrev pub listed_names : Bytes → ℕ → List Name
-listed_names line start = names_of (texts_of line (names_at line start).list)
-
-abbrev pub global : Bytes → ℕ → Change
-global line start = Exports (listed_names line start)
 
 abbrev pub list_letters : Bytes → ℕ → Names → ℕ
 list_letters line start names =

@@ -20,8 +20,7 @@ use Rattle.m11_placement.specs.Assigning.{target}
 use Rattle.m11_placement.specs.Changes.{Change, Numbers}
 use Rattle.m11_placement.specs.Counts as counts
 use Rattle.m11_placement.specs.Definitions.{Named, last_definition}
-use Rattle.m11_placement.specs.Elements.{elements_at}
-use Rattle.m11_placement.specs.Exports.{listed_names}
+use Rattle.m11_placement.specs.Elements.{elements_at, listed_names}
 use Rattle.m11_placement.specs.declared.fields.Field.{Field}
 use Rattle.m11_placement.specs.declared.fields.Field.TheVariants.{Formed, Registered, Targeted, Numbered, Missing}
 use Rattle.m11_placement.specs.Instructions as instructions

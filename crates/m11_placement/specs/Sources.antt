@@ -8,7 +8,8 @@ use Rattle.m11_base.specs.Devices.{Bytes}
 use Rattle.m11_base.specs.Rad50.{Name}
 use Rattle.m11_unfolding.specs.Unfolding.{Given}
 use Rattle.m11_values.specs.Quantities.{Quantity}
-use Rattle.m11_placement.specs.Exports.{identification, listed_names, title, transfer, transfer_letters}
+use Rattle.m11_placement.specs.Elements.{listed_names}
+use Rattle.m11_placement.specs.Exports.{identification, title, transfer, transfer_letters}
 use Rattle.m11_placement.specs.Lines.{Deed, Operating, after_line, deed, stands}
 use Rattle.m11_placement.specs.Meanings.{Map, empty_map}
 use Rattle.m11_placement.specs.declared.operators.Directive.{Directive}

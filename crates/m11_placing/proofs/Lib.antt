@@ -7,6 +7,7 @@ mod Labelling
 pub mod LinesAlike
 pub mod LinesTaken
 pub mod Passes
+mod NameLists
 mod Refusals
 mod SectionCounts
 mod Sizes

@@ -7,6 +7,7 @@ ghost use Rattle.m11_scan.specs.Cutting.{tokens_from};
 ghost use Rattle.m11_directives.specs.Changes.{change_seen, names_among};
 ghost use Rattle.m11_placement.specs.Assignments as assignments;
 ghost use Rattle.m11_placement.specs.Changes.{changed, numbered, with_globals, with_number, with_value};
+ghost use Rattle.m11_placement.specs.Elements.{listed_names};
 ghost use Rattle.m11_placement.specs.Labels.{with_definition};
 ghost use Rattle.m11_placement.specs.Limits.{most_sections};
 ghost use Rattle.m11_placement.specs.Tables.{Table as LineTable};
@@ -22,7 +23,7 @@ use crate::pass::Pass;
 use bitflags::Flags;
 use m11_arguments::{Notes, note_symbols};
 use m11_base::Name;
-use m11_directives::{Change, known_value};
+use m11_directives::{Change, known_value, listed_names};
 use m11_placement::{Definition, Key, Standing};
 use m11_scan::{Letters, Line};
 use m11_table::{Map, Table};
@@ -58,7 +59,7 @@ impl Pass {
                 start,
             } => self.assign(map, line, *name, *is_global, *start),
             Change::Numbers(name, number) => self.number(*name, *number),
-            Change::Exports(names) => self.export_all(names.as_slice()),
+            Change::Exports(start) => self.export_list(line, *start),
             Change::Sets(settings) => {
                 self.set(*settings);
                 Ok(())
@@ -124,6 +125,17 @@ impl Pass {
         } else {
             self.define_name(name, &numbered(name, number))
         }
+    }
+
+    // The names of the list at a place become global.
+    fn export_list(&mut self, line: &Line, start: u8) -> Result<(), PlacingFault>
+        ensures exports { IfOk result (λ _. Follows self.old self.new (with_globals (listed_names line.now.text start))) }
+        ensures tables { IfOk result (λ _. tables.Follows self.old.table self.new.table
+            (with_globals (listed_names line.now.text start))) }
+        ensures symbols { IfOk result (λ _. self.new.local_symbols ≡ self.old.local_symbols) }
+        ensures refuses { IfErr result (λ fault. fault ≡ NoMemory) }
+    {
+        self.export_all(listed_names(line, within(line, start)).as_slice())
     }
 
     // Names become global, in order. An element that is none is passed over.

@@ -1,8 +1,7 @@
-use Rattle.std.proofs.Common.{IfOk, List, Option, refl, subst}
-use Rattle.m11_base.specs.Rad50.{Name}
-use Rattle.m11_directives.specs.Changes.{move_seen, names_among}
+use Rattle.std.proofs.Common.{refl}
+use Rattle.m11_directives.specs.Changes.{move_seen}
 use Rattle.m11_placement.specs.Changes.{with_globals, with_move, with_number, with_settings, with_value}
-use Rattle.m11_table.specs.Alike.{Follows}
+use Rattle.m11_placement.specs.Elements.{listed_names}
 use Rattle.m11_placing.proofs.SectionCounts.{number_sections, sections_kept, sections_stay, value_sections}
 use Rattle.m11_placing.proofs.pass.Pass.take.Goals as goal
 
@@ -30,15 +29,13 @@ returns-in-Numbers-clause-sections c =
     c.number.ensures.tables
 
 pub returns-in-Exports-clause-tables : goal.returns-in-Exports-clause-tables
-returns-in-Exports-clause-tables c =
-    let P : List (Option Name) → Type 0 = λ names. IfOk c.export_all.result
-    (λ _. Follows c.args.self.now.table c.export_all.new.self.table (with_globals (names_among names))) in
-    rw c.in-Exports.is (subst P c.as_slice.ensures.value c.export_all.ensures.tables)
+returns-in-Exports-clause-tables c = rw c.in-Exports.is c.export_list.ensures.tables
 
 pub returns-in-Exports-clause-sections : goal.returns-in-Exports-clause-sections
 returns-in-Exports-clause-sections c =
-    sections_kept c.args.self.now.table c.export_all.new.self.table (with_globals (names_among c.as_slice.result.now)) c.export_all.result
-    refl c.requires.sections c.export_all.ensures.tables
+    sections_kept c.args.self.now.table c.export_list.new.self.table
+    (with_globals (listed_names c.args.line.now.text c.in-Exports.start)) c.export_list.result refl c.requires.sections
+    c.export_list.ensures.tables
 
 pub returns-in-Sets-clause-tables : goal.returns-in-Sets-clause-tables
 returns-in-Sets-clause-tables c = rw c.in-Sets.is c.set.ensures.tables
