@@ -76,10 +76,25 @@ impl Table {
         ensures { IfOk result (λ table. Alike table first_table) }
     {
         let mut table = Table::empty(alloc);
-        table.add_section(absolute_section(), ABSOLUTE_ATTRIBUTES)?;
-        table.add_section(blank_name(), BLANK_ATTRIBUTES)?;
-        table.add_registers()?;
-        Ok(table)
+        match table.begin() {
+            Ok(()) => Ok(table),
+            Err(error) => {
+                // by a call, which is proved sooner
+                drop(table);
+                Err(error)
+            }
+        }
+    }
+
+    // The sections and the names with which each source begins.
+    fn begin(&mut self) -> Result<(), AllocError>
+        requires { self.old ≡ empty_table }
+        ensures { IfOk result (λ _. Alike self.new first_table) }
+    {
+        self.add_section(absolute_section(), ABSOLUTE_ATTRIBUTES)?;
+        self.add_section(blank_name(), BLANK_ATTRIBUTES)?;
+        self.add_registers()?;
+        Ok(())
     }
 
     // Nothing but the first settings.

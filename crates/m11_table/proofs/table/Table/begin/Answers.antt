@@ -3,21 +3,21 @@ use Rattle.m11_base.specs.Rad50.{Name}
 use Rattle.m11_placement.specs.Sections.{of_absolute, of_program, section}
 use Rattle.m11_table.specs.Entries.{with_new_section}
 use Rattle.m11_table.proofs.Starting.{blank_is_new, first_alike}
-use Rattle.m11_table.proofs.table.Table.new.Goals as goal
+use Rattle.m11_table.proofs.table.Table.begin.Goals as goal
 
 pub add_section-requires-2 : goal.add_section-requires-2
 add_section-requires-2 c =
-    blank_is_new c.empty-table.result c.add_section.new.self c.blank_name.result c.empty-table.ensures
+    blank_is_new c.args.self.now c.add_section.new.self c.blank_name.result c.requires
     (c.in_ok-add_section.ensures
-    ∙ ap (λ (n : Name). with_new_section (section n of_absolute) c.empty-table.result) c.absolute_section.ensures)
+    ∙ ap (λ (n : Name). with_new_section (section n of_absolute) c.args.self.now) c.absolute_section.ensures)
     c.blank_name.ensures.words
 
 pub returns : goal.returns
 returns c =
-    first_alike c.empty-table.result c.add_section.new.self c.add_section-2.new.self c.add_registers.new.self
-    c.empty-table.ensures
+    first_alike c.args.self.now c.add_section.new.self c.add_section-2.new.self c.add_registers.new.self
+    c.requires
     (c.in_ok-add_section.ensures
-    ∙ ap (λ (n : Name). with_new_section (section n of_absolute) c.empty-table.result) c.absolute_section.ensures)
+    ∙ ap (λ (n : Name). with_new_section (section n of_absolute) c.args.self.now) c.absolute_section.ensures)
     (c.in_ok-add_section-2.ensures
     ∙ ap (λ (n : Name). with_new_section (section n of_program) c.add_section.new.self) c.blank_name.ensures.words)
     c.in_ok-add_registers.ensures
