@@ -3,3 +3,4 @@ mod LineTaken
 mod LinesWritten
 mod Passing
 mod Putting
+mod SameFacts

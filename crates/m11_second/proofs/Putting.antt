@@ -10,7 +10,7 @@ use Rattle.m11_base.specs.Devices.{Bytes}
 use Rattle.m11_base.specs.Rad50.{Name}
 use Rattle.m11_directory.specs.Rows.{directory_rows}
 use Rattle.m11_first.specs.Facts.{Facts}
-use Rattle.m11_listed.specs.Listed.{added_lines, all_to_listing, listing_writes}
+use Rattle.m11_listed.specs.Listed.{all_to_listing, listing_writes}
 use Rattle.m11_listing.specs.Messages.{message_line}
 use Rattle.m11_listing.specs.SymbolTable.{last_lines}
 use Rattle.m11_listing.specs.declared.symbol_table.SectionEntry.{SectionEntry}
@@ -39,7 +39,7 @@ use Rattle.m11_values.specs.Quantities.{Quantity}
 use Rattle.m11_writes.proofs.Writing.{gains_nothing, stops_after, stops_before, writes_then}
 use Rattle.m11_second.specs.Program.{Program, all_names, program_kept, directory_facts_in}
 use Rattle.m11_second.specs.Writing.{Writing, WritingStands, begun, counted, counted_last, is_some_line, most_counted, opened}
-use Rattle.m11_second.specs.Written.{added_writes, closing_writes, flagged_count, flagged_in, head_before, is_flagged, letter_E, letters_at, line_writes, message_writes, pieces_in}
+use Rattle.m11_second.specs.Written.{added_to_both, added_writes, closing_writes, flagged_count, flagged_in, head_before, is_flagged, letter_E, letters_at, line_writes, message_writes, pieces_in}
 use Rattle.m11_second.proofs.LinesWritten.{flagged_more, none_flagged, pieces_more}
 
 -- ---- writes
@@ -245,14 +245,14 @@ keeps_more program lines one old stands began put listed new more letters (Ok do
 -- the line that is added where there is no `.END`
 pub none_added : (read counter : ℕ) (has_end : Bool) → has_end ≡ true
     → added_writes (record { read = read; has_end = has_end }) counter ≡ []
-none_added read counter has_end is =
-    ap (λ (b : Bool). if b then [] else all_to_listing (added_lines letter_E read counter) ++ message_writes letter_E read []) is
+none_added read counter has_end is = ap (λ (b : Bool). if b then [] else added_to_both letter_E read counter) is
 
-pub one_added : (read counter : ℕ) (has_end : Bool) → has_end ≡ false
-    → all_to_listing (added_lines letter_E read counter) ++ message_writes letter_E read []
-    ≡ added_writes (record { read = read; has_end = has_end }) counter
-one_added read counter has_end is =
-    sym (ap (λ (b : Bool). if b then [] else all_to_listing (added_lines letter_E read counter) ++ message_writes letter_E read []) is)
+pub one_added : {A : Type 0} (a b : Outputs) (letters read counter : ℕ) (has_end : Bool) (result : Result A AsmFault) → has_end ≡ false
+    → letters ≡ letter_E → Writes a b (added_to_both letters read counter) result
+    → Writes a b (added_writes (record { read = read; has_end = has_end }) counter) result
+one_added a b letters read counter has_end result is are h =
+    writes_as a b (added_to_both letters read counter) (added_writes (record { read = read; has_end = has_end }) counter) result
+    (ap (λ n. added_to_both n read counter) are ∙ sym (ap (λ (b : Bool). if b then [] else added_to_both letter_E read counter) is)) h
 
 -- the symbol table by what is kept
 pub table_so : (writing : Writing) (symbols : List SymbolEntry) (sections : List SectionEntry) (count : ℕ)

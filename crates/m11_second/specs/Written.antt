@@ -102,10 +102,13 @@ pub record Ended : Type 0 where
 abbrev pub flagged_count : Program → List Numbered → Bool → ℕ
 flagged_count program lines has_end = flagged_in program lines + (if has_end then 0 else 1)
 
--- where there is no `.END`, an empty line is added, which is flagged E: a line of the listing, with the counter, and a message
+-- an empty line with letters: a line of the listing, with the counter, and a message
+abbrev pub added_to_both : ℕ → ℕ → ℕ → List Write
+added_to_both letters read counter = all_to_listing (added_lines letters read counter) ++ message_writes letters read []
+
+-- where there is no `.END`, an empty line is added, which is flagged E
 abbrev pub added_writes : Ended → ℕ → List Write
-added_writes ended counter =
-    if ended.has_end then [] else all_to_listing (added_lines letter_E ended.read counter) ++ message_writes letter_E ended.read []
+added_writes ended counter = if ended.has_end then [] else added_to_both letter_E ended.read counter
 
 -- the last text and the end of the module; the symbol table; the count of flagged lines
 abbrev pub closing_writes : List Piece → List SymbolEntry → List SectionEntry → ℕ → List Write

@@ -20,7 +20,7 @@ ghost use Rattle.m11_placing.specs.Deeds.{deed_seen};
 ghost use Rattle.m11_scan.specs.Views.{bits_of};
 ghost use Rattle.m11_second.specs.Program.{Program, program_kept, directory_facts_in};
 ghost use Rattle.m11_second.specs.Writing.{WritingStands, begun, counted, counted_last, most_counted, opened};
-ghost use Rattle.m11_second.specs.Written.{added_writes, closing_writes, flagged_count, head_before, last_place, last_writes, line_writes, message_writes};
+ghost use Rattle.m11_second.specs.Written.{added_to_both, added_writes, closing_writes, flagged_count, head_before, last_place, last_writes, line_writes, message_writes};
 ghost use Rattle.m11_unfolding.specs.Unfolding.{Given};
 ghost use Rattle.m11_values.specs.Quantities.{quantity};
 ghost use Rattle.m11_writes.specs.Outputs.{Output, optional_output, output_of};
@@ -269,8 +269,28 @@ impl Writing {
         if has_ended {
             return Ok(());
         }
-        put_listed(listing, Letters::E, read, place, place, &[], &[])?;
-        self.report(Letters::E, read, &[], messages)
+        self.add_flagged(Letters::E, read, place, listing, messages)
+    }
+
+    // An empty line with letters, in the listing and in the messages. It stands alone since its proof is far cheaper where the letters
+    // are any.
+    fn add_flagged<T: Sink, U: Sink>(
+        &mut self,
+        letters: Letters,
+        read: u16,
+        place: u16,
+        listing: &mut Option<T>,
+        messages: &mut U,
+    ) -> Result<(), AsmFault>
+        ensures writes { (object : Output) → Writes
+            (outputs object (optional_output T.Sink listing.old) (output_of U.Sink messages.old))
+            (outputs object (optional_output T.Sink listing.new) (output_of U.Sink messages.new))
+            (added_to_both (bits_of letters) read place) result }
+        ensures counts { IfOk result (λ _. self.new
+            ≡ record self.old { flagged = counted (bits_of letters) self.old.flagged }) }
+    {
+        put_listed(listing, letters, read, place, place, &[], &[])?;
+        self.report(letters, read, &[], messages)
     }
 
     // The last text and the end of the module, the symbol table, and the count.
