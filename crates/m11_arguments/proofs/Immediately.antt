@@ -13,9 +13,9 @@ pub noted_at_once : (line : List ℕ) (begin middle after : Notes) (asked : Aske
     → after ≡ joined begin (immediate_notes line asked)
 noted_at_once line begin middle after asked verdict letters end {statement} is noted ends begun comma added =
     let here : end ≡ asked.end = ends ∙ ap (λ (a : Verdict). a.end) is in
-    let told : letters ≡ comma_letters line asked.end (statement_at line asked.end) =
+    let comma_is : letters ≡ comma_letters line asked.end (statement_at line asked.end) =
     comma ∙ ap (λ (s : Option ℕ). comma_letters line end s) begun
     ∙ ap (λ (n : ℕ). comma_letters line n (statement_at line n)) here in
     added ∙ ap (λ (n : Notes). with_letters n letters) noted
     ∙ ap (λ (l : ℕ). noting l (begin.symbols ++ asked.symbols)) (or_joins begin.letters asked.letters letters)
-    ∙ ap (λ (l : ℕ). noting (bit_or begin.letters (bit_or asked.letters l)) (begin.symbols ++ asked.symbols)) told
+    ∙ ap (λ (l : ℕ). noting (bit_or begin.letters (bit_or asked.letters l)) (begin.symbols ++ asked.symbols)) comma_is

@@ -53,30 +53,30 @@ module _ (test : Symbol → Bool) (size : ℕ) (before : Option SoFar) (name : L
         after_joint (joined_to before (test symbol)) name.end (joining mark.sort) (λ next. names_in test size next tokens))) is
         ∙ ap (λ (t : Tested). symbol_first symbol t) (further mark.end tokens (joining mark.sort) next some)
 
--- what is left of a list of names leads to what the whole list tells
+-- what is left of a list of names leads to what the whole list says
 pub record Leads (notes begin : Notes) (left all : Tested) : Type 0 where
   pub verdict : left.verdict ≡ all.verdict
   pub end : left.end ≡ all.end
   pub symbols : with_symbols notes left.symbols ≡ with_symbols begin all.symbols
 
--- what the list tells where it ends
-pub record IsTold (notes begin : Notes) (found : Option Bool) (place : ℕ) (all : Tested) : Type 0 where
+-- what the list says where it ends
+pub record AreAsked (notes begin : Notes) (found : Option Bool) (place : ℕ) (all : Tested) : Type 0 where
   pub verdict : found ≡ all.verdict
   pub end : place ≡ all.end
   pub symbols : notes ≡ with_symbols begin all.symbols
 
 module _ (notes begin : Notes) (all left : Tested) (leads : Leads notes begin left all) where
-  pub told : (verdict : Option Bool) (end : ℕ) (after : Notes) → left ≡ record { verdict = verdict; end = end; symbols = [] }
-      → after ≡ with_symbols notes [] → IsTold after begin verdict end all
-  told verdict end after is same = record {
+  pub found_so : (verdict : Option Bool) (end : ℕ) (after : Notes) → left ≡ record { verdict = verdict; end = end; symbols = [] }
+      → after ≡ with_symbols notes [] → AreAsked after begin verdict end all
+  found_so verdict end after is same = record {
     verdict = sym (ap (λ (t : Tested). t.verdict) is) ∙ leads.verdict;
     end = sym (ap (λ (t : Tested). t.end) is) ∙ leads.end;
     symbols = same ∙ sym (ap (λ (t : Tested). with_symbols notes t.symbols) is) ∙ leads.symbols;
   }
 
-  pub told_last : (symbol : Symbol) (verdict : Bool) (end : ℕ) (after : Notes) → left ≡ symbol_first symbol (at_last verdict end)
-      → after ≡ with_symbols notes (symbol ∷ []) → IsTold after begin (Some verdict) end all
-  told_last symbol verdict end after is same = record {
+  pub found_last : (symbol : Symbol) (verdict : Bool) (end : ℕ) (after : Notes) → left ≡ symbol_first symbol (at_last verdict end)
+      → after ≡ with_symbols notes (symbol ∷ []) → AreAsked after begin (Some verdict) end all
+  found_last symbol verdict end after is same = record {
     verdict = sym (ap (λ (t : Tested). t.verdict) is) ∙ leads.verdict;
     end = sym (ap (λ (t : Tested). t.end) is) ∙ leads.end;
     symbols = same ∙ sym (ap (λ (t : Tested). with_symbols notes t.symbols) is) ∙ leads.symbols;
@@ -108,19 +108,19 @@ module _ (known : Known) (wants : Bool) (size : ℕ) (before : Option SoFar) (na
       subst P begins leads
 
   pub bad_exit : (symbol : Option Symbol) → symbol_in name.sort name.text ≡ symbol → verdict_of known wants symbol ≡ None
-      → after ≡ with_symbols notes (option_to_list symbol) → IsTold after begin None size all
+      → after ≡ with_symbols notes (option_to_list symbol) → AreAsked after begin None size all
   bad_exit None is none same =
-      told notes begin all _ moved None size after (bad_name (tested known wants) size before name tokens is) same
+      found_so notes begin all _ moved None size after (bad_name (tested known wants) size before name tokens is) same
   bad_exit (Some symbol) is none same = absurd (cc)
 
   pub last_exit : (symbol : Option Symbol) (verdict : Bool) → symbol_in name.sort name.text ≡ symbol
       → verdict_of known wants symbol ≡ Some verdict → after ≡ with_symbols notes (option_to_list symbol)
-      → joint_in tokens ≡ None → IsTold after begin (Some (joined_to before verdict)) name.end all
+      → joint_in tokens ≡ None → AreAsked after begin (Some (joined_to before verdict)) name.end all
   last_exit None verdict is some same none = absurd (cc)
   last_exit (Some symbol) verdict is some same none =
-      let P : Bool → Type 0 = λ a. IsTold after begin (Some (joined_to before a)) name.end all in
+      let P : Bool → Type 0 = λ a. AreAsked after begin (Some (joined_to before a)) name.end all in
       subst P (ap (λ (o : Option Bool). verdict_or verdict o) some)
-      (told_last notes begin all _ moved symbol (joined_to before (tested known wants symbol)) name.end after
+      (found_last notes begin all _ moved symbol (joined_to before (tested known wants symbol)) name.end after
       (last_name (tested known wants) size before name symbol is tokens none) same)
 
   pub next_exit : (symbol : Option Symbol) (verdict : Bool) (next : JointAt) → symbol_in name.sort name.text ≡ symbol

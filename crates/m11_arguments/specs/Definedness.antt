@@ -59,7 +59,7 @@ abbrev pub joint_in : List Lexeme → Option JointAt
 joint_in [] = None
 joint_in (mark ∷ tokens) = joint_at mark.end (joining mark.sort)
 
--- what names tell: their verdict, the place after them, the symbols that were read; at a bad one there is no verdict
+-- what names say: their verdict, the place after them, the symbols that were read; at a bad one there is no verdict
 pub record Tested : Type 0 where
   pub verdict : Option Bool
   pub end : ℕ

@@ -15,7 +15,7 @@ use Rattle.m11_values.specs.Terms.{item, symbol_in}
 use Rattle.m11_values.specs.Values.{value_of}
 use Rattle.m11_arguments.specs.LeftOvers.{skip_letters}
 
--- what names tell: the radix, and what each symbol stands for
+-- what names say: the radix, and what each symbol stands for
 pub record Known : Type 0 where
   pub radix : Radix
   pub stands_for : Symbol → Quantity

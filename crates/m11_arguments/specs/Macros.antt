@@ -95,7 +95,7 @@ pub record MacroNamed : Type 0 where
   pub name : Name
   pub formals : List MacroFormal
 
--- what a `.MACRO` tells; without a name nothing is defined
+-- what a `.MACRO` says; without a name nothing is defined
 pub record MacroHeader : Type 0 where
   pub named : Option MacroNamed
   pub letters : ℕ

@@ -18,7 +18,7 @@ use m11_statements::{Actual, next_actual, separator_at};
 use m11_values::Names;
 use std::alloc::AllocError;
 
-/// What a condition tells.
+/// What a condition says.
 #[derive(Clone, Copy, PartialEq, Eq, Debug)]
 pub struct Verdict {
     /// Whether it holds.

@@ -37,7 +37,7 @@ pub struct JointAt {
     pub(crate) end: u8,
 }
 
-// What names tell.
+// What names say.
 #[derive(Clone, Copy, PartialEq, Eq, Debug)]
 pub(crate) struct NamesAsked {
     // Their verdict, unless one of them is bad or missing.

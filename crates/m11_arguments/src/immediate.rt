@@ -15,7 +15,7 @@ use m11_scan::{Letters, Line, Sort, next_token};
 use m11_values::Names;
 use std::alloc::AllocError;
 
-/// What `.IIF` tells.
+/// What `.IIF` says.
 #[derive(Clone, Copy, PartialEq, Eq, Debug)]
 pub struct Immediate {
     /// Whether its condition holds. Where it doesn't, no statement is taken.

@@ -2,5 +2,5 @@ mod FirstLines
 mod Joined
 mod LinesRead
 mod ProgramsAlike
-mod ProgramsTold
+mod ProgramsAgree
 mod SecondLines

@@ -1,4 +1,4 @@
--- Programs whose maps tell the same, and which are else the same, write the same.
+-- Programs whose maps say the same, and which are else the same, write the same.
 use Rattle.std.proofs.Common.{◌≡◌, ◌∙◌, ℕ, ◌+◌, Bool, if◌then◌else◌, count_by, List, [], ◌∷◌, ◌++◌, Option, Result, Ok, Err, refl, sym, ap, subst}
 use Rattle.std.specs.Int.RustNames.{bit_or}
 use Rattle.std.specs.List.{flat_map}

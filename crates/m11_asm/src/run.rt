@@ -9,11 +9,11 @@ use crate::first::read_first;
 use crate::second::read_second;
 use m11_asm_outputs::AsmFault;
 use m11_base::{Feed, Sink};
-use m11_directory::first_passes_that_tell_the_same_have_the_same_rows;
+use m11_directory::first_passes_that_agree_have_the_same_rows;
 use m11_second::AsmDone;
 use m11_symbols::{
-    first_passes_that_tell_the_same_have_the_same_sections,
-    first_passes_that_tell_the_same_have_the_same_symbols,
+    first_passes_that_agree_have_the_same_sections,
+    first_passes_that_agree_have_the_same_symbols,
 };
 use std::alloc::Global;
 
@@ -44,9 +44,9 @@ pub fn asm_run<F: Feed, S: Sink, T: Sink, U: Sink>(
 {
     match read_first(alloc, first) {
         Ok(symbols) => {
-            first_passes_that_tell_the_same_have_the_same_rows();
-            first_passes_that_tell_the_same_have_the_same_symbols();
-            first_passes_that_tell_the_same_have_the_same_sections();
+            first_passes_that_agree_have_the_same_rows();
+            first_passes_that_agree_have_the_same_symbols();
+            first_passes_that_agree_have_the_same_sections();
             read_second(alloc, second, symbols, object, listing, messages)
         }
         Err(fault) => Err(fault),

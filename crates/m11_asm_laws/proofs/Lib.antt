@@ -1,2 +1,2 @@
 mod Rows
-mod Told
+mod ValuesLie

@@ -13,7 +13,7 @@ address_of found module_index own Zero number = modulo number
 address_of found module_index own (InSection name) number = modulo (found.base module_index name + number)
 address_of found module_index own (InObject name) number = modulo (symbol found name + number)
 
--- a relative operand tells how far the address is from the place after it
+-- a relative operand says how far the address is from the place after it
 abbrev pub stored_address : Bool → ℕ → ℕ → ℕ
 stored_address true location address = less address (following location)
 stored_address false location address = address

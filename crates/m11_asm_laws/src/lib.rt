@@ -7,6 +7,6 @@ mod relocations;
 pub use relocations::{
     absolute_targets_are_counted_from_the_word, displaced_globals_are_counted_from_the_word,
     displaced_sections_are_counted_from_the_word, fixed_values_stay,
-    linked_values_tell_where_their_targets_lie, values_move_with_globals,
+    linked_values_say_where_their_targets_lie, values_move_with_globals,
     values_move_with_other_sections, values_move_with_their_section,
 };

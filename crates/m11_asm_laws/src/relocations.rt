@@ -71,7 +71,7 @@ pub fn displaced_globals_are_counted_from_the_word()
 
 /// Whatever a value of a line counts from, the word of it in the linked program is the address of its target, or, in a relative operand, how far
 /// that address is from the place after the word.
-pub fn linked_values_tell_where_their_targets_lie()
+pub fn linked_values_say_where_their_targets_lie()
     ensures { (found : Findings) (index own location place : ℕ) (whole : List Section) (table : Table)
         (is_relative : Bool) (value : Quantity) → AreWords found → LiesAt table own place location → value.number < 65536
         → linked_bytes found index own location (Word (stored whole table is_relative place value))

@@ -14,7 +14,7 @@ pub mod Loads
 pub mod LoadsHear
 pub mod MemoryKept
 pub mod Parts
-pub mod PartsTell
+pub mod PartsReport
 pub mod OperandsFound
 pub mod PlacesStored
 pub mod PremisesMet
@@ -27,7 +27,7 @@ pub mod StatusStored
 pub mod StepsInMemory
 pub mod StepsWrite
 pub mod StepsKeepRegisters
-pub mod StepsTell
+pub mod StepsReport
 pub mod StopsStand
 pub mod TargetsFormed
 pub mod TracesFollow

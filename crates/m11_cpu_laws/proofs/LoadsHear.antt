@@ -11,7 +11,7 @@ use Rattle.m11_cpu.specs.declared.console.DeviceRegister.TheVariants.{ReceiverSt
 use Rattle.m11_cpu.specs.declared.machine.Machine.{Machine}
 use Rattle.m11_cpu_laws.specs.Receiving.{LoadHears}
 use Rattle.m11_cpu_laws.proofs.Exchanging.{Every, every_comes}
-use Rattle.m11_cpu_laws.proofs.PartsTell.{still_open}
+use Rattle.m11_cpu_laws.proofs.PartsReport.{still_open}
 
 abbrev Hearing : ℕ → Machine → Dialogue (Result ℕ Abort × Machine) → Type 0
 Hearing address m d = Every {A = Result ℕ Abort × Machine} d (λ es y. LoadHears address m es y.1)

@@ -22,8 +22,8 @@ use Rattle.m11_cpu_laws.specs.Failures.{device_stop, StopsAtFailure}
 use Rattle.m11_cpu_laws.proofs.AddressesTrap.{trap_faults}
 use Rattle.m11_cpu_laws.proofs.Exchanging.{abort_stop}
 use Rattle.m11_cpu_laws.proofs.Parts.{parts}
-use Rattle.m11_cpu_laws.proofs.PartsTell.{instruction_reports}
-use Rattle.m11_cpu_laws.proofs.StepsTell.{no_stack_fault}
+use Rattle.m11_cpu_laws.proofs.PartsReport.{instruction_reports}
+use Rattle.m11_cpu_laws.proofs.StepsReport.{no_stack_fault}
 use Rattle.m11_cpu_laws.proofs.StopsStand.{at_once}
 
 abbrev fault_in : Turn × Machine → Bool

@@ -15,7 +15,7 @@ ghost use Rattle.m11_cpu_laws.specs.Writes.{MakesSteps};
 /// step yields INPUT FAULT exactly where its last exchange is an asking that failed, to OUTPUT FAULT exactly where it
 /// is a byte that was not taken, the pushes of traps included; and no earlier exchange failed. After a step that halts,
 /// waits, or can be followed by another, no stop stands.
-#[tactic(auto, using(crate::proofs::StepsTell::step_fails, crate::proofs::StepsTell::step_goes_on))]
+#[tactic(auto, using(crate::proofs::StepsReport::step_fails, crate::proofs::StepsReport::step_goes_on))]
 pub fn failures_stop()
     ensures stops { (m m' : Machine) (turn : Turn) (exchanges : List Exchange) → MakesSteps m
         → Leads (step m) exchanges (turn, m') → StopsAtFailure exchanges (device_stop turn) }
@@ -27,7 +27,7 @@ pub fn failures_stop()
 /// the receiver's byte is then the last byte that was given, or the one before; and done stands only where a byte was
 /// given, or where it stood before. A load asks only at 177560, where done is clear and the end was not returned, and
 /// clears done only at 177562. So no byte is asked for ahead. (SIMH PDP-11 manual, console terminal.)
-#[tactic(auto, using(crate::proofs::StepsTell::step_hears, crate::proofs::LoadsHear::load_word_hears, crate::proofs::LoadsHear::load_byte_hears))]
+#[tactic(auto, using(crate::proofs::StepsReport::step_hears, crate::proofs::LoadsHear::load_word_hears, crate::proofs::LoadsHear::load_byte_hears))]
 pub fn receiver_hears()
     ensures step { (m m' : Machine) (turn : Turn) (exchanges : List Exchange)
         → Leads (step m) exchanges (turn, m') → Hears m.receiver exchanges m'.receiver }

@@ -1,4 +1,4 @@
--- What names tell of an expression, by what they were asked.
+-- What names say of an expression, by what they were asked.
 use Rattle.std.proofs.Common.{◌≡◌, ℕ, ap, ◌∙◌}
 use Rattle.m11_base.specs.Devices.{Bytes}
 use Rattle.m11_values.specs.Quantities.{Quantity}

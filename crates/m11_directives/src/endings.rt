@@ -12,7 +12,7 @@ use m11_scan::{Letters, Line, expression_end};
 use m11_table::{Map, Table, register_letters};
 use m11_values::Value;
 
-/// The address where the program begins, if a `.END` tells one.
+/// The address where the program begins, if a `.END` has one.
 pub fn transfer(map: &Map<'_>, table: &Table, line: &Line, start: usize) -> Option<Value>
     requires { start ≤ length line.now.text }
     ensures { option_map quantity result ≡ spec.transfer map.now table.now line.now.text start }

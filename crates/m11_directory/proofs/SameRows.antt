@@ -1,4 +1,4 @@
--- First passes that tell the same have the same rows.
+-- First passes that say the same have the same rows.
 use Rattle.std.proofs.Common.{◌≡◌, ◌∙◌, ℕ, ◌+◌, ◌<◌, ◌≤◌, ◌&&◌, ◌||◌, Bool, List, [], ◌∷◌, ◌++◌, filter, length, map, Option, Some, None, refl, sym, ap, arith}
 use Rattle.std.specs.List.{enumerate_from, filter_map, flat_map}
 use Rattle.std.proofs.lemmas.List.Folds.{list_any-append}

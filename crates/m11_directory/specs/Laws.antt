@@ -1,4 +1,4 @@
--- When two first passes tell the same of a directory, and when names are in order. (RT-11 Volume and File Formats Manual, "Object file format",
+-- When two first passes agree on a directory, and when names are in order. (RT-11 Volume and File Formats Manual, "Object file format",
 -- GSD block.)
 use Rattle.std.specs.Prelude.{◌≡◌, ℕ, ◌<◌, List, length}
 use Rattle.std.specs.List.Sorted.{IsStrictlySortedBy}

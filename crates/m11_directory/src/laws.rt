@@ -19,7 +19,7 @@ pub fn names_in_order_are_these_alone()
 {}
 
 /// A directory's rows depend on the last definition of each name, on which names are global, referred to and weak, and on nothing
-/// else of how a table keeps them: first passes that tell the same have the same rows.
-pub fn first_passes_that_tell_the_same_have_the_same_rows()
+/// else of how a table keeps them: first passes that agree have the same rows.
+pub fn first_passes_that_agree_have_the_same_rows()
     ensures { (one other : DirectoryFacts) → TellTheSame one other → directory_rows one ≡ directory_rows other }
 {}

@@ -13,7 +13,7 @@ mod transfers;
 
 pub use first_pass::FirstPass;
 pub use laws::{
-    first_passes_that_tell_the_same_have_the_same_rows, names_in_order_are_these_alone,
+    first_passes_that_agree_have_the_same_rows, names_in_order_are_these_alone,
     ordered_names_are_in_order,
 };
 pub use names::ordered_names;

@@ -1,4 +1,4 @@
 mod Naming
 mod Noting
 mod Taking
-mod Telling
+mod FactsFound

@@ -1,4 +1,4 @@
--- What is noted of a placed line is what the line tells.
+-- What is noted of a placed line is what the line says.
 use Rattle.std.proofs.Common.{◌≡◌, ◌∙◌, ◌<◌, ◌≤◌, ℕ, min, length, Bool, true, false, if◌then◌else◌, Option, Some, None, Result, Ok, Err, IfOk, refl, sym, ap, subst, arith}
 use Rattle.std.proofs.Math.Nat.{min-eq_left}
 use Rattle.m11_arguments.specs.Directives.{every_name}
@@ -37,7 +37,7 @@ use Rattle.m11_passes.specs.declared.placed.PlacedLine.{PlacedLine}
 use Rattle.m11_first.specs.Facts.{Facts, each_once, with_line}
 use Rattle.m11_first.specs.Noted.{with_deed, with_directive, with_operator}
 
--- ---- what the directive of a line tells
+-- ---- what the directive of a line says
 
 abbrev with_directed : Table → Bytes → Facts → Option Directed → Facts
 with_directed stood line facts (Some found) = with_directive stood line found.directive found.start facts

@@ -1,4 +1,4 @@
--- What follows from a line of the source is taken: live lines, and what they tell.
+-- What follows from a line of the source is taken: live lines, and what they say.
 use Rattle.std.proofs.Common.{◌≡◌, ◌∙◌, Bool, true, false, List, [], ◌∷◌, ◌++◌, length, Option, None, Result, Ok, Err, IfOk, IsErrAnd, refl, sym, ap, subst, inr}
 use Rattle.std.proofs.lemmas.List.{map-append}
 use Rattle.std.specs.Prelude.{◌⊎◌}
@@ -27,7 +27,7 @@ use Rattle.m11_passes.specs.declared.turns.Turn.{Turn}
 use Rattle.m11_passes.specs.declared.turns.Turn.TheVariants.{NeedLine, End, Placed}
 use Rattle.m11_first.specs.Facts.{Facts, facts_of, no_facts, with_line}
 use Rattle.m11_first.specs.First.{FirstStands, FirstState, FirstTakes, GoesOn, Taken, TakesAll, TakesLeft}
-use Rattle.m11_first.proofs.Telling.{tells_more}
+use Rattle.m11_first.proofs.FactsFound.{finds_more}
 
 -- the law of the calls of a pass
 abbrev pub Feeds : Type 0
@@ -56,7 +56,7 @@ table_more all one = ap (table_after empty_map) (givens_more all one) ∙ tables
 
 facts_more : (all : List Numbered) (one : Numbered)
     → facts_of (givens (all ++ one ∷ [])) ≡ with_line (table_at empty_map all) one.given (facts_of (givens all))
-facts_more all one = ap facts_of (givens_more all one) ∙ tells_more (givens all) one.given
+facts_more all one = ap facts_of (givens_more all one) ∙ finds_more (givens all) one.given
 
 -- ---- one call
 
@@ -72,7 +72,7 @@ module _ (turn : TurnsSo) (source : List SourceLine) (old new : Going) (facts : 
         let P : Map → Type 0 = λ m. Turns m old new (Ok came) in
         turn empty_map none_gathered source some.0 old new (Ok came) some.1.stands (subst P none turned)
 
-    -- what is noted of a placed line is what it tells
+    -- what is noted of a placed line is what it says
     pub placed_more : (placed : PlacedLine) → came ≡ Placed placed → (later : Facts) (table : Table) → table ≡ new.kept.table
         → ((before : Table) (given : Given) (put : Put) → IsPlaced empty_map before given placed put
         → Alike table (after_line empty_map before given) → later ≡ with_line before given facts)

@@ -41,7 +41,7 @@ pub fn no_line_ends_with_a_blank()
 {}
 
 /// A message has its letters, its number and its text, where that doesn't end with a blank.
-pub fn a_message_tells_its_text()
+pub fn a_message_shows_its_text()
     ensures { (letters : Bytes) (number : ℕ) (text : Bytes) (last : ℕ) → last ≢ 32
         → message_line letters number (text ++ last ∷ [])
         ≡ (letters ++ codes " " ++ decimal number ++ codes ": " ++ printed (text ++ last ∷ [])) ++ 10 ∷ [] }

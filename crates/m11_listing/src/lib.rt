@@ -12,7 +12,7 @@ mod symbol_table;
 pub use items::{Item, Mark, place_after};
 pub use laws::{
     a_further_line_has_at_most_41_characters, a_listed_line_has_at_most_42_characters_and_its_text,
-    a_message_tells_its_text, further_lines_go_by_threes, no_line_ends_with_a_blank,
+    a_message_shows_its_text, further_lines_go_by_threes, no_line_ends_with_a_blank,
     the_text_of_a_listed_line_begins_in_column_43,
 };
 pub use listing::{further_line, listed_line};

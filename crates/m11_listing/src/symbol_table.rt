@@ -27,7 +27,7 @@ pub struct SymbolEntry {
     pub name: Name,
     pub is_assigned: bool,
     pub value: SymbolValue,
-    /// Whether the object tells of it, as a definition or as a reference.
+    /// Whether the object has it, as a definition or as a reference.
     pub is_global: bool,
 }
 

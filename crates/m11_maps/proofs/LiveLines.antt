@@ -1,4 +1,4 @@
--- Maps that tell the same have the same live lines: the table and the names after each of them, and the limits.
+-- Maps that say the same have the same live lines: the table and the names after each of them, and the limits.
 use Rattle.std.proofs.Common.{◌≡◌, ◌∙◌, List, [], ◌∷◌, ◌++◌, length, refl, sym, ap, subst}
 use Rattle.m11_base.specs.Rad50.{Name}
 use Rattle.m11_lines.specs.Line.{SourceLine}

@@ -1,4 +1,4 @@
--- Maps that tell the same place a line alike: what it puts and changes, its letters, and the limit that it passes.
+-- Maps that say the same place a line alike: what it puts and changes, its letters, and the limit that it passes.
 use Rattle.std.proofs.Common.{◌≡◌, ◌∙◌, ℕ, Bool, if◌then◌else◌, List, [], ◌∷◌, ◌++◌, Option, Some, None, refl, ap}
 use Rattle.std.proofs.Math.Path.{fun_ext}
 use Rattle.std.specs.Int.RustNames.{bit_or}

@@ -1,5 +1,5 @@
--- Maps that tell the same: one has all definitions of a source, the other the last of each key. (MACRO-11 Language Reference Manual,
--- "Symbols". That a map tells of each name the last definition, is this project's own.)
+-- Maps that agree: one has all definitions of a source, the other the last of each key. (MACRO-11 Language Reference Manual,
+-- "Symbols". That a map has of each name the last definition, is this project's own.)
 use Rattle.std.specs.Prelude.{◌≡◌}
 use Rattle.std.specs.List.{list_any}
 use Rattle.m11_base.specs.Rad50.{Name, is_same_name}

@@ -1,4 +1,4 @@
-//! Laws of maps that tell the same. Each is the contract of a function that does nothing.
+//! Laws of maps that agree. Each is the contract of a function that does nothing.
 
 ghost use Rattle.std.specs.Prelude.{◌≡◌, List};
 ghost use Rattle.m11_base.specs.Devices.{Bytes};
@@ -20,14 +20,14 @@ ghost use Rattle.m11_passes.specs.Refusals.{line_fault};
 ghost use Rattle.m11_passes.specs.declared.fault.PassFault.{PassFault};
 ghost use Rattle.m11_maps.specs.Maps.{TellTheSame};
 
-/// Where one table keeps all definitions of a source and another the last of each key, their maps tell the same.
-pub fn tables_alike_give_maps_that_tell_the_same()
+/// Where one table keeps all definitions of a source and another the last of each key, their maps agree.
+pub fn tables_alike_give_maps_that_agree()
     ensures { (one other : Table) → Alike one other → TellTheSame (map_of one) (map_of other) }
 {}
 
-/// Under maps that tell the same each line puts and changes the same after any table, and has the same pieces, the same letters and the
+/// Under maps that agree each line puts and changes the same after any table, and has the same pieces, the same letters and the
 /// same fault; after any lines the table is the same, and the names that are mentioned are.
-pub fn maps_that_tell_the_same_place_lines_alike()
+pub fn maps_that_agree_place_lines_alike()
     ensures puts { (one other : Map) → TellTheSame one other → (table : Table) (given : Given)
         → line_put one table given ≡ line_put other table given }
     ensures changes { (one other : Map) → TellTheSame one other → (table : Table) (given : Given)
@@ -47,8 +47,8 @@ pub fn maps_that_tell_the_same_place_lines_alike()
         → line_fault one table names live stage ≡ line_fault other table names live stage }
 {}
 
-/// Under maps that tell the same a source has the same live lines, and passes the same limits.
-pub fn maps_that_tell_the_same_have_the_same_live_lines()
+/// Under maps that agree a source has the same live lines, and passes the same limits.
+pub fn maps_that_agree_have_the_same_live_lines()
     ensures lines { (one other : Map) → TellTheSame one other
         → (names : List Name) (source : List SourceLine) (lines : List Numbered) (stage : Stage)
         → PassLines one names source lines stage → PassLines other names source lines stage }

@@ -5,6 +5,6 @@
 mod laws;
 
 pub use laws::{
-    maps_that_tell_the_same_have_the_same_live_lines, maps_that_tell_the_same_place_lines_alike,
-    tables_alike_give_maps_that_tell_the_same,
+    maps_that_agree_have_the_same_live_lines, maps_that_agree_place_lines_alike,
+    tables_alike_give_maps_that_agree,
 };

@@ -10,7 +10,7 @@ use Rattle.m11_second.specs.Program.{Program, program_of}
 use Rattle.m11_second.specs.Written.{Ended, flagged_count, program_writes, written}
 use Rattle.m11_outcome_laws.proofs.OnePass.{EndsOnce, EndsOrExceeds, ExceedsOnce, not_both, one_end, one_refusal}
 
--- the same lines of the first pass tell the second one the same
+-- the same lines of the first pass say the second one the same
 same_program : (lines later : List Numbered) (program program' : Program) → program ≡ program_of (givens lines)
     → program' ≡ program_of (givens later) → lines ≡ later → program ≡ program'
 same_program lines later program program' is is' same = is ∙ ap (λ (ls : List Numbered). program_of (givens ls)) same ∙ sym is'

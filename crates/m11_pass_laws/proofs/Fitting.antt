@@ -25,7 +25,7 @@ use Rattle.m11_unfolding.specs.Stages.{Stage}
 use Rattle.m11_unfolding.specs.Taking.{Live}
 use Rattle.m11_unfolding.specs.Unfolding.{Given}
 use Rattle.m11_pass_laws.proofs.Named.{AreThere, adds_none, first_there}
-use Rattle.m11_pass_laws.proofs.Told.{PlaceAlike, after_both, given_alike, stands_alike}
+use Rattle.m11_pass_laws.proofs.KnownAlike.{PlaceAlike, after_both, given_alike, stands_alike}
 
 -- ---- the parts of a fault
 

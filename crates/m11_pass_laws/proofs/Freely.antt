@@ -21,7 +21,7 @@ use Rattle.m11_pass_laws.proofs.Growing.{Grows, grown, grown_by, grows_read}
 use Rattle.m11_pass_laws.proofs.Onward.{Onward, in_order, on_the_way, stays}
 use Rattle.m11_pass_laws.proofs.Onward as onward
 use Rattle.m11_pass_laws.proofs.Stepping.{At, LeadsTo, at, begin, ended_fits, ended_rests, moves_by, none_fits, none_rests, places, reached, reads, step, within}
-use Rattle.m11_pass_laws.proofs.Told.{PlaceAlike, given_alike}
+use Rattle.m11_pass_laws.proofs.KnownAlike.{PlaceAlike, given_alike}
 
 -- ---- a step
 

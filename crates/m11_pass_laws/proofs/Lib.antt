@@ -9,6 +9,6 @@ pub mod Labelled
 pub mod Named
 pub mod Onward
 pub mod Stepping
-pub mod Told
+pub mod KnownAlike
 pub mod Unmoved
 pub mod Within

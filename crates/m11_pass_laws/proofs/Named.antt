@@ -22,7 +22,7 @@ use Rattle.m11_statements.specs.Labels.{labels_at}
 use Rattle.m11_unfolding.specs.Unfolding.{Given}
 use Rattle.m11_values.specs.declared.names.Symbol.{Symbol}
 use Rattle.m11_values.specs.declared.names.Symbol.TheVariants.{Ordinary, Local, Counter}
-use Rattle.m11_pass_laws.proofs.Told.{PlaceAlike, after_both, stands_alike}
+use Rattle.m11_pass_laws.proofs.KnownAlike.{PlaceAlike, after_both, stands_alike}
 
 -- ---- one name
 

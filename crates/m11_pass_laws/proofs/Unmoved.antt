@@ -34,7 +34,7 @@ use Rattle.m11_unfolding.specs.Unfolding.{Given}
 use Rattle.m11_values.specs.declared.kinds.Kind.TheVariants as values
 use Rattle.m11_pass_laws.proofs.Freely.{begins_with}
 use Rattle.m11_pass_laws.proofs.Labelled.{StandsIn, change_stays, labels_stay, lines_stay, stands_now}
-use Rattle.m11_pass_laws.proofs.Told.{PlaceAlike, after_both}
+use Rattle.m11_pass_laws.proofs.KnownAlike.{PlaceAlike, after_both}
 use Rattle.m11_pass_laws.specs.Beginnings.{BeginWith}
 use Rattle.m11_pass_laws.specs.Ends.{EndsAfter}
 use Rattle.m11_pass_laws.specs.Second.{map_from, moved_after}

@@ -27,7 +27,7 @@ use Rattle.m11_pass_laws.proofs.Growing.{grown}
 use Rattle.m11_pass_laws.proofs.Named.{AllThere, AreThere, last_there, lines_add_none, lines_before, lines_there, there_alike}
 use Rattle.m11_pass_laws.proofs.Onward.{next_of, stays}
 use Rattle.m11_pass_laws.proofs.Stepping.{At, LeadsTo, at, ended_fits, exceeds_before, moved, none_fits, places, step}
-use Rattle.m11_pass_laws.proofs.Told.{PlaceAlike}
+use Rattle.m11_pass_laws.proofs.KnownAlike.{PlaceAlike}
 
 -- ---- names of a first pass
 

@@ -29,8 +29,8 @@ source =
 abbrev pub found_items : List (List Item)
 found_items = items_of (map plain source)
 
-abbrev pub told_items : List (List Item)
-told_items =
+abbrev pub worked_items : List (List Item)
+worked_items =
     (InWord 5 Unmarked ∷ [])
     ∷ (InWord 2 OfRegister ∷ [])
     ∷ (InWord 5 Unmarked ∷ [])
@@ -66,8 +66,8 @@ found_listed =
     ∷ listed_of (expanded (codes "NOP") ∷ expanded (codes ".LIST ME") ∷ expanded (codes "NOP") ∷ expanded (codes ".NLIST ME,BIN") ∷ [])
     ∷ []
 
-abbrev pub told_listed : List (List Bool)
-told_listed =
+abbrev pub worked_listed : List (List Bool)
+worked_listed =
     (false ∷ false ∷ true ∷ true ∷ [])
     ∷ (false ∷ true ∷ [])
     ∷ (false ∷ true ∷ true ∷ false ∷ [])

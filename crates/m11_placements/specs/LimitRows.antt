@@ -22,5 +22,5 @@ second_fault lines = second_pass_fault (map plain lines)
 abbrev pub faults : List (Option LimitFault)
 faults = first_fault (sections 62) ∷ first_fault (sections 63) ∷ second_fault (sections 62) ∷ second_fault (sections 63) ∷ []
 
-abbrev pub told_faults : List (Option LimitFault)
-told_faults = None ∷ Some TooManySections ∷ None ∷ Some TooManySections ∷ []
+abbrev pub worked_faults : List (Option LimitFault)
+worked_faults = None ∷ Some TooManySections ∷ None ∷ Some TooManySections ∷ []

@@ -2,7 +2,7 @@
 
 ghost use Rattle.std.specs.Prelude.{◌≡◌, map};
 ghost use Rattle.m11_placements.specs.DirectiveRows.{place_rows, setting_rows, text_rows, word_rows};
-ghost use Rattle.m11_placements.specs.ItemRows.{found_items, found_listed, told_items, told_listed};
+ghost use Rattle.m11_placements.specs.ItemRows.{found_items, found_listed, worked_items, worked_listed};
 ghost use Rattle.m11_placements.specs.Worked.{found, expected};
 
 /// Lists of words and bytes, and lines without an operator.
@@ -27,10 +27,10 @@ pub fn settings_are_as_worked()
 
 /// What a listing shows of assignments, of what is put, and of lines that show nothing.
 pub fn items_are_as_worked()
-    ensures { found_items ≡ told_items }
+    ensures { found_items ≡ worked_items }
 {}
 
 /// Which lines stand in a listing.
 pub fn listings_are_as_worked()
-    ensures { found_listed ≡ told_listed }
+    ensures { found_listed ≡ worked_listed }
 {}

@@ -1,7 +1,7 @@
 //! Relocations and sections as they were worked by hand. (RT-11 Volume and File Formats Manual, "Object file format", RLD block.)
 
 ghost use Rattle.std.specs.Prelude.{◌≡◌, map};
-ghost use Rattle.m11_placements.specs.LimitRows.{faults, told_faults};
+ghost use Rattle.m11_placements.specs.LimitRows.{faults, worked_faults};
 ghost use Rattle.m11_placements.specs.RelocationRows.{name_rows, section_rows};
 ghost use Rattle.m11_placements.specs.SourceRows.{given_by, source_rows, expected_by};
 ghost use Rattle.m11_placements.specs.Worked.{found, expected};
@@ -23,5 +23,5 @@ pub fn sources_are_as_worked()
 
 /// As many sections as a source may have, and one more.
 pub fn limits_are_as_worked()
-    ensures { faults ≡ told_faults }
+    ensures { faults ≡ worked_faults }
 {}

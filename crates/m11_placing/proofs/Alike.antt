@@ -1,4 +1,4 @@
--- Tables that are alike tell the same of places, kinds and symbols.
+-- Tables that are alike say the same of places, kinds and symbols.
 use Rattle.std.proofs.Common.{◌≡◌, ◌∙◌, ℕ, Bool, true, false, List, [], ◌∷◌, Option, Some, None, refl, sym, ap}
 use Rattle.std.proofs.Math.Path.{fun_ext}
 use Rattle.std.specs.Option.{is_some}

@@ -60,8 +60,8 @@ mentioned =
 abbrev pub found_lines : List Bytes
 found_lines = last_lines (symbol_entries facts mentioned) (section_entries facts) 2
 
-abbrev pub told_lines : List Bytes
-told_lines =
+abbrev pub worked_lines : List Bytes
+worked_lines =
     codes "\n"
     ∷ codes "SYMBOL TABLE\n"
     ∷ codes "A        000000 RG   1\n"

@@ -6,7 +6,7 @@ ghost use Rattle.m11_directory.specs.FirstPass.{DirectoryFacts};
 ghost use Rattle.m11_directory.specs.Laws.{AreInOrder, HaveTheSame, TellTheSame};
 ghost use Rattle.m11_symbols.specs.Sections.{section_entries};
 ghost use Rattle.m11_symbols.specs.Symbols.{entry_names, symbol_entries};
-ghost use Rattle.m11_symbols.specs.Worked.{found_lines, told_lines};
+ghost use Rattle.m11_symbols.specs.Worked.{found_lines, worked_lines};
 
 use m11_directory::{names_in_order_are_these_alone, ordered_names_are_in_order};
 
@@ -18,8 +18,8 @@ pub fn each_name_stands_once_and_in_order()
 }
 
 /// Entries depend on the last definition of each name, on which names are mentioned, global and referred to, and on nothing else
-/// of how a table keeps them: first passes that tell the same have the same entries of the same names.
-pub fn first_passes_that_tell_the_same_have_the_same_symbols()
+/// of how a table keeps them: first passes that agree have the same entries of the same names.
+pub fn first_passes_that_agree_have_the_same_symbols()
     ensures { (one other : DirectoryFacts) (names others : List Name) → TellTheSame one other → HaveTheSame names others
         → symbol_entries one names ≡ symbol_entries other others }
 {
@@ -28,11 +28,11 @@ pub fn first_passes_that_tell_the_same_have_the_same_symbols()
 }
 
 /// The same of sections.
-pub fn first_passes_that_tell_the_same_have_the_same_sections()
+pub fn first_passes_that_agree_have_the_same_sections()
     ensures { (one other : DirectoryFacts) → TellTheSame one other → section_entries one ≡ section_entries other }
 {}
 
 /// The last lines of a listing whose names are of every kind.
 pub fn a_symbol_table_is_as_worked()
-    ensures { found_lines ≡ told_lines }
+    ensures { found_lines ≡ worked_lines }
 {}

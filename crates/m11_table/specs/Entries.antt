@@ -94,4 +94,4 @@ with_new_section new table = record table { sections = table.sections ++ new ∷
 
 -- with the names of the registers, each as if it were assigned
 abbrev pub with_registers : Table → Table
-with_registers table = fold (λ told register. with_definition register told) table registers
+with_registers table = fold (λ so_far register. with_definition register so_far) table registers

@@ -1,4 +1,4 @@
--- A source has one unfolding under what its lines tell.
+-- A source has one unfolding under what its lines say.
 use Rattle.std.proofs.Common.{◌≡◌, ◌∙◌, List, [], ◌∷◌, ◌++◌, append_assoc, append-nil, None, inl, inr, refl, sym, ap, subst}
 use Rattle.std.specs.Prelude.{◌⊎◌}
 use Rattle.m11_arguments.specs.Expressions.{Known}

@@ -189,7 +189,7 @@ acted_by known text stage (Directs word.ArgumentCount place) = foreign stage
 acted_by known text stage (Directs word.CharacterCount place) = foreign stage
 acted_by known text stage (Directs word.End place) = foreign (record stage { has_ended = true })
 
--- what the operator of a line does at a stage, under what names tell
+-- what the operator of a line does at a stage, under what names say
 abbrev pub act : Known → Stage → Bytes → Acted
 act known stage text = acted_by known text stage (operation stage.conditions stage.macros text)
 

@@ -106,11 +106,11 @@ pub fn unfoldings_follow_each_other()
 /// Two unfoldings from one stage, under what their lines say: one of them goes on where the other stands. Where nothing is taken any
 /// more in either, they have the same lines and end at the same stage.
 pub fn a_source_has_one_unfolding()
-    ensures compared { (tells : List Given → Live → Known) (before first second : Stage) (done later : List Given)
-        → IsKnownBy tells done → IsKnownBy tells later → Leads before done first → Leads before later second
+    ensures compared { (known_by : List Given → Live → Known) (before first second : Stage) (done later : List Given)
+        → IsKnownBy known_by done → IsKnownBy known_by later → Leads before done first → Leads before later second
         → GoesOn done first later second ⊎ GoesOn later second done first }
-    ensures ended { (tells : List Given → Live → Known) (before first second : Stage) (done later : List Given)
-        → IsKnownBy tells done → IsKnownBy tells later → Leads before done first → Leads before later second
+    ensures ended { (known_by : List Given → Live → Known) (before first second : Stage) (done later : List Given)
+        → IsKnownBy known_by done → IsKnownBy known_by later → Leads before done first → Leads before later second
         → move first ≡ Rests → move second ≡ Rests → (done ≡ later) × (first ≡ second) }
 {}
 

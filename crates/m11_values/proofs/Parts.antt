@@ -52,7 +52,7 @@ parts_agree : (f g : Radix → List Item → Quantity) (radix : Radix) (items : 
 parts_agree f g radix items agree =
     split_agrees f g radix items (last_operator begin (sorts_of items)) (below_length items) agree
 
--- a bound of at least the number of tokens tells nothing
+-- a bound of at least the number of tokens says nothing
 bounds_agree : (n m : ℕ) (radix : Radix) (items : List Item) → length items ≤ n → length items ≤ m
     → value_within n radix items ≡ value_within m radix items
 bounds_agree zero zero radix items a b = refl

@@ -26,7 +26,7 @@ abbrev pub AgreeOn : List Symbol → (Symbol → Quantity) → (Symbol → Quant
 AgreeOn [] first second = Unit {0}
 AgreeOn (symbol ∷ symbols) first second = (first symbol ≡ second symbol) × AgreeOn symbols first second
 
--- texts of a sort that differ in the case of letters at most, and that only where the case tells nothing: in names, after `^R`, and
+-- texts of a sort that differ in the case of letters at most, and that only where the case means nothing: in names, after `^R`, and
 -- in `^B`, `^O`, `^D` and `^C`
 abbrev pub IsSameText : Sort → Bytes → Bytes → Type 0
 IsSameText Name first second = map folded first ≡ map folded second

@@ -204,7 +204,7 @@ impl Opens for ShortFiles {
 
 // Whether an assembly whose listing takes `room` bytes of its text leaves those, the object up to there, no message, and the
 // status and the line of a listing that can't be written.
-fn is_told(alloc: Global, room: usize) -> bool {
+fn is_reported(alloc: Global, room: usize) -> bool {
     let mut files = ShortFiles {
         alloc,
         room,
@@ -240,7 +240,7 @@ fn a_listing_that_fails_leaves_a_beginning_and_the_object_up_to_there(
     rt: HostRuntime,
 ) -> Result<(), Fail> {
     for room in 0..LISTING.len() {
-        assert!(rt; is_told(rt.alloc(), room));
+        assert!(rt; is_reported(rt.alloc(), room));
     }
     Ok(())
 }

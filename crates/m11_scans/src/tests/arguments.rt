@@ -434,7 +434,7 @@ fn actuals_are_separated_by_blanks_and_one_comma(rt: HostRuntime) {
 }
 
 #[test]
-fn a_separator_tells_its_comma(rt: HostRuntime) {
+fn a_separator_has_its_comma(rt: HostRuntime) {
     for (text, has_comma, end) in [
         ("A ,B", true, 3),
         ("A B", false, 2),

@@ -1,15 +1,15 @@
 use Rattle.m11_asm_outputs.specs.Outputs.{outputs_of}
 use Rattle.m11_asm.specs.Passes.{pass_of}
 use Rattle.m11_asm.proofs.Joined.{asm_runs}
-use Rattle.m11_asm.proofs.ProgramsTold.{TellAlike}
+use Rattle.m11_asm.proofs.ProgramsAgree.{FirstPassesAgree}
 use Rattle.m11_asm.proofs.run.asm_run.Goals as goal
 
 pub returns-in-Ok-clause-runs : goal.returns-in-Ok-clause-runs
 returns-in-Ok-clause-runs g c =
-    let laws : TellAlike = record {
-      rows = c.first_passes_that_tell_the_same_have_the_same_rows.ensures;
-      symbols = c.first_passes_that_tell_the_same_have_the_same_symbols.ensures;
-      sections = c.first_passes_that_tell_the_same_have_the_same_sections.ensures;
+    let laws : FirstPassesAgree = record {
+      rows = c.first_passes_that_agree_have_the_same_rows.ensures;
+      symbols = c.first_passes_that_agree_have_the_same_symbols.ensures;
+      sections = c.first_passes_that_agree_have_the_same_sections.ensures;
     } in
     asm_runs _ (pass_of g.F.Feed.text g.F.Feed.faults c.args.first.now c.read_first.new.feeds)
     (pass_of g.F.Feed.text g.F.Feed.faults c.args.second.now c.read_second.new.feeds)
@@ -19,10 +19,10 @@ returns-in-Ok-clause-runs g c =
 
 pub returns-in-Ok-clause-untouched : goal.returns-in-Ok-clause-untouched
 returns-in-Ok-clause-untouched g c =
-    let laws : TellAlike = record {
-      rows = c.first_passes_that_tell_the_same_have_the_same_rows.ensures;
-      symbols = c.first_passes_that_tell_the_same_have_the_same_symbols.ensures;
-      sections = c.first_passes_that_tell_the_same_have_the_same_sections.ensures;
+    let laws : FirstPassesAgree = record {
+      rows = c.first_passes_that_agree_have_the_same_rows.ensures;
+      symbols = c.first_passes_that_agree_have_the_same_symbols.ensures;
+      sections = c.first_passes_that_agree_have_the_same_sections.ensures;
     } in
     asm_runs _ (pass_of g.F.Feed.text g.F.Feed.faults c.args.first.now c.read_first.new.feeds)
     (pass_of g.F.Feed.text g.F.Feed.faults c.args.second.now c.read_second.new.feeds)

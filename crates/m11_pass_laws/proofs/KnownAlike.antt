@@ -1,4 +1,4 @@
--- What the lines before a live line tell it is the same under every map.
+-- What the lines before a live line say it is the same under every map.
 use Rattle.std.proofs.Common.{◌≡◌, ◌∙◌, true, List, [], ◌∷◌, ◌++◌, refl, sym, ap}
 use Rattle.m11_arguments.specs.Expressions.{Known}
 use Rattle.m11_passes.specs.Lines.{Numbered, givens, table_at}

@@ -1,5 +1,5 @@
 use Rattle.m11_symbols.proofs.SameEntries.{sections_same}
-use Rattle.m11_symbols.proofs.laws.first_passes_that_tell_the_same_have_the_same_sections.Goals as goal
+use Rattle.m11_symbols.proofs.laws.first_passes_that_agree_have_the_same_sections.Goals as goal
 
 pub returns : goal.returns
 returns c = sections_same

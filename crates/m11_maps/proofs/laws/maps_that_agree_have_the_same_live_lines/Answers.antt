@@ -1,5 +1,5 @@
 use Rattle.m11_maps.proofs.LiveLines.{exceeds_same, pass_lines_same}
-use Rattle.m11_maps.proofs.laws.maps_that_tell_the_same_have_the_same_live_lines.Goals as goal
+use Rattle.m11_maps.proofs.laws.maps_that_agree_have_the_same_live_lines.Goals as goal
 
 pub returns-clause-lines : goal.returns-clause-lines
 returns-clause-lines c = pass_lines_same

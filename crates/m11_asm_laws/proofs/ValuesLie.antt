@@ -1,4 +1,4 @@
--- Each word of a value tells where its target lies.
+-- Each word of a value says where its target lies.
 use Rattle.std.proofs.Common.{◌≡◌, ℕ, List, ◌+◌, ◌-◌, ◌<◌, ◌%◌, Bool, true, false, refl, ap, arith}
 use Rattle.m11_blocks.specs.Frames.{word_bytes}
 use Rattle.m11_link_text.specs.Findings.{Findings}
@@ -42,10 +42,10 @@ module _ (found : Findings) (index own location place number : ℕ) (words : Are
   tells (InObject name) true true absolute = displaced_global_row found index own location false name number words
   tells (InObject name) true false absolute = displaced_global_row found index own location false name number words
 
-pub values_told : (found : Findings) (index own location place : ℕ) (whole : List Section) (table : Table) (is_relative : Bool)
+pub values_lie : (found : Findings) (index own location place : ℕ) (whole : List Section) (table : Table) (is_relative : Bool)
     (value : Quantity) → AreWords found → LiesAt table own place location → value.number < 65536
     → linked_bytes found index own location (Word (stored whole table is_relative place value))
     ≡ word_bytes (stored_address is_relative location (address_of found index own (origin_of whole table value.kind) value.number))
-values_told found index own location place whole table is_relative value words lies known =
+values_lie found index own location place whole table is_relative value words lies known =
     tells found index own location place value.number words lies.within known lies.moved (origin_of whole table value.kind)
     is_relative (is_moved table) lies.absolute

@@ -1,5 +1,5 @@
 use Rattle.m11_directory.proofs.SameRows.{rows_same}
-use Rattle.m11_directory.proofs.laws.first_passes_that_tell_the_same_have_the_same_rows.Goals as goal
+use Rattle.m11_directory.proofs.laws.first_passes_that_agree_have_the_same_rows.Goals as goal
 
 pub returns : goal.returns
 returns c = rows_same

@@ -24,7 +24,7 @@ use Rattle.m11_cpu.specs.declared.stop.Turn.TheVariants.{Next, Stopped}
 use Rattle.m11_cpu_laws.specs.Failures.{device_stop, GoesOn, StopsAtFailure}
 use Rattle.m11_cpu_laws.specs.Receiving.{Hears}
 use Rattle.m11_cpu_laws.proofs.Exchanging.{abort_stop, every_after, every_comes, every_map, Every, failures_joined, heard_joined, hears_nothing, once, Talked, Reports, reports_bind}
-use Rattle.m11_cpu_laws.proofs.PartsTell.{instruction_reports, push_reports}
+use Rattle.m11_cpu_laws.proofs.PartsReport.{instruction_reports, push_reports}
 
 record TurnReported (r : Receiver) (stands : Option LastingStop) (es : List Exchange) (y : Turn × Machine) : Type 0 where
   failed : StopsAtFailure es (device_stop y.0)

@@ -1,6 +1,6 @@
 use Rattle.m11_maps.proofs.LiveLines.{names_at_same, table_at_same}
 use Rattle.m11_maps.proofs.MapsAlike as alike
-use Rattle.m11_maps.proofs.laws.maps_that_tell_the_same_place_lines_alike.Goals as goal
+use Rattle.m11_maps.proofs.laws.maps_that_agree_place_lines_alike.Goals as goal
 
 pub returns-clause-puts : goal.returns-clause-puts
 returns-clause-puts c = alike.line_put_same

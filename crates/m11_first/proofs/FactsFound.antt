@@ -1,4 +1,4 @@
--- What lines tell is what they tell one after the other.
+-- What lines say is what they say one after the other.
 use Rattle.std.proofs.Common.{◌≡◌, ◌∙◌, List, [], ◌∷◌, ◌++◌, map, flat_map, append-nil, Option, Some, None, refl, ap}
 use Rattle.std.proofs.lemmas.List.{map-append}
 use Rattle.std.proofs.lemmas.List.Concat.{flat_map-append}
@@ -58,7 +58,7 @@ transfer_more table (first ∷ all) one =
     ∙ or_joins (line_transfer empty_map (after_lines empty_map (after_line empty_map table first) all) one)
     (transfer_after empty_map (after_line empty_map table first) all) (line_transfer empty_map table first)
 
-pub tells_more : (all : List Given) (one : Given)
+pub finds_more : (all : List Given) (one : Given)
     → facts_of (all ++ one ∷ []) ≡ with_line (table_after empty_map all) one (facts_of all)
-tells_more all one =
+finds_more all one =
     rw (title_more all one, identification_more all one, weak_more all one, transfer_more first_table all one) refl

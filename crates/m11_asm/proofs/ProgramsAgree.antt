@@ -1,4 +1,4 @@
--- What a first pass keeps of a source tells the same as the source's lines.
+-- What a first pass keeps of a source says the same as the source's lines.
 use Rattle.std.proofs.Common.{◌≡◌, ◌≤◌, length, List, ap, arith}
 use Rattle.m11_base.specs.Rad50.{Name}
 use Rattle.m11_directory.specs.FirstPass.{DirectoryFacts}
@@ -17,15 +17,15 @@ use Rattle.m11_symbols.specs.Sections.{section_entries}
 use Rattle.m11_symbols.specs.Symbols.{symbol_entries}
 use Rattle.m11_asm.proofs.ProgramsAlike.{AlikePrograms}
 
--- the laws of first passes that tell the same: they have the same rows, names and sections
-pub record TellAlike : Type 0 where
+-- the laws of first passes that say the same: they have the same rows, names and sections
+pub record FirstPassesAgree : Type 0 where
   pub rows : (one other : DirectoryFacts) → directory.TellTheSame one other → directory_rows one ≡ directory_rows other
   pub symbols : (one other : DirectoryFacts) (names others : List Name) → directory.TellTheSame one other → directory.HaveTheSame names others
       → symbol_entries one names ≡ symbol_entries other others
   pub sections : (one other : DirectoryFacts) → directory.TellTheSame one other → section_entries one ≡ section_entries other
 
 module _ (source : List SourceLine) (lines : List Numbered) (first : FirstState) (taken : Taken source lines first.going first.facts)
-    (few : length first.going.kept.table.sections ≤ most_sections) (laws : TellAlike) where
+    (few : length first.going.kept.table.sections ≤ most_sections) (laws : FirstPassesAgree) where
   referred_same : first.going.gathered ≡ mentioned_in (givens lines)
   referred_same = taken.stands.gathered
 

@@ -1,5 +1,5 @@
 use Rattle.m11_symbols.proofs.SameEntries.{symbols_same}
-use Rattle.m11_symbols.proofs.laws.first_passes_that_tell_the_same_have_the_same_symbols.Goals as goal
+use Rattle.m11_symbols.proofs.laws.first_passes_that_agree_have_the_same_symbols.Goals as goal
 
 pub returns : goal.returns
 returns c one other names others same have =
