@@ -100,7 +100,7 @@ impl State {
     {
         let line = &live.line;
         let statement = statement(line, &EveryName);
-        let labels = labels_by(line, statement.labels_end);
+        let labels = labels_before(line, statement.labels_end);
         let found = define_labels(
             &mut self.pass,
             &mut self.mentioned,
@@ -141,7 +141,7 @@ impl State {
 }
 
 // The labels of a line, by the place after the last one. Most lines have none.
-fn labels_by(line: &Line, labels_end: u8) -> ArrayVec<Label, LABEL_LIMIT>
+fn labels_before(line: &Line, labels_end: u8) -> ArrayVec<Label, LABEL_LIMIT>
     requires { labels_end ≡ 0 → labels_at line.now.text ≡ [] }
     ensures { result.items ≡ labels_at line.now.text }
 {

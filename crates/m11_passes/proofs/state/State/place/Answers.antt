@@ -49,7 +49,7 @@ returns-in_err-mention_line-clause-places c =
 pub change_line-requires-clause-listed : goal.change_line-requires-clause-listed
 change_line-requires-clause-listed c =
     let fits : length (labels_at c.args.live.line.text) ≤ 66
-    = subst (λ (l : List Label). length l ≤ 66) c.labels_by-labels.ensures
+    = subst (λ (l : List Label). length l ≤ 66) c.labels_before-labels.ensures
     (subst (λ (l : List Label). length l ≤ 66) c.as_slice.ensures.value c.as_slice.ensures.fits) in
     let room = stood_room c.args.self.now.unfolder.stage.taken c.args.self.now.pass.table c.define_labels.new.pass.table
     c.args.live.line.text c.requires.room c.in_ok-found.ensures.tables fits in
@@ -60,7 +60,7 @@ change_line-requires-clause-listed c =
 pub change_line-requires-clause-unlisted : goal.change_line-requires-clause-unlisted
 change_line-requires-clause-unlisted c =
     let fits : length (labels_at c.args.live.line.text) ≤ 66
-    = subst (λ (l : List Label). length l ≤ 66) c.labels_by-labels.ensures
+    = subst (λ (l : List Label). length l ≤ 66) c.labels_before-labels.ensures
     (subst (λ (l : List Label). length l ≤ 66) c.as_slice.ensures.value c.as_slice.ensures.fits) in
     let room = stood_room c.args.self.now.unfolder.stage.taken c.args.self.now.pass.table c.define_labels.new.pass.table
     c.args.live.line.text c.requires.room c.in_ok-found.ensures.tables fits in
@@ -71,7 +71,7 @@ change_line-requires-clause-unlisted c =
 pub change_line-requires-clause-block : goal.change_line-requires-clause-block
 change_line-requires-clause-block c =
     let fits : length (labels_at c.args.live.line.text) ≤ 66
-    = subst (λ (l : List Label). length l ≤ 66) c.labels_by-labels.ensures
+    = subst (λ (l : List Label). length l ≤ 66) c.labels_before-labels.ensures
     (subst (λ (l : List Label). length l ≤ 66) c.as_slice.ensures.value c.as_slice.ensures.fits) in
     let room = stood_room c.args.self.now.unfolder.stage.taken c.args.self.now.pass.table c.define_labels.new.pass.table
     c.args.live.line.text c.requires.room c.in_ok-found.ensures.tables fits in
@@ -82,7 +82,7 @@ change_line-requires-clause-block c =
 pub change_line-requires-clause-section : goal.change_line-requires-clause-section
 change_line-requires-clause-section c =
     let fits : length (labels_at c.args.live.line.text) ≤ 66
-    = subst (λ (l : List Label). length l ≤ 66) c.labels_by-labels.ensures
+    = subst (λ (l : List Label). length l ≤ 66) c.labels_before-labels.ensures
     (subst (λ (l : List Label). length l ≤ 66) c.as_slice.ensures.value c.as_slice.ensures.fits) in
     let room = stood_room c.args.self.now.unfolder.stage.taken c.args.self.now.pass.table c.define_labels.new.pass.table
     c.args.live.line.text c.requires.room c.in_ok-found.ensures.tables fits in
@@ -93,7 +93,7 @@ change_line-requires-clause-section c =
 pub change_line-requires-clause-sections : goal.change_line-requires-clause-sections
 change_line-requires-clause-sections c =
     let fits : length (labels_at c.args.live.line.text) ≤ 66
-    = subst (λ (l : List Label). length l ≤ 66) c.labels_by-labels.ensures
+    = subst (λ (l : List Label). length l ≤ 66) c.labels_before-labels.ensures
     (subst (λ (l : List Label). length l ≤ 66) c.as_slice.ensures.value c.as_slice.ensures.fits) in
     let room = stood_room c.args.self.now.unfolder.stage.taken c.args.self.now.pass.table c.define_labels.new.pass.table
     c.args.live.line.text c.requires.room c.in_ok-found.ensures.tables fits in
@@ -185,7 +185,7 @@ returns-clause-taken c =
 pub returns-clause-sound : goal.returns-clause-sound
 returns-clause-sound c =
     let fits : length (labels_at c.args.live.line.text) ≤ 66
-    = subst (λ (l : List Label). length l ≤ 66) c.labels_by-labels.ensures
+    = subst (λ (l : List Label). length l ≤ 66) c.labels_before-labels.ensures
     (subst (λ (l : List Label). length l ≤ 66) c.as_slice.ensures.value c.as_slice.ensures.fits) in
     let room = stood_room c.args.self.now.unfolder.stage.taken c.args.self.now.pass.table c.define_labels.new.pass.table
     c.args.live.line.text c.requires.room c.in_ok-found.ensures.tables fits in
