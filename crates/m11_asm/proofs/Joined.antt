@@ -16,7 +16,7 @@ use Rattle.m11_asm.specs.Passes.{Pass, Reads, ReadsFirst, ReadsSecond}
 use Rattle.m11_asm.specs.Run.{AsmRuns, AsmRunsOr}
 use Rattle.m11_asm.proofs.FirstLines.{first_reads}
 use Rattle.m11_asm.proofs.ProgramsAlike.{AlikePrograms, reads_alike}
-use Rattle.m11_asm.proofs.ProgramsAgree.{FirstPassesAgree, programs_alike}
+use Rattle.m11_asm.proofs.ProgramsAgree.{LawsOfFirstPasses, programs_alike}
 
 module _ {F : Type 0} (Untouched : Type 0) (first second : Pass F) (old new : Outputs) where
   runs_by : (lines : List Numbered) → ReadsFirst first (Ok lines) → (result : Result AsmDone AsmFault)
@@ -24,7 +24,7 @@ module _ {F : Type 0} (Untouched : Type 0) (first second : Pass F) (old new : Ou
   runs_by lines read (Ok done) reads = (lines, read, reads)
   runs_by lines read (Err stopped) reads = inr (lines, read, reads)
 
-  module _ (laws : FirstPassesAgree) (symbols : Symbols) (gives : GivesSymbols first (Ok symbols)) where
+  module _ (laws : LawsOfFirstPasses) (symbols : Symbols) (gives : GivesSymbols first (Ok symbols)) where
     same : AlikePrograms (program_in symbols) (program_of (givens gives.1.stands.lines))
     same =
         let P : Symbols → Type 0 = λ s. length s.kept.table.sections ≤ most_sections in

@@ -18,18 +18,18 @@ use Rattle.m11_symbols.specs.Symbols.{symbol_entries}
 use Rattle.m11_asm.proofs.ProgramsAlike.{AlikePrograms}
 
 -- the laws of first passes that say the same: they have the same rows, names and sections
-pub record FirstPassesAgree : Type 0 where
-  pub rows : (one other : DirectoryFacts) → directory.TellTheSame one other → directory_rows one ≡ directory_rows other
-  pub symbols : (one other : DirectoryFacts) (names others : List Name) → directory.TellTheSame one other → directory.HaveTheSame names others
+pub record LawsOfFirstPasses : Type 0 where
+  pub rows : (one other : DirectoryFacts) → directory.FirstPassesAgree one other → directory_rows one ≡ directory_rows other
+  pub symbols : (one other : DirectoryFacts) (names others : List Name) → directory.FirstPassesAgree one other → directory.HaveTheSame names others
       → symbol_entries one names ≡ symbol_entries other others
-  pub sections : (one other : DirectoryFacts) → directory.TellTheSame one other → section_entries one ≡ section_entries other
+  pub sections : (one other : DirectoryFacts) → directory.FirstPassesAgree one other → section_entries one ≡ section_entries other
 
 module _ (source : List SourceLine) (lines : List Numbered) (first : FirstState) (taken : Taken source lines first.going first.facts)
-    (few : length first.going.kept.table.sections ≤ most_sections) (laws : FirstPassesAgree) where
+    (few : length first.going.kept.table.sections ≤ most_sections) (laws : LawsOfFirstPasses) where
   referred_same : first.going.gathered ≡ mentioned_in (givens lines)
   referred_same = taken.stands.gathered
 
-  told_same : directory.TellTheSame (directory_facts_in first.going.kept first.going.gathered first.facts) (directory_facts_of (givens lines))
+  told_same : directory.FirstPassesAgree (directory_facts_in first.going.kept first.going.gathered first.facts) (directory_facts_of (givens lines))
   told_same = record {
     tables = taken.stands.matches.alike;
     sizes = λ number within. taken.stands.matches.sizes number (omega (arith, within, few));

@@ -14,7 +14,7 @@ use Rattle.m11_listing.specs.Listing.{listed_lines}
 use Rattle.m11_listing.specs.declared.items.Item.{Item}
 use Rattle.m11_listing.specs.declared.symbol_table.SectionEntry.{SectionEntry}
 use Rattle.m11_listing.specs.declared.symbol_table.SymbolEntry.{SymbolEntry}
-use Rattle.m11_maps.specs.Maps.{TellTheSame}
+use Rattle.m11_maps.specs.Maps.{MapsAgree}
 use Rattle.m11_maps.proofs.LiveLines.{exceeds_same, pass_lines_same, table_at_same}
 use Rattle.m11_maps.proofs.MapsAlike.{after_line_same, all_letters_same, items_same, pieces_same}
 use Rattle.m11_object_text.specs.declared.directory.DirectoryRow.{DirectoryRow}
@@ -43,7 +43,7 @@ use Rattle.m11_asm.specs.Passes as passes
 use Rattle.m11_asm.specs.Passes.{AreWrites, Pass, ReadsSecond, StopsAmongWrites}
 
 pub record AlikePrograms (one other : Program) : Type 0 where
-  pub maps : TellTheSame one.map other.map
+  pub maps : MapsAgree one.map other.map
   pub mentioned : one.mentioned ≡ other.mentioned
   pub rows : one.rows ≡ other.rows
   pub symbols : one.symbols ≡ other.symbols

@@ -26,7 +26,7 @@ abbrev pub outputs_of : {S T U : Type 0} → Ghosts S → Ghosts T → Ghosts U 
 outputs_of known_object known_listing known_messages object listing messages =
     outputs (output_of known_object object) (optional_output known_listing listing) (output_of known_messages messages)
 
--- they are told apart
+-- whether two outputs are the same one
 abbrev pub is_output : AsmOutput → AsmOutput → Bool
 is_output Object Object = true
 is_output Listing Listing = true

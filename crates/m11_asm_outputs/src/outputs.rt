@@ -11,7 +11,7 @@ use m11_obj::{Block, block_bytes};
 use m11_writes::put_or_fail;
 use std::alloc::Global;
 
-/// The block of a record of this content, to the object. Memory may be refused before the block is written.
+/// The block of a record of this content, to the object. Faults: `Write` of the object, and `NoMemory` before the block.
 #[tactic(auto, using(crate::proofs::Writing::to_the_object))]
 pub fn put_record<S: Sink>(alloc: Global, object: &mut S, content: &Block) -> Result<(), AsmFault>
     ensures { (listing messages : Output) → Writes
@@ -22,7 +22,7 @@ pub fn put_record<S: Sink>(alloc: Global, object: &mut S, content: &Block) -> Re
     put_or_fail(object, block.as_slice(), AsmFault::Write(AsmOutput::Object))
 }
 
-/// A line, to the listing, where there is one.
+/// A line, to the listing, where there is one. Fault: `Write` of the listing.
 #[tactic(auto, using(crate::proofs::Writing::to_the_listing, crate::proofs::Writing::to_no_listing, crate::proofs::Writing::put_takes_none))]
 pub fn put_listing<T: Sink>(listing: &mut Option<T>, line: &[u8]) -> Result<(), AsmFault>
     ensures writes { (object messages : Output) → Writes
@@ -37,7 +37,7 @@ pub fn put_listing<T: Sink>(listing: &mut Option<T>, line: &[u8]) -> Result<(), 
     }
 }
 
-/// A line, to the messages.
+/// A line, to the messages. Fault: `Write` of the messages.
 #[tactic(auto, using(crate::proofs::Writing::to_the_messages, crate::proofs::Writing::put_takes_none))]
 pub fn put_message<U: Sink>(messages: &mut U, line: &[u8]) -> Result<(), AsmFault>
     ensures writes { (object listing : Output) → Writes

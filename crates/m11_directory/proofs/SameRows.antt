@@ -16,7 +16,7 @@ use Rattle.m11_placement.specs.Tables.{Table}
 use Rattle.m11_table.specs.Alike.{Alike}
 use Rattle.m11_directory.specs.Definitions.{definition_row, definition_rows, row_by}
 use Rattle.m11_directory.specs.FirstPass.{DirectoryFacts}
-use Rattle.m11_directory.specs.Laws.{TellTheSame}
+use Rattle.m11_directory.specs.Laws.{FirstPassesAgree}
 use Rattle.m11_directory.specs.Names.{has_name, ordered}
 use Rattle.m11_directory.specs.References.{is_open, is_open_by, reference_row, reference_rows, references}
 use Rattle.m11_directory.specs.Rows.{all_section_rows, directory_rows, identification_rows, module_row, references_under, rows_under, section_row, section_rows}
@@ -78,7 +78,7 @@ has_open facts name =
     ∙ ap (λ (b : Bool). is_open facts.table name && b)
     (list_any-append (λ (other : Name). is_same_name other name) facts.referred facts.table.globals)
 
-module _ (one other : DirectoryFacts) (same : TellTheSame one other) where
+module _ (one other : DirectoryFacts) (same : FirstPassesAgree one other) where
   references_same : references one ≡ references other
   references_same =
       ordered_same (filter (is_open one.table) (one.referred ++ one.table.globals))

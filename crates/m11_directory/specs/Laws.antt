@@ -20,7 +20,7 @@ pub record AreInOrder (list names : List Name) : Type 0 where
   pub ordered : AreOrdered list
   pub same : HaveTheSame list names
 
-pub record TellTheSame (one other : DirectoryFacts) : Type 0 where
+pub record FirstPassesAgree (one other : DirectoryFacts) : Type 0 where
   pub tables : Alike one.table other.table
   pub sizes : (number : ℕ) → number < length one.table.sections → one.size_of number ≡ other.size_of number
   pub referred : HaveTheSame one.referred other.referred

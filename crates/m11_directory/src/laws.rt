@@ -3,7 +3,7 @@
 ghost use Rattle.std.specs.Prelude.{◌≡◌, List};
 ghost use Rattle.m11_base.specs.Rad50.{Name};
 ghost use Rattle.m11_directory.specs.FirstPass.{DirectoryFacts};
-ghost use Rattle.m11_directory.specs.Laws.{AreInOrder, TellTheSame};
+ghost use Rattle.m11_directory.specs.Laws.{AreInOrder, FirstPassesAgree};
 ghost use Rattle.m11_directory.specs.Names.{ordered};
 ghost use Rattle.m11_directory.specs.Rows.{directory_rows};
 
@@ -21,5 +21,5 @@ pub fn names_in_order_are_these_alone()
 /// A directory's rows depend on the last definition of each name, on which names are global, referred to and weak, and on nothing
 /// else of how a table keeps them: first passes that agree have the same rows.
 pub fn first_passes_that_agree_have_the_same_rows()
-    ensures { (one other : DirectoryFacts) → TellTheSame one other → directory_rows one ≡ directory_rows other }
+    ensures { (one other : DirectoryFacts) → FirstPassesAgree one other → directory_rows one ≡ directory_rows other }
 {}

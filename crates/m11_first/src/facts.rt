@@ -95,7 +95,7 @@ impl Facts {
         self.transfer
     }
 
-    /// Notes what a placed line says, where the table is that after the line.
+    /// Notes what a placed line says, where the table is that after the line. Error: memory may be refused.
     pub fn note(&mut self, line: &PlacedLine, table: &Table) -> Result<(), AllocError>
         ensures { IfOk result (λ _. (before : LineTable) (given : Given) (put : Put) → IsPlaced empty_map before given line.now put
             → Alike table.now (after_line empty_map before given) → self.new ≡ with_line before given self.old) }

@@ -39,7 +39,7 @@ impl Model for First {
 }
 
 impl First {
-    /// Before the first line.
+    /// Before the first line. Error: memory may be refused.
     pub fn new(alloc: Global) -> Result<First, AllocError>
         ensures { IfOk result (λ first. FirstStands [] first) }
     {

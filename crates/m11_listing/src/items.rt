@@ -24,7 +24,9 @@ pub enum Mark {
 /// A byte or a word that a line puts, or the word that it assigns.
 #[derive(Clone, Copy, Debug, PartialEq, Eq)]
 pub enum Item {
+    /// A byte, with its mark.
     InByte(u8, Mark),
+    /// A word, with its mark.
     InWord(u16, Mark),
 }
 

@@ -43,7 +43,8 @@ fn put_places(line: &mut Line, place: u16, items: &[Item])
     put_items(line, items);
 }
 
-/// The line of a source line: the first four of its letters, its number, a place, the first three of its items, and its text.
+/// The line of a source line: the first four of its letters, its number, a place, the first three of its items, and its text, which has
+/// at most 132 characters.
 pub fn listed_line(letters: &[u8], number: u16, place: u16, items: &[Item], text: &[u8]) -> Line
     requires { length text.now ≤ 132 }
     ensures { result.items ≡ spec.listed_line letters.now number place items.now text.now }

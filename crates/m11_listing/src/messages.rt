@@ -8,7 +8,7 @@ use crate::columns::put_printed;
 use itoa::Buffer;
 use m11_print::{Line, ended, put};
 
-/// The message of a flagged line: its letters, its number and its text.
+/// The message of a flagged line: its letters, 14 at most, its number, and its text of at most 132 characters.
 pub fn message_line(letters: &[u8], number: u16, text: &[u8]) -> Line
     requires few { length letters.now ≤ 14 }
     requires short { length text.now ≤ 132 }

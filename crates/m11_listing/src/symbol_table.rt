@@ -13,7 +13,9 @@ use m11_print::{Line, ended, put, put_attributes};
 /// The value that a name has at the end of the first pass.
 #[derive(Clone, Copy, Debug, PartialEq, Eq)]
 pub enum SymbolValue {
+    /// It has none.
     Unknown,
+    /// A number that no section moves.
     Absolute(u16),
     /// A place of the section of this number.
     Relocatable { place: u16, section: u8 },
@@ -24,8 +26,11 @@ pub enum SymbolValue {
 /// A name of the table.
 #[derive(Clone, Copy, Debug, PartialEq, Eq)]
 pub struct SymbolEntry {
+    /// Its six characters.
     pub name: Name,
+    /// Whether its last definition is another than a label.
     pub is_assigned: bool,
+    /// What it is.
     pub value: SymbolValue,
     /// Whether the object has it, as a definition or as a reference.
     pub is_global: bool,
@@ -34,9 +39,13 @@ pub struct SymbolEntry {
 /// A section of the table, with its size in bytes.
 #[derive(Clone, Copy, Debug, PartialEq, Eq)]
 pub struct SectionEntry {
+    /// Its six characters.
     pub name: Name,
+    /// From 0 to the greatest place that its counter had after a line.
     pub size: u16,
+    /// 63 at most, in the order in which sections appear.
     pub number: u8,
+    /// Those of its first directive, and of each later one that names some.
     pub attributes: SectionFlags,
 }
 

@@ -17,10 +17,10 @@ use Rattle.m11_passes.specs.Reaching.{Exceeds}
 use Rattle.m11_passes.specs.Reaching as reaching
 use Rattle.m11_passes.specs.Refusals.{given_by, line_fault}
 use Rattle.m11_passes.specs.declared.fault.PassFault.{PassFault}
-use Rattle.m11_maps.specs.Maps.{TellTheSame}
+use Rattle.m11_maps.specs.Maps.{MapsAgree}
 use Rattle.m11_maps.proofs.MapsAlike.{after_line_same, line_fault_same}
 
-module _ (one other : Map) (same : TellTheSame one other) where
+module _ (one other : Map) (same : MapsAgree one other) where
   -- ---- after some lines
 
   pub after_lines_same : (all : List Given) (table : Table) → after_lines one table all ≡ after_lines other table all

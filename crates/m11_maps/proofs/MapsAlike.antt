@@ -63,11 +63,11 @@ use Rattle.m11_table.specs.Alike.{Alike}
 use Rattle.m11_placing.specs.Moved.{is_place_of, letter_P, moved_key, moved_kind, moved_letters, moved_name}
 use Rattle.m11_passes.specs.Placed.{all_letters}
 use Rattle.m11_passes.specs.Refusals.{act_refused, given_by, labels_fault, line_fault, of_limit}
-use Rattle.m11_maps.specs.Maps.{TellTheSame}
+use Rattle.m11_maps.specs.Maps.{MapsAgree}
 
 -- ---- tables that are alike
 
-pub maps_same : (one other : Table) → Alike one other → TellTheSame (map_of one) (map_of other)
+pub maps_same : (one other : Table) → Alike one other → MapsAgree (map_of one) (map_of other)
 maps_same one other alike = record {
   definitions = alike.definitions;
   doubled = alike.doubled;
@@ -83,7 +83,7 @@ same_doubled key one other unknown same (Some definition) =
     ap (λ (b : Bool). quantity_of (letter_if b letter_D) definition.standing) same
 same_doubled key one other unknown same None = refl
 
-module _ (one other : Map) (same : TellTheSame one other) where
+module _ (one other : Map) (same : MapsAgree one other) where
   map_same : (key : Key) (unknown : Quantity)
       → defined_or key one.doubled unknown (last_definition key one.definitions)
       ≡ defined_or key other.doubled unknown (last_definition key other.definitions)

@@ -7,7 +7,7 @@ use Rattle.m11_placement.specs.Definitions.{has_key, last_definition}
 use Rattle.m11_placement.specs.Meanings.{Map}
 use Rattle.m11_placement.specs.declared.definitions.Key.{Key}
 
-pub record TellTheSame (one other : Map) : Type 0 where
+pub record MapsAgree (one other : Map) : Type 0 where
   -- each key has the same last definition, and is doubled in both or in none; each name is global in both or in none; both have the same
   -- sections
   pub definitions : (key : Key) → last_definition key one.definitions ≡ last_definition key other.definitions

@@ -18,41 +18,41 @@ ghost use Rattle.m11_passes.specs.Placed.{all_letters};
 ghost use Rattle.m11_passes.specs.Reaching.{Exceeds};
 ghost use Rattle.m11_passes.specs.Refusals.{line_fault};
 ghost use Rattle.m11_passes.specs.declared.fault.PassFault.{PassFault};
-ghost use Rattle.m11_maps.specs.Maps.{TellTheSame};
+ghost use Rattle.m11_maps.specs.Maps.{MapsAgree};
 
 /// Where one table keeps all definitions of a source and another the last of each key, their maps agree.
 pub fn tables_alike_give_maps_that_agree()
-    ensures { (one other : Table) → Alike one other → TellTheSame (map_of one) (map_of other) }
+    ensures { (one other : Table) → Alike one other → MapsAgree (map_of one) (map_of other) }
 {}
 
 /// Under maps that agree each line puts and changes the same after any table, and has the same pieces, the same letters and the
 /// same fault; after any lines the table is the same, and the names that are mentioned are.
 pub fn maps_that_agree_place_lines_alike()
-    ensures puts { (one other : Map) → TellTheSame one other → (table : Table) (given : Given)
+    ensures puts { (one other : Map) → MapsAgree one other → (table : Table) (given : Given)
         → line_put one table given ≡ line_put other table given }
-    ensures changes { (one other : Map) → TellTheSame one other → (table : Table) (given : Given)
+    ensures changes { (one other : Map) → MapsAgree one other → (table : Table) (given : Given)
         → after_line one table given ≡ after_line other table given }
-    ensures pieces { (one other : Map) → TellTheSame one other → (table : Table) (given : Given)
+    ensures pieces { (one other : Map) → MapsAgree one other → (table : Table) (given : Given)
         → pieces one table given ≡ pieces other table given }
-    ensures letters { (one other : Map) → TellTheSame one other → (table : Table) (given : Given)
+    ensures letters { (one other : Map) → MapsAgree one other → (table : Table) (given : Given)
         → letters one table given ≡ letters other table given }
-    ensures moves { (one other : Map) → TellTheSame one other → (line : Bytes) (table : Table) (labels : List Label)
+    ensures moves { (one other : Map) → MapsAgree one other → (line : Bytes) (table : Table) (labels : List Label)
         → moved_letters one line table labels ≡ moved_letters other line table labels }
-    ensures all_letters { (one other : Map) → TellTheSame one other → (table : Table) (given : Given)
+    ensures all_letters { (one other : Map) → MapsAgree one other → (table : Table) (given : Given)
         → all_letters one table given ≡ all_letters other table given }
-    ensures tables { (one other : Map) → TellTheSame one other → (lines : List Numbered) → table_at one lines ≡ table_at other lines }
-    ensures names { (one other : Map) → TellTheSame one other → (names : List Name) (lines : List Numbered)
+    ensures tables { (one other : Map) → MapsAgree one other → (lines : List Numbered) → table_at one lines ≡ table_at other lines }
+    ensures names { (one other : Map) → MapsAgree one other → (names : List Name) (lines : List Numbered)
         → names_at one names lines ≡ names_at other names lines }
-    ensures faults { (one other : Map) → TellTheSame one other → (table : Table) (names : List Name) (live : Live) (stage : Stage)
+    ensures faults { (one other : Map) → MapsAgree one other → (table : Table) (names : List Name) (live : Live) (stage : Stage)
         → line_fault one table names live stage ≡ line_fault other table names live stage }
 {}
 
 /// Under maps that agree a source has the same live lines, and passes the same limits.
 pub fn maps_that_agree_have_the_same_live_lines()
-    ensures lines { (one other : Map) → TellTheSame one other
+    ensures lines { (one other : Map) → MapsAgree one other
         → (names : List Name) (source : List SourceLine) (lines : List Numbered) (stage : Stage)
         → PassLines one names source lines stage → PassLines other names source lines stage }
-    ensures limits { (one other : Map) → TellTheSame one other
+    ensures limits { (one other : Map) → MapsAgree one other
         → (names : List Name) (source : List SourceLine) (lines : List Numbered) (fault : PassFault)
         → Exceeds one names source lines fault → Exceeds other names source lines fault }
 {}

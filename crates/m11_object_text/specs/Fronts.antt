@@ -3,13 +3,13 @@
 use Rattle.std.specs.Prelude.{◌≡◌, ℕ, zero, suc, Bool, true, false, if◌then◌else◌, List, [], ◌∷◌, ◌++◌, length, take, drop, ⊤}
 use Rattle.std.specs.List.{flat_map}
 
--- the longest beginning, of at most so many items, that passes
+-- the longest beginning, of at most n items, that passes
 abbrev pub longest_front : {A : Type 0} → (List A → Bool) → ℕ → List A → List A
 longest_front passes zero items = []
 longest_front passes (suc most) items =
     if passes (take (suc most) items) then take (suc most) items else longest_front passes most items
 
--- at most so many fronts
+-- at most n fronts
 abbrev pub fronts_by : {A : Type 0} → (List A → Bool) → ℕ → List A → List (List A)
 fronts_by passes zero items = []
 fronts_by passes (suc most) [] = []

@@ -37,7 +37,9 @@ pub enum RelocationKind {
 /// A constant and what becomes of it.
 #[derive(Clone, Copy, Debug, PartialEq, Eq)]
 pub struct Stored {
+    /// A word; of a byte its low half counts.
     pub constant: u16,
+    /// How a linker changes it.
     pub kind: RelocationKind,
 }
 
@@ -59,6 +61,7 @@ pub struct Piece {
     pub section: Name,
     /// The place of its first byte, from the beginning of the section.
     pub place: u16,
+    /// What it is.
     pub content: PieceContent,
 }
 

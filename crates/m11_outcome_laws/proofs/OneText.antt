@@ -22,7 +22,7 @@ use Rattle.m11_second.specs.Program.{Program, program_of}
 use Rattle.m11_second.specs.Written.{Ended, flagged_count, program_writes}
 use Rattle.m11_unfolding.specs.Stages.{Stage}
 use Rattle.m11_unfolding.specs.Unfolding.{Given}
-use Rattle.m11_outcome_laws.specs.OneText.{IsToldByFirst, Repeats, program_after}
+use Rattle.m11_outcome_laws.specs.OneText.{IsDecidedByFirst, Repeats, program_after}
 use Rattle.m11_outcome_laws.proofs.EachPass.{Comes, EachEnds, comes_by}
 use Rattle.m11_outcome_laws.proofs.OnePass.{EndsSo, ends_so, none_some, same_ended, unended_after}
 
@@ -125,7 +125,7 @@ module _ (alike : EndAlike) (passes_none : PassesNone) (reading : Reading) where
       same_end alike passes_none reading lines ended ends others end
       (subst (λ (p : Program). Ends p.map p.mentioned.names reading others end) is ends')
 
-  pub told_by_first : (all : Outcome) → HasOutcome reading reading all → IsToldByFirst reading all
+  pub told_by_first : (all : Outcome) → HasOutcome reading reading all → IsDecidedByFirst reading all
   told_by_first _ (outcome.HasOutcome.FirstRefuses lines fault refuses) = (refl, lines, refuses)
   told_by_first _ (outcome.HasOutcome.SecondRefuses lines ended program others fault ends is refuses) =
       absurd (never_under lines others ended program fault ends is refuses)

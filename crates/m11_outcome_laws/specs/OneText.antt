@@ -1,4 +1,4 @@
--- What two passes over one text come to. (MACRO-11 Language Reference Manual, "Symbols" and "Diagnostic error message summary". That a text is
+-- What two passes over one text give. (MACRO-11 Language Reference Manual, "Symbols" and "Diagnostic error message summary". That a text is
 -- read twice, is this project's own.)
 use Rattle.std.specs.Prelude.{◌≡◌, List, [], ◌∷◌, ◌++◌}
 use Rattle.m11_asm.specs.Outcome.{Assembled, Ends, Outcome, Refused, Refuses}
@@ -20,7 +20,7 @@ pub record Repeats (reading : Reading) (lines : List Numbered) (ended : Ended) :
       → moved_after (program_after lines).map before this ≡ 0
 
 -- the first pass decides the outcome: it is refused, and nothing is written; or its live lines are written
-abbrev pub IsToldByFirst : Reading → Outcome → Type 0
-IsToldByFirst reading (Refused fault writes) = (writes ≡ []) × (lines : List Numbered) × Refuses empty_map [] reading lines fault
-IsToldByFirst reading (Assembled writes flagged) = (lines : List Numbered) × (ended : Ended) × Ends empty_map [] reading lines ended
+abbrev pub IsDecidedByFirst : Reading → Outcome → Type 0
+IsDecidedByFirst reading (Refused fault writes) = (writes ≡ []) × (lines : List Numbered) × Refuses empty_map [] reading lines fault
+IsDecidedByFirst reading (Assembled writes flagged) = (lines : List Numbered) × (ended : Ended) × Ends empty_map [] reading lines ended
     × (writes ≡ program_writes (program_after lines) lines ended) × (flagged ≡ flagged_count (program_after lines) lines ended.has_end)

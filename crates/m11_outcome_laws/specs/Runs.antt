@@ -1,4 +1,4 @@
--- What a run comes to whose sources are refused. (This project's own.)
+-- How a run ends whose sources are refused. (This project's own.)
 use Rattle.std.specs.Prelude.{◌≡◌, List, [], ⊤}
 use Rattle.m11_asm.specs.Outcome.{HasOutcome, Refused}
 use Rattle.m11_asm.specs.Passes.{Pass, Reads}

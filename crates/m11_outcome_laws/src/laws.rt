@@ -9,7 +9,7 @@ ghost use Rattle.m11_asm_outputs.specs.declared.fault.AsmFault.{AsmFault};
 ghost use Rattle.m11_asm_outputs.specs.declared.fault.AsmOutput.{AsmOutput};
 ghost use Rattle.m11_base.specs.Devices.{Bytes};
 ghost use Rattle.m11_outcome_laws.specs.Messages.{messages_in};
-ghost use Rattle.m11_outcome_laws.specs.OneText.{IsToldByFirst, Repeats, program_after};
+ghost use Rattle.m11_outcome_laws.specs.OneText.{IsDecidedByFirst, Repeats, program_after};
 ghost use Rattle.m11_outcome_laws.specs.Runs.{IsOfSources, IsRefused};
 ghost use Rattle.m11_outcome_laws.specs.Sources.{AssembleTo};
 ghost use Rattle.m11_passes.specs.Lines.{Numbered};
@@ -20,7 +20,7 @@ ghost use Rattle.m11_second.specs.Written.{Ended, flagged_count, program_writes}
 
 use m11_pass_laws::{
     a_pass_has_one_end, a_second_pass_over_the_same_lines_passes_no_limit,
-    each_pass_comes_to_its_end_or_passes_a_limit,
+    each_pass_reaches_its_end_or_passes_a_limit,
     no_label_has_moved_in_a_second_pass_over_the_same_lines, the_same_lines_are_read_alike,
 };
 use m11_readings::sources_after_a_line_feed_are_one_text;
@@ -37,7 +37,7 @@ pub fn sources_have_one_outcome()
 pub fn each_list_of_sources_has_an_outcome()
     ensures { (first second : Reading) → (outcome : Outcome) × HasOutcome first second outcome }
 {
-    each_pass_comes_to_its_end_or_passes_a_limit();
+    each_pass_reaches_its_end_or_passes_a_limit();
 }
 
 /// Where the first of two sources ends in a line feed, they assemble to what the one text that they make together assembles to, whatever
@@ -58,10 +58,10 @@ pub fn the_same_text_has_no_moved_label_and_no_second_refusal()
     ensures refuses { (reading : Reading) (lines others : List Numbered) (ended : Ended) (fault : AsmFault)
         → Ends empty_map [] reading lines ended
         → Refuses (program_after lines).map (program_after lines).mentioned.names reading others fault → ⊥ }
-    ensures outcome { (reading : Reading) (outcome : Outcome) → HasOutcome reading reading outcome → IsToldByFirst reading outcome }
+    ensures outcome { (reading : Reading) (outcome : Outcome) → HasOutcome reading reading outcome → IsDecidedByFirst reading outcome }
 {
     the_same_lines_are_read_alike();
-    each_pass_comes_to_its_end_or_passes_a_limit();
+    each_pass_reaches_its_end_or_passes_a_limit();
     a_second_pass_over_the_same_lines_passes_no_limit();
     no_label_has_moved_in_a_second_pass_over_the_same_lines();
 }

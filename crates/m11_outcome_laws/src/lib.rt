@@ -1,7 +1,7 @@
 //! Laws of the outcome of sources, without code: that there is one outcome and no other, that two sources after a line feed are one text,
-//! what two passes over one text come to, what a run that the sources refuse has written, how many messages there are, and what a listing
-//! leaves as it is. Each is the contract of a function that does
-//! nothing but to call the laws that its own follows from; no other crate names them.
+//! what two passes over one text give, what a run that the sources refuse has written, how many messages there are, and what a listing
+//! leaves as it is. Each is the contract of a function that does nothing but to call the laws that its own follows from; no other crate
+//! names them.
 #![tactic(auto)]
 
 mod laws;

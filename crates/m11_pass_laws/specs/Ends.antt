@@ -25,7 +25,7 @@ pub record ExceedsAfter (map : Map) (names : List Name) (all source : List Sourc
   pub more : List SourceLine
   pub whole : source ++ more ≡ all
 
--- a pass over all these lines comes to its end, or passes a limit
+-- a pass over all these lines reaches its end, or passes a limit
 pub data HasEnd (map : Map) (names : List Name) (all : List SourceLine) : Type 0 where
   AtEnd : (source : List SourceLine) (lines : List Numbered) (stage : Stage) → EndsAfter map names all source lines stage
       → HasEnd map names all

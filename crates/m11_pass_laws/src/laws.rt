@@ -40,8 +40,8 @@ pub fn a_pass_has_one_end()
         (fault : PassFault) → EndsAfter map names all source lines stage → ExceedsAfter map names all other later fault → ⊥ }
 {}
 
-/// Each pass over lines comes to its end or passes a limit, whatever the lines are: it takes no more than 200,000 lines, and each opens one
+/// Each pass over lines reaches its end or passes a limit, whatever the lines are: it takes no more than 200,000 lines, and each opens one
 /// expansion at most. With `a_pass_has_one_end` it does just one of the two.
-pub fn each_pass_comes_to_its_end_or_passes_a_limit()
+pub fn each_pass_reaches_its_end_or_passes_a_limit()
     ensures { (map : Map) (names : List Name) (all : List SourceLine) → HasEnd map names all }
 {}

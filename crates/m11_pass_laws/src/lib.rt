@@ -1,5 +1,5 @@
 //! Laws of passes: how many live lines a pass over a source has at most; that any two passes over one source, under one map and after
-//! the same names, have the same live lines and one end, which each pass comes to; and what holds of a second pass over the lines of a
+//! the same names, have the same live lines and one end, which each pass reaches; and what holds of a second pass over the lines of a
 //! first one, under another map. Each is the contract of a function that does nothing, but to call the laws that its own follows from.
 #![tactic(auto)]
 
@@ -8,7 +8,7 @@ mod second;
 
 pub use laws::{
     a_pass_has_one_end, a_source_has_at_most_200000_live_lines,
-    each_pass_comes_to_its_end_or_passes_a_limit, one_pass_goes_on_from_the_other,
+    each_pass_reaches_its_end_or_passes_a_limit, one_pass_goes_on_from_the_other,
 };
 pub use second::{
     a_second_pass_over_the_same_lines_passes_no_limit,

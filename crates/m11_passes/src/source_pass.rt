@@ -41,7 +41,8 @@ impl Model for SourcePass {
 }
 
 impl SourcePass {
-    /// Before the first line. The names that an earlier pass mentioned count with those of this one.
+    /// Before the first line. The names that an earlier pass mentioned count with those of this one. Error: memory may be
+    /// refused.
     pub fn new(alloc: Global, mentioned: Mentioned) -> Result<SourcePass, AllocError>
         requires { length mentioned.names ≤ most_names }
         ensures stands { IfOk result (λ pass. (map : Meanings) → PassStands map mentioned [] [] pass.going) }
@@ -85,26 +86,12 @@ impl SourcePass {
         self.state.pass.table()
     }
 
-    /// The size of the section of a number, in bytes.
+    /// The size of the section of a number, 63 at most, in bytes.
     pub fn size(&self, number: usize) -> u16
         requires { number < 64 }
         ensures { result ≡ size_at self.now.going.kept.sizes number }
     {
         self.state.pass.size(number)
-    }
-
-    /// The sizes of sections by their numbers, in bytes.
-    pub fn sizes(&self) -> &[u16; 64]
-        ensures { result.now ≡ self.now.going.kept.sizes }
-    {
-        self.state.pass.sizes()
-    }
-
-    /// The names that the lines so far mention.
-    pub fn mentioned(&self) -> &Mentioned
-        ensures { result.now ≡ self.now.going.gathered }
-    {
-        &self.state.mentioned
     }
 
     /// What the pass leaves: its table with the sizes of sections, and the names that its lines mention. No limit is passed, where no fault

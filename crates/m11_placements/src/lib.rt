@@ -1,5 +1,5 @@
-//! Lines of sources with what they put at their places, worked by hand: each row is a source, the letters of its lines and its pieces,
-//! and the definitions of placing give just that. Each law is the contract of a function that does nothing; no other crate names them.
+//! Lines of sources worked by hand: what they put and their letters, what conditions find, what a listing shows, titles, names and limits;
+//! the definitions of m11_placement give just that. Each law is the contract of a function that does nothing; no other crate names them.
 #![tactic(auto)]
 
 mod conditions;

@@ -1,4 +1,5 @@
-//! Relocations and sections as they were worked by hand. (RT-11 Volume and File Formats Manual, "Object file format", RLD block.)
+//! Relocations, sections, what sources give beside their pieces, and the limit on sections, worked by hand. (RT-11 Volume and File Formats
+//! Manual, "Object file format", RLD block; MACRO-11 Language Reference Manual, "Program section directives" and ".TITLE directive".)
 
 ghost use Rattle.std.specs.Prelude.{◌≡◌, map};
 ghost use Rattle.m11_placements.specs.LimitRows.{faults, worked_faults};

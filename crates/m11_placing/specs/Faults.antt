@@ -1,4 +1,4 @@
--- What a refusal says: the limit that is passed. (This project's own.)
+-- What a refusal says: the limit that is passed, or that memory was refused. (This project's own.)
 use Rattle.m11_placing.specs.declared.fault.PlacingFault.{PlacingFault}
 use Rattle.m11_placing.specs.declared.fault.PlacingFault.TheVariants.{TooManySymbols, TooManySections, NoMemory}
 

@@ -13,7 +13,7 @@ use m11_placement::{Directive, Operator};
 use m11_scan::{Line, six_characters};
 use m11_statements::{Assignment, Body, Span, labels_and_body_stand_in_order};
 
-/// What stands after the labels of a line.
+/// What a line does after its labels: the manual's operator field, a direct assignment, or nothing of either.
 #[derive(Clone, Copy)]
 pub enum Deed {
     /// Nothing that places anything.

@@ -1,4 +1,4 @@
-//! Why a line is refused: a limit is passed.
+//! Why a line is refused: a limit is passed, or memory was refused.
 
 ghost use Rattle.std.specs.Prelude.{◌≡◌};
 ghost use Rattle.m11_placing.specs.declared.fault.PlacingFault.TheVariants.{NoMemory};

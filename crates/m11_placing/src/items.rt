@@ -24,6 +24,7 @@ use m11_values::{Kind, Value};
 use std::alloc::AllocError;
 
 /// Adds what is shown of a byte, a word or a pair of limits: its constant, and what a linker does to it.
+/// Error: memory may be refused.
 pub fn add_content_items(items: &mut Vec<Item>, content: &PieceContent) -> Result<(), AllocError>
     ensures { IfOk result (λ _. items.new.items ≡ items.old.items ++ spec.content_items content.now) }
 {

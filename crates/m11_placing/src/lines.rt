@@ -40,6 +40,7 @@ pub fn deed_change(table: &Table, line: &Line, arguments: Option<u16>, deed: &De
 }
 
 /// What it puts at its places, with the letters of the operator and its arguments: under a map, what a whole source gives its names.
+/// Error: memory may be refused.
 pub fn put_deed(
     put: &mut Put,
     map: &Map<'_>,

@@ -86,7 +86,7 @@ impl Mentioned {
         }
     }
 
-    /// A symbol that is mentioned.
+    /// A symbol that is mentioned. Errors are those of `add_all`.
     pub fn add(&mut self, symbol: Symbol, context: Context) -> Result<(), PlacingFault>
         ensures { Adds (mention context symbol ∷ []) self.old self.new result }
     {

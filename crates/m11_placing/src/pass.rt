@@ -47,7 +47,7 @@ impl Model for Pass {
 }
 
 impl Pass {
-    /// Before the first line.
+    /// Before the first line. Error: memory may be refused.
     pub fn new(alloc: Global) -> Result<Pass, AllocError>
         ensures { IfOk result (λ pass. Matches pass first_table) }
     {
@@ -66,7 +66,8 @@ impl Pass {
         &self.table
     }
 
-    /// The size of the section of a number, in bytes: the greatest place that its counter had after a line.
+    /// The size of the section of a number, in bytes: the greatest place that its counter had after a line. Numbers are
+    /// 63 at most.
     pub fn size(&self, number: usize) -> u16
         requires { number < 64 }
         ensures { result ≡ size_at self.now.sizes number }

@@ -4,7 +4,7 @@ use Rattle.std.specs.Prelude.{is_none}
 use Rattle.std.specs.List.{enumerate_from}
 use Rattle.m11_base.specs.Rad50.{Name}
 use Rattle.m11_directory.specs.FirstPass.{DirectoryFacts}
-use Rattle.m11_directory.specs.Laws.{AreInOrder, HaveTheSame, TellTheSame}
+use Rattle.m11_directory.specs.Laws.{AreInOrder, HaveTheSame, FirstPassesAgree}
 use Rattle.m11_directory.specs.Names.{has_name, ordered}
 use Rattle.m11_listing.specs.declared.symbol_table.SectionEntry.{SectionEntry}
 use Rattle.m11_listing.specs.declared.symbol_table.SymbolEntry.{SymbolEntry}
@@ -20,7 +20,7 @@ both {A} {B} {C} f a b c d e h = ap (λ (x : A). f x c) e ∙ ap (λ (y : B). f 
 
 -- ---- sections
 
-module _ (one other : DirectoryFacts) (same : TellTheSame one other) where
+module _ (one other : DirectoryFacts) (same : FirstPassesAgree one other) where
   entries_from : (number : ℕ) (sections : List Section) → number + length sections ≤ length one.table.sections
       → map (section_entry one) (enumerate_from number sections) ≡ map (section_entry other) (enumerate_from number sections)
   entries_from number [] within = refl
@@ -52,7 +52,7 @@ module _ (in_order : (names : List Name) → AreInOrder (ordered names) names) w
       let P : List Name → Type 0 = λ list. AreInOrder list names in
       subst P (sym (names_of facts (ordered names))) (in_order names)
 
-  module _ (one other : DirectoryFacts) (same : TellTheSame one other) where
+  module _ (one other : DirectoryFacts) (same : FirstPassesAgree one other) where
     global_same : (name : Name) → is_global one name ≡ is_global other name
     global_same name =
         global_or_needed one name in_order

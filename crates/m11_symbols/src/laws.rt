@@ -3,7 +3,7 @@
 ghost use Rattle.std.specs.Prelude.{◌≡◌, List};
 ghost use Rattle.m11_base.specs.Rad50.{Name};
 ghost use Rattle.m11_directory.specs.FirstPass.{DirectoryFacts};
-ghost use Rattle.m11_directory.specs.Laws.{AreInOrder, HaveTheSame, TellTheSame};
+ghost use Rattle.m11_directory.specs.Laws.{AreInOrder, HaveTheSame, FirstPassesAgree};
 ghost use Rattle.m11_symbols.specs.Sections.{section_entries};
 ghost use Rattle.m11_symbols.specs.Symbols.{entry_names, symbol_entries};
 ghost use Rattle.m11_symbols.specs.Worked.{found_lines, worked_lines};
@@ -20,7 +20,7 @@ pub fn each_name_stands_once_and_in_order()
 /// Entries depend on the last definition of each name, on which names are mentioned, global and referred to, and on nothing else
 /// of how a table keeps them: first passes that agree have the same entries of the same names.
 pub fn first_passes_that_agree_have_the_same_symbols()
-    ensures { (one other : DirectoryFacts) (names others : List Name) → TellTheSame one other → HaveTheSame names others
+    ensures { (one other : DirectoryFacts) (names others : List Name) → FirstPassesAgree one other → HaveTheSame names others
         → symbol_entries one names ≡ symbol_entries other others }
 {
     ordered_names_are_in_order();
@@ -29,7 +29,7 @@ pub fn first_passes_that_agree_have_the_same_symbols()
 
 /// The same of sections.
 pub fn first_passes_that_agree_have_the_same_sections()
-    ensures { (one other : DirectoryFacts) → TellTheSame one other → section_entries one ≡ section_entries other }
+    ensures { (one other : DirectoryFacts) → FirstPassesAgree one other → section_entries one ≡ section_entries other }
 {}
 
 /// The last lines of a listing whose names are of every kind.

@@ -26,7 +26,7 @@ fn section_entry(first: &FirstPass<'_>, number: u16) -> SectionEntry
     }
 }
 
-/// The entries of the sections, in the order of their numbers.
+/// The entries of the sections, 64 at most, in the order of their numbers. Error: memory may be refused.
 pub fn section_entries(
     alloc: Global,
     first: &FirstPass<'_>,

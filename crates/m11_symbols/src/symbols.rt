@@ -76,6 +76,7 @@ fn joined_names(alloc: Global, names: &[Name], registers: &[Name]) -> Result<Vec
 }
 
 /// The entries of the names that lines mention, and of the registers that they mention, by the two words of their names.
+/// Error: memory may be refused.
 #[tactic(auto, unfolding(crate::specs::Symbols::symbol_entries))]
 pub fn symbol_entries(
     alloc: Global,

@@ -1,12 +1,12 @@
 use Rattle.m11_asm_outputs.specs.Outputs.{outputs_of}
 use Rattle.m11_asm.specs.Passes.{pass_of}
 use Rattle.m11_asm.proofs.Joined.{asm_runs}
-use Rattle.m11_asm.proofs.ProgramsAgree.{FirstPassesAgree}
+use Rattle.m11_asm.proofs.ProgramsAgree.{LawsOfFirstPasses}
 use Rattle.m11_asm.proofs.run.asm_run.Goals as goal
 
 pub returns-in-Ok-clause-runs : goal.returns-in-Ok-clause-runs
 returns-in-Ok-clause-runs g c =
-    let laws : FirstPassesAgree = record {
+    let laws : LawsOfFirstPasses = record {
       rows = c.first_passes_that_agree_have_the_same_rows.ensures;
       symbols = c.first_passes_that_agree_have_the_same_symbols.ensures;
       sections = c.first_passes_that_agree_have_the_same_sections.ensures;
@@ -19,7 +19,7 @@ returns-in-Ok-clause-runs g c =
 
 pub returns-in-Ok-clause-untouched : goal.returns-in-Ok-clause-untouched
 returns-in-Ok-clause-untouched g c =
-    let laws : FirstPassesAgree = record {
+    let laws : LawsOfFirstPasses = record {
       rows = c.first_passes_that_agree_have_the_same_rows.ensures;
       symbols = c.first_passes_that_agree_have_the_same_symbols.ensures;
       sections = c.first_passes_that_agree_have_the_same_sections.ensures;

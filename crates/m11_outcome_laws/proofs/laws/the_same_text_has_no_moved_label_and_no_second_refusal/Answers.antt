@@ -4,7 +4,7 @@ use Rattle.m11_outcome_laws.proofs.laws.the_same_text_has_no_moved_label_and_no_
 pub returns-clause-repeats : goal.returns-clause-repeats
 returns-clause-repeats c = λ reading lines ended ends.
     repeats c.the_same_lines_are_read_alike.ensures.ends c.a_second_pass_over_the_same_lines_passes_no_limit.ensures.limits reading lines
-    ended ends c.each_pass_comes_to_its_end_or_passes_a_limit.ensures
+    ended ends c.each_pass_reaches_its_end_or_passes_a_limit.ensures
     c.no_label_has_moved_in_a_second_pass_over_the_same_lines.ensures
 
 pub returns-clause-refuses : goal.returns-clause-refuses
