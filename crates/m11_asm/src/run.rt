@@ -12,8 +12,7 @@ use m11_base::{Feed, Sink};
 use m11_directory::first_passes_that_agree_have_the_same_rows;
 use m11_second::AsmDone;
 use m11_symbols::{
-    first_passes_that_agree_have_the_same_sections,
-    first_passes_that_agree_have_the_same_symbols,
+    first_passes_that_agree_have_the_same_sections, first_passes_that_agree_have_the_same_symbols,
 };
 use std::alloc::Global;
 

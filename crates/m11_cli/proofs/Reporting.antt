@@ -7,7 +7,7 @@ use Rattle.m11_base.specs.Devices.{Rises}
 use Rattle.m11_base.specs.Sink.{AppendsBeginning}
 use Rattle.m11_cpu.specs.Dialogue.{Output}
 use Rattle.clap.specs.Words.{Text}
-use Rattle.m11_cli.specs.Driver.{Carries, ComesTo, Store, Streams, Reports, ReportsSome}
+use Rattle.m11_cli.specs.Driver.{Carries, HasOutcome, Store, Streams, Reports, ReportsSome}
 use Rattle.m11_tasks.specs.Tasks.{Plans}
 use Rattle.m11_cli.specs.declared.outcome.Outcome.{Outcome}
 use Rattle.m11_cli.specs.declared.outcome.Outcome.TheVariants.{Usage, Asm, Link, Sim, NotOpened}
@@ -47,7 +47,7 @@ reports_none output = ([], inl (gains_none output.text, refl))
 
 -- the outcome of a task that was carried out is one that the words yield
 pub carried : (words : List Text) (t : Task) (outcome : Outcome) (old new : Store) (before after : Streams)
-    → Plans words (Ok t) → Carries t outcome old new before after → ComesTo words outcome old new before after
+    → Plans words (Ok t) → Carries t outcome old new before after → HasOutcome words outcome old new before after
 carried words (task.Asm asm) (Usage fault) old new before after planned h = absurd h
 carried words (task.Link link) (Usage fault) old new before after planned h = absurd h
 carried words (task.Sim sim) (Usage fault) old new before after planned h = absurd h

@@ -206,14 +206,14 @@ Carries task outcome old new before after = ⊥
 
 -- the words are refused, with one of the refusals that they have, and no file is opened; or a task that they ask for is
 -- carried out
-abbrev pub ComesTo : List Text → Outcome → Store → Store → Streams → Streams → Type 0
-ComesTo words (Usage fault) old new before after = Plans words (Err fault) × (new ≡ old)
+abbrev pub HasOutcome : List Text → Outcome → Store → Store → Streams → Streams → Type 0
+HasOutcome words (Usage fault) old new before after = Plans words (Err fault) × (new ≡ old)
     × (after.input ≡ before.input) × Explains fault before.printed after.printed before.reported after.reported
-ComesTo words outcome old new before after =
+HasOutcome words outcome old new before after =
     (task : Task) × Plans words (Ok task) × Carries task outcome old new before after
 
 -- a command line yields its outcome, and after that the line of the outcome's fault is reported
 abbrev pub Obeys : List Text → Outcome → Store → Store → Streams → Streams → Type 0
 Obeys words outcome old new before after =
-    (reported : Output) × ComesTo words outcome old new before (record after { reported = reported })
+    (reported : Output) × HasOutcome words outcome old new before (record after { reported = reported })
     × Reports (line_of outcome) reported after.reported

@@ -25,9 +25,9 @@ use Rattle.m11_tasks.specs.declared.usage.UsageFault.{UsageFault}
 use Rattle.m11_tasks.specs.declared.usage.UsageFault.TheVariants.{Help, Words}
 use Rattle.m11_unfolding.specs.Fault as unfolded
 
--- a line of words: a blank is 32, a line feed 10
+-- a line of words: a blank is 040, a line feed 012
 abbrev pub line : List Bytes → Bytes
-line words = join_with_byte 32 words ++ 10 ∷ []
+line words = join_with_byte 0o40 words ++ 0o12 ∷ []
 
 -- the line of a fault
 abbrev pub line_for : Bytes → ℕ → Bytes → List Bytes → Bytes
@@ -97,7 +97,7 @@ usage_line (Words error) = []
 usage_line fault = line_for (codes "USAGE") (usage_number fault) (usage_name fault) []
 
 -- the line of what a command yielded; none where there is no fault, and none where the words or the
--- paths have been returned with a text of their own
+-- path that was refused have been reported with a text of their own
 abbrev pub line_of : Outcome → Bytes
 line_of (Usage fault) = usage_line fault
 line_of (Asm (Ok done)) = []

@@ -27,7 +27,8 @@ impl<T: Drop> From<AllocFailed<T>> for WordsFault {
     }
 }
 
-/// The program's name and its arguments, in order.
+/// The program's name and its arguments, in order. Errors: `NoMemory` where memory is refused, and `NotText` with the number of the first
+/// word that is not UTF-8.
 pub fn words<R: Env + AllocGlobal>(rt: &R) -> Result<Vec<String>, WordsFault> {
     let mut words = Vec::new(rt.alloc());
     for number in 0..usize::MAX {
@@ -39,7 +40,7 @@ pub fn words<R: Env + AllocGlobal>(rt: &R) -> Result<Vec<String>, WordsFault> {
     Ok(words)
 }
 
-// The word of a number, if there are n.
+// The word of a number, or None where there are no more words.
 fn word<R: Env + AllocGlobal>(rt: &R, number: usize) -> Result<Option<String>, WordsFault> {
     let mut size = SHORT;
     for _ in 0..usize::BITS {

@@ -3,7 +3,7 @@
 ghost use Rattle.std.specs.Prelude.{◌≡◌, map};
 ghost use Rattle.m11_cpu.specs.Dialogue.{Input, Output, both, input_of, output_of};
 ghost use Rattle.m11_cpu.specs.Simulation.{Simulates, request_of, run_devices};
-ghost use Rattle.m11_cli.specs.Driver.{Assembles, Carries, ComesTo, Explains, Links, Obeys, Store, Reports, ReportsSome, store, streams};
+ghost use Rattle.m11_cli.specs.Driver.{Assembles, Carries, HasOutcome, Explains, Links, Obeys, Store, Reports, ReportsSome, store, streams};
 ghost use Rattle.m11_cli.specs.FaultLines.{line_of, open_line};
 ghost use Rattle.m11_files.specs.Opens.{AreFiles, IsEmptied, IsEmptiedSome, creating, keeping_some};
 ghost use Rattle.m11_tasks.specs.Opened.{asm_inputs, asm_outputs, link_inputs, link_outputs};
@@ -33,9 +33,9 @@ use std::convert::AsStr;
 /// is the program's name.
 ///
 /// Help goes to `out`; refused words, a file that does not open, messages and the line of a fault go
-/// to `err`. The inputs are opened first, in order, each twice; then the outputs are created, an
-/// object before its listing and a tape before its map, and handed back when all has been written to
-/// them. The first file that does not open ends the command, and leaves outputs that were created
+/// to `err`. The inputs are opened first, in order, each twice, but the tape of a run once; then the
+/// outputs are created, an object before its listing and a tape before its map, and handed back when
+/// all has been written to them. The first file that does not open ends the command, and leaves outputs that were created
 /// before it empty. `input` is what a program that is run reads and `out` takes what it prints, each
 /// byte at once; an assembly and a link read nothing of `input`.
 pub fn command<'a, F, I, O, E, S>(
@@ -111,7 +111,7 @@ where
     O: Sink,
     E: Sink,
     S: AsStr,
-    ensures outcome { ComesTo (map S.text words.entry.now) result
+    ensures outcome { HasOutcome (map S.text words.entry.now) result
         (store (F.files files.old) (F.refusals files.old)) (store (F.files files.new) (F.refusals files.new))
         (streams (I.text input.old) (I.faults input.old)
         (O.text out.old) (O.faults out.old) (E.text err.old) (E.faults err.old))

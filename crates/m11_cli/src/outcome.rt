@@ -14,11 +14,11 @@ use m11_tasks::UsageFault;
 pub enum Outcome {
     /// The words gave no task.
     Usage(UsageFault),
-    /// An assembly ran.
+    /// `asm`: what the assembly returned, or NoMemory where memory was refused while files were opened.
     Asm(Result<AsmDone, AsmFault>),
-    /// A link ran.
+    /// `link`: the same of a link.
     Link(Result<LinkDone, LinkFault>),
-    /// A tape was run.
+    /// `sim`: the same of a run; the fault of a tape that was not loaded is one of these.
     Sim(Result<SimDone, SimFault>),
     /// A file could not be opened, so nothing ran.
     NotOpened,

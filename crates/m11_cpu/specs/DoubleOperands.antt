@@ -21,7 +21,7 @@ use Rattle.m11_cpu.specs.declared.addressing.OperandLocation.TheVariants.{InRegi
 
 -- a byte as a word of the same number with a sign
 abbrev pub sign_extended : ℕ → ℕ
-sign_extended byte = if nat_lt (byte % 256) 128 then byte % 256 else byte % 256 + 0o177400
+sign_extended byte = if nat_lt (byte % 0o400) 0o200 then byte % 0o400 else byte % 0o400 + 0o177400
 
 -- MOVB extends the sign of a byte in a register
 unfoldable pub store_moved : OperandLocation → Size → ℕ → Act (Unit {0})

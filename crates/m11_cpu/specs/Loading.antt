@@ -102,7 +102,7 @@ Loads old new before after (Err OutsideMemory) =
     (address : ℕ) × (taken : Bytes) × (here : Place) × InsideData old here before after address taken
     × GivesOutside here new (length before) (address + length taken)
 
--- the same of a feed, of which at most n bytes as a tape may have are read
+-- the same of a feed, of which no more bytes are read than a tape may have
 abbrev pub LoadsFrom : Option Text → Option Text → ℕ → ℕ → Bytes → Bytes → Result ℕ LoadFault → Type 0
 LoadsFrom text text' faults faults' before after result =
     (room : ℕ) × Loads (place text faults most_bytes) (place text' faults' room) before after result

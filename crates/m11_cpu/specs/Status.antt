@@ -7,8 +7,8 @@ use Rattle.m11_cpu.specs.declared.status.ProcessorStatus.{ProcessorStatus}
 -- the status of a word, of which the lower eight bits count
 abbrev pub status_of : ℕ → ProcessorStatus
 status_of bits = record {
-  priority = bits / 32 % 8;
-  trace = bits / 16 % 2 == 1;
+  priority = bits / 0o40 % 0o10;
+  trace = bits / 0o20 % 2 == 1;
   codes = condition_codes_of bits;
 }
 
@@ -21,5 +21,5 @@ bit b = cond b 1 0
 
 -- the word of a status
 abbrev pub psw_of : ProcessorStatus → ℕ
-psw_of status = status.priority % 8 * 32 + bit status.trace * 16 + bit status.codes.negative * 8
+psw_of status = status.priority % 0o10 * 0o40 + bit status.trace * 0o20 + bit status.codes.negative * 0o10
     + bit status.codes.zero * 4 + bit status.codes.overflow * 2 + bit status.codes.carry

@@ -41,7 +41,7 @@ stopped_by stop m = (Stopped (stop_of stop), record m { stopped = Some stop })
 unfoldable pub push_state : Act (Unit {0})
 push_state m = (push (psw_of m.status) >>= λ _ n. push (register_of Pc n) n) m
 
--- what is pushed is loaded from the vector, where that has just been covered; a push that aborts stops the machine
+-- the vector is read after the pushes, which may have stored over it; a push that aborts stops the machine
 abbrev pub trap_pushed : Vector → Result (Unit {0}) Abort → Machine → Dialogue (Turn × Machine)
 trap_pushed vector (Ok done) m = Comes (Next, vectored vector m)
 trap_pushed vector (Err (Traps other)) m = Comes (stopped_by StackFault m)

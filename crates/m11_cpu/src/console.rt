@@ -26,10 +26,15 @@ pub(crate) struct Transmitter {
 /// A register of the console, or the processor status word, which has an address too.
 #[derive(Clone, Copy)]
 pub enum DeviceRegister {
+    /// 177560: done, which is bit 200, and bit 100.
     ReceiverStatus,
+    /// 177562: the byte that came last.
     ReceiverBuffer,
+    /// 177564: ready, which is bit 200, and bit 100.
     TransmitterStatus,
+    /// 177566: it takes the byte to send, and reads 0.
     TransmitterBuffer,
+    /// 177776: the processor status word.
     ProcessorStatus,
 }
 

@@ -184,6 +184,6 @@ impl Machine {
 pub(crate) fn sign_extended(byte: u16) -> u16
     ensures { result ≡ sign_extended byte }
 {
-    let low = byte % 256;
-    if low < 128 { low } else { low + 0o177400 }
+    let low = byte % 0o400;
+    if low < 0o200 { low } else { low + 0o177400 }
 }

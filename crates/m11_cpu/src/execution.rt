@@ -1,7 +1,7 @@
 //! What each instruction does. (PDP-11/40 Processor Handbook, "Instruction set".)
 
 ghost use Rattle.std.specs.Prelude.{◌≡◌};
-ghost use Rattle.m11_cpu.specs.Dialogue.{Does, both, input_alone, output_alone};
+ghost use Rattle.m11_cpu.specs.Dialogue.{Does, both, input_alone};
 ghost use Rattle.m11_cpu.specs.Execution.{bare, conditions_applied, execute, numbered, on_register, reset, return_from_trap};
 
 use crate::abort::{Abort, Vector};

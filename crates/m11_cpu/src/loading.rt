@@ -1,6 +1,6 @@
 //! Loads tapes. (RT-11 Volume and File Formats Manual, "Absolute binary file format".)
 
-ghost use Rattle.std.specs.Prelude.{◌≡◌, ◌+◌, ◌<◌, ◌%◌, length, sum, MatchResult, ⊤};
+ghost use Rattle.std.specs.Prelude.{◌≡◌, ◌<◌, ◌%◌, length, sum, MatchResult, ⊤};
 ghost use Rattle.m11_base.specs.Devices.{Bytes};
 ghost use Rattle.m11_blocks.specs.Limited.{place};
 ghost use Rattle.m11_blocks.specs.Tapes.{tape_header, total_of};

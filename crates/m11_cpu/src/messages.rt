@@ -11,7 +11,8 @@ use arrayvec::ArrayVec;
 use itoa::Buffer;
 use m11_base::{Sink, octal6, put_all};
 
-// A stop's line has at most 66 characters, and the line of registers 91.
+// A stop's line has at most 36 characters, of which the contracts know that they are at most 66, since `itoa` has room for a number of 40
+// digits. The line of registers has 91.
 type Messages = ArrayVec<u8, 160>;
 
 // There is room for what is added, so nothing of it is left out.

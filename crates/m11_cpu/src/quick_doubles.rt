@@ -80,7 +80,7 @@ impl Machine {
         Some(self.register(Register::Pc))
     }
 
-    // A word of CMP, BIT or the like, where one operand is a register: the program counter after it.
+    // A word of CMP or BIT, on words or bytes, where one operand is a register: the program counter after it.
     #[tactic(auto, using(crate::proofs::QuickDone::bind_comes, crate::proofs::QuickDone::comes_at), unfolding(crate::specs::Execution::execute))]
     #[inline(always)]
     pub(crate) fn compare_word(&mut self, operation: DoubleOp, size: Size, word: u16) -> Option<u16>

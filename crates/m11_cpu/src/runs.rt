@@ -1,6 +1,5 @@
 //! Runs: steps, until one stops or a limit is reached.
 
-ghost use Rattle.std.specs.Prelude.{◌≡◌};
 ghost use Rattle.m11_cpu.specs.Dialogue.{Does, both};
 ghost use Rattle.m11_cpu.specs.Runs.{run, run_counted};
 

@@ -1,6 +1,6 @@
 //! A whole run: a tape is loaded and started, and its stop is reported.
 
-ghost use Rattle.std.specs.Prelude.{◌≡◌, ◌≤◌};
+ghost use Rattle.std.specs.Prelude.{◌≤◌};
 ghost use Rattle.m11_cpu.specs.Dialogue.{Does, both, input_of, output_of};
 ghost use Rattle.m11_cpu.specs.Memory.{least_words, most_words};
 ghost use Rattle.m11_cpu.specs.Simulation.{Simulates, request_of, run_devices, started};
@@ -17,8 +17,9 @@ use std::alloc::Global;
 /// on, `limit` of them at most. `start` replaces the transfer address of the tape; an odd address starts
 /// nothing. At the stop two lines go to `messages`: the stop with the number of steps, and the registers.
 ///
-/// Faults: the tape was not loaded, and nothing was run; the messages could not be written, and a beginning of
-/// them was; memory was refused, before anything was read. A failing console is no fault but a stop.
+/// Faults: `NoMemory`, where memory was refused, before anything was read; `Load`, where the tape was not loaded, and
+/// nothing was run; `Write`, where the messages could not be written, and a beginning of them was. A failing console
+/// is no fault but a stop.
 pub fn sim_run<T: Feed, I: Feed, O: Sink, M: Sink>(
     alloc: Global,
     tape: &mut T,

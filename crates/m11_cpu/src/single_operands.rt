@@ -1,6 +1,6 @@
 //! Instructions with one operand. (PDP-11/40 Processor Handbook, "Instruction set": single operand instructions.)
 
-ghost use Rattle.m11_cpu.specs.Dialogue.{Does, both, input_alone, output_alone};
+ghost use Rattle.m11_cpu.specs.Dialogue.{Does, both, input_alone};
 ghost use Rattle.m11_cpu.specs.SingleOperands.{change_at, change_single, single, test_operand, write};
 
 use crate::abort::Abort;

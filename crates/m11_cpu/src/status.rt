@@ -12,6 +12,7 @@ pub struct ProcessorStatus {
     pub priority: u8,
     /// Whether a trace trap follows each instruction.
     pub trace: bool,
+    /// N, Z, V and C.
     pub codes: ConditionCodes,
 }
 
@@ -21,10 +22,10 @@ impl ProcessorStatus {
         ensures { result ≡ status_of bits }
     {
         ProcessorStatus {
-            priority: (bits / 32 % 8) as u8,
-            trace: bits / 16 % 2 == 1,
+            priority: (bits / 0o40 % 0o10) as u8,
+            trace: bits / 0o20 % 2 == 1,
             codes: ConditionCodes {
-                negative: bits / 8 % 2 == 1,
+                negative: bits / 0o10 % 2 == 1,
                 zero: bits / 4 % 2 == 1,
                 overflow: bits / 2 % 2 == 1,
                 carry: bits % 2 == 1,
@@ -47,9 +48,9 @@ impl ProcessorStatus {
         ensures bits { result ≡ psw_of self }
         ensures byte { result < 256 }
     {
-        u16::from(self.priority % 8) * 32
-            + u16::from(self.trace) * 16
-            + u16::from(self.codes.negative) * 8
+        u16::from(self.priority % 0o10) * 0o40
+            + u16::from(self.trace) * 0o20
+            + u16::from(self.codes.negative) * 0o10
             + u16::from(self.codes.zero) * 4
             + u16::from(self.codes.overflow) * 2
             + u16::from(self.codes.carry)

@@ -1,6 +1,5 @@
 //! Steps: one instruction each, with its traps. (PDP-11/40 Processor Handbook, "Processor traps", "Trace trap".)
 
-ghost use Rattle.std.specs.Prelude.{◌≡◌};
 ghost use Rattle.m11_cpu.specs.Dialogue.{Does, both, output_alone};
 ghost use Rattle.m11_cpu.specs.Steps.{ended, instruction, step, turned};
 

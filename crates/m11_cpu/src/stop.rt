@@ -59,6 +59,7 @@ impl LastingStop {
 /// The outcome of a run whose stop was reported: the stop, from which the command takes its status.
 #[derive(Clone, Copy, Debug, PartialEq, Eq)]
 pub struct SimDone {
+    /// Why the run ended.
     pub stop: Stop,
 }
 

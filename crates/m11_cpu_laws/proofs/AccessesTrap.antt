@@ -202,19 +202,19 @@ constant_to act (y ∷ ys) m n first rest x h (inl f) =
     inl (record {
       address = f.address;
       before = f.before;
-      come_to = bind_then act (λ x. y.address) m n first rest x (Ok f.address, f.before) h f.come_to;
+      leads_here = bind_then act (λ x. y.address) m n first rest x (Ok f.address, f.before) h f.leads_here;
       nothing = f.nothing;
     })
 constant_to act (y ∷ ys) m n first rest x h (inr s) = inr (constant_to act ys m n first rest x h s)
 
-abbrev pub is_come_to : Result ℕ Abort × Machine → Bool
-is_come_to y = is_ok y.0
+abbrev pub is_reached : Result ℕ Abort × Machine → Bool
+is_reached y = is_ok y.0
 
--- an address that was come to was come to after the first part
+-- an address that was reached was reached after the first part
 reached : {A : Type 0} (act : Act A) (address : A → Act ℕ) (m before : Machine) (es : List Exchange) (a : ℕ)
     → Aborted {A = A} {B = ℕ} act m es (Ok a, before) ⊎ Came act address m es (Ok a, before)
     → Came act address m es (Ok a, before)
-reached act address m before es a (inl aborted) = absurd (true≢false (ap is_come_to aborted.same))
+reached act address m before es a (inl aborted) = absurd (true≢false (ap is_reached aborted.same))
 reached act address m before es a (inr came) = came
 
 abbrev FindsAfter : {A : Type 0} → Size → (A → Act ℕ) → A → Machine → List Exchange → Type 0
@@ -225,7 +225,7 @@ found_after : {A : Type 0} (act : Act A) (size : Size) (address : A → Act ℕ)
     → Shifted act (λ x n fs. FindsNothing (record { size = size; address = address x }) n fs) m es
 found_after act size address m es f =
     let c = reached act address m f.before es f.address
-    (split act address m es (Ok f.address, f.before) f.come_to) in
+    (split act address m es (Ok f.address, f.before) f.leads_here) in
     record {
       value = c.value;
       machine = c.machine;
@@ -233,7 +233,7 @@ found_after act size address m es f =
       rest = c.rest;
       joined = c.joined;
       leads = c.leads;
-      holds = record { address = f.address; before = f.before; come_to = c.goes_on; nothing = f.nothing };
+      holds = record { address = f.address; before = f.before; leads_here = c.goes_on; nothing = f.nothing };
     }
 
 shifted_map : {A : Type 0} (act : Act A) (P Q : A → Machine → List Exchange → Type 0) (m : Machine)
@@ -276,7 +276,7 @@ through_to act size address m n first rest x h (inl f) =
     inl (record {
       address = f.address;
       before = f.before;
-      come_to = bind_then act address m n first rest x (Ok f.address, f.before) h f.come_to;
+      leads_here = bind_then act address m n first rest x (Ok f.address, f.before) h f.leads_here;
       nothing = f.nothing;
     })
 through_to act size address m n first rest x h (inr s) = absurd s
@@ -354,7 +354,7 @@ one_only {A = A} d access a m before left es true e f k h =
     inl (record {
       address = a;
       before = before;
-      come_to = subst R (sym none) (subst Q (sym e) (leads_now (Ok a, before)));
+      leads_here = subst R (sym none) (subst Q (sym e) (leads_now (Ok a, before)));
       nothing = f;
     })
 one_only d access a m before left es false e f k h = absurd (k.finds refl es left h)
@@ -365,7 +365,7 @@ one_each : {A : Type 0} (d : Dialogue (Result A Abort × Machine)) (access : Acc
     → (left : Machine) × EndsAt4 {A = A} d es left
 one_each {A = A} d access a m before es e k (inl f) =
     let P : Dialogue (Result ℕ Abort × Machine) → Type 0 = λ c. Leads c es (Ok f.address, f.before) in
-    let h = subst P e f.come_to in
+    let h = subst P e f.leads_here in
     let from : Result ℕ Abort × Machine = (Ok a, before) in
     let to : Result ℕ Abort × Machine = (Ok f.address, f.before) in
     let none : es ≡ [] = none_left_over from to es h in

@@ -11,7 +11,7 @@ use Rattle.m11_cpu.specs.declared.stop.LastingStop.{LastingStop}
 use Rattle.m11_cpu.specs.declared.stop.Stop.{Stop}
 use Rattle.m11_cpu_laws.specs.Failures.{StopsAtFailure}
 use Rattle.m11_cpu_laws.specs.Laws.{given}
-use Rattle.m11_cpu_laws.specs.Receiving.{AsksBeforeEnd, Hears, last_given}
+use Rattle.m11_cpu_laws.specs.Receiving.{AsksBeforeEnd, ReceiverChanges, last_given}
 use Rattle.m11_cpu_laws.proofs.Parts.{parts}
 
 -- ---- each way through a dialogue
@@ -57,7 +57,7 @@ abort_stop (Err abort) = stop_by abort
 pub record Talked (r : Receiver) (stands : Option LastingStop) (es : List Exchange) (failure : Option Stop)
     (n : Machine) : Type 0 where
   pub failed : StopsAtFailure es failure
-  pub heard : Hears r es n.receiver
+  pub heard : ReceiverChanges r es n.receiver
   pub kept : n.stopped ≡ stands
 
 abbrev pub Reports : {A : Type 0} → Receiver → Option LastingStop → Dialogue (Result A Abort × Machine) → Type 0
@@ -66,13 +66,13 @@ Reports {A = A} r stands d =
 
 -- ---- nothing, one exchange, and one list of them after the other
 
-pub hears_nothing : (r : Receiver) → Hears r [] r
+pub hears_nothing : (r : Receiver) → ReceiverChanges r [] r
 hears_nothing r = record { asked = refl; byte = refl; done = λ e d. d }
 
 pub quiet : {A : Type 0} {x : Result A Abort} {n : Machine} {r : Receiver} {stands : Option LastingStop}
     → abort_stop x ≡ None → n.receiver ≡ r → n.stopped ≡ stands → Reports r stands (Comes (x, n))
 quiet {A = A} {x = x} {n = n} {r = r} {stands = stands} fine same kept =
-    let P : Receiver → Type 0 = λ s. Hears s [] n.receiver in
+    let P : Receiver → Type 0 = λ s. ReceiverChanges s [] n.receiver in
     every_comes (x, n) _ (record { failed = fine; heard = subst P same (hears_nothing n.receiver); kept = kept })
 
 pub failures_joined : (es fs : List Exchange) (failure : Option Stop) → StopsAtFailure es None → StopsAtFailure fs failure
@@ -106,7 +106,7 @@ none_given (Asked Ends ∷ es) fs h = none_given es fs h
 none_given (Asked Fails ∷ es) fs h = none_given es fs h
 none_given (Sent sent taken ∷ es) fs h = none_given es fs h
 
-pub heard_joined : (r s t : Receiver) (es fs : List Exchange) → Hears r es s → Hears s fs t → Hears r (es ++ fs) t
+pub heard_joined : (r s t : Receiver) (es fs : List Exchange) → ReceiverChanges r es s → ReceiverChanges s fs t → ReceiverChanges r (es ++ fs) t
 heard_joined r s t es fs h k = record {
   asked = asked_joined r.has_ended s.has_ended t.has_ended es fs h.asked k.asked;
   byte = let e = h.byte in let f = k.byte in let g = last_joined r.byte es fs in cc;

@@ -41,7 +41,7 @@ use Rattle.m11_cpu.proofs.RegistersPut.{put_same}
 use Rattle.m11_cpu_laws.specs.Accesses.{Access, accesses_of, after_act, CodeTraps, FindsNothing, InstructionTraps, is_nothing, operand_accesses, pointers, pointers_by, SomeFindsNothing, TrapsAtThese, word_at_first}
 use Rattle.m11_cpu_laws.specs.Addresses.{no_byte_at, no_word_at}
 use Rattle.m11_cpu_laws.specs.Writes.{push_address, stack_deepened}
-use Rattle.m11_cpu_laws.proofs.AccessesTrap.{Accesses, bind_never, comes_never, is_come_to, load_byte_at, load_word_at, never_traps, NeverAt4, one_access, store_byte_at, store_word_at, then_accesses, then_quiet, through_access}
+use Rattle.m11_cpu_laws.proofs.AccessesTrap.{Accesses, bind_never, comes_never, is_reached, load_byte_at, load_word_at, never_traps, NeverAt4, one_access, store_byte_at, store_word_at, then_accesses, then_quiet, through_access}
 use Rattle.m11_cpu_laws.proofs.AddressesTrap.{load_byte_traps, load_word_traps}
 use Rattle.m11_cpu_laws.proofs.MemoryKept.{fetch_quiet}
 use Rattle.m11_cpu_laws.proofs.StopsStand.{at_once}
@@ -115,7 +115,7 @@ no_address : (register : Register) (size : Size) (m : Machine) (es : List Exchan
 no_address register size m es f =
     let from : Result ℕ Abort × Machine = (Err (Traps Reserved), m) in
     let to : Result ℕ Abort × Machine = (Ok f.address, f.before) in
-    true≢false (ap is_come_to (at_once from to es f.come_to))
+    true≢false (ap is_reached (at_once from to es f.leads_here))
 
 some_address : (register : Register) (size : Size) (m : Machine) (es : List Exchange)
     → SomeFindsNothing (access_at (InRegister register) size ∷ []) m es → ⊥

@@ -9,12 +9,12 @@ use Rattle.m11_cpu.specs.declared.abort.Abort.{Abort}
 use Rattle.m11_cpu.specs.declared.console.DeviceRegister.{DeviceRegister}
 use Rattle.m11_cpu.specs.declared.console.DeviceRegister.TheVariants.{ReceiverStatus, ReceiverBuffer, TransmitterStatus, TransmitterBuffer, ProcessorStatus}
 use Rattle.m11_cpu.specs.declared.machine.Machine.{Machine}
-use Rattle.m11_cpu_laws.specs.Receiving.{LoadHears}
+use Rattle.m11_cpu_laws.specs.Receiving.{LoadReceives}
 use Rattle.m11_cpu_laws.proofs.Exchanging.{Every, every_comes}
 use Rattle.m11_cpu_laws.proofs.PartsReport.{still_open}
 
 abbrev Hearing : ℕ → Machine → Dialogue (Result ℕ Abort × Machine) → Type 0
-Hearing address m d = Every {A = Result ℕ Abort × Machine} d (λ es y. LoadHears address m es y.1)
+Hearing address m d = Every {A = Result ℕ Abort × Machine} d (λ es y. LoadReceives address m es y.1)
 
 -- what asks nothing and leaves the receiver
 silent : (address : ℕ) (m : Machine) (x : Result ℕ Abort) → Hearing address m (Comes (x, m))
@@ -116,9 +116,9 @@ byte_hears address m =
     (hearing_cond address m (is_odd address) (silent address m _) (device_hears address m))
 
 pub load_word_hears : (address : ℕ) (m m' : Machine) (came : Result ℕ Abort) (es : List Exchange)
-    → Leads (load_word address m) es (came, m') → LoadHears address m es m'
+    → Leads (load_word address m) es (came, m') → LoadReceives address m es m'
 load_word_hears address m m' came es h = (word_hears address m).each es (came, m') h
 
 pub load_byte_hears : (address : ℕ) (m m' : Machine) (came : Result ℕ Abort) (es : List Exchange)
-    → Leads (load_byte address m) es (came, m') → LoadHears address m es m'
+    → Leads (load_byte address m) es (came, m') → LoadReceives address m es m'
 load_byte_hears address m m' came es h = (byte_hears address m).each es (came, m') h

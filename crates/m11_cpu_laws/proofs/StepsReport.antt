@@ -22,13 +22,13 @@ use Rattle.m11_cpu.specs.declared.stop.Stop.TheVariants as stop
 use Rattle.m11_cpu.specs.declared.stop.Turn.{Turn}
 use Rattle.m11_cpu.specs.declared.stop.Turn.TheVariants.{Next, Stopped}
 use Rattle.m11_cpu_laws.specs.Failures.{device_stop, GoesOn, StopsAtFailure}
-use Rattle.m11_cpu_laws.specs.Receiving.{Hears}
+use Rattle.m11_cpu_laws.specs.Receiving.{ReceiverChanges}
 use Rattle.m11_cpu_laws.proofs.Exchanging.{abort_stop, every_after, every_comes, every_map, Every, failures_joined, heard_joined, hears_nothing, once, Talked, Reports, reports_bind}
 use Rattle.m11_cpu_laws.proofs.PartsReport.{instruction_reports, push_reports}
 
 record TurnReported (r : Receiver) (stands : Option LastingStop) (es : List Exchange) (y : Turn × Machine) : Type 0 where
   failed : StopsAtFailure es (device_stop y.0)
-  heard : Hears r es y.1.receiver
+  heard : ReceiverChanges r es y.1.receiver
   on : stands ≡ None → GoesOn y.0 y.1
 
 turn_joined : (r : Receiver) (stands : Option LastingStop) (es fs : List Exchange) (m : Machine) (y : Turn × Machine)
@@ -135,10 +135,10 @@ standing (Some InputFault) m e es y h = once (λ fs z. GoesOn z.0 z.1) _ es y tt
 standing (Some OutputFault) m e es y h = once (λ fs z. GoesOn z.0 z.1) _ es y tt h
 
 heard_unless : (stands : Option LastingStop) (m : Machine) (es : List Exchange) (y : Turn × Machine)
-    → Leads (step_unless stands m) es y → Hears m.receiver es y.1.receiver
+    → Leads (step_unless stands m) es y → ReceiverChanges m.receiver es y.1.receiver
 heard_unless None m es y h = ((going_reported m).each es y h).heard
 heard_unless (Some lasting) m es y h =
-    once (λ fs z. Hears m.receiver fs z.1.receiver) _ es y (hears_nothing m.receiver) h
+    once (λ fs z. ReceiverChanges m.receiver fs z.1.receiver) _ es y (hears_nothing m.receiver) h
 
 pub step_fails : (m m' : Machine) (turn : Turn) (es : List Exchange) → m.stopped ≡ None
     → Leads (step m) es (turn, m') → StopsAtFailure es (device_stop turn)
@@ -153,6 +153,6 @@ unfolding step
 step_goes_on m m' turn es h = standing m.stopped m refl es (turn, m') h
 
 pub step_hears : (m m' : Machine) (turn : Turn) (es : List Exchange) → Leads (step m) es (turn, m')
-    → Hears m.receiver es m'.receiver
+    → ReceiverChanges m.receiver es m'.receiver
 unfolding step
 step_hears m m' turn es h = heard_unless m.stopped m es (turn, m') h

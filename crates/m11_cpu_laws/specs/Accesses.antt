@@ -90,11 +90,11 @@ abbrev pub is_nothing : Size → ℕ → Machine → Bool
 is_nothing Word address m = no_word_at address m
 is_nothing Byte address m = no_byte_at address m
 
--- by just these exchanges the access is come to, and nothing is there
+-- by just these exchanges the access is reached, and nothing is there
 pub record FindsNothing (access : Access) (m : Machine) (exchanges : List Exchange) : Type 0 where
   pub address : ℕ
   pub before : Machine
-  pub come_to : Leads (access.address m) exchanges (Ok address, before)
+  pub leads_here : Leads (access.address m) exchanges (Ok address, before)
   pub nothing : is_nothing access.size address before ≡ true
 
 abbrev pub SomeFindsNothing : List Access → Machine → List Exchange → Type 0

@@ -25,7 +25,7 @@ last_given byte (Sent sent taken ∷ es) = last_given byte es
 
 -- by these exchanges a receiver becomes another one: nothing is asked after the end; its byte is the last that was
 -- given; and done comes of a byte that was given, or stood before
-pub record Hears (old : Receiver) (exchanges : List Exchange) (new : Receiver) : Type 0 where
+pub record ReceiverChanges (old : Receiver) (exchanges : List Exchange) (new : Receiver) : Type 0 where
   pub asked : AsksBeforeEnd old.has_ended exchanges new.has_ended
   pub byte : new.byte ≡ last_given old.byte exchanges
   pub done : given exchanges ≡ [] → new.is_done ≡ true → old.is_done ≡ true
@@ -37,6 +37,6 @@ pub record AsksAt (address : ℕ) (receiver : Receiver) : Type 0 where
   pub not_ended : receiver.has_ended ≡ false
 
 -- a load asks there alone, and clears done at the receiver's data alone
-pub record LoadHears (address : ℕ) (m : Machine) (exchanges : List Exchange) (m' : Machine) : Type 0 where
+pub record LoadReceives (address : ℕ) (m : Machine) (exchanges : List Exchange) (m' : Machine) : Type 0 where
   pub asks : exchanges ≢ [] → AsksAt address m.receiver
   pub clears : m.receiver.is_done ≡ true → m'.receiver.is_done ≡ false → address ≡ 0o177562

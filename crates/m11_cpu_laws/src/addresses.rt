@@ -47,7 +47,7 @@ pub fn bad_addresses_trap()
 /// An instruction traps through 4 by its accesses alone. The word at the program counter is read, and where nothing is found
 /// there, the step traps. After that the instruction traps exactly where one of the accesses that the handbook gives it
 /// finds nothing: index words and pointers of its operands, the operands, the words that it pushes and pops. Each of them
-/// is come to by what the instruction does before it. (PDP-11/40 Processor Handbook, "Addressing modes", "Instruction
+/// is reached by what the instruction does before it. (PDP-11/40 Processor Handbook, "Addressing modes", "Instruction
 /// set", "Processor traps".)
 pub fn accesses_alone_trap()
     ensures code { (m : Machine) → CodeTraps m }

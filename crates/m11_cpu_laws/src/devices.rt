@@ -8,11 +8,11 @@ ghost use Rattle.m11_cpu.specs.declared.abort.Abort.{Abort};
 ghost use Rattle.m11_cpu.specs.declared.machine.Machine.{Machine};
 ghost use Rattle.m11_cpu.specs.declared.stop.Turn.{Turn};
 ghost use Rattle.m11_cpu_laws.specs.Failures.{device_stop, GoesOn, StopsAtFailure};
-ghost use Rattle.m11_cpu_laws.specs.Receiving.{Hears, LoadHears};
+ghost use Rattle.m11_cpu_laws.specs.Receiving.{ReceiverChanges, LoadReceives};
 ghost use Rattle.m11_cpu_laws.specs.Writes.{MakesSteps};
 
 /// A device that fails stops the step, and nothing else does so by the stops 6 and 7. Where no stop stood before, the
-/// step yields INPUT FAULT exactly where its last exchange is an asking that failed, to OUTPUT FAULT exactly where it
+/// step yields INPUT FAULT exactly where its last exchange is an asking that failed, and OUTPUT FAULT exactly where it
 /// is a byte that was not taken, the pushes of traps included; and no earlier exchange failed. After a step that halts,
 /// waits, or can be followed by another, no stop stands.
 #[tactic(auto, using(crate::proofs::StepsReport::step_fails, crate::proofs::StepsReport::step_goes_on))]
@@ -23,16 +23,16 @@ pub fn failures_stop()
         → Leads (step m) exchanges (turn, m') → GoesOn turn m' }
 {}
 
-/// What the receiver hears. Over a step nothing is asked once the input has returned its end, in that step or before;
+/// How the receiver changes. Over a step nothing is asked once the input has returned its end, in that step or before;
 /// the receiver's byte is then the last byte that was given, or the one before; and done stands only where a byte was
 /// given, or where it stood before. A load asks only at 177560, where done is clear and the end was not returned, and
 /// clears done only at 177562. So no byte is asked for ahead. (SIMH PDP-11 manual, console terminal.)
 #[tactic(auto, using(crate::proofs::StepsReport::step_hears, crate::proofs::LoadsHear::load_word_hears, crate::proofs::LoadsHear::load_byte_hears))]
-pub fn receiver_hears()
+pub fn receiver_asks_nothing_ahead()
     ensures step { (m m' : Machine) (turn : Turn) (exchanges : List Exchange)
-        → Leads (step m) exchanges (turn, m') → Hears m.receiver exchanges m'.receiver }
+        → Leads (step m) exchanges (turn, m') → ReceiverChanges m.receiver exchanges m'.receiver }
     ensures word { (address : ℕ) (m m' : Machine) (came : Result ℕ Abort) (exchanges : List Exchange)
-        → Leads (load_word address m) exchanges (came, m') → LoadHears address m exchanges m' }
+        → Leads (load_word address m) exchanges (came, m') → LoadReceives address m exchanges m' }
     ensures byte { (address : ℕ) (m m' : Machine) (came : Result ℕ Abort) (exchanges : List Exchange)
-        → Leads (load_byte address m) exchanges (came, m') → LoadHears address m exchanges m' }
+        → Leads (load_byte address m) exchanges (came, m') → LoadReceives address m exchanges m' }
 {}

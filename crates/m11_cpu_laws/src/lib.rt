@@ -16,7 +16,7 @@ mod writes;
 
 pub use addresses::{accesses_alone_trap, bad_addresses_trap};
 pub use branching::branches_go;
-pub use devices::{failures_stop, receiver_hears};
+pub use devices::{failures_stop, receiver_asks_nothing_ahead};
 pub use laws::{console_is_exact, runs_are_joined, stops_stand};
 pub use operands::modes_find_their_operands;
 pub use registers::{odd_registers_are_both_words, registers_stay};

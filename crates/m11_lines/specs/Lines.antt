@@ -34,11 +34,11 @@ abbrev pub cut : List (Option ℕ) → Cut
 cut [] = record { lines = []; unclosed = [] }
 cut (None ∷ input) = closed_by false (cut input)
 cut (Some byte ∷ input) =
-    if byte == 10 then closed_by true (cut input) else in_front byte (cut input).lines (cut input).unclosed
+    if byte == 0o12 then closed_by true (cut input) else in_front byte (cut input).lines (cut input).unclosed
 
 -- NULs go, and a form feed is a blank
 abbrev pub as_read : ℕ → ℕ
-as_read byte = if byte == 12 then 32 else byte
+as_read byte = if byte == 0o14 then 0o40 else byte
 
 abbrev pub cleaned : Bytes → Bytes
 cleaned bytes = map as_read (filter (λ byte. not (byte == 0)) bytes)
@@ -82,4 +82,4 @@ most_lines = 65535
 
 abbrev pub HasNoLineFeed : Bytes → Type 0
 HasNoLineFeed [] = ⊤
-HasNoLineFeed (byte ∷ bytes) = ((byte == 10) ≡ false) × HasNoLineFeed bytes
+HasNoLineFeed (byte ∷ bytes) = ((byte == 0o12) ≡ false) × HasNoLineFeed bytes

@@ -38,4 +38,4 @@ is_unbegun line = if line.has_return then false else is_empty line.kept.text
 
 -- neither NUL, line feed, form feed nor CR
 abbrev pub is_plain : ℕ → Bool
-is_plain byte = not (byte == 0 || byte == 10 || byte == 12 || byte == 13)
+is_plain byte = not (byte == 0 || byte == 0o12 || byte == 0o14 || byte == 0o15)

@@ -31,7 +31,7 @@ pub record Took (may_begin : Bool) (old new : Source) (given : Bytes) : Type 0 w
 
 -- what came last: a line feed, the end of the source, a failure, or a byte that passes a limit
 abbrev pub CameLast : Bool → Source → Source → Result LineEnd LineFault → Type 0
-CameLast may_begin old new (Ok LineFeed) = GivesByte old.text new.text 10 × (new.faults ≡ old.faults)
+CameLast may_begin old new (Ok LineFeed) = GivesByte old.text new.text 0o12 × (new.faults ≡ old.faults)
     × (old.bytes_left ≡ 1 + new.bytes_left) × (new.line ≡ old.line) × (may_begin ≡ true)
 CameLast may_begin old new (Ok SourceEnd) = GivesEnd old.text new.text × (new.faults ≡ old.faults)
     × (new.bytes_left ≡ old.bytes_left) × (new.line ≡ old.line)
@@ -56,16 +56,16 @@ TookReady may_begin old new false = (given : Bytes) × Took may_begin old new gi
 
 -- bytes of a slice were taken up to a line feed, or all of them
 abbrev pub TookOf : Bytes → OpenLine → OpenLine → ℕ → Bool → Type 0
-TookOf bytes old new count true = (given : Bytes) × (take count bytes ≡ given ++ 10 ∷ []) × (count ≡ length given + 1)
+TookOf bytes old new count true = (given : Bytes) × (take count bytes ≡ given ++ 0o12 ∷ []) × (count ≡ length given + 1)
     × HasNoLineFeed given × (new ≡ with_all old given)
 TookOf bytes old new count false = (count ≡ length bytes) × HasNoLineFeed bytes × (new ≡ with_all old bytes)
 
 -- one byte was taken: it is a line feed, or one of the line, or it passes a limit
 abbrev pub TakesByte : Bool → ℕ → ℕ → ℕ → OpenLine → OpenLine → Result Bool LineFault → Type 0
 TakesByte may_begin byte left left' line line' (Ok true) =
-    (left ≡ 1 + left') × (line' ≡ line) × (byte ≡ 10) × (may_begin ≡ true)
+    (left ≡ 1 + left') × (line' ≡ line) × (byte ≡ 0o12) × (may_begin ≡ true)
 TakesByte may_begin byte left left' line line' (Ok false) = (left ≡ 1 + left') × (line' ≡ with_byte line byte)
-    × ((byte == 10) ≡ false) × (may_begin ≡ false → (byte == 0) ≡ true)
+    × ((byte == 0o12) ≡ false) × (may_begin ≡ false → (byte == 0) ≡ true)
 TakesByte may_begin byte left left' line line' (Err TooMuchSource) = (left ≡ 0) × (left' ≡ 0)
 TakesByte may_begin byte left left' line line' (Err TooManyLines) =
     (left ≡ 1 + left') × ((byte == 0) ≡ false) × (may_begin ≡ false)

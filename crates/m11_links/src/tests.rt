@@ -1,7 +1,7 @@
 //! What the tests of whole links share: objects by the contents of their blocks, links of them, and what is looked at
 //! after a link.
 
-use m11_base::{Feed, MemoryFeed, MemorySink, WriterSink};
+use m11_base::{Feed, MemoryFeed, WriterSink};
 use m11_link::{LinkDone, LinkFault, link_run};
 use std::alloc::{AllocError, Global};
 use std::process::Abort;

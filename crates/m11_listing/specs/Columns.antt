@@ -3,7 +3,7 @@ use Rattle.std.specs.Prelude.{ℕ, ◌-◌, ◌==◌, ◌&&◌, ◌||◌, nat_le
 use Rattle.m11_base.specs.Devices.{Bytes}
 
 abbrev pub blanks : ℕ → Bytes
-blanks count = replicate count 32
+blanks count = replicate count 0o40
 
 -- a text at the left of a column of this width
 abbrev pub at_left : ℕ → Bytes → Bytes
@@ -21,7 +21,7 @@ has_print byte = (nat_le 0o040 byte && nat_le byte 0o176) || byte == 0o011
 
 -- a byte that doesn't print stands as `?`
 abbrev pub shown : ℕ → ℕ
-shown byte = if has_print byte then byte else 63
+shown byte = if has_print byte then byte else 0o77
 
 abbrev pub printed : Bytes → Bytes
 printed text = map shown text

@@ -12,10 +12,10 @@ use Rattle.m11_listing.specs.Columns.{blanks}
 
 -- nothing, `'`, `G` or `%`
 abbrev pub mark_character : Mark → ℕ
-mark_character Unmarked = 32
-mark_character OfSection = 39
-mark_character OfObject = 71
-mark_character OfRegister = 37
+mark_character Unmarked = 0o40
+mark_character OfSection = 0o47
+mark_character OfObject = 0o107
+mark_character OfRegister = 0o45
 
 -- a byte as three octal digits
 abbrev pub byte_text : ℕ → Bytes

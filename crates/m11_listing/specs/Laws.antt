@@ -4,4 +4,4 @@ use Rattle.m11_base.specs.Devices.{Bytes}
 
 -- no blank stands before the line feed at the end
 abbrev pub EndsWithNoBlank : Bytes → Type 0
-EndsWithNoBlank line = (front : Bytes) → line ≢ front ++ 32 ∷ 10 ∷ []
+EndsWithNoBlank line = (front : Bytes) → line ≢ front ++ 0o40 ∷ 0o12 ∷ []

@@ -11,4 +11,4 @@ message_line letters number text = line_of (letters ++ codes " " ++ decimal numb
 
 -- how many lines are flagged
 abbrev pub count_line : ℕ → Bytes
-count_line count = codes "ERRORS DETECTED: " ++ decimal count ++ 10 ∷ []
+count_line count = codes "ERRORS DETECTED: " ++ decimal count ++ 0o12 ∷ []

@@ -34,14 +34,14 @@ value_column (Register number) = octal_text number
 
 -- `R` for relocatable, `%` for a register
 abbrev pub kind_character : SymbolValue → ℕ
-kind_character Unknown = 32
-kind_character (Absolute number) = 32
-kind_character (Relocatable place section) = 82
-kind_character (Register number) = 37
+kind_character Unknown = 0o40
+kind_character (Absolute number) = 0o40
+kind_character (Relocatable place section) = 0o122
+kind_character (Register number) = 0o45
 
 -- `G` for a global
 abbrev pub scope_character : Bool → ℕ
-scope_character is_global = if is_global then 71 else 32
+scope_character is_global = if is_global then 0o107 else 0o40
 
 -- 3 columns: the number of a section
 abbrev pub number_column : ℕ → Bytes
@@ -60,7 +60,7 @@ section_column (Register number) = blanks 3
 abbrev pub symbol_line : SymbolEntry → Bytes
 symbol_line symbol =
     line_of (name_text symbol.name ++ assignment_column symbol.is_assigned ++ value_column symbol.value
-    ++ (32 ∷ kind_character symbol.value ∷ scope_character symbol.is_global ∷ 32 ∷ []) ++ section_column symbol.value)
+    ++ (0o40 ∷ kind_character symbol.value ∷ scope_character symbol.is_global ∷ 0o40 ∷ []) ++ section_column symbol.value)
 
 -- 18 columns: the name, size and number of a section, with a blank after each
 abbrev pub section_columns : SectionEntry → Bytes
@@ -71,7 +71,7 @@ abbrev pub section_line : SectionEntry → Bytes
 section_line section = line_of (section_columns section ++ attributes_text (bits_of section.attributes))
 
 abbrev pub empty_line : Bytes
-empty_line = 10 ∷ []
+empty_line = 0o12 ∷ []
 
 abbrev pub title_line : Bytes
 title_line = codes "SYMBOL TABLE\n"

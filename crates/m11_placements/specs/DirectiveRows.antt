@@ -11,7 +11,7 @@ word_rows =
     ∷ row (codes ".WORD 200000" ∷ []) (codes "T" ∷ []) (word 0 0 ∷ [])
     ∷ row (codes ".WORD" ∷ codes ".WORD 1," ∷ codes ".WORD ,5," ∷ codes ".BYTE" ∷ [])
     (codes "" ∷ codes "" ∷ codes "" ∷ codes "" ∷ [])
-    (word 0 0 ∷ word 2 1 ∷ word 4 0 ∷ word 6 0 ∷ word 8 5 ∷ word 10 0 ∷ byte 12 0 ∷ [])
+    (word 0 0 ∷ word 2 1 ∷ word 4 0 ∷ word 6 0 ∷ word 0o10 5 ∷ word 0o12 0 ∷ byte 0o14 0 ∷ [])
     ∷ row (codes ".WORD 1 2,3" ∷ codes ".BYTE 1)2,3" ∷ []) (codes "Q" ∷ codes "Q" ∷ []) (word 0 1 ∷ byte 2 1 ∷ [])
     ∷ row (codes ",5" ∷ codes ")" ∷ codes "#5" ∷ []) (codes "" ∷ codes "Q" ∷ codes "Q" ∷ [])
     (word 0 0 ∷ word 2 5 ∷ word 4 0 ∷ word 6 0 ∷ [])
@@ -32,27 +32,27 @@ place_rows =
     ∷ row (codes "A=B" ∷ codes ".BLKB A" ∷ codes "B=4" ∷ codes ".BYTE 1" ∷ []) (codes "" ∷ codes "U" ∷ codes "" ∷ codes "" ∷ [])
     (byte 0 1 ∷ [])
     ∷ row (codes ".=" ∷ codes ".=Q" ∷ codes ".=.+10" ∷ codes "NOP" ∷ []) (codes "AQ" ∷ codes "AU" ∷ codes "" ∷ codes "" ∷ [])
-    (word 8 0o240 ∷ [])
+    (word 0o10 0o240 ∷ [])
     ∷ []
 
 -- texts
 abbrev pub text_rows : List Row
 text_rows =
-    row (codes ".ASCII /AB/" ∷ []) (codes "" ∷ []) (byte 0 65 ∷ byte 1 66 ∷ [])
-    ∷ row (codes ".ASCIZ ;A;<15>/B/ ;c" ∷ []) (codes "" ∷ []) (byte 0 65 ∷ byte 1 0o15 ∷ byte 2 66 ∷ byte 3 0 ∷ [])
+    row (codes ".ASCII /AB/" ∷ []) (codes "" ∷ []) (byte 0 0o101 ∷ byte 1 0o102 ∷ [])
+    ∷ row (codes ".ASCIZ ;A;<15>/B/ ;c" ∷ []) (codes "" ∷ []) (byte 0 0o101 ∷ byte 1 0o15 ∷ byte 2 0o102 ∷ byte 3 0 ∷ [])
     ∷ row (codes ".RAD50 /ABC/" ∷ codes ".RAD50 /A/<1><50>" ∷ []) (codes "" ∷ codes "T" ∷ []) (word 0 0o003223 ∷ word 2 0o003220 ∷ [])
     ∷ row (codes ".RAD50 //" ∷ codes ".ASCII //" ∷ codes ".ASCII" ∷ codes ".ASCIZ" ∷ [])
     (codes "" ∷ codes "" ∷ codes "A" ∷ codes "A" ∷ []) (byte 0 0 ∷ [])
     ∷ row (codes ".ASCII <1 2>/a/" ∷ codes ".ASCII <15" ∷ []) (codes "Q" ∷ codes "Q" ∷ []) (byte 0 1 ∷ byte 1 0o15 ∷ [])
     ∷ row (codes ".ASCII /a ;" ∷ codes ".RAD50 /a/" ∷ []) (codes "A" ∷ codes "AB" ∷ [])
-    (byte 0 97 ∷ byte 1 32 ∷ byte 2 59 ∷ word 4 0 ∷ [])
+    (byte 0 0o141 ∷ byte 1 0o40 ∷ byte 2 0o73 ∷ word 4 0 ∷ [])
     ∷ []
 
 -- the radix, labels and assignments
 abbrev pub setting_rows : List Row
 setting_rows =
     row (codes ".RADIX 10." ∷ codes ".WORD 12" ∷ codes ".RADIX 16 ?" ∷ codes ".WORD 12" ∷ codes ".RADIX" ∷ codes ".WORD 12" ∷ [])
-    (codes "" ∷ codes "" ∷ codes "AI" ∷ codes "" ∷ codes "" ∷ codes "" ∷ []) (word 0 12 ∷ word 2 12 ∷ word 4 10 ∷ [])
+    (codes "" ∷ codes "" ∷ codes "AI" ∷ codes "" ∷ codes "" ∷ codes "" ∷ []) (word 0 0o14 ∷ word 2 0o14 ∷ word 4 0o12 ∷ [])
     ∷ row (codes "X=1" ∷ codes "X:" ∷ codes "X=2" ∷ codes ".WORD X" ∷ []) (codes "" ∷ codes "M" ∷ codes "" ∷ codes "D" ∷ [])
     (word 0 2 ∷ [])
     ∷ row (codes "A: NOP" ∷ codes "1$: NOP" ∷ codes "A: BR 1$" ∷ []) (codes "" ∷ codes "" ∷ codes "M" ∷ [])

@@ -6,7 +6,7 @@ use Rattle.m11_placements.specs.Worked.{plain}
 
 -- a section whose name no other number gives
 abbrev pub section_line : ℕ → Bytes
-section_line number = codes ".PSECT S" ++ (65 + number / 16) ∷ (65 + number % 16) ∷ []
+section_line number = codes ".PSECT S" ++ (0o101 + number / 16) ∷ (0o101 + number % 16) ∷ []
 
 -- n sections beside the two that each source has
 abbrev pub sections : ℕ → List Bytes

@@ -21,7 +21,7 @@ name_rows =
     ∷ row (codes ".=.+400" ∷ codes "L: .BYTE L,L-400" ∷ []) (codes "" ∷ codes "T" ∷ [])
     (moved_byte 0o400 kind.Internal 0o400 ∷ moved_byte 0o401 kind.Internal 0 ∷ [])
     ∷ row (codes ".ASCII /a/<Q><.>" ∷ []) (codes "" ∷ [])
-    (byte 0 97 ∷ moved_byte 1 (kind.Global (named (codes "Q     "))) 0 ∷ moved_byte 2 kind.Internal 2 ∷ [])
+    (byte 0 0o141 ∷ moved_byte 1 (kind.Global (named (codes "Q     "))) 0 ∷ moved_byte 2 kind.Internal 2 ∷ [])
     ∷ row (codes ".LIMIT" ∷ codes ".WORD 1" ∷ []) (codes "" ∷ codes "" ∷ []) (piece blank_name 0 Limits ∷ word 4 1 ∷ [])
     ∷ []
 

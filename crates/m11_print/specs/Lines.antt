@@ -5,4 +5,4 @@ use Rattle.m11_base.specs.Devices.{Bytes}
 
 -- a text without the blanks that stand last, and a line feed
 abbrev pub line_of : Bytes → Bytes
-line_of text = without_last_blanks text ++ 10 ∷ []
+line_of text = without_last_blanks text ++ 0o12 ∷ []

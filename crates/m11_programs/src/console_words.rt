@@ -14,7 +14,7 @@ static READS_STATUS_TWICE: [Part<'static>; 1] = [(
 )];
 
 #[test]
-fn the_status_of_the_receiver_asks_once_where_the_first_call_answers(
+fn the_status_of_the_receiver_asks_once_where_the_first_call_returns(
     rt: HostRuntime,
 ) -> Result<(), Fail> {
     let program = Program {

@@ -13,14 +13,14 @@ of_kind number kind = record { number = number; kind = kind; letters = 0 }
 -- A and B stand in section 1, C in section 2, R1 is a register, X another object's; other names are unknown
 abbrev pub of_name : Name → Quantity
 of_name name =
-    if name.0 == 1600 then of_kind 8 (Section 1)
-    else (if name.0 == 3200 then of_kind 4 (Section 1)
-    else (if name.0 == 4800 then of_kind 4 (Section 2)
-    else (if name.0 == 30040 then of_kind 1 Register
-    else (if name.0 == 38400 then of_kind 0 (Reference name)
-    else record { number = 0; kind = Absolute; letters = 8192 }))))
+    if name.0 == 0o3100 then of_kind 0o10 (Section 1)
+    else (if name.0 == 0o6200 then of_kind 4 (Section 1)
+    else (if name.0 == 0o11300 then of_kind 4 (Section 2)
+    else (if name.0 == 0o72530 then of_kind 1 Register
+    else (if name.0 == 0o113000 then of_kind 0 (Reference name)
+    else record { number = 0; kind = Absolute; letters = 0o20000 }))))
 
 abbrev pub known : Symbol → Quantity
 known (Ordinary name) = of_name name
 known (Local number) = of_kind number Absolute
-known Counter = of_kind 64 (Section 1)
+known Counter = of_kind 0o100 (Section 1)

@@ -25,7 +25,7 @@ pub(crate) enum Difference<'a> {
     /// A file that was not created.
     Missing(&'a str),
     /// A file that was created, and of which the case says nothing.
-    Unreported(&'a str),
+    Unnamed(&'a str),
 }
 
 impl fmt::Display for Difference<'_> {
@@ -34,7 +34,7 @@ impl fmt::Display for Difference<'_> {
             Difference::Status(found) => write!(f, "the status is {found}"),
             Difference::Bytes(name, place) => write!(f, "{name} differs from byte {place} on"),
             Difference::Missing(path) => write!(f, "{path} was not created"),
-            Difference::Unreported(path) => write!(f, "{path} was created"),
+            Difference::Unnamed(path) => write!(f, "{path} was created"),
         }
     }
 }
@@ -53,7 +53,7 @@ pub(crate) fn first_difference<'a>(
     printed
         .or(reported)
         .or(missing(wanted.outputs.as_slice(), found.outputs))
-        .or(unreported(wanted.outputs.as_slice(), found.outputs))
+        .or(unnamed(wanted.outputs.as_slice(), found.outputs))
 }
 
 // The first file that must be created and was not, or has other bytes.
@@ -74,11 +74,11 @@ fn missing<'a>(wanted: &'a [MemoryFile], found: &'a [MemoryFile]) -> Option<Diff
 }
 
 // The first file that was created and must not be.
-fn unreported<'a>(wanted: &[MemoryFile], found: &'a [MemoryFile]) -> Option<Difference<'a>> {
+fn unnamed<'a>(wanted: &[MemoryFile], found: &'a [MemoryFile]) -> Option<Difference<'a>> {
     for file in found {
         let path = file.path.as_str();
         if file_of(wanted, path).is_none() {
-            return Some(Difference::Unreported(path));
+            return Some(Difference::Unnamed(path));
         }
     }
     None

@@ -1,5 +1,5 @@
-//! Runs the suite: reads an index of cases, runs the commands of each case over files in memory, and reports each case
-//! that differs what differs first. The count of cases that hold comes last.
+//! Runs the suite: reads an index of cases, runs the commands of each case over files in memory, and reports of each
+//! case that differs what differs first. The count of cases that hold comes last.
 #![tactic(auto)]
 
 mod case;

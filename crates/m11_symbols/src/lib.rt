@@ -9,8 +9,7 @@ mod values;
 
 pub use laws::{
     a_symbol_table_is_as_worked, each_name_stands_once_and_in_order,
-    first_passes_that_agree_have_the_same_sections,
-    first_passes_that_agree_have_the_same_symbols,
+    first_passes_that_agree_have_the_same_sections, first_passes_that_agree_have_the_same_symbols,
 };
 pub use sections::section_entries;
 pub use symbols::symbol_entries;

@@ -39,11 +39,11 @@ operand_rule name action = record (new_rule name) {
 
 -- `-o FILE`, `--output FILE`: the object or the tape to write, which has to be named
 abbrev pub output_rule : Rule
-output_rule = record (option_rule (codes "output") 111) { required = true }
+output_rule = record (option_rule (codes "output") 0o157) { required = true }
 
 -- `-l LST`, `--listing LST`: the listing to write, if one is
 abbrev pub listing_rule : Rule
-listing_rule = option_rule (codes "listing") 108
+listing_rule = option_rule (codes "listing") 0o154
 
 -- `SOURCE...`: the sources, in order
 abbrev pub sources_rule : Rule
@@ -58,7 +58,7 @@ asm_app = record { top = asm_shape; subs = [] }
 
 -- `-m MAP`, `--map MAP`: the map to write, if one is
 abbrev pub map_rule : Rule
-map_rule = option_rule (codes "map") 109
+map_rule = option_rule (codes "map") 0o155
 
 -- where the relocatable sections of a link begin, where nothing is said
 abbrev pub default_bottom : ℕ
@@ -66,7 +66,7 @@ default_bottom = 0o1000
 
 -- `-b OCTAL`, `--bottom OCTAL`: where they begin
 abbrev pub bottom_rule : Rule
-bottom_rule = option_rule (codes "bottom") 98
+bottom_rule = option_rule (codes "bottom") 0o142
 
 -- `OBJECT...`: the objects, in order
 abbrev pub objects_rule : Rule
@@ -97,15 +97,15 @@ most_words = 28672
 
 -- `-n STEPS`, `--steps STEPS`: how many steps are allowed, in decimal
 abbrev pub steps_rule : Rule
-steps_rule = record (option_rule (codes "steps") 110) { parser = Some (Signed (pos 0) (pos most_steps)) }
+steps_rule = record (option_rule (codes "steps") 0o156) { parser = Some (Signed (pos 0) (pos most_steps)) }
 
 -- `-s OCTAL`, `--start OCTAL`: where to start
 abbrev pub start_rule : Rule
-start_rule = option_rule (codes "start") 115
+start_rule = option_rule (codes "start") 0o163
 
 -- `-k WORDS`, `--words WORDS`: how many words of memory there are, in decimal
 abbrev pub words_rule : Rule
-words_rule = record (option_rule (codes "words") 107) { parser = Some (Signed (pos least_words) (pos most_words)) }
+words_rule = record (option_rule (codes "words") 0o153) { parser = Some (Signed (pos least_words) (pos most_words)) }
 
 -- `TAPE`: the tape to run
 abbrev pub tape_rule : Rule

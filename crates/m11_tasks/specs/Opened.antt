@@ -35,7 +35,7 @@ link_outputs task = task.tape.now ∷ optional task.map
 abbrev pub sim_inputs : SimTask → List Bytes
 sim_inputs task = task.tape.now ∷ []
 
--- all of the inputs are there, and then outputs were created, n of the first ones
+-- all of the inputs are there, and then the first outputs of the list were created: none, some or all of them
 abbrev pub CreatesSome : Option Files → Option Files → List Bytes → List Bytes → Type 0
 CreatesSome old new inputs outputs = HasAll old inputs × (before : List Bytes) × (more : List Bytes)
     × (outputs ≡ before ++ more) × (new ≡ creating before old)

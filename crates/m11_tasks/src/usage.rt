@@ -33,7 +33,7 @@ pub enum UsageFault {
 }
 
 impl UsageFault {
-    /// The fault's number, which its printed line shows.
+    /// The fault's number, which its printed line shows. `Help` and `Words` have the parser's text in place of a line.
     pub fn number(&self) -> u8
         ensures { result ≡ usage_number self.now }
     {
@@ -47,7 +47,7 @@ impl UsageFault {
         }
     }
 
-    /// The fault's name, which its printed line shows.
+    /// The fault's name, which its printed line shows, if it has one.
     pub fn name(&self) -> &'static str
         ensures { result.now ≡ usage_name self.now }
     {
