@@ -60,7 +60,7 @@ wanted_by known line more (Some actual) =
 abbrev pub unwanted : Option Actual → Given
 unwanted actual = record { texts = []; notes = noting (letter_if (is_some actual) letter_Q) [] }
 
--- the actuals from a place of a line on, of which so many are wanted
+-- the actuals from a place of a line on, of which n are wanted
 abbrev pub actuals_from : Known → Bytes → ℕ → ℕ → Given
 actuals_from known line zero place = unwanted (next_actual line place true)
 actuals_from known line (suc wanted) place =

@@ -15,7 +15,7 @@ created_after number = if number == 65535 then first_created else number + 1
 
 -- a created local symbol: decimal digits and a `$`
 abbrev pub created_text : ℕ → Bytes
-created_text number = digits_of 10 number ++ 36 ∷ []
+created_text number = digits_of 10 number ++ 0o44 ∷ []
 
 -- a text for each formal, and the number of the next symbol that is created
 pub record Filled : Type 0 where

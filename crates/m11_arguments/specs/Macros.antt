@@ -80,7 +80,7 @@ formals_by more (Ending letters) = record { list = []; letters = letters }
 formals_by more (Formally formal letters end) =
     record { list = formal ∷ (more end).list; letters = bit_or letters (more end).letters }
 
--- at most so many formals after a place: blanks, a comma or both stand before each
+-- at most n formals after a place: blanks, a comma or both stand before each
 abbrev pub formals_within : ℕ → Bytes → ℕ → FormalList
 formals_within zero line place = record { list = []; letters = 0 }
 formals_within (suc bound) line place =

@@ -18,9 +18,9 @@ use m11_statements::{Actual, ActualKind, next_actual, separator_at};
 use m11_values::Names;
 use std::alloc::{AllocError, Global};
 
-/// The texts of the actuals that stand in a line from a place on, of which at most so many are wanted. One more has Q, and neither it
+/// The texts of the actuals that stand in a line from a place on, of which at most `wanted` are taken. One more has Q, and neither it
 /// nor what stands after it is looked at. An actual without its `>` has A. `\` and an expression give the digits of its number in
-/// the current radix.
+/// the current radix. Error: memory may be refused.
 pub fn actuals_from<N: Names>(
     alloc: Global,
     line: &Line,

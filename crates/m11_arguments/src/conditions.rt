@@ -36,7 +36,7 @@ pub struct Finding {
 }
 
 /// The condition whose name stands next in a line from a place on, under names. An unknown one, a bad name in DF and NDF, and a
-/// missing argument have A, and don't hold. The letters and the symbols of its arguments are noted.
+/// missing argument have A, and don't hold. The letters and the symbols of its arguments are noted. Error: memory may be refused.
 pub fn condition<N: Names>(
     line: &Line,
     place: usize,

@@ -18,7 +18,7 @@ pub(crate) fn digits_of(alloc: Global, base: u32, number: u16) -> Result<Vec<u8>
     last_digits(alloc, base, number, DIGIT_LIMIT)
 }
 
-// The last digits of a word in a base, at most so many.
+// The last digits of a word in a base, at most `bound`.
 fn last_digits(alloc: Global, base: u32, number: u16, bound: u8) -> Result<Vec<u8>, AllocError>
     requires least { 2 ≤ base }
     requires most { base ≤ 10 }

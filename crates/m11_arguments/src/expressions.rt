@@ -67,7 +67,7 @@ pub fn value_at<N: Names>(line: &Line, place: usize, names: &N) -> Value
     value(tokens.as_slice(), line, names).0
 }
 
-/// Notes the symbols that the expression at a place reads, in order.
+/// Notes the symbols that the expression at a place reads, in order. Error: memory may be refused.
 pub fn note_symbols(line: &Line, place: usize, notes: &mut Notes) -> Result<(), AllocError>
     requires { place ≤ length line.now.text }
     ensures { IfOk result (λ _. notes.new ≡ with_symbols notes.old (spec.symbols_at line.now.text place)) }

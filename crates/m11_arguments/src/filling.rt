@@ -22,7 +22,7 @@ pub struct Filled {
 }
 
 /// The actual of each formal. One that is missing is empty; where a formal asks for it, an empty one is a local symbol that is
-/// created, whose numbers begin with the one that is given. After 65535 comes 30000.
+/// created, whose numbers begin with the one that is given. After 65535 comes 30000. Error: memory may be refused.
 pub fn fill(
     alloc: Global,
     formals: &[MacroFormal],

@@ -25,7 +25,7 @@ pub struct Immediate {
 }
 
 /// The condition, the comma and the statement that stand in a line from a place on. Without the comma the line has A, and Q and I
-/// for what is left over.
+/// for what is left over. Error: memory may be refused.
 pub fn immediate_condition<N: Names>(
     line: &Line,
     place: usize,

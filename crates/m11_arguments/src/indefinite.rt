@@ -36,7 +36,7 @@ pub struct Begun {
 }
 
 /// The formal and the list of an `.IRP` that stand in a line from a place on: in brackets a list of actuals, else one actual. Where
-/// either is bad or missing the line has A, and nothing is repeated. What is left over has Q and I.
+/// either is bad or missing the line has A, and nothing is repeated. What is left over has Q and I. Error: memory may be refused.
 pub fn indefinite_repeat<N: Names>(
     alloc: Global,
     line: &Line,
@@ -64,7 +64,7 @@ pub fn indefinite_repeat<N: Names>(
 }
 
 /// The formal and the text of an `.IRPC` that stand in a line from a place on: each character of the text is the actual of a round.
-/// Where either is bad or missing the line has A, and nothing is repeated. What is left over has Q and I.
+/// Where either is bad or missing the line has A, and nothing is repeated. What is left over has Q and I. Error: memory may be refused.
 pub fn character_repeat(
     alloc: Global,
     line: &Line,

@@ -35,7 +35,7 @@ pub struct Header {
 }
 
 /// The name and the formals that stand in a line from a place on. Without a name nothing is defined, and the line has A. What is no
-/// formal ends the list, and has A.
+/// formal ends the list, and has A. Error: memory may be refused.
 pub fn header_at(
     alloc: Global,
     line: &Line,
@@ -105,7 +105,7 @@ struct Formals {
     letters: Letters,
 }
 
-// At most so many formals after a place.
+// At most `bound` formals after a place.
 fn formals_within(
     alloc: Global,
     line: &Line,

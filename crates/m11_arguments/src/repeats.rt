@@ -14,7 +14,7 @@ use m11_values::Names;
 use std::alloc::AllocError;
 
 /// How many rounds a `.REPT` has whose number stands in a line from a place on: 0 to 32767. Of a negative number there are none,
-/// nor where it is missing, which has A. What is left over has Q and I.
+/// nor where it is missing, which has A. What is left over has Q and I. Error: memory may be refused.
 pub fn repeat_count<N: Names>(
     line: &Line,
     place: usize,

@@ -12,14 +12,18 @@ use m11_base::{ConditionCodes, Size};
 pub struct Computed {
     /// A word, or a byte below octal 400.
     pub value: u16,
+    /// N, Z, V and C.
     pub codes: ConditionCodes,
 }
 
 /// A result of 32 bits in two words, and the condition codes that it sets.
 #[derive(Clone, Copy, Debug, PartialEq, Eq)]
 pub struct Pair {
+    /// The upper 16 bits.
     pub high: u16,
+    /// The lower 16 bits.
     pub low: u16,
+    /// N, Z, V and C.
     pub codes: ConditionCodes,
 }
 

@@ -108,7 +108,7 @@ rows =
 -- the condition codes of four bits: N 10, Z 4, V 2, C 1
 abbrev pub condition_codes_of : ℕ → ConditionCodes
 condition_codes_of bits = record {
-  negative = bits / 8 % 2 == 1;
+  negative = bits / 0o10 % 2 == 1;
   zero = bits / 4 % 2 == 1;
   overflow = bits / 2 % 2 == 1;
   carry = bits % 2 == 1;

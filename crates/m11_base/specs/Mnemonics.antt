@@ -9,16 +9,16 @@ use Rattle.m11_base.specs.Instructions.{rows, other_names, operation_in}
 
 -- a letter of either case, a digit, `$` or `.`
 abbrev pub is_name_character : ℕ → Bool
-is_name_character byte = (nat_le 65 byte && nat_le byte 90) || ((nat_le 97 byte && nat_le byte 122)
-    || ((nat_le 48 byte && nat_le byte 57) || (byte == 36 || byte == 46)))
+is_name_character byte = (nat_le 0o101 byte && nat_le byte 0o132) || ((nat_le 0o141 byte && nat_le byte 0o172)
+    || ((nat_le 0o60 byte && nat_le byte 0o71) || (byte == 0o44 || byte == 0o56)))
 
 -- lower case counts as upper case
 abbrev pub folded : ℕ → ℕ
-folded byte = if nat_le 97 byte && nat_le byte 122 then byte - 32 else byte
+folded byte = if nat_le 0o141 byte && nat_le byte 0o172 then byte - 0o40 else byte
 
 -- a text's character at a place, folded; a blank after its end
 abbrev pub character_at : List ℕ → ℕ → ℕ
-character_at text place = if nat_lt place (length text) then folded (slice_index text place) else 32
+character_at text place = if nat_lt place (length text) then folded (slice_index text place) else 0o40
 
 -- the six characters that count
 abbrev pub six_of : List ℕ → List ℕ

@@ -7,7 +7,7 @@ use Rattle.m11_base.specs.declared.fault.OctalFault.TheVariants.{Empty, BadDigit
 
 -- a character from `0` to `7`
 abbrev pub is_octal_digit : ℕ → Bool
-is_octal_digit character = nat_le 48 character && nat_le character 55
+is_octal_digit character = nat_le 0o60 character && nat_le character 0o67
 
 -- every character is an octal digit
 abbrev pub HasOnlyDigits : List ℕ → Type 0
@@ -20,11 +20,11 @@ HasBadDigit text = IsTrue (list_any (λ character. not (is_octal_digit character
 -- the number that octal digits spell: each digit counts 8 to the number of digits after it
 abbrev pub octal_value : List ℕ → ℕ
 octal_value [] = 0
-octal_value (digit ∷ digits) = (digit - 48) * 8 ^ length digits + octal_value digits
+octal_value (digit ∷ digits) = (digit - 0o60) * 8 ^ length digits + octal_value digits
 
 -- a number as a word, where one word holds it
 abbrev pub word_of_number : ℕ → Result ℕ OctalFault
-word_of_number number = if nat_lt number 65536 then Ok number else Err TooLarge
+word_of_number number = if nat_lt number 0o200000 then Ok number else Err TooLarge
 
 -- the word that a text spells, or the first fault in the order of their numbers
 abbrev pub octal_of : List ℕ → Result ℕ OctalFault
@@ -35,7 +35,7 @@ octal_of (first ∷ rest) =
 
 -- the digit of a word at a place
 abbrev pub octal_digit : ℕ → ℕ → ℕ
-octal_digit word place = 48 + word / 8 ^ place % 8
+octal_digit word place = 0o60 + word / 8 ^ place % 8
 
 -- a word as six octal digits
 abbrev pub octal_text : ℕ → List ℕ

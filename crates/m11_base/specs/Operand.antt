@@ -24,7 +24,7 @@ mode_of code = slice_index_or modes code mode.Register
 
 -- the operand of six bits: the mode's code above the number of the register
 abbrev pub operand_of : ℕ → Operand
-operand_of bits = record { mode = mode_of (bits / 8); register = register_of (bits % 8) }
+operand_of bits = record { mode = mode_of (bits / 0o10); register = register_of (bits % 0o10) }
 
 -- ---- and back
 
@@ -49,4 +49,4 @@ mode_code mode.Index = 6
 mode_code mode.IndexDeferred = 7
 
 abbrev pub operand_code : Operand → ℕ
-operand_code operand = mode_code operand.mode * 8 + register_number operand.register
+operand_code operand = mode_code operand.mode * 0o10 + register_number operand.register

@@ -9,15 +9,15 @@ alphabet = codes " ABCDEFGHIJKLMNOPQRSTUVWXYZ$.%0123456789"
 
 -- the code of a character, if it has one
 unfoldable pub code_of : ℕ → Option ℕ
-code_of character = if character == 37 then None else position (λ x. x == character) alphabet
+code_of character = if character == 0o45 then None else position (λ x. x == character) alphabet
 
 -- the character that shows a code below 40
 unfoldable pub character_of : ℕ → ℕ
 character_of code = slice_index alphabet code
 
--- words from this one on have no characters: it is 40 * 40 * 40, octal 175000
+-- words from this one on have no characters: it is 40 * 40 * 40
 abbrev pub word_limit : ℕ
-word_limit = 64000
+word_limit = 0o175000
 
 -- the word of three codes, if there are three
 abbrev pub word_of_codes : Option ℕ → Option ℕ → Option ℕ → Option ℕ
@@ -42,7 +42,7 @@ unpacked word = if nat_lt word word_limit then Some (characters_of word) else No
 
 -- no character of a text stands for the code that no character gives
 abbrev pub HasNoPercent : List ℕ → Type 0
-HasNoPercent text = All (λ character. character ≢ 37) text
+HasNoPercent text = All (λ character. character ≢ 0o45) text
 
 -- a name, by the words of its first and its last three characters
 abbrev pub Name : Type 0

@@ -1,4 +1,4 @@
-//! What can go wrong in this crate, each with its number and name.
+//! What can go wrong in this crate.
 
 ghost use Rattle.std.specs.Prelude.{◌≡◌};
 ghost use Rattle.m11_base.specs.Octal.{fault_number, fault_name};
@@ -13,7 +13,7 @@ pub struct DeviceFault;
 /// Why not all bytes were put.
 #[derive(Clone, Copy, Debug, PartialEq, Eq, Error)]
 pub enum PutFault {
-    /// 1: the sink failed, or took no byte.
+    /// The sink failed, or took no byte.
     #[error("the device failed")]
     Device,
 }

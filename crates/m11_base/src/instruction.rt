@@ -104,9 +104,13 @@ pub enum BranchOp {
 /// The condition codes that an operation on them names.
 #[derive(Clone, Copy, Debug, PartialEq, Eq)]
 pub struct ConditionCodes {
+    /// N.
     pub negative: bool,
+    /// Z.
     pub zero: bool,
+    /// V.
     pub overflow: bool,
+    /// C.
     pub carry: bool,
 }
 

@@ -19,6 +19,7 @@ pub struct Row {
     pub mask: u16,
     /// The operation's bits.
     pub value: u16,
+    /// The operation, with the form of its operands.
     pub operation: Op,
 }
 

@@ -74,6 +74,7 @@ pub(crate) fn block_sum(content: &[u8]) -> u8
 }
 
 /// The block of a content, as the bytes that are written. Needs a content of at most 512 bytes.
+/// Error: memory was refused.
 #[tactic(auto, using(crate::proofs::BlockFrames::block_again), unfolding(crate::specs::Frames::block))]
 pub fn block_bytes(alloc: Global, content: &[u8]) -> Result<Vec<u8>, AllocError>
     requires { length content.now ≤ content_limit }

@@ -6,8 +6,8 @@ ghost use Rattle.m11_blocks.specs.Tapes.{tape_fault_number, tape_fault_name, mis
 use crate::limited::Lack;
 use thiserror::Error;
 
-/// Why no part or byte of a tape was read: the first fault in the order of the bytes. The numbers are
-/// those of the faults of blocks, where both have them; there is no number 4.
+/// Why no part or byte of a tape was read: the first fault in the order of the bytes. The numbers up
+/// to 7 are those of the faults of blocks; there is no number 4.
 #[derive(Clone, Copy, Debug, PartialEq, Eq, Error)]
 pub enum TapeFault {
     /// 1: the feed failed.

@@ -28,7 +28,8 @@ fn header(address: u16, count: u16) -> [u8; 6]
     [one, zero, low, high, place[0], place[1]]
 }
 
-/// The block of a tape that puts bytes, 1 to 65,529, at an address and the places after it.
+/// The block of a tape that puts bytes, 1 to 65,529, at an address and the places after it. Error: memory was
+/// refused.
 #[tactic(auto, unfolding(crate::specs::Tapes::tape_block))]
 pub fn tape_block(alloc: Global, address: u16, bytes: &[u8]) -> Result<Vec<u8>, AllocError>
     requires some { 0 < length bytes.now }
@@ -42,7 +43,7 @@ pub fn tape_block(alloc: Global, address: u16, bytes: &[u8]) -> Result<Vec<u8>, 
 }
 
 /// The transfer block of a tape: an even address is where the program starts, an odd one starts
-/// nothing.
+/// nothing. Error: memory was refused.
 #[tactic(auto, using(crate::proofs::TapeFrames::transfer_again), unfolding(crate::specs::Tapes::tape_block))]
 pub fn tape_transfer(alloc: Global, address: u16) -> Result<Vec<u8>, AllocError>
     ensures bytes { IfOk result (λ v. v.items ≡ tape_block address []) }

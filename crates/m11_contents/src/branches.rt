@@ -14,7 +14,7 @@ use m11_values::Value;
 pub(crate) fn in_reach(bytes: u16) -> bool
     ensures { result ≡ spec.in_reach bytes }
 {
-    bytes % 2 == 0 && (bytes <= 254 || bytes >= 0o177400)
+    bytes % 2 == 0 && (bytes <= 0o376 || bytes >= 0o177400)
 }
 
 // How far back a target lies from the place after a word, modulo 65536.
@@ -26,9 +26,9 @@ pub(crate) fn back(place: u16, target: u16) -> u16
 
 // 0 to 63 words back, from the place after SOB.
 pub(crate) fn in_loop_reach(bytes: u16) -> bool
-    ensures { result ≡ (bytes % 2 == 0 && nat_le bytes 126) }
+    ensures { result ≡ (bytes % 2 == 0 && nat_le bytes 0o176) }
 {
-    bytes % 2 == 0 && bytes <= 126
+    bytes % 2 == 0 && bytes <= 0o176
 }
 
 // Whether a branch at a place reaches a target of its section.

@@ -80,7 +80,7 @@ fn put_words_after(
     Ok(())
 }
 
-/// The words of an instruction, from its fields, the place after them and their letters.
+/// The words of an instruction, from its fields, the place after them and their letters. Error: memory may be refused.
 pub fn put_instruction(
     put: &mut Put,
     setting: &Setting,

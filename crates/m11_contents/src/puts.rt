@@ -68,7 +68,7 @@ impl Put {
         self.letters = self.letters.with(letters);
     }
 
-    /// A word more, with its letters.
+    /// A word more, with its letters. Error: memory may be refused.
     pub fn add_word(&mut self, stored: Stored, letters: Letters) -> Result<(), AllocError>
         ensures { IfOk result (λ _. self.new ≡ followed_by self.old (put (Word stored ∷ []) (bits_of letters))) }
     {
@@ -77,21 +77,21 @@ impl Put {
         Ok(())
     }
 
-    /// A word more that stands as it is.
+    /// A word more that stands as it is. Error: memory may be refused.
     pub fn add_fixed_word(&mut self, number: u16) -> Result<(), AllocError>
         ensures { IfOk result (λ _. self.new ≡ followed_by self.old (put (fixed_word number ∷ []) 0)) }
     {
         self.add_word(fixed(number), Letters::none())
     }
 
-    /// A byte more that stands as it is.
+    /// A byte more that stands as it is. Error: memory may be refused.
     pub fn add_fixed_byte(&mut self, number: u16) -> Result<(), AllocError>
         ensures { IfOk result (λ _. self.new ≡ followed_by self.old (put (fixed_byte number ∷ []) 0)) }
     {
         self.add_byte(fixed(number), Letters::none())
     }
 
-    /// A byte more, with its letters.
+    /// A byte more, with its letters. Error: memory may be refused.
     pub fn add_byte(&mut self, stored: Stored, letters: Letters) -> Result<(), AllocError>
         ensures { IfOk result (λ _. self.new ≡ followed_by self.old (put (Byte stored ∷ []) (bits_of letters))) }
     {
@@ -100,7 +100,7 @@ impl Put {
         Ok(())
     }
 
-    /// The limits of the program, with letters.
+    /// The limits of the program, with letters. Error: memory may be refused.
     pub fn add_limits(&mut self, letters: Letters) -> Result<(), AllocError>
         ensures { IfOk result (λ _. self.new ≡ followed_by self.old (put (Limits ∷ []) (bits_of letters))) }
     {

@@ -49,7 +49,7 @@ fn element_count(line: &Line, start: usize) -> u16
     elements_at(line, start).places.as_slice().len() as u16
 }
 
-/// The words of a `.WORD`.
+/// The words of a `.WORD`. Error: memory may be refused.
 pub fn put_words(put: &mut Put, setting: &Setting, start: usize) -> Result<(), AllocError>
     requires { start ≤ length setting.now.line }
     ensures { IfOk result (λ _. put.new ≡ followed_by put.old
@@ -93,7 +93,7 @@ fn put_element_word(
     Ok(further(place, 2))
 }
 
-/// The bytes of a `.BYTE`.
+/// The bytes of a `.BYTE`. Error: memory may be refused.
 pub fn put_bytes(put: &mut Put, setting: &Setting, start: usize) -> Result<(), AllocError>
     requires { start ≤ length setting.now.line }
     ensures { IfOk result (λ _. put.new ≡ followed_by put.old
@@ -170,7 +170,7 @@ fn end_letters(line: &Line, start: usize, end: usize) -> Letters
     skip_letters(line, start, end).with(left_over(line, end))
 }
 
-/// The limits of the program, for a `.LIMIT`.
+/// The limits of the program, for a `.LIMIT`. Error: memory may be refused.
 pub fn put_limits(put: &mut Put, setting: &Setting, start: usize) -> Result<(), AllocError>
     requires { start ≤ length setting.now.line }
     ensures { IfOk result (λ _. put.new ≡ followed_by put.old (spec.limits setting.now.line start)) }

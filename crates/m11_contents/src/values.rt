@@ -31,10 +31,10 @@ pub(crate) fn byte_letters(number: u16) -> Letters
 fn is_byte_high(number: u16) -> bool
     ensures { result ≡ spec.is_byte_high number }
 {
-    number == 0 || number == 255
+    number == 0 || number == 0o377
 }
 
-/// A value as a word, relative to the place after it or not.
+/// A value as a word, relative to the place after it or not. Error: memory may be refused.
 pub fn put_word(
     put: &mut Put,
     setting: &Setting,
@@ -49,7 +49,7 @@ pub fn put_word(
     put.add_word(stored(setting, is_relative, place, value), letters)
 }
 
-/// A value as a byte: its number is asked, whatever it counts from.
+/// A value as a byte: its number is asked, whatever it counts from. Error: memory may be refused.
 pub fn put_byte(
     put: &mut Put,
     setting: &Setting,

@@ -5,7 +5,7 @@ use Rattle.m11_base.specs.Rad50.{code_of}
 
 abbrev pub coded_by : ℕ → Option ℕ → ℕ
 coded_by character (Some code) = character
-coded_by character None = 32
+coded_by character None = 0o40
 
 -- a character that has a code, and else a blank
 abbrev pub coded : ℕ → ℕ
@@ -13,4 +13,4 @@ coded character = coded_by character (code_of character)
 
 -- that of a text at a place; a blank after its end
 abbrev pub coded_at : Bytes → ℕ → ℕ
-coded_at text place = if nat_lt place (length text) then coded (slice_index text place) else 32
+coded_at text place = if nat_lt place (length text) then coded (slice_index text place) else 0o40

@@ -20,7 +20,7 @@ use m11_statements::Span;
 /// The most names of a list: it has no more than its line has characters, and one.
 pub const NAME_LIMIT: usize = LINE_LIMIT + 1;
 
-/// What a `.GLOBL` changes: the names of its list become global.
+/// What a `.GLOBL` or a `.WEAK` changes: the names of its list become global.
 pub fn global(line: &Line, start: usize) -> Change
     requires { start ≤ length line.now.text }
     ensures { change_seen result ≡ Exports start }
@@ -79,7 +79,7 @@ fn name_of(line: &Line, name: Option<Span>) -> Option<Name>
     }
 }
 
-/// The letters of a list of names: A for an element that is none.
+/// The letters of a `.GLOBL` or a `.WEAK`: A for an element that is no name, I for what is skipped, and Q for what is left over.
 pub fn global_letters(line: &Line, start: usize) -> Letters
     requires { start ≤ length line.now.text }
     ensures { bits_of result ≡ spec.global_letters line.now.text start }

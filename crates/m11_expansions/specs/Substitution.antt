@@ -58,7 +58,7 @@ begins_replaced formals actuals (piece ∷ pieces) = is_replaced formals actuals
 
 abbrev pub is_quote : Piece → Bool
 is_quote (Run run) = false
-is_quote (Other byte) = byte == 39
+is_quote (Other byte) = byte == 0o47
 
 abbrev pub text_of : Piece → Bytes
 text_of (Run run) = run

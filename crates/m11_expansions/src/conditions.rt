@@ -51,7 +51,7 @@ impl Model for Conditions {
 }
 
 impl Conditions {
-    /// None.
+    /// No open condition, and nothing skipped.
     pub fn new() -> Conditions
         ensures { result ≡ spec.no_conditions }
     {

@@ -17,7 +17,7 @@ pub fn formals_alone_are_replaced()
         → list_any (is_replaced formals actuals) (pieces_of text) ≡ false → substituted formals actuals text ≡ text }
     ensures joins { (formals : List Name) (actuals : List Bytes) (first second one other : Bytes)
         → actual_for formals actuals (Run first) ≡ Some one → actual_for formals actuals (Run second) ≡ Some other
-        → joined formals actuals false (Run first ∷ Other 39 ∷ Run second ∷ []) ≡ one ++ other }
+        → joined formals actuals false (Run first ∷ Other 0o47 ∷ Run second ∷ []) ≡ one ++ other }
 {}
 
 /// A body that is half taken goes on where it stopped: what is left is cut as if its lines still stood in front.

@@ -55,7 +55,7 @@ impl Model for Texts {
 }
 
 impl Texts {
-    /// None.
+    /// No text.
     pub fn new(alloc: Global) -> Texts
         ensures { result ≡ [] }
     {

@@ -113,8 +113,8 @@ is_too_large bottom parts = list_any (ends_too_high bottom parts) (section_names
 
 -- ---- all sections
 
--- octal 177777: there is no size that is greater. None is: entries give no greater ones, so that no absolute section has
--- one, and relocatable sections end by octal 160000
+-- octal 177777, the greatest number of a word. No section of a plan has a greater size: entries give none, so that no absolute
+-- section has one, and relocatable sections end by octal 160000
 abbrev pub most_size : ℕ
 most_size = 0o177777
 

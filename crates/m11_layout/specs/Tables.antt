@@ -43,7 +43,7 @@ pub record Gathered : Type 0 where
 
 -- ---- sections
 
--- there is no size that is greater: octal 200000, which is past all addresses
+-- sizes are counted up to octal 200000, which is past all addresses
 abbrev pub size_cap : ℕ
 size_cap = 0o200000
 

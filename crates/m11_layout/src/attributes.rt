@@ -29,7 +29,7 @@ pub(crate) fn control_attributes(name: Name) -> SectionFlags
 
 /// The attributes in a flags byte.
 pub(crate) fn attributes_in(flags: u8) -> SectionFlags
-    ensures { result.0 ≡ bit_and flags 245 }
+    ensures { result.0 ≡ bit_and flags 0o365 }
 {
     SectionFlags::from_bits_retain(flags & ATTRIBUTES)
 }

@@ -45,10 +45,10 @@ pub enum LinkFault {
     /// 7: a relocated place isn't wholly inside the text before it.
     #[error("a relocation lies outside its text")]
     BadDisplacement,
-    /// 8: a section is named that the module didn't enter before.
+    /// 8: a section other than `. ABS.` is named that the module didn't enter before.
     #[error("a section is unknown in its module")]
     UnknownSection,
-    /// 9: a relocatable section ends past 160000.
+    /// 9: a relocatable section ends past octal 160000.
     #[error("the program is too large")]
     TooLarge,
     /// 10: more than 8,192 names of globals.
@@ -72,7 +72,7 @@ pub enum LinkFault {
 }
 
 impl LinkFault {
-    /// The fault's number.
+    /// The fault's number: from 1 to 14, or 90.
     pub fn number(self) -> u8
         ensures { result ≡ link_fault_number self }
     {
@@ -95,7 +95,7 @@ impl LinkFault {
         }
     }
 
-    /// The fault's name.
+    /// The fault's name, as it is printed.
     pub fn name(self) -> &'static str
         ensures { result.now ≡ link_fault_name self }
     {

@@ -54,8 +54,8 @@ impl Layout {
 
     /// Takes one block.
     ///
-    /// Faults: `Record` where the block is no record, and then the first fault of its order and its entries. After a
-    /// fault each call returns it again.
+    /// Faults: `Record` where the block is no record, and then the first fault of its order and its entries;
+    /// `NoMemory` where memory is refused. After a fault each call returns it again.
     pub fn block(&mut self, block: &Block) -> Result<(), LinkFault>
         ensures takes { (bottom : ℕ) (before : List Part) → LayoutStands bottom before self.old
             → TakesBlock bottom before self.new block.now.items result }

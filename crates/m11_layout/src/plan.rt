@@ -33,7 +33,7 @@ impl Model for Plan {
     ghost view = { λ p. record { gathered = p.tables; bases = p.bases.entries; bottom = p.bottom; top = p.top } };
 }
 
-// The greatest size that there is.
+// The greatest size that a word holds; no section of a plan has a greater one.
 const MOST_SIZE: u32 = 0o177777;
 
 // The size of a section, as it is given.

@@ -90,7 +90,7 @@ fn joined(attributes: SectionFlags, before: u32, size: u16) -> u32
     joined.min(SIZE_CAP)
 }
 
-// There is no size that is greater: it is past all addresses.
+// Sizes are counted up to here, past all addresses: a relocatable section of this size is too large from any bottom.
 const SIZE_CAP: u32 = 0o200000;
 
 // A section after one more entry.
@@ -379,7 +379,7 @@ impl Tables {
         }
     }
 
-    // The section of a transfer address, where this module entered it.
+    // The section of this name, where this module entered it.
     fn entered_total(&self, name: Name) -> Option<Total>
         ensures { result ≡ entered_total self.now name }
     {

@@ -36,10 +36,11 @@ cut (None ∷ input) = closed_by false (cut input)
 cut (Some byte ∷ input) =
     if byte == 0o12 then closed_by true (cut input) else in_front byte (cut input).lines (cut input).unclosed
 
--- NULs go, and a form feed is a blank
+-- a form feed is read as a blank
 abbrev pub as_read : ℕ → ℕ
 as_read byte = if byte == 0o14 then 0o40 else byte
 
+-- bytes as they are read, without NULs
 abbrev pub cleaned : Bytes → Bytes
 cleaned bytes = map as_read (filter (λ byte. not (byte == 0)) bytes)
 

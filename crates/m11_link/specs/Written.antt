@@ -145,7 +145,7 @@ is_to_messages output = false
 abbrev pub is_message : Write → Bool
 is_message write = is_to_messages write.output
 
--- no link is known to have more
+-- the count of messages stops here
 abbrev pub most_messages : ℕ
 most_messages = 4294967295
 

@@ -13,8 +13,4 @@ mod run;
 pub use emit::{Emit, LinkDone};
 pub use laws::plans_write_by_definition;
 pub use m11_layout::{Layout, LinkFault, LinkOutput, Plan};
-pub use m11_link_text::{
-    Line, different_line, global_line, limit_line, multiple_line, name_line, relocate,
-    section_line, transfer_line, undefined_line,
-};
 pub use run::{link_run, objects_yield_items};

@@ -62,9 +62,7 @@ impl Reporter {
             messages: 0,
         }
     }
-}
 
-impl Reporter {
     /// The count of messages so far, of which more than 4,294,967,295 are written and not counted.
     pub(crate) fn messages(&self) -> u32
         ensures { result ≡ self.now.messages }

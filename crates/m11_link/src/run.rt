@@ -59,8 +59,7 @@ pub fn objects_yield_items()
         → AreItems sources items → AreItems sources others → items ≡ others }
 {}
 
-// The fault of a block as that of the link: a device and a limit have statuses of their own, so they are no fault of a block
-// there.
+// The fault of a block as that of the link: a device and a limit have faults of their own there.
 fn block_fault(fault: BlockFault) -> LinkFault
     ensures { result ≡ of_block fault }
 {

@@ -1,4 +1,4 @@
--- What a run of the linker comes to over known objects. (This project's own.)
+-- What a run of the linker yields over known objects. (This project's own.)
 use Rattle.std.specs.Prelude.{◌≡◌, ℕ, List, [], ◌∷◌, ⊤, Option, Some, None, Result, Ok, Err}
 use Rattle.m11_base.specs.Feed.{Text}
 use Rattle.m11_modules.specs.Parts.{Part}

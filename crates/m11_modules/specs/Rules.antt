@@ -71,7 +71,7 @@ abbrev pub has_bits : ℕ → ℕ → Bool
 has_bits mask flags = nat_eq (bit_and flags mask) mask
 
 abbrev pub defines : GsdEntry → Bool
-defines entry = has_bits 8 entry.flags
+defines entry = has_bits 0o10 entry.flags
 
 abbrev pub defines_relocatable : GsdEntry → Bool
 defines_relocatable entry = defines entry && has_bits 0o40 entry.flags

@@ -19,7 +19,7 @@ pub enum ModuleFault {
     /// A relocated place isn't wholly inside the text before it.
     #[error("a relocation lies outside its text")]
     BadDisplacement,
-    /// A section is named that the module didn't enter before.
+    /// A section other than `. ABS.` is named that the module didn't enter before.
     #[error("a section is unknown in its module")]
     UnknownSection,
     /// A text doesn't end inside its section, as large as that is in its module.

@@ -80,7 +80,7 @@ impl Rules {
 
     /// Takes one record.
     ///
-    /// Faults, the first in the order of the record's parts; in one entry or relocation in this order: `BadOrder`,
+    /// Faults, the first in the order of the record's parts; in one part in this order: `BadOrder`,
     /// `NoText`, `BadDisplacement`, `UnknownSection`, `TextOutside`, then a limit. `NoMemory` where memory is refused.
     /// After a fault the rules are of no more use.
     #[tactic(auto, using(crate::proofs::KnownAfter::taken_after))]
@@ -241,8 +241,10 @@ impl Rules {
         Ok(())
     }
 
-    /// Takes one relocation of a record whose beginning was taken: `begin_relocations` and then this call for each of its
-    /// relocations are one call of `record`, for who uses a relocation in the walk that judges it.
+    /// Takes one relocation of a record whose beginning was taken: `begin_relocations`, and then this call for each of its
+    /// relocations, are one call of `record`. They are for a caller that uses a relocation in the walk that judges it.
+    ///
+    /// Faults: `NoText`, `BadDisplacement`, `UnknownSection`, `TooManyGlobals`, and `NoMemory` where memory is refused.
     #[tactic(auto, unfolding(crate::specs::Steps::TakesOne, crate::specs::Steps::known_after, crate::specs::Rules::fault_known))]
     pub fn relocation(&mut self, relocation: Relocation) -> Result<(), ModuleFault>
         ensures { TakesOne self.old self.new (Relocated relocation) result }

@@ -36,7 +36,7 @@ pub(crate) enum NameAndConstantCommand {
     SectionAdditiveDisplaced,
 }
 
-/// A command.
+/// A command of a relocation directory, by what follows its displacement.
 #[derive(Clone, Copy, Debug, PartialEq, Eq)]
 pub(crate) enum Command {
     ProgramLimits,

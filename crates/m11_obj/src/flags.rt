@@ -25,8 +25,8 @@ impl Flags for SectionFlags {
 
     ghost exact = { ⊤ };
 
-    ghost table = { (codes "SAVED", 1) ∷ (codes "OVERLAID", 4) ∷ (codes "READ_ONLY", 16) ∷ (codes "RELOCATABLE", 32)
-        ∷ (codes "GLOBAL", 64) ∷ (codes "DATA", 128) ∷ [] };
+    ghost table = { (codes "SAVED", 0o001) ∷ (codes "OVERLAID", 0o004) ∷ (codes "READ_ONLY", 0o020) ∷ (codes "RELOCATABLE", 0o040)
+        ∷ (codes "GLOBAL", 0o100) ∷ (codes "DATA", 0o200) ∷ [] };
 
     ghost set_of = { λ f. f.0 };
 
@@ -60,7 +60,7 @@ impl Flags for SymbolFlags {
 
     ghost exact = { ⊤ };
 
-    ghost table = { (codes "WEAK", 1) ∷ (codes "DEFINED", 8) ∷ (codes "RELOCATABLE", 32) ∷ [] };
+    ghost table = { (codes "WEAK", 0o001) ∷ (codes "DEFINED", 0o010) ∷ (codes "RELOCATABLE", 0o040) ∷ [] };
 
     ghost set_of = { λ f. f.0 };
 

@@ -50,9 +50,13 @@ impl GsdKind {
 /// One entry: a name, the flags byte as a whole, what it says, and a value.
 #[derive(Clone, Copy, Debug, PartialEq, Eq)]
 pub struct GsdEntry {
+    /// The name that it enters.
     pub name: Name,
+    /// The flags byte as a whole.
     pub flags: u8,
+    /// What is entered.
     pub kind: GsdKind,
+    /// A section's size in bytes, a symbol's value, or the offset of the transfer address in its section.
     pub value: u16,
 }
 

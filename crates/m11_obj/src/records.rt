@@ -230,7 +230,7 @@ impl Record<'_> {
         text_at(self.content).0
     }
 
-    /// The bytes of a text record, at most 512. Needs a text record.
+    /// The bytes of a text record, at most 508. Needs a text record.
     pub fn text_bytes(&self) -> &[u8]
         requires { IsSome (record_text self.now) }
         ensures bytes { option_map (λ text. text.1) (record_text self.now) ≡ Some result.now }
@@ -257,7 +257,7 @@ impl Record<'_> {
 }
 
 /// The record's bytes, as they stand in its block: at most 512 of them, and `block_bytes` makes the
-/// block of them.
+/// block of them. Error: memory was refused.
 pub fn record_bytes(alloc: Global, record: &Record<'_>) -> Result<Vec<u8>, AllocError>
     ensures bytes { IfOk result (λ v. v.items ≡ «record».now) }
     ensures fits { IfOk result (λ v. length v.items ≤ content_limit) }
@@ -270,9 +270,9 @@ pub fn record_bytes(alloc: Global, record: &Record<'_>) -> Result<Vec<u8>, Alloc
 /// The record that stands in a block's content, to which it refers. It takes no memory.
 ///
 /// Faults, of which the first in the order of the bytes is returned: `UnknownType` at a type of record
-/// or of entry that there is not, `Library` at record types 7 and 10, `MappedArray` at entry type 7,
-/// `Complex` at commands 17 and 217, `UnknownRelocation` at a command that there is not or that has no
-/// byte form, `BadName` at a word of a name from 175000 up, and `BadLength` where the bytes end before
+/// or of entry that there is not, `Library` at record types 7 and octal 10, `MappedArray` at entry type 7,
+/// `Complex` at commands octal 17 and 217, `UnknownRelocation` at a command that there is not or that has no
+/// byte form, `BadName` at a word of a name from octal 175000 up, and `BadLength` where the bytes end before
 /// a field does.
 #[inline]
 pub fn read_record(block: &Block) -> Result<Record<'_>, RecordFault>

@@ -12,7 +12,7 @@ use m11_base::Name;
 use m11_blocks::Block;
 
 /// What is stored at a relocated place, the base of a section being that of this module's part of it.
-/// Displaced values are less the place and 2.
+/// Displaced values are less the place and 2. The numbers are those of the commands, in octal.
 #[derive(Clone, Copy, Debug, PartialEq, Eq)]
 pub enum Target {
     /// 1: a constant and the base of the text's own section.
@@ -121,6 +121,7 @@ pub struct Relocation {
     pub is_byte: bool,
     /// The place, counted in bytes from the text record's type word: its first data byte is 4.
     pub displacement: u8,
+    /// What is stored there.
     pub target: Target,
 }
 

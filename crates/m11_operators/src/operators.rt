@@ -34,7 +34,7 @@ use m11_table::{FirmNames, Map, Table};
 use std::alloc::AllocError;
 
 /// What an operator puts, whose name ends at a place of its line, with its letters. What has to stand at an even place goes on to the next
-/// one, with B. `arguments` is the number of actuals of the macro around the line.
+/// one, with B. `arguments` is the number of actuals of the macro around the line. Error: memory may be refused.
 pub fn put_operator(
     put: &mut Put,
     map: &Map<'_>,

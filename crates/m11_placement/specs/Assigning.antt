@@ -44,7 +44,7 @@ assignment line name is_global start = assignment_to is_global start (target lin
 abbrev pub label_letters : Table → Name → ℕ
 label_letters table name = letter_if (is_labelled (Named name) table.definitions) letter_M
 
--- a name that is global, and whose value isn't known when the whole source was read
+-- a standing that isn't known
 abbrev pub is_unknown_as : Standing → Bool
 is_unknown_as (Known number kind) = false
 is_unknown_as Unknown = true
@@ -56,6 +56,7 @@ is_unknown None = false
 abbrev pub is_exported : Name → Map → Bool
 is_exported name map = list_any (λ other. is_same_name other name) map.globals
 
+-- U for a name that is global, and whose value isn't known when the whole source was read
 abbrev pub global_letters : Map → Name → ℕ
 global_letters map name =
     letter_if (is_exported name map && is_unknown (last_definition (Named name) map.definitions)) letter_U

@@ -10,7 +10,7 @@ use Rattle.m11_placement.specs.Tables.{Table}
 
 -- 128 words back to 127 on, from the place after the branch
 abbrev pub in_reach : ℕ → Bool
-in_reach bytes = bytes % 2 == 0 && (nat_le bytes 254 || nat_le 65280 bytes)
+in_reach bytes = bytes % 2 == 0 && (nat_le bytes 0o376 || nat_le 0o177400 bytes)
 
 -- a branch at a place reaches a target of its section
 abbrev pub branch_reaches : Table → ℕ → Quantity → Bool
@@ -21,13 +21,14 @@ abbrev pub branch_offset : Table → ℕ → Quantity → ℕ
 branch_offset table place target =
     if branch_reaches table place target then distance place target.number / 2 % 256 else 0
 
--- 0 to 63 words back, from the place after it
+-- how far back a target lies from the place after a word, modulo 65536
 abbrev pub back : ℕ → ℕ → ℕ
 back place target = (65536 - distance place target) % 65536
 
+-- SOB at a place reaches a target of its section: 0 to 63 words back, from the place after it
 abbrev pub loop_reaches : Table → ℕ → Quantity → Bool
 loop_reaches table place target =
-    is_here table target.kind && (back place target.number % 2 == 0 && nat_le (back place target.number) 126)
+    is_here table target.kind && (back place target.number % 2 == 0 && nat_le (back place target.number) 0o176)
 
 -- the words to go back for SOB
 abbrev pub loop_offset : Table → ℕ → Quantity → ℕ

@@ -143,7 +143,7 @@ instruction setting (op.Codes operation codes) fields = insn.Condition operation
 
 -- ---- letters
 
--- which targets an operation reaches
+-- A for a target that an operation doesn't reach
 abbrev pub reach_letters : Setting → Op → ℕ → ℕ
 reach_letters setting op.Sob start = target_letters (loop_reaches setting.table setting.place (target_at setting start))
 reach_letters setting operation start = target_letters (branch_reaches setting.table setting.place (target_at setting start))

@@ -75,10 +75,11 @@ element_value known line place = if has_expression line place then value_at know
 abbrev pub register_letters : Kind → ℕ
 register_letters kind = letter_if (is_register kind) letter_R
 
--- T for a byte whose high byte is neither 000 nor 377
+-- a high byte that is 000 or 377
 abbrev pub is_byte_high : ℕ → Bool
-is_byte_high number = number == 0 || number == 255
+is_byte_high number = number == 0 || number == 0o377
 
+-- T for a byte whose high byte is neither
 abbrev pub byte_letters : ℕ → ℕ
 byte_letters number = letter_if (not (is_byte_high (number / 256))) letter_T
 

@@ -19,7 +19,7 @@ pub fn calls_read_lines_in_order()
 /// Where two sources follow one another and the first ends in a line feed, they are read as one text.
 pub fn sources_after_a_line_feed_are_one_text()
     ensures { (one other : Bytes) (sources : List Bytes)
-        → reading_of ((one ++ 10 ∷ []) ∷ other ∷ sources) ≡ reading_of (((one ++ 10 ∷ []) ++ other) ∷ sources) }
+        → reading_of ((one ++ 0o12 ∷ []) ∷ other ∷ sources) ≡ reading_of (((one ++ 0o12 ∷ []) ++ other) ∷ sources) }
 {}
 
 /// What a new reader returns call by call is the reading of the sources that its feeds give. Where no more is read, the

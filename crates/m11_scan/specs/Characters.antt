@@ -4,7 +4,7 @@ use Rattle.std.specs.Prelude.{ℕ, Bool, ◌||◌, ◌&&◌, ◌==◌, nat_le}
 
 -- a blank or a tab
 abbrev pub is_blank : ℕ → Bool
-is_blank byte = byte == 32 || byte == 9
+is_blank byte = byte == 0o40 || byte == 0o11
 
 abbrev pub is_digit : ℕ → Bool
-is_digit byte = nat_le 48 byte && nat_le byte 57
+is_digit byte = nat_le 0o60 byte && nat_le byte 0o71

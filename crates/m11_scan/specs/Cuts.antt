@@ -31,18 +31,18 @@ abbrev pub number_form : Bytes → Option Form
 number_form [] = Some (Cut Number)
 number_form (byte ∷ more) =
     if is_digit byte then number_form more
-    else (if byte == 46 then alone (Cut DecimalNumber) more
-    else (if byte == 36 then alone (Cut LocalSymbol) more else None))
+    else (if byte == 0o56 then alone (Cut DecimalNumber) more
+    else (if byte == 0o44 then alone (Cut LocalSymbol) more else None))
 
 -- what follows a `^`
 abbrev pub caret_form : Bytes → Option Form
 caret_form [] = Some Skipped
 caret_form (letter ∷ more) =
-    if folded letter == 66 then alone (Cut BinaryRadix) more
-    else (if folded letter == 79 then alone (Cut OctalRadix) more
-    else (if folded letter == 68 then alone (Cut DecimalRadix) more
-    else (if folded letter == 67 then alone (Cut Complement) more
-    else (if folded letter == 82 then all_pass is_name_character (Cut Packed) more else None))))
+    if folded letter == 0o102 then alone (Cut BinaryRadix) more
+    else (if folded letter == 0o117 then alone (Cut OctalRadix) more
+    else (if folded letter == 0o104 then alone (Cut DecimalRadix) more
+    else (if folded letter == 0o103 then alone (Cut Complement) more
+    else (if folded letter == 0o122 then all_pass is_name_character (Cut Packed) more else None))))
 
 -- what follows a character that counts for two where it stands twice
 abbrev pub doubled_form : ℕ → Sort → Sort → Bytes → Option Form
@@ -52,11 +52,11 @@ doubled_form byte single double (next ∷ more) = if next == byte then alone (Cu
 -- the form of a piece by its first character and what follows it
 abbrev pub marked_form : ℕ → Bytes → Option Form
 marked_form byte more =
-    if byte == 39 then at_most 1 (Cut Character) more
-    else (if byte == 34 then at_most 2 (Cut TwoCharacters) more
-    else (if byte == 94 then caret_form more
-    else (if byte == 58 then doubled_form 58 Colon TwoColons more
-    else (if byte == 61 then doubled_form 61 Equals TwoEquals more
+    if byte == 0o47 then at_most 1 (Cut Character) more
+    else (if byte == 0o42 then at_most 2 (Cut TwoCharacters) more
+    else (if byte == 0o136 then caret_form more
+    else (if byte == 0o72 then doubled_form 0o72 Colon TwoColons more
+    else (if byte == 0o75 then doubled_form 0o75 Equals TwoEquals more
     else alone (mark_form byte) more))))
 
 -- the form of a text that is one piece, if it is one
@@ -66,7 +66,7 @@ form_of (byte ∷ more) =
     if is_digit byte then number_form more
     else (if is_name_character byte then all_pass is_name_character (Cut Name) more
     else (if is_blank byte then alone Blank more
-    else (if byte == 59 then Some Comment
+    else (if byte == 0o73 then Some Comment
     else marked_form byte more)))
 
 -- the longest beginning of a text that has a form

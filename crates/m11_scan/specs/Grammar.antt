@@ -32,5 +32,5 @@ MayFollow (sort ∷ sorts) = (role_of sort ≢ Sign) × (role_of sort ≢ Operat
 -- texts whose brackets are nested
 pub data IsNested : Bytes → Type 0 where
   Empty : IsNested []
-  Plain : (byte : ℕ) (text : Bytes) → byte ≢ 60 → byte ≢ 62 → IsNested text → IsNested (byte ∷ text)
-  Bracketed : (text rest : Bytes) → IsNested text → IsNested rest → IsNested (60 ∷ (text ++ 62 ∷ rest))
+  Plain : (byte : ℕ) (text : Bytes) → byte ≢ 0o74 → byte ≢ 0o76 → IsNested text → IsNested (byte ∷ text)
+  Bracketed : (text rest : Bytes) → IsNested text → IsNested rest → IsNested (0o74 ∷ (text ++ 0o76 ∷ rest))

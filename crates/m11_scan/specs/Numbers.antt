@@ -16,11 +16,11 @@ base_of Decimal = 10
 -- the number that digits spell: each digit counts the base to the number of digits after it
 abbrev pub spelled : ℕ → Bytes → ℕ
 spelled base [] = 0
-spelled base (digit ∷ digits) = (digit - 48) * base ^ length digits + spelled base digits
+spelled base (digit ∷ digits) = (digit - 0o60) * base ^ length digits + spelled base digits
 
 -- some digit is none of the base
 abbrev pub has_digit_outside : ℕ → Bytes → Bool
-has_digit_outside base digits = list_any (λ digit. nat_le (base + 48) digit) digits
+has_digit_outside base digits = list_any (λ digit. nat_le (base + 0o60) digit) digits
 
 -- the base that digits have in a radix: ten where one of them lies outside it
 abbrev pub base_in : Radix → Bytes → ℕ

@@ -15,22 +15,22 @@ use Rattle.m11_scan.specs.declared.pieces.Piece.{Piece}
 -- what a character is that is a piece by itself
 abbrev pub mark_form : ℕ → Form
 mark_form byte =
-    if byte == 43 then Cut Plus
-    else (if byte == 45 then Cut Minus
-    else (if byte == 42 then Cut Times
-    else (if byte == 47 then Cut Over
-    else (if byte == 38 then Cut And
-    else (if byte == 33 then Cut Or
-    else (if byte == 60 then Cut Less
-    else (if byte == 62 then Cut Greater
-    else (if byte == 37 then Cut Percent
-    else (if byte == 35 then Cut NumberSign
-    else (if byte == 64 then Cut At
-    else (if byte == 40 then Cut Open
-    else (if byte == 41 then Cut Close
-    else (if byte == 44 then Cut Comma
-    else (if byte == 58 then Cut Colon
-    else (if byte == 61 then Cut Equals
+    if byte == 0o53 then Cut Plus
+    else (if byte == 0o55 then Cut Minus
+    else (if byte == 0o52 then Cut Times
+    else (if byte == 0o57 then Cut Over
+    else (if byte == 0o46 then Cut And
+    else (if byte == 0o41 then Cut Or
+    else (if byte == 0o74 then Cut Less
+    else (if byte == 0o76 then Cut Greater
+    else (if byte == 0o45 then Cut Percent
+    else (if byte == 0o43 then Cut NumberSign
+    else (if byte == 0o100 then Cut At
+    else (if byte == 0o50 then Cut Open
+    else (if byte == 0o51 then Cut Close
+    else (if byte == 0o54 then Cut Comma
+    else (if byte == 0o72 then Cut Colon
+    else (if byte == 0o75 then Cut Equals
     else Skipped)))))))))))))))
 
 -- the piece that a text begins with
@@ -41,8 +41,8 @@ token sort length = record { form = Cut sort; length = length }
 abbrev pub number_ending : ℕ → Bytes → Piece
 number_ending digits [] = token Number digits
 number_ending digits (byte ∷ rest) =
-    if byte == 46 then token DecimalNumber (digits + 1)
-    else (if byte == 36 then token LocalSymbol (digits + 1) else token Number digits)
+    if byte == 0o56 then token DecimalNumber (digits + 1)
+    else (if byte == 0o44 then token LocalSymbol (digits + 1) else token Number digits)
 
 abbrev pub number_piece : Bytes → Piece
 number_piece text = number_ending (prefix_len is_digit text) (drop (prefix_len is_digit text) text)
@@ -51,11 +51,11 @@ number_piece text = number_ending (prefix_len is_digit text) (drop (prefix_len i
 abbrev pub caret_piece : Bytes → Piece
 caret_piece [] = record { form = Skipped; length = 1 }
 caret_piece (letter ∷ rest) =
-    if folded letter == 66 then token BinaryRadix 2
-    else (if folded letter == 79 then token OctalRadix 2
-    else (if folded letter == 68 then token DecimalRadix 2
-    else (if folded letter == 67 then token Complement 2
-    else (if folded letter == 82 then token Packed (prefix_len is_name_character rest + 2)
+    if folded letter == 0o102 then token BinaryRadix 2
+    else (if folded letter == 0o117 then token OctalRadix 2
+    else (if folded letter == 0o104 then token DecimalRadix 2
+    else (if folded letter == 0o103 then token Complement 2
+    else (if folded letter == 0o122 then token Packed (prefix_len is_name_character rest + 2)
     else record { form = Skipped; length = 1 }))))
 
 -- a character that counts for two where it stands twice
@@ -66,11 +66,11 @@ doubled_piece byte single double (next ∷ rest) = if next == byte then token do
 abbrev pub mark_piece : Bytes → Piece
 mark_piece [] = record { form = Skipped; length = 1 }
 mark_piece (byte ∷ rest) =
-    if byte == 39 then token Character (min (length (byte ∷ rest)) 2)
-    else (if byte == 34 then token TwoCharacters (min (length (byte ∷ rest)) 3)
-    else (if byte == 94 then caret_piece rest
-    else (if byte == 58 then doubled_piece 58 Colon TwoColons rest
-    else (if byte == 61 then doubled_piece 61 Equals TwoEquals rest
+    if byte == 0o47 then token Character (min (length (byte ∷ rest)) 2)
+    else (if byte == 0o42 then token TwoCharacters (min (length (byte ∷ rest)) 3)
+    else (if byte == 0o136 then caret_piece rest
+    else (if byte == 0o72 then doubled_piece 0o72 Colon TwoColons rest
+    else (if byte == 0o75 then doubled_piece 0o75 Equals TwoEquals rest
     else record { form = mark_form byte; length = 1 }))))
 
 unfoldable pub first_piece : Bytes → Piece
@@ -79,5 +79,5 @@ first_piece (byte ∷ rest) =
     if is_digit byte then number_piece (byte ∷ rest)
     else (if is_name_character byte then token Name (prefix_len is_name_character (byte ∷ rest))
     else (if is_blank byte then record { form = Blank; length = 1 }
-    else (if byte == 59 then record { form = Comment; length = length (byte ∷ rest) }
+    else (if byte == 0o73 then record { form = Comment; length = length (byte ∷ rest) }
     else mark_piece (byte ∷ rest))))

@@ -22,23 +22,23 @@ longer enclosed = record { length = suc enclosed.length; is_closed = enclosed.is
 abbrev pub inside : ℕ → Bytes → Enclosed
 inside depth [] = record { length = 0; is_closed = false }
 inside zero (byte ∷ text) =
-    if byte == 60 then longer (inside 1 text)
-    else (if byte == 62 then record { length = 0; is_closed = true } else longer (inside zero text))
+    if byte == 0o74 then longer (inside 1 text)
+    else (if byte == 0o76 then record { length = 0; is_closed = true } else longer (inside zero text))
 inside (suc depth) (byte ∷ text) =
-    if byte == 60 then longer (inside (suc (suc depth)) text)
-    else (if byte == 62 then longer (inside depth text) else longer (inside (suc depth) text))
+    if byte == 0o74 then longer (inside (suc (suc depth)) text)
+    else (if byte == 0o76 then longer (inside depth text) else longer (inside (suc depth) text))
 
 abbrev pub bracketed : Bytes → Enclosed
 bracketed text = inside zero text
 
 -- a character of an actual that isn't bracketed
 abbrev pub is_bare : ℕ → Bool
-is_bare byte = not (is_blank byte || (byte == 44 || byte == 59))
+is_bare byte = not (is_blank byte || (byte == 0o54 || byte == 0o73))
 
 -- blanks, and what stands after them: a comma with the blanks after it, or nothing that separates
 abbrev pub comma_length : Bytes → ℕ
 comma_length [] = 0
-comma_length (byte ∷ text) = if byte == 44 then prefix_len is_blank text + 1 else 0
+comma_length (byte ∷ text) = if byte == 0o54 then prefix_len is_blank text + 1 else 0
 
 abbrev pub separator_length : Bytes → ℕ
 separator_length text = comma_length (drop (prefix_len is_blank text) text) + prefix_len is_blank text

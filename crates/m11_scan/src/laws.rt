@@ -37,5 +37,5 @@ pub fn written_expressions_are_taken_whole()
 #[tactic(auto, using(crate::proofs::NestedBrackets::nested_bracketed))]
 pub fn nested_brackets_are_read_whole()
     ensures { (text rest : Bytes) → IsNested text
-        → bracketed (text ++ 62 ∷ rest) ≡ record { length = length text; is_closed = true } }
+        → bracketed (text ++ 0o76 ∷ rest) ≡ record { length = length text; is_closed = true } }
 {}

@@ -15,20 +15,20 @@ pub struct Letters(u16);
 
 bitflag_items! {
     impl Letters: u16 {
-        const A = 1;
-        const B = 2;
-        const D = 4;
-        const E = 8;
-        const I = 16;
-        const L = 32;
-        const M = 64;
-        const N = 128;
-        const O = 256;
-        const P = 512;
-        const Q = 1024;
-        const R = 2048;
-        const T = 4096;
-        const U = 8192;
+        const A = 0o1;
+        const B = 0o2;
+        const D = 0o4;
+        const E = 0o10;
+        const I = 0o20;
+        const L = 0o40;
+        const M = 0o100;
+        const N = 0o200;
+        const O = 0o400;
+        const P = 0o1000;
+        const Q = 0o2000;
+        const R = 0o4000;
+        const T = 0o10000;
+        const U = 0o20000;
     }
 }
 
@@ -37,9 +37,9 @@ impl Flags for Letters {
 
     ghost exact = { ⊤ };
 
-    ghost table = { (codes "A", 1) ∷ (codes "B", 2) ∷ (codes "D", 4) ∷ (codes "E", 8) ∷ (codes "I", 16) ∷ (codes "L", 32)
-        ∷ (codes "M", 64) ∷ (codes "N", 128) ∷ (codes "O", 256) ∷ (codes "P", 512) ∷ (codes "Q", 1024) ∷ (codes "R", 2048)
-        ∷ (codes "T", 4096) ∷ (codes "U", 8192) ∷ [] };
+    ghost table = { (codes "A", 0o1) ∷ (codes "B", 0o2) ∷ (codes "D", 0o4) ∷ (codes "E", 0o10) ∷ (codes "I", 0o20) ∷ (codes "L", 0o40)
+        ∷ (codes "M", 0o100) ∷ (codes "N", 0o200) ∷ (codes "O", 0o400) ∷ (codes "P", 0o1000) ∷ (codes "Q", 0o2000) ∷ (codes "R", 0o4000)
+        ∷ (codes "T", 0o10000) ∷ (codes "U", 0o20000) ∷ [] };
 
     ghost set_of = { λ letters. letters.0 };
 
@@ -66,59 +66,59 @@ struct Row {
 const ROWS: [Row; 14] = [
     Row {
         letter: b'A',
-        bit: 1,
+        bit: 0o1,
     },
     Row {
         letter: b'B',
-        bit: 2,
+        bit: 0o2,
     },
     Row {
         letter: b'D',
-        bit: 4,
+        bit: 0o4,
     },
     Row {
         letter: b'E',
-        bit: 8,
+        bit: 0o10,
     },
     Row {
         letter: b'I',
-        bit: 16,
+        bit: 0o20,
     },
     Row {
         letter: b'L',
-        bit: 32,
+        bit: 0o40,
     },
     Row {
         letter: b'M',
-        bit: 64,
+        bit: 0o100,
     },
     Row {
         letter: b'N',
-        bit: 128,
+        bit: 0o200,
     },
     Row {
         letter: b'O',
-        bit: 256,
+        bit: 0o400,
     },
     Row {
         letter: b'P',
-        bit: 512,
+        bit: 0o1000,
     },
     Row {
         letter: b'Q',
-        bit: 1024,
+        bit: 0o2000,
     },
     Row {
         letter: b'R',
-        bit: 2048,
+        bit: 0o4000,
     },
     Row {
         letter: b'T',
-        bit: 4096,
+        bit: 0o10000,
     },
     Row {
         letter: b'U',
-        bit: 8192,
+        bit: 0o20000,
     },
 ];
 

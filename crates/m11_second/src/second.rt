@@ -59,21 +59,37 @@ impl Model for Second {
 }
 
 impl Second {
-    /// Before the first line.
+    /// Before the first line. Error: memory may be refused.
     pub fn new(alloc: Global, symbols: Symbols) -> Result<Second, AllocError>
         ensures { IfOk result (λ second. (first now : Outputs) → Gains first now []
             → SecondStands (program_in symbols) [] first now second) }
     {
         let (first, mentioned, facts) = symbols.into_parts();
-        let writing = Writing::new(alloc, &first, &mentioned, &facts)?;
-        Ok(Second {
-            pass: SourcePass::new(alloc, mentioned)?,
-            writing,
-            first,
-            read: 0,
-            has_ended: false,
-            fault: Latch::new(),
-        })
+        let begun = Writing::new(alloc, &first, &mentioned, &facts);
+        // what isn't kept goes by calls, which are proved far sooner
+        drop(facts);
+        match begun {
+            Ok(writing) => match SourcePass::new(alloc, mentioned) {
+                Ok(pass) => Ok(Second {
+                    first,
+                    pass,
+                    writing,
+                    read: 0,
+                    has_ended: false,
+                    fault: Latch::new(),
+                }),
+                Err(error) => {
+                    drop(first);
+                    drop(writing);
+                    Err(error)
+                }
+            },
+            Err(error) => {
+                drop(first);
+                drop(mentioned);
+                Err(error)
+            }
+        }
     }
 
     /// The next line of the source, and what follows from it is written. After `.END` became live it is not read.
@@ -134,7 +150,7 @@ impl Second {
     /// Errors: the fault that came, if one did; `Write` of an output, after which nothing more is written; and `NoMemory` between two
     /// writes.
     pub fn end<S: Sink, T: Sink, U: Sink>(
-        self,
+        mut self,
         object: &mut S,
         listing: &mut Option<T>,
         messages: &mut U,
@@ -145,17 +161,28 @@ impl Second {
         ensures again { (fault : AsmFault) → self.fault ≡ Some fault → (result ≡ Err fault)
             × (object.new ≡ object.old) × (listing.new ≡ listing.old) × (messages.new ≡ messages.old) }
     {
-        match self.fault.check() {
-            Ok(()) => {
-                let place = self.pass.table().place();
-                self.writing.end(self.has_ended, self.read, place, object, listing, messages)
-            }
-            Err(fault) => {
-                // by a call, which is proved sooner
-                drop(self);
-                Err(fault)
-            }
-        }
+        let done = self.finish(object, listing, messages);
+        // by a call: where it is let go in place, this function alone takes minutes to prove
+        drop(self);
+        done
+    }
+
+    // What `end` does, by a borrow, so that `end` can let the pass go in one call, whatever comes.
+    fn finish<S: Sink, T: Sink, U: Sink>(
+        &mut self,
+        object: &mut S,
+        listing: &mut Option<T>,
+        messages: &mut U,
+    ) -> Result<AsmDone, AsmFault>
+        ensures ends { (program : Program) (source : List SourceLine) (first : Outputs) → SecondStands program source first
+            (outputs_of S.Sink T.Sink U.Sink object.old listing.old messages.old) self.old
+            → SecondEnds program source first (outputs_of S.Sink T.Sink U.Sink object.new listing.new messages.new) self.old result }
+        ensures again { (fault : AsmFault) → self.old.fault ≡ Some fault → (result ≡ Err fault)
+            × (object.new ≡ object.old) × (listing.new ≡ listing.old) × (messages.new ≡ messages.old) }
+    {
+        self.fault.check()?;
+        let place = self.pass.table().place();
+        self.writing.end(self.has_ended, self.read, place, object, listing, messages)
     }
 }
 

@@ -45,6 +45,7 @@ use m11_symbols::{section_entries, symbol_entries};
 use m11_values::Value;
 use std::alloc::{AllocError, Global};
 use std::marker::Model;
+use std::mem;
 
 /// What is kept of what was written.
 #[derive(Drop)]
@@ -84,7 +85,7 @@ impl Model for Writing {
 }
 
 impl Writing {
-    /// Before the first line, after what a first pass gives.
+    /// Before the first line, after what a first pass gives. Error: memory may be refused.
     pub fn new(
         alloc: Global,
         first: &Pass,
@@ -228,7 +229,7 @@ impl Writing {
     ///
     /// Errors: `Write` of an output, and `NoMemory` between two writes.
     pub fn end<S: Sink, T: Sink, U: Sink>(
-        self,
+        &mut self,
         has_ended: bool,
         read: u16,
         place: u16,
@@ -236,19 +237,18 @@ impl Writing {
         listing: &mut Option<T>,
         messages: &mut U,
     ) -> Result<AsmDone, AsmFault>
-        ensures writes { (program : Program) (lines : List Numbered) → WritingStands program lines self
+        ensures writes { (program : Program) (lines : List Numbered) → WritingStands program lines self.old
             → place ≡ last_place program lines → flagged_count program lines has_ended ≤ most_counted → Writes
             (outputs_of S.Sink T.Sink U.Sink object.old listing.old messages.old)
             (outputs_of S.Sink T.Sink U.Sink object.new listing.new messages.new)
             (last_writes program lines (record { read = read; has_end = has_ended })) result }
-        ensures counts { (program : Program) (lines : List Numbered) → WritingStands program lines self
+        ensures counts { (program : Program) (lines : List Numbered) → WritingStands program lines self.old
             → flagged_count program lines has_ended ≤ most_counted
             → IfOk result (λ done. done.flagged ≡ flagged_count program lines has_ended) }
     {
-        let mut last = self;
-        last.begin(object)?;
-        last.add_line(has_ended, read, place, listing, messages)?;
-        last.close(object, listing, messages)
+        self.begin(object)?;
+        self.add_line(has_ended, read, place, listing, messages)?;
+        self.close(object, listing, messages)
     }
 
     // The line that is added where `.END` didn't become live.
@@ -272,8 +272,7 @@ impl Writing {
         self.add_flagged(Letters::E, read, place, listing, messages)
     }
 
-    // An empty line with letters, in the listing and in the messages. It stands alone since its proof is far cheaper where the letters
-    // are any.
+    // An empty line with letters, in the listing and in the messages.
     fn add_flagged<T: Sink, U: Sink>(
         &mut self,
         letters: Letters,
@@ -295,29 +294,25 @@ impl Writing {
 
     // The last text and the end of the module, the symbol table, and the count.
     fn close<S: Sink, T: Sink, U: Sink>(
-        self,
+        &mut self,
         object: &mut S,
         listing: &mut Option<T>,
         messages: &mut U,
     ) -> Result<AsmDone, AsmFault>
-        ensures writes { (pieces : List Piece) → IsOpenAfter pieces self.text → Writes
+        ensures writes { (pieces : List Piece) → IsOpenAfter pieces self.old.text → Writes
             (outputs_of S.Sink T.Sink U.Sink object.old listing.old messages.old)
             (outputs_of S.Sink T.Sink U.Sink object.new listing.new messages.new)
-            (closing_writes pieces self.symbols self.sections self.flagged) result }
-        ensures counts { IfOk result (λ done. done.flagged ≡ self.flagged) }
+            (closing_writes pieces self.old.symbols self.old.sections self.old.flagged) result }
+        ensures counts { IfOk result (λ done. done.flagged ≡ self.old.flagged) }
     {
-        let Writing {
-            alloc,
-            symbols,
-            sections,
-            text,
-            flagged,
-            ..
-        } = self;
-        put_last(alloc, object, text)?;
-        put_symbol_table(listing, symbols.as_slice(), sections.as_slice(), flagged)?;
-        put_count(messages, flagged)?;
-        Ok(AsmDone { flagged })
+        let text = mem::replace(&mut self.text, open_text());
+        put_last(self.alloc, object, text)?;
+        let symbols = self.symbols.as_slice();
+        put_symbol_table(listing, symbols, self.sections.as_slice(), self.flagged)?;
+        put_count(messages, self.flagged)?;
+        Ok(AsmDone {
+            flagged: self.flagged,
+        })
     }
 }
 

@@ -15,7 +15,7 @@ use Rattle.m11_statements.specs.declared.actuals.Separator.{Separator}
 
 abbrev pub begins_with_comma : Bytes → Bool
 begins_with_comma [] = false
-begins_with_comma (byte ∷ text) = byte == 44
+begins_with_comma (byte ∷ text) = byte == 0o54
 
 -- the place after the blanks that stand from a place on
 abbrev pub after_blanks : Bytes → ℕ → ℕ
@@ -57,9 +57,9 @@ bare_actual line start = whole_actual Bare start (start + prefix_len is_bare (dr
 abbrev pub actual_in : Bytes → ℕ → Bool → Bytes → Option Actual
 actual_in line start gives_digits [] = None
 actual_in line start gives_digits (byte ∷ text) =
-    if byte == 59 then None
-    else (if byte == 60 then Some (bracketed_actual line (start + 1))
-    else (if byte == 92 && gives_digits then Some (digits_actual line (start + 1)) else Some (bare_actual line start)))
+    if byte == 0o73 then None
+    else (if byte == 0o74 then Some (bracketed_actual line (start + 1))
+    else (if byte == 0o134 && gives_digits then Some (digits_actual line (start + 1)) else Some (bare_actual line start)))
 
 -- the actual that stands next from a place on, after blanks
 abbrev pub next_actual : Bytes → ℕ → Bool → Option Actual

@@ -28,7 +28,7 @@ created_formal line mark after = created_by line mark after (tokens_from line af
 abbrev pub formal_in : Bytes → ℕ → Bytes → NextFormal
 formal_in line start [] = plain_formal (tokens_from line start)
 formal_in line start (byte ∷ text) =
-    if byte == 63 then created_formal line start (start + 1) else plain_formal (tokens_from line start)
+    if byte == 0o77 then created_formal line start (start + 1) else plain_formal (tokens_from line start)
 
 -- what stands next from a place on, after blanks
 abbrev pub next_formal : Bytes → ℕ → NextFormal

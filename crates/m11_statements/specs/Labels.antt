@@ -16,7 +16,7 @@ use Rattle.m11_statements.specs.declared.labels.LabelKind.TheVariants.{Ordinary,
 -- the counter, which is no name that a label can have
 abbrev pub is_counter : Bytes → Bool
 is_counter [] = false
-is_counter (byte ∷ []) = byte == 46
+is_counter (byte ∷ []) = byte == 0o56
 is_counter (byte ∷ (more ∷ text)) = false
 
 -- a local symbol by its number, which is 1 to 65535

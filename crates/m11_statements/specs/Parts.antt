@@ -17,7 +17,7 @@ use Rattle.m11_statements.specs.declared.parts.PartKind.TheVariants.{Text, Expre
 
 -- a blank, or a character that doesn't print
 abbrev pub is_unprinted : ℕ → Bool
-is_unprinted byte = nat_le byte 32 || nat_lt 126 byte
+is_unprinted byte = nat_le byte 0o40 || nat_lt 0o176 byte
 
 abbrev pub is_closing : Sort → Bool
 is_closing Greater = true
@@ -52,8 +52,8 @@ expression_part line start = closed_by start (expression_end line start) (tokens
 abbrev pub part_in : Bytes → ℕ → Bool → Bytes → Option Part
 part_in line start is_first [] = None
 part_in line start is_first (byte ∷ text) =
-    if byte == 59 && not is_first then None
-    else (if byte == 60 then Some (expression_part line (start + 1)) else Some (text_part line (start + 1) byte))
+    if byte == 0o73 && not is_first then None
+    else (if byte == 0o74 then Some (expression_part line (start + 1)) else Some (text_part line (start + 1) byte))
 
 -- the place of the next character that prints
 abbrev pub next_printed : Bytes → ℕ → ℕ

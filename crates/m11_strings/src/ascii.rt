@@ -29,7 +29,7 @@ pub fn asciz_size(line: &Line, start: usize) -> u16
     text_size(line, start) + 1
 }
 
-/// The bytes of a `.ASCII`.
+/// The bytes of a `.ASCII`. Error: memory may be refused.
 pub fn put_ascii(put: &mut Put, setting: &Setting, start: usize) -> Result<(), AllocError>
     requires { start ≤ length setting.now.line }
     ensures { IfOk result (λ _. put.new ≡ followed_by put.old
@@ -40,7 +40,7 @@ pub fn put_ascii(put: &mut Put, setting: &Setting, start: usize) -> Result<(), A
     put_parts(put, setting, setting.place(), parts.list.as_slice())
 }
 
-/// The bytes of a `.ASCIZ`: those of a `.ASCII`, and a zero.
+/// The bytes of a `.ASCIZ`: those of a `.ASCII`, and a zero. Error: memory may be refused.
 pub fn put_asciz(put: &mut Put, setting: &Setting, start: usize) -> Result<(), AllocError>
     requires { start ≤ length setting.now.line }
     ensures { IfOk result (λ _. put.new ≡ followed_by put.old

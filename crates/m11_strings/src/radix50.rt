@@ -25,7 +25,7 @@ pub fn rad50_size(line: &Line, start: usize) -> u16
     (text_size(line, start) + 2) / 3 * 2
 }
 
-/// The words of a `.RAD50`. Blanks fill the last one.
+/// The words of a `.RAD50`. Blanks fill the last one. Error: memory may be refused.
 pub fn put_rad50(put: &mut Put, setting: &Setting, start: usize) -> Result<(), AllocError>
     requires { start ≤ length setting.now.line }
     ensures { IfOk result (λ _. put.new ≡ followed_by put.old

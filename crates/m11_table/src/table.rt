@@ -72,6 +72,7 @@ impl Model for Table {
 
 impl Table {
     /// What holds before the first line: the names of the registers, the absolute section, and the blank one, in which assembly begins.
+    /// Error: memory may be refused.
     pub fn new(alloc: Global) -> Result<Table, AllocError>
         ensures { IfOk result (λ table. Alike table first_table) }
     {
@@ -320,6 +321,7 @@ impl Table {
 
 impl Table {
     /// A section is selected, and with it a new block of local symbols begins. One whose name is new has these attributes.
+    /// Error: memory may be refused.
     pub fn select(&mut self, name: Name, attributes: u8) -> Result<(), AllocError>
         requires blocks { self.old.settings.block + 1 < 2 ^ 64 }
         requires sections { length self.old.sections < 65535 }
@@ -354,7 +356,7 @@ impl Table {
         self.settings.block += 1;
     }
 
-    /// One more definition, which is then the last one of its key.
+    /// One more definition, which is then the last one of its key. Error: memory may be refused.
     pub fn insert(&mut self, definition: &Definition) -> Result<(), AllocError>
         ensures { IfOk result (λ _. Follows self.old self.new (with_definition definition.now)) }
     {
@@ -395,7 +397,7 @@ impl Table {
         Ok(())
     }
 
-    /// A key is doubled from here on.
+    /// A key is doubled from here on. Error: memory may be refused.
     pub fn double(&mut self, key: &Key) -> Result<(), AllocError>
         ensures { IfOk result (λ _. Follows self.old self.new (with_doubled key.now)) }
     {
@@ -421,7 +423,7 @@ impl Table {
         Ok(())
     }
 
-    /// A name is global from here on.
+    /// A name is global from here on. Error: memory may be refused.
     pub fn export(&mut self, name: Name) -> Result<(), AllocError>
         ensures { IfOk result (λ _. Follows self.old self.new (with_global name)) }
     {

@@ -65,7 +65,7 @@ abbrev pub negated : Quantity → Quantity
 negated value = replaced value ((65536 - value.number) % 65536)
 
 abbrev pub complemented : Quantity → Quantity
-complemented value = replaced value (65535 - value.number)
+complemented value = replaced value (0o177777 - value.number)
 
 -- `%` before a term
 abbrev pub as_register : Quantity → Quantity

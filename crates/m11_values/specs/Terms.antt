@@ -42,7 +42,7 @@ ordinary None = None
 
 abbrev pub is_counter : Bytes → Bool
 is_counter [] = false
-is_counter (byte ∷ []) = byte == 46
+is_counter (byte ∷ []) = byte == 0o56
 is_counter (byte ∷ next ∷ rest) = false
 
 abbrev pub name_symbol : Bytes → Option Symbol

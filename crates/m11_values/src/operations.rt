@@ -98,7 +98,7 @@ pub(crate) fn negated(value: Value) -> Value
 pub(crate) fn complemented(value: Value) -> Value
     ensures { quantity result ≡ complemented (quantity value) }
 {
-    replaced(value, 65535 - value.number)
+    replaced(value, 0o177777 - value.number)
 }
 
 // Another number in the place of an absolute one.

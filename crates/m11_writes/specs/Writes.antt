@@ -12,7 +12,7 @@ pub data Stop (O : Type 0) : Type 0 where
   In : O → Stop O
   Between : Stop O
 
--- the outputs of a program, which are told apart, and its faults, of which some say that writes have ended early
+-- the outputs of a program, of which it is known whether two are one, and its faults, of which some say that writes have ended early
 pub record Kinds (O E : Type 0) : Type 0 where
   pub is : O → O → Bool
   pub same : (a b : O) → is a b ≡ true → a ≡ b

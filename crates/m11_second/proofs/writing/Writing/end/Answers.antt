@@ -33,8 +33,8 @@ returns-clause-writes g c = λ program lines stands place few.
     (writes_then assembly _ _ _ added closing _
     (gains_as _ _ _ _ (ap (added_writes ended) place) (c.in_ok-add_line.ensures.writes _))
     (writes_as _ _ _ _ _
-    (closes_so program lines c.args.self c.begin.new.self c.add_line.new.self stands c.args.has_ended c.in_ok-begin.ensures.begins
+    (closes_so program lines c.args.self.now c.begin.new.self c.add_line.new.self stands c.args.has_ended c.in_ok-begin.ensures.begins
     c.in_ok-add_line.ensures.counts few)
     (c.close.ensures.writes (pieces_in program.map lines)
-    (last_open program lines c.args.self c.begin.new.self c.add_line.new.self stands c.args.has_ended c.in_ok-begin.ensures.begins
+    (last_open program lines c.args.self.now c.begin.new.self c.add_line.new.self stands c.args.has_ended c.in_ok-begin.ensures.begins
     c.in_ok-add_line.ensures.counts))))

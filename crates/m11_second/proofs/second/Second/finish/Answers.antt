@@ -3,10 +3,10 @@ use Rattle.m11_asm_outputs.specs.Outputs.{Outputs, outputs_of}
 use Rattle.m11_placement.specs.Tables.{Table, place}
 use Rattle.m11_second.specs.Second.{SecondEnds, SecondStands, SecondState}
 use Rattle.m11_second.proofs.Finishing.{few_flagged, place_is, second_finishes}
-use Rattle.m11_second.proofs.second.Second.end.Goals as goal
+use Rattle.m11_second.proofs.second.Second.finish.Goals as goal
 
-pub returns-in-Ok-clause-ends : goal.returns-in-Ok-clause-ends
-returns-in-Ok-clause-ends g c = λ program source first.
+pub returns-clause-ends : goal.returns-clause-ends
+returns-clause-ends g c = λ program source first.
     let before : Outputs = outputs_of g.S.Sink g.T.Sink g.U.Sink c.args.object.now c.args.listing.now c.args.messages.now in
     let now : Outputs = outputs_of g.S.Sink g.T.Sink g.U.Sink c.end.new.object c.end.new.listing c.end.new.messages in
     let P : SecondState → Type 0 = λ s. SecondStands program source first before s → SecondEnds program source first now s c.end.result in
