@@ -30,7 +30,7 @@ pub struct SymbolEntry {
     pub name: Name,
     /// Whether its last definition is another than a label.
     pub is_assigned: bool,
-    /// What it is.
+    /// Its value, if it has one.
     pub value: SymbolValue,
     /// Whether the object has it, as a definition or as a reference.
     pub is_global: bool,
@@ -45,7 +45,7 @@ pub struct SectionEntry {
     pub size: u16,
     /// 63 at most, in the order in which sections appear.
     pub number: u8,
-    /// Those of its first directive, and of each later one that names some.
+    /// Those of the first directive that names it. A later one changes none.
     pub attributes: SectionFlags,
 }
 

@@ -50,11 +50,11 @@ impl GsdKind {
 /// One entry: a name, the flags byte as a whole, what it says, and a value.
 #[derive(Clone, Copy, Debug, PartialEq, Eq)]
 pub struct GsdEntry {
-    /// The name that it enters.
+    /// The name of what is entered. A transfer address has the name of its section.
     pub name: Name,
     /// The flags byte as a whole.
     pub flags: u8,
-    /// What is entered.
+    /// What the entry says.
     pub kind: GsdKind,
     /// A section's size in bytes, a symbol's value, or the offset of the transfer address in its section.
     pub value: u16,

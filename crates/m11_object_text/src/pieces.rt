@@ -61,7 +61,7 @@ pub struct Piece {
     pub section: Name,
     /// The place of its first byte, from the beginning of the section.
     pub place: u16,
-    /// What it is.
+    /// The byte, word or pair of limits, with how each is relocated.
     pub content: PieceContent,
 }
 

@@ -13,7 +13,7 @@ use m11_lines::{LINE_LIMIT, Line};
 /// A token of a line.
 #[derive(Clone, Copy, PartialEq, Eq, Debug, Default)]
 pub struct Token {
-    /// What it is.
+    /// A name, a number, or which of the operators and marks.
     pub sort: Sort,
     /// The place of its first character in the line.
     pub start: u8,

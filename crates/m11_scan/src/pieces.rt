@@ -10,7 +10,7 @@ use crate::sort::{Form, Sort};
 /// A piece of a line: a token, a blank, the comment, or a character that begins no token.
 #[derive(Clone, Copy, PartialEq, Eq, Debug)]
 pub struct Piece {
-    /// What it is.
+    /// A token of some sort, a blank, a comment or a skipped character.
     pub form: Form,
     /// How many characters it has.
     pub length: usize,

@@ -29,7 +29,7 @@ pub enum LabelKind {
 /// A label of a line.
 #[derive(Clone, Copy, PartialEq, Eq, Debug, Default)]
 pub struct Label {
-    /// What it is.
+    /// Whether it defines a name or a local symbol, or neither.
     pub kind: LabelKind,
     /// Its name or local symbol.
     pub name: Span,
