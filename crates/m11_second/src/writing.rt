@@ -20,7 +20,7 @@ ghost use Rattle.m11_placing.specs.Deeds.{deed_seen};
 ghost use Rattle.m11_scan.specs.Views.{bits_of};
 ghost use Rattle.m11_second.specs.Program.{Program, program_kept, directory_facts_in};
 ghost use Rattle.m11_second.specs.Writing.{WritingStands, begun, counted, counted_last, most_counted, opened};
-ghost use Rattle.m11_second.specs.Written.{added_to_both, added_writes, closing_writes, flagged_count, head_before, last_place, last_writes, line_writes, message_writes};
+ghost use Rattle.m11_second.specs.Written.{added_writes, closing_writes, flagged_count, head_before, last_place, last_writes, line_writes, message_writes};
 ghost use Rattle.m11_unfolding.specs.Unfolding.{Given};
 ghost use Rattle.m11_values.specs.Quantities.{quantity};
 ghost use Rattle.m11_writes.specs.Outputs.{Output, optional_output, output_of};
@@ -251,7 +251,7 @@ impl Writing {
         self.close(object, listing, messages)
     }
 
-    // The line that is added where `.END` didn't become live.
+    // The line that is added where `.END` didn't become live: an empty one, flagged E, in the listing and in the messages.
     fn add_line<T: Sink, U: Sink>(
         &mut self,
         has_ended: bool,
@@ -269,27 +269,8 @@ impl Writing {
         if has_ended {
             return Ok(());
         }
-        self.add_flagged(Letters::E, read, place, listing, messages)
-    }
-
-    // An empty line with letters, in the listing and in the messages.
-    fn add_flagged<T: Sink, U: Sink>(
-        &mut self,
-        letters: Letters,
-        read: u16,
-        place: u16,
-        listing: &mut Option<T>,
-        messages: &mut U,
-    ) -> Result<(), AsmFault>
-        ensures writes { (object : Output) → Writes
-            (outputs object (optional_output T.Sink listing.old) (output_of U.Sink messages.old))
-            (outputs object (optional_output T.Sink listing.new) (output_of U.Sink messages.new))
-            (added_to_both (bits_of letters) read place) result }
-        ensures counts { IfOk result (λ _. self.new
-            ≡ record self.old { flagged = counted (bits_of letters) self.old.flagged }) }
-    {
-        put_listed(listing, letters, read, place, place, &[], &[])?;
-        self.report(letters, read, &[], messages)
+        put_listed(listing, Letters::E, read, place, place, &[], &[])?;
+        self.report(Letters::E, read, &[], messages)
     }
 
     // The last text and the end of the module, the symbol table, and the count.
