@@ -1,6 +1,6 @@
 //! Results with the condition codes that they set.
 
-ghost use Rattle.std.specs.Prelude.{◌≡◌, ◌<◌, ◌/◌, ◌%◌, ℤ};
+ghost use Rattle.std.specs.Prelude.{◌≡◌, ◌<◌, ◌/◌, ◌%◌};
 ghost use Rattle.m11_arithmetic.specs.Sizes.{size_limit};
 ghost use Rattle.m11_arithmetic.specs.Results.{with_codes, exact_result, pair_of};
 

@@ -1,8 +1,7 @@
 //! Shifts by several places. (PDP-11/40 Processor Handbook, "Extended instruction set".)
 
-ghost use Rattle.std.specs.Prelude.{◌≡◌, ◌<◌, ◌≤◌, ◌%◌, ◌*◌, ◌-◌, ◌^◌, pos, negsuc, ◌*ℤ◌, FitsSigned};
+ghost use Rattle.std.specs.Prelude.{◌≡◌, ◌<◌, ◌≤◌, ◌%◌, ◌*◌, ◌-◌, ◌^◌, pos, ◌*ℤ◌, FitsSigned};
 ghost use Rattle.std.specs.Int.{w32};
-ghost use Rattle.m11_arithmetic.specs.Sizes.{modulo};
 ghost use Rattle.m11_arithmetic.specs.Shifts.{places, shifted, last_bit, digit, shift_result, shift_pair_result};
 
 use crate::extended::joined;

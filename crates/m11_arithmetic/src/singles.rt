@@ -2,7 +2,7 @@
 
 ghost use Rattle.std.specs.Prelude.{◌≡◌, ◌<◌};
 ghost use Rattle.m11_arithmetic.specs.Sizes.{size_limit};
-ghost use Rattle.m11_arithmetic.specs.Singles.{unchanged, swapped, keeping_carry, negated, less_carry, stepped, sign_filled, single_result, rotated_right, rotated_left, halved};
+ghost use Rattle.m11_arithmetic.specs.Singles.{swapped, keeping_carry, negated, less_carry, stepped, sign_filled, single_result, rotated_right, rotated_left, halved};
 
 use crate::doubles::{difference, sum};
 use crate::results::{Computed, with_codes};

@@ -1,6 +1,6 @@
 //! Words and bytes as numbers, and numbers as words and bytes.
 
-ghost use Rattle.std.specs.Prelude.{◌≡◌, ◌<◌, ◌^◌, pos, neg_ℤ, ◌≤ℤ◌, ◌<ℤ◌};
+ghost use Rattle.std.specs.Prelude.{◌≡◌, ◌<◌};
 ghost use Rattle.m11_arithmetic.specs.Sizes.{size_limit, sign_bit, signed, modulo, overflows, is_outside, complement};
 
 use m11_base::Size;

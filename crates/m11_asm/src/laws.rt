@@ -1,7 +1,7 @@
 //! A law of runs. It is the contract of a function that does nothing.
 
-ghost use Rattle.std.specs.Prelude.{◌≡◌, ℕ, List, Ok};
-ghost use Rattle.m11_asm.specs.Outcome.{Assembled, HasOutcome, Outcome};
+ghost use Rattle.std.specs.Prelude.{List, Ok};
+ghost use Rattle.m11_asm.specs.Outcome.{Assembled, HasOutcome};
 ghost use Rattle.m11_asm.specs.Passes.{Pass, Reads};
 ghost use Rattle.m11_asm.specs.Run.{AsmRuns};
 ghost use Rattle.m11_asm_outputs.specs.Outputs.{Gains, Outputs, Write};

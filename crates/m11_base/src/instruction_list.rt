@@ -1,8 +1,8 @@
 //! The instruction list: its rows, and the names that stand for other codes. (PDP-11/40 Processor
 //! Handbook, "Instruction set"; MACRO-11 Language Reference Manual, "Permanent symbol table".)
 
-ghost use Rattle.std.specs.Prelude.{◌≡◌, find, drop};
-ghost use Rattle.m11_base.specs.Instructions.{rows, other_names, is_of};
+ghost use Rattle.std.specs.Prelude.{◌≡◌};
+ghost use Rattle.m11_base.specs.Instructions.{rows, other_names};
 
 use crate::instruction::{
     BareOp, BranchOp, ConditionCodes, ConditionOp, DoubleOp, ExtendedOp, NumberOp, Op, RegisterOp,

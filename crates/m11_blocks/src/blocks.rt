@@ -1,9 +1,8 @@
 //! Reads the blocks of an object. (RT-11 Volume and File Formats Manual, "Object file format".)
 
-ghost use Rattle.std.specs.Prelude.{◌≡◌, ◌+◌, ◌<◌, ◌≤◌, ◌++◌, ◌↔◌, ℕ, List, length, true, false, Ok, Err, IfOk, IsErr, IsTrue};
+ghost use Rattle.std.specs.Prelude.{◌≡◌, ◌<◌, ◌≤◌, ◌↔◌, ℕ, List, length, true, false, Ok, Err, IfOk, IsErr, IsTrue};
 ghost use Rattle.std.specs.Bool.{OnTrue, OnFalse};
 ghost use Rattle.std.specs.List.{AllByRecursion};
-ghost use Rattle.arrayvec.specs.ArrayVec.{array_vec_len};
 ghost use Rattle.m11_blocks.specs.Frames.{content_limit, AreBlocks};
 ghost use Rattle.m11_blocks.specs.Limited.{place, most_bytes, Inside};
 ghost use Rattle.m11_blocks.specs.Blocks.{first_block, IsCut, AreRead, ReadsPart, ReadsStart, ReadsBlock, ReadsInto, second, count, content_of, summed};

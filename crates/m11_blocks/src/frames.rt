@@ -1,7 +1,7 @@
 //! What blocks of objects and of tapes have in common, and the blocks of objects. (RT-11 Volume and File Formats Manual,
 //! "Object file format", formatted binary blocks, and "Absolute binary file format".)
 
-ghost use Rattle.std.specs.Prelude.{◌≡◌, ◌+◌, ◌≤◌, ◌<◌, ◌^◌, ◌++◌, ◌%◌, ℕ, List, length, Ok, IfOk, sum};
+ghost use Rattle.std.specs.Prelude.{◌≡◌, ◌+◌, ◌≤◌, ◌<◌, ◌++◌, ◌%◌, ℕ, List, length, Ok, IfOk, sum};
 ghost use Rattle.m11_blocks.specs.Frames.{front, closing, sum_byte, with_sum, header, block, content_limit};
 ghost use Rattle.m11_blocks.specs.Blocks.{first_block};
 

@@ -5,7 +5,7 @@ ghost use Rattle.std.specs.Prelude.{◌≡◌, ◌≤◌, length, List, IfOk, Is
 ghost use Rattle.m11_fields.specs.ListedOperations.{is_listed};
 ghost use Rattle.m11_contents.specs.Settings.{fields_of, setting_of};
 ghost use Rattle.m11_placement.specs.Codes as codes;
-ghost use Rattle.m11_placement.specs.Contents.{followed_by, nothing};
+ghost use Rattle.m11_placement.specs.Contents.{followed_by};
 ghost use Rattle.m11_placement.specs.Fields.{forms_of, with_form};
 ghost use Rattle.m11_placement.specs.Instructions as spec;
 ghost use Rattle.m11_placement.specs.declared.operands.Form.{Form};

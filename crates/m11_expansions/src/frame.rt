@@ -1,6 +1,6 @@
 //! One open expansion: a place in a body. (MACRO-11 Language Reference Manual, "Macro directives" and "Repeat block".)
 
-ghost use Rattle.std.specs.Prelude.{◌≡◌, ◌++◌, ◌∷◌, [], length, IfSome, IfNone};
+ghost use Rattle.std.specs.Prelude.{◌≡◌, ◌∷◌, [], IfSome, IfNone};
 ghost use Rattle.m11_expansions.specs.Frames as spec;
 ghost use Rattle.m11_expansions.specs.Left as left;
 

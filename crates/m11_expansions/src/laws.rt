@@ -4,9 +4,9 @@ ghost use Rattle.std.specs.Prelude.{◌≡◌, ◌∷◌, ◌++◌, [], ℕ, Lis
 ghost use Rattle.std.specs.List.{list_any};
 ghost use Rattle.m11_base.specs.Devices.{Bytes};
 ghost use Rattle.m11_base.specs.Rad50.{Name};
-ghost use Rattle.m11_expansions.specs.Bodies.{Cut, HalfTaken, IsTaken, before_left, body_of, cut_at, nothing_taken, taken_with, depth_after, texts_of, with_lines};
+ghost use Rattle.m11_expansions.specs.Bodies.{HalfTaken, IsTaken, before_left, body_of, cut_at, nothing_taken, taken_with, depth_after, texts_of, with_lines};
 ghost use Rattle.m11_expansions.specs.Left.{End, Left, Line, expanded};
-ghost use Rattle.m11_expansions.specs.Substitution.{Other, Piece, Run, actual_for, is_replaced, joined, line_with, pieces_of, substituted};
+ghost use Rattle.m11_expansions.specs.Substitution.{Other, Run, actual_for, is_replaced, joined, line_with, pieces_of, substituted};
 ghost use Rattle.m11_expansions.specs.declared.mark.Mark.{Mark};
 ghost use Rattle.m11_expansions.specs.declared.open_body.Nesting.{Nesting};
 ghost use Rattle.m11_lines.specs.Line.{SourceLine};

@@ -1,6 +1,6 @@
 //! The rounds of an expansion. (MACRO-11 Language Reference Manual, "Repeat block" and "Indefinite repeat block directives".)
 
-ghost use Rattle.std.specs.Prelude.{◌≡◌, ◌≢◌, ◌∷◌, [], replicate, IfSome, IfNone};
+ghost use Rattle.std.specs.Prelude.{◌≡◌, [], replicate, IfSome, IfNone};
 ghost use Rattle.m11_expansions.specs.Frames as spec;
 
 use crate::text::{Text, Texts};

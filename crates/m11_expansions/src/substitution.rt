@@ -1,7 +1,7 @@
 //! Replacement of formals in the lines of a body. (MACRO-11 Language Reference Manual, "Arguments in macro definitions and macro
 //! calls" and "Concatenation of macro arguments".)
 
-ghost use Rattle.std.specs.Prelude.{◌≡◌, ◌<◌, ◌≤◌, ◌∷◌, ◌++◌, length, IfSome, IfNone, Some, None, take, drop, [], if◌then◌else◌, ◌&&◌, ◌||◌};
+ghost use Rattle.std.specs.Prelude.{◌≡◌, ◌<◌, ◌≤◌, ◌∷◌, length, IfSome, IfNone, Some, None, take, drop, [], if◌then◌else◌, ◌&&◌, ◌||◌};
 ghost use Rattle.m11_expansions.specs.Substitution as spec;
 
 use crate::text::Text;

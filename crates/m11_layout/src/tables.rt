@@ -4,14 +4,13 @@ ghost use Rattle.std.specs.Prelude.{◌≡◌, ◌≢◌, ◌≤◌, ◌<◌, Ok
 ghost use Rattle.m11_obj.specs.Reading.{record_entries, record_kind};
 ghost use Rattle.m11_modules.specs.Parts.{Entry};
 ghost use Rattle.m11_modules.specs.Parts.{record_parts};
-ghost use Rattle.std.specs.Int.RustNames.{bit_and};
 ghost use Rattle.std.specs.Map.{lookup};
 ghost use Rattle.m11_base.specs.Names.{blank_name};
 ghost use Rattle.m11_base.specs.Rad50.{is_same_name};
 ghost use Rattle.m11_modules.specs.Places.{global_of};
 ghost use Rattle.m11_layout.specs.Tables.{TablesKeep, is_contribution, contributed, gathered_after_all, nothing_gathered, entered_total, is_concatenated, is_even_after, is_relocated, joined, next_offset, settled, total_after, with_definition, with_end, with_entry, with_name, with_reference, with_relocated, with_contribution, with_section, with_settled, with_symbol, with_total, with_transfer, with_weak};
 ghost use Rattle.m11_layout.specs.Globals.{place_of};
-ghost use Rattle.m11_layout.specs.Sections.{control_attributes, is_overlaid, is_relocatable};
+ghost use Rattle.m11_layout.specs.Sections.{control_attributes};
 
 use crate::attributes::{attributes_in, control_attributes};
 use crate::definition::{Definition, GlobalPlace, Total, Transfer};

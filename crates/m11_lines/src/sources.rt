@@ -1,6 +1,6 @@
 //! Reads one source, to the end of a line.
 
-ghost use Rattle.std.specs.Prelude.{◌≡◌, ◌≤◌};
+ghost use Rattle.std.specs.Prelude.{◌≤◌};
 ghost use Rattle.m11_lines.specs.Sources.{StopsAt, TakesByte, TookReady, source};
 
 use crate::fault::LineFault;

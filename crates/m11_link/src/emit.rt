@@ -1,6 +1,6 @@
 //! The second pass of a link: it writes tape, map and messages while blocks come.
 
-ghost use Rattle.std.specs.Prelude.{◌≡◌, ◌≢◌, ◌∷◌, ◌++◌, [], ℕ, List, Some, None, Ok, Err, IfOk, false, is_some, IfErr};
+ghost use Rattle.std.specs.Prelude.{◌≡◌, ◌≢◌, ◌∷◌, ◌++◌, [], List, Some, None, Ok, Err, IfOk, false, is_some, IfErr};
 ghost use Rattle.std.specs.Result.{result_err};
 ghost use Rattle.m11_obj.specs.Reading.{IsRecord, record_kind, record_relocations};
 ghost use Rattle.m11_blocks.specs.Tapes.{tape_block};
@@ -8,7 +8,7 @@ ghost use Rattle.m11_modules.specs.Parts.{Part, EndOfFile, Relocated, Relocation
 ghost use Rattle.m11_modules.specs.Steps.{RulesTake, TakesOne};
 ghost use Rattle.m11_layout.specs.Plan.{Planned};
 ghost use Rattle.m11_layout.specs.declared.fault.LinkFault.{LinkFault};
-ghost use Rattle.m11_link.specs.Emit.{EmitEnds, EmitStands, FailsAgain, Goes, TakesBlock, TakesParts, begin_writes, begun_reporting, bytes_writes, call_of, held_with, held_with_all, held_writes, relocated_parts, with_bytes, with_held, with_reporting};
+ghost use Rattle.m11_link.specs.Emit.{EmitEnds, EmitStands, FailsAgain, Goes, TakesBlock, TakesParts, begin_writes, begun_reporting, bytes_writes, call_of, held_with, held_with_all, relocated_parts, with_bytes, with_held, with_reporting};
 ghost use Rattle.m11_link_text.specs.Findings.{planned};
 ghost use Rattle.m11_writes.specs.Outputs.{Output, optional_output, output_of};
 ghost use Rattle.m11_link.specs.Outputs.{Writes, outputs, outputs_of, to_tape};

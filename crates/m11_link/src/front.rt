@@ -1,6 +1,6 @@
 //! What is written before the tape: the messages on undefined globals, and the map.
 
-ghost use Rattle.std.specs.Prelude.{◌≡◌, [], ◌∷◌, ◌++◌, true, false, not, codes, IfOk, ◌≢◌, is_some, IfErr};
+ghost use Rattle.std.specs.Prelude.{◌≡◌, ◌∷◌, true, false, not, codes, IfOk, ◌≢◌, is_some, IfErr};
 ghost use Rattle.m11_link_text.specs.Findings.{planned};
 ghost use Rattle.m11_link.specs.Front.{front_writes, global_writes, is_empty, last_writes, map_writes, name_write, name_writes, section_writes, undefined_by, undefined_write, undefined_writes, weak_writes, written_if};
 ghost use Rattle.m11_writes.specs.Outputs.{Output, optional_output, output_of};

@@ -1,6 +1,6 @@
 //! The text that is held until all of its relocations have come.
 
-ghost use Rattle.std.specs.Prelude.{◌≡◌, ◌≤◌, [], ◌∷◌, length};
+ghost use Rattle.std.specs.Prelude.{◌≡◌, ◌≤◌, length};
 ghost use Rattle.m11_link_text.specs.Findings.{planned};
 ghost use Rattle.m11_writes.specs.Outputs.{Output, output_of};
 ghost use Rattle.m11_link.specs.Outputs.{Writes, outputs};

@@ -1,7 +1,7 @@
 //! What moving the bottom of a link changes: the same parts are linked from one bottom on, and from another that lies a
 //! distance farther.
 
-ghost use Rattle.std.specs.Prelude.{◌≡◌, ℕ, ◌+◌, ◌%◌, ◌&&◌, Bool, true, false, List, [], ◌∷◌, map, option_map, slice_index_or};
+ghost use Rattle.std.specs.Prelude.{◌≡◌, ℕ, ◌+◌, ◌%◌, ◌&&◌, Bool, true, false, List, [], map, option_map, slice_index_or};
 ghost use Rattle.std.specs.Option.{unwrap_or};
 ghost use Rattle.m11_obj.specs.declared.relocations.Relocation.{Relocation};
 ghost use Rattle.m11_obj.specs.declared.relocations.Target.{Target};
@@ -12,7 +12,7 @@ ghost use Rattle.m11_link_text.specs.Findings.{findings_of};
 ghost use Rattle.m11_link.specs.Front.{undefined_writes};
 ghost use Rattle.m11_link_text.specs.Relocation.{stored_bytes, value_of};
 ghost use Rattle.m11_link.specs.Written.{link_writes, parts_writes, placed_text, with_relocations};
-ghost use Rattle.m11_link_laws.specs.Moving.{Moved, all_stay, byte_stays, bytes_moved, counting_transfer, farther, findings_moved, is_displaced, moved, moved_after, moves, number_moved, relocations_moved, section_moves, shape_of, stores_limits, target_moves, text_moved, text_place, value_moved};
+ghost use Rattle.m11_link_laws.specs.Moving.{Moved, all_stay, byte_stays, bytes_moved, counting_transfer, farther, findings_moved, is_displaced, moved, moved_after, moves, number_moved, relocations_moved, section_moves, shape_of, stores_limits, target_moves, text_moved, text_place};
 
 /// Relocatable sections move by the distance, and with them the contributions of modules to them, the globals that
 /// stand after such a contribution, both limits, and the transfer address where the entry that counts names such a

@@ -1,7 +1,6 @@
 //! Messages: a line for each flagged line, and the count of them.
 
-ghost use Rattle.std.specs.Prelude.{◌≡◌, ◌≤◌, ◌+◌, ◌++◌, length};
-ghost use Rattle.arrayvec.specs.ArrayVec.{array_vec_len};
+ghost use Rattle.std.specs.Prelude.{◌≡◌, ◌≤◌, length};
 ghost use Rattle.m11_listing.specs.Messages as spec;
 
 use crate::columns::put_printed;

@@ -2,7 +2,7 @@
 
 ghost use Rattle.std.specs.Prelude.{◌≡◌, length};
 ghost use Rattle.m11_modules.specs.Places.{size_known};
-ghost use Rattle.m11_modules.specs.Rules.{returned, entering_fault, entry_fault, is_past, lies_within, opening_fault, place_fault, relocation_fault, section_fault, symbol_fault, global_fault, target_fault, text_fault, defines, defines_relocatable, width_of};
+ghost use Rattle.m11_modules.specs.Rules.{returned, entering_fault, entry_fault, is_past, lies_within, opening_fault, place_fault, relocation_fault, section_fault, symbol_fault, global_fault, target_fault, text_fault, defines_relocatable, width_of};
 
 use crate::fault::ModuleFault;
 use crate::stage::Stage;

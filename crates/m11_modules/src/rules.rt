@@ -1,6 +1,6 @@
 //! The rules by which records are modules, kept while the records come.
 
-ghost use Rattle.std.specs.Prelude.{◌≡◌, ◌≤◌, ◌∷◌, [], ℕ, List, Result, Ok, Err, IfErr, map, length};
+ghost use Rattle.std.specs.Prelude.{◌≡◌, ◌∷◌, [], List, Result, Ok, Err, IfErr, map};
 ghost use Rattle.m11_obj.specs.Reading.{record_entries, record_relocations};
 ghost use Rattle.m11_modules.specs.Laws.{TakesAfter};
 ghost use Rattle.m11_modules.specs.Parts.{Part, Directory, Entry, EndOfDirectory, Text, Relocations, Relocated, EndOfModule, EndOfFile, record_parts};

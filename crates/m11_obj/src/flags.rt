@@ -1,7 +1,7 @@
 //! The flags byte of directory entries. (RT-11 Volume and File Formats Manual, "Object file format",
 //! GSD block.)
 
-ghost use Rattle.std.specs.Prelude.{◌≡◌, ⊤, [], ◌∷◌, codes};
+ghost use Rattle.std.specs.Prelude.{⊤, [], ◌∷◌, codes};
 
 use bitflags::{Flag, Flags, bitflag_items};
 

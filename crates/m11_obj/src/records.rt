@@ -1,7 +1,7 @@
 //! Records: what stands in the blocks of an object. (RT-11 Volume and File Formats Manual, "Object file
 //! format".)
 
-ghost use Rattle.std.specs.Prelude.{◌≡◌, ◌+◌, ◌≤◌, ◌<◌, ◌++◌, ℕ, List, length, Ok, IfOk, All, Some, IsSome, slice_get, option_map};
+ghost use Rattle.std.specs.Prelude.{◌≡◌, ◌+◌, ◌≤◌, ◌<◌, ℕ, List, length, Ok, IfOk, All, Some, IsSome, slice_get, option_map};
 ghost use Rattle.m11_blocks.specs.Frames.{word_bytes, content_limit};
 ghost use Rattle.m11_obj.specs.Gsd.{entry_limit};
 ghost use Rattle.m11_obj.specs.Reading.{content_of, IsRecord, SaysWhatStands, AreRelocations, relocations_left, record_of, record_kind, record_entries, record_text, record_relocations};

@@ -6,7 +6,7 @@ ghost use Rattle.arrayvec.specs.ArrayVec.{array_vec_len};
 ghost use Rattle.std.specs.Option.{option_to_list};
 ghost use Rattle.m11_blocks.specs.Frames.{word_bytes};
 ghost use Rattle.m11_obj.specs.Relocations.{relocations_bytes};
-ghost use Rattle.m11_object_text.specs.Pieces.{target_of, standing, content_bytes, relocation_at, last_place, size_of};
+ghost use Rattle.m11_object_text.specs.Pieces.{target_of, standing, content_bytes, relocation_at, last_place};
 ghost use Rattle.m11_object_text.specs.RelocationList.{has_byte_form, has_form};
 ghost use Rattle.m11_object_text.specs.Texts.{most_bytes};
 

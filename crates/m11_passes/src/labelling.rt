@@ -1,6 +1,6 @@
 //! The labels of a live line. (MACRO-11 Language Reference Manual, "Label field" and "Local symbols".)
 
-ghost use Rattle.std.specs.Prelude.{◌≡◌, ◌<◌, ◌≤◌, ◌+◌, ◌^◌, IfOk, IfErr, length};
+ghost use Rattle.std.specs.Prelude.{◌≡◌, ◌<◌, ◌+◌, ◌^◌, IfOk, IfErr, length};
 ghost use Rattle.m11_placement.specs.Labels.{labels_stand};
 ghost use Rattle.m11_placement.specs.Tables.{Table as LineTable};
 ghost use Rattle.m11_placing.specs.Mentioned.{with_all};

@@ -1,7 +1,7 @@
 //! What one pass over a source keeps from line to line. (MACRO-11 Language Reference Manual, "Symbols and expressions" and "Program
 //! section directives".)
 
-ghost use Rattle.std.specs.Prelude.{◌≡◌, ◌<◌, ◌≤◌, ◌+◌, ◌^◌, IfOk, IfErr, length, slice_get};
+ghost use Rattle.std.specs.Prelude.{◌≡◌, ◌<◌, ◌≤◌, ◌+◌, ◌^◌, IfOk, IfErr, length};
 ghost use Rattle.m11_directives.specs.Changes.{move_seen};
 ghost use Rattle.m11_placement.specs.Changes.{with_move, with_section, with_settings};
 ghost use Rattle.m11_placement.specs.Labels.{new_block, with_block, with_definition, with_doubled, with_global};

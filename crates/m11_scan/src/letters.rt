@@ -2,7 +2,6 @@
 
 ghost use Rattle.std.specs.Prelude.{◌≡◌, ⊤, [], ◌∷◌, codes, if◌then◌else◌};
 ghost use Rattle.std.specs.Int.RustNames.{bit_or};
-ghost use Rattle.arrayvec.specs.ArrayVec.{array_vec_len};
 ghost use Rattle.m11_scan.specs.Letters.{letters_text};
 ghost use Rattle.m11_scan.specs.Views.{bits_of};
 

@@ -1,7 +1,7 @@
 //! The arguments of a call of a macro, of `.IRP` and of conditions. (MACRO-11 Language Reference Manual, "Arguments in macro
 //! definitions and macro calls".)
 
-ghost use Rattle.std.specs.Prelude.{◌≡◌, ◌+◌, ◌<◌, ◌≤◌, drop, length, IfSome};
+ghost use Rattle.std.specs.Prelude.{◌≡◌, ◌+◌, ◌<◌, ◌≤◌, length, IfSome};
 ghost use Rattle.m11_statements.specs.Actuals as spec;
 
 use crate::spans::{Span, text_from};

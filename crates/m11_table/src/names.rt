@@ -1,12 +1,11 @@
 //! What symbols stand for at a line. (MACRO-11 Language Reference Manual, "Symbols", "Local symbols" and "Current location counter".)
 
-ghost use Rattle.std.specs.Prelude.{◌≡◌, ℕ, Bool, Option};
-ghost use Rattle.m11_arguments.specs.Expressions.{known_by};
+ghost use Rattle.std.specs.Prelude.{◌≡◌, Option};
 ghost use Rattle.m11_scan.specs.Views.{bits_of};
 ghost use Rattle.m11_statements.specs.Statements.{letter_if};
 ghost use Rattle.m11_values.specs.Quantities.{absolute, quantity};
 ghost use Rattle.m11_placement.specs.Contents.{register_letters};
-ghost use Rattle.m11_placement.specs.Meanings.{empty_map, firm_known, known_at, letter_D, meaning_of, quantity_of, stands_for, undefined};
+ghost use Rattle.m11_placement.specs.Meanings.{empty_map, letter_D, meaning_of, quantity_of, stands_for, undefined};
 ghost use Rattle.m11_placement.specs.declared.meanings.Context.TheVariants.{Knows};
 ghost use Rattle.m11_placement.specs.Tables.{firm_table, kind_here};
 ghost use Rattle.m11_table.specs.Asking.{asked, counted, defined_by, firm_asked, firm_found};

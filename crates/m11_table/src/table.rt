@@ -1,7 +1,7 @@
 //! The table that the lines of a source fill. (MACRO-11 Language Reference Manual, "Symbols and expressions", "Local symbols", "Current
 //! location counter" and "Program section directives".)
 
-ghost use Rattle.std.specs.Prelude.{◌≡◌, ◌<◌, ◌+◌, ◌^◌, [], IfOk, IfSome, None, length, slice_get};
+ghost use Rattle.std.specs.Prelude.{◌≡◌, ◌<◌, ◌+◌, ◌^◌, IfOk, IfSome, None, length, slice_get};
 ghost use Rattle.std.specs.List.{list_any};
 ghost use Rattle.m11_base.specs.Names.{blank_name, name_in_words};
 ghost use Rattle.m11_base.specs.Rad50.{is_same_name};

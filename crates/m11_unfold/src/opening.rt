@@ -1,6 +1,6 @@
 //! A body that is being taken. (MACRO-11 Language Reference Manual, ".MACRO directive" and ".REPT directive".)
 
-ghost use Rattle.std.specs.Prelude.{◌≡◌, ◌+◌, ◌≤◌, ◌<◌, true, false, length, Some, None, IfOk};
+ghost use Rattle.std.specs.Prelude.{◌≡◌, ◌+◌, ◌<◌, true, false, length, Some, None, IfOk};
 ghost use Rattle.m11_expansions.specs.Bodies.{depth_after, depth_inside, nothing_taken, size_of, taken_with};
 ghost use Rattle.m11_unfold.specs.Purposes.{IsPurpose, purpose_of};
 

@@ -1,6 +1,6 @@
 //! The unfolder of a source. (MACRO-11 Language Reference Manual, "Macro directives" and "Conditional assembly directives".)
 
-ghost use Rattle.std.specs.Prelude.{◌≡◌, ◌∷◌, [], false, None, Some, Err, IfOk, IfErr};
+ghost use Rattle.std.specs.Prelude.{◌≡◌, ◌∷◌, [], false, None, Some, Err, IfOk};
 ghost use Rattle.std.specs.Result.{result_err};
 ghost use Rattle.m11_arguments.specs.Directives.{operator as line_operator};
 ghost use Rattle.m11_arguments.specs.Expressions.{known_by};

@@ -1,6 +1,6 @@
 //! Values of expressions. (MACRO-11 Language Reference Manual, "Expressions".)
 
-ghost use Rattle.std.specs.Prelude.{◌≡◌, ◌<◌, ◌≤◌, drop, length, map};
+ghost use Rattle.std.specs.Prelude.{◌≡◌, ◌<◌, drop, length, map};
 ghost use Rattle.std.specs.Option.{IfSome};
 ghost use Rattle.m11_scan.specs.Expressions.{begin, expression_length, role_of, sort_of};
 ghost use Rattle.m11_values.specs.Places.{after, first_operator, operator_at, operator_of};

@@ -1,6 +1,6 @@
 //! What operators make of values. (MACRO-11 Language Reference Manual, "Unary operators" and "Binary operators".)
 
-ghost use Rattle.std.specs.Prelude.{◌≡◌, ◌≢◌};
+ghost use Rattle.std.specs.Prelude.{◌≡◌};
 ghost use Rattle.m11_scan.specs.Views.{bits_of};
 ghost use Rattle.m11_values.specs.Operations.{as_register, combined, complemented, division_letters, limited, negated, number_of, quotient, replaced, settled};
 ghost use Rattle.m11_values.specs.Quantities.{quantity};
