@@ -1,5 +1,5 @@
 -- Characters and codes of RADIX-50 lead back to each other, and words to their three characters.
-use Rattle.std.proofs.Common.{◌≡◌, ◌≢◌, ℕ, zero, suc, ◌+◌, ◌*◌, ◌/◌, ◌%◌, ◌<◌, Bool, true, false, cond, eqb, ltb, List, [], ◌∷◌, length, Option, Some, None, refl, sym, ap, subst, arith, inl, inr}
+use Rattle.std.proofs.Common.{◌≡◌, ◌≢◌, ℕ, zero, suc, ◌+◌, ◌-◌, ◌*◌, ◌/◌, ◌%◌, ◌<◌, ◌≤◌, Bool, true, false, cond, eqb, ltb, List, [], ◌∷◌, length, Option, Some, None, refl, sym, ap, subst, arith, inl, inr}
 use Rattle.std.specs.Prelude.{◌&&◌, ◌||◌, position, slice_index}
 use Rattle.std.proofs.lemmas.Bool.{cases_lt, eqb-true, and_parts, lt-ltb}
 use Rattle.std.proofs.lemmas.Bool.Decides.{nat_tests}
@@ -51,6 +51,69 @@ character_again c k e =
     let found =
     position-Some (λ x. eqb x c) alphabet k 0 (some_from_cond (eqb c 37) (position (λ x. eqb x c) alphabet) k e) in
     (found.0, eqb-true _ _ found.1)
+
+has_code : (k : ℕ) (o : Option ℕ) → is_code o k ≡ true → o ≡ Some k
+unfolding is_code
+has_code k None e = absurd cc
+has_code k (Some x) e = ap Some (eqb-true x k e)
+
+pub blank_coded : code_of 32 ≡ Some 0
+unfolding alphabet code_of
+blank_coded = refl
+
+pub dollar_coded : code_of 36 ≡ Some 27
+unfolding alphabet code_of
+dollar_coded = refl
+
+pub point_coded : code_of 46 ≡ Some 28
+unfolding alphabet code_of
+point_coded = refl
+
+-- the codes of letters and of digits follow one another
+letter_test : ℕ → Bool
+letter_test k = is_code (code_of (65 + k)) (k + 1)
+
+pub letter_coded : (c : ℕ) → 65 ≤ c → c ≤ 90 → code_of c ≡ Some (c - 65 + 1)
+unfolding all_below letter_test is_code alphabet code_of
+letter_coded c low high =
+    let k : ℕ = c - 65 in
+    let here : code_of (65 + k) ≡ Some (k + 1) =
+    has_code (k + 1) (code_of (65 + k)) (all_below_at letter_test 26 k refl (omega arith)) in
+    let same : 65 + k ≡ c = omega arith in
+    subst (λ (x : ℕ). code_of x ≡ Some (k + 1)) same here
+
+digit_test : ℕ → Bool
+digit_test k = is_code (code_of (48 + k)) (k + 30)
+
+pub digit_coded : (c : ℕ) → 48 ≤ c → c ≤ 57 → code_of c ≡ Some (c - 48 + 30)
+unfolding all_below digit_test is_code alphabet code_of
+digit_coded c low high =
+    let k : ℕ = c - 48 in
+    let here : code_of (48 + k) ≡ Some (k + 30) =
+    has_code (k + 30) (code_of (48 + k)) (all_below_at digit_test 10 k refl (omega arith)) in
+    let same : 48 + k ≡ c = omega arith in
+    subst (λ (x : ℕ). code_of x ≡ Some (k + 30)) same here
+
+-- and no other byte has one
+is_coded : ℕ → Bool
+is_coded c = eqb c 32 || eqb c 36 || eqb c 46 || (ltb 64 c && ltb c 91) || (ltb 47 c && ltb c 58)
+
+is_missing : Option ℕ → Bool
+is_missing None = true
+is_missing (Some x) = false
+
+other_test : ℕ → Bool
+other_test c = is_missing (code_of c) || is_coded c
+
+none_by : (o : Option ℕ) (b : Bool) → (is_missing o || b) ≡ true → b ≡ false → o ≡ None
+unfolding is_missing
+none_by None b e f = refl
+none_by (Some x) b e f = absurd cc
+
+pub others_uncoded : (c : ℕ) → c < 256 → c ≢ 32 → c ≢ 36 → c ≢ 46 → (65 ≤ c → c ≤ 90 → ⊥) → (48 ≤ c → c ≤ 57 → ⊥) → code_of c ≡ None
+unfolding all_below other_test is_missing is_coded alphabet code_of
+others_uncoded c fits blank dollar point letter digit =
+    none_by (code_of c) (is_coded c) (all_below_at other_test 256 c refl fits) (grind (arith, nat_tests))
 
 -- ---- words
 

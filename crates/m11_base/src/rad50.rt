@@ -1,7 +1,8 @@
 //! RADIX-50: three characters in one word, and names of six characters in two words.
 //! (MACRO-11 Language Reference Manual, appendix on the RADIX-50 character set.)
 
-ghost use Rattle.std.specs.Prelude.{◌≡◌, ◌<◌, ◌==◌, ℕ, Some, IfSome, SomeIff, position};
+ghost use Rattle.std.specs.Prelude.{◌≡◌, ◌<◌, ℕ, Some, IfSome, SomeIff, is_none};
+ghost use Rattle.std.specs.List.{list_any};
 ghost use Rattle.m11_base.specs.Rad50.{code_of, character_of, packed_at, unpacked, word_limit, characters_of, HasNoPercent, IsName, is_same_name, name_of, name_text};
 
 use std::marker::Model;
@@ -11,24 +12,6 @@ const ALPHABET: &[u8; 40] = b" ABCDEFGHIJKLMNOPQRSTUVWXYZ$.%0123456789";
 
 // Words from this one on have no characters.
 const WORD_LIMIT: u16 = 0o175000;
-
-fn place_of(characters: &[u8], sought: u8) -> Option<usize>
-    ensures { result ≡ position (λ x. x == sought) characters.now }
-{
-    characters.iter().position(|x| *x == sought)
-}
-
-#[tactic(auto, unfolding(crate::specs::Rad50::alphabet, crate::specs::Rad50::code_of))]
-fn code_of(character: u8) -> Option<u16>
-    ensures code { result ≡ code_of character }
-    ensures below { IfSome result (λ code. code < 40) }
-{
-    if character == b'%' {
-        return None;
-    }
-    let code = place_of(ALPHABET, character)?;
-    Some(code as u16)
-}
 
 #[tactic(auto, unfolding(crate::specs::Rad50::alphabet, crate::specs::Rad50::character_of))]
 fn character_of(code: u16) -> u8
@@ -51,20 +34,49 @@ fn three_characters(word: u16) -> [u8; 3]
     ]
 }
 
-/// Words of three characters.
+/// Characters that have a code, and words of three of them.
 pub struct Rad50;
 
 impl Rad50 {
-    /// The word of three characters: blank, `A` to `Z`, `$`, `.`, `0` to `9`. Any other character,
-    /// lower case too, has no code, and then there is no word.
+    /// The code of a character, below 40: blank, `A` to `Z`, `$`, `.`, `0` to `9`. Any other character,
+    /// lower case too, has none.
+    pub fn code(character: u8) -> Option<u16>
+        ensures code { result ≡ code_of character }
+        ensures below { IfSome result (λ code. code < 40) }
+    {
+        match character {
+            b' ' => Some(0),
+            b'A'..=b'Z' => Some(u16::from(character - b'A') + 1),
+            b'$' => Some(27),
+            b'.' => Some(28),
+            b'0'..=b'9' => Some(u16::from(character - b'0') + 30),
+            _ => None,
+        }
+    }
+
+    /// Whether a character of a text has no code.
+    pub fn has_uncoded(text: &[u8]) -> bool
+        ensures { result ≡ list_any (λ character. is_none (code_of character)) text.now }
+    {
+        let mut rest = text;
+        'characters: while let [character, others @ ..] = rest {
+            if Rad50::code(*character).is_none() {
+                return true;
+            }
+            rest = others;
+        }
+        false
+    }
+
+    /// The word of three characters, if each has a code.
     pub fn pack(characters: &[u8; 3]) -> Option<u16>
         ensures word { result ≡ packed_at characters.now 0 }
         ensures again { IfSome result (λ word. unpacked word ≡ Some characters.now) }
     {
         let [first, second, third] = *characters;
-        let first = code_of(first)?;
-        let second = code_of(second)?;
-        let third = code_of(third)?;
+        let first = Rad50::code(first)?;
+        let second = Rad50::code(second)?;
+        let third = Rad50::code(third)?;
         Some(first * 1600 + second * 40 + third)
     }
 

@@ -1,11 +1,11 @@
 -- Names of texts whose characters outside RADIX-50 count as blanks.
-use Rattle.std.proofs.Common.{◌≡◌, ℕ, ◌+◌, ◌*◌, List, [], ◌∷◌, Option, Some, None, unwrap_or, refl, ap, ◌∙◌, arith}
-use Rattle.m11_base.specs.Rad50.{alphabet, code_of, name_of, packed_at, word_of_codes}
+use Rattle.std.proofs.Common.{◌≡◌, ℕ, ◌+◌, ◌*◌, List, [], ◌∷◌, Option, Some, None, unwrap_or, refl, ap, ◌∙◌}
+use Rattle.m11_base.specs.Rad50.{alphabet, code_of, name_of}
 use Rattle.m11_placement.specs.Exports.{first_six, name_of_codes}
 use Rattle.m11_placement.specs.Strings.{character_code, six_codes}
 use Rattle.m11_directives.specs.Codes.{coded, coded_at, coded_by}
 
-pub blank_code : code_of 32 ≡ Some 0
+blank_code : code_of 32 ≡ Some 0
 unfolding code_of alphabet
 blank_code = refl
 
@@ -20,17 +20,6 @@ six : (a b c d e f : ℕ) (u v w x y z : ℕ) → code_of a ≡ Some u → code_
     → code_of d ≡ Some x → code_of e ≡ Some y → code_of f ≡ Some z
     → name_of (a ∷ b ∷ c ∷ d ∷ e ∷ f ∷ []) ≡ Some (u * 1600 + v * 40 + w, x * 1600 + y * 40 + z)
 six a b c d e f u v w x y z p q r s t o = rw p (rw q (rw r (rw s (rw t (rw o refl)))))
-
-sums : (code : ℕ) → 0 * 1600 + 0 * 40 + code ≡ code
-sums code = omega arith
-
--- the word of two blanks and a character is its code
-last_code : (code : Option ℕ) → word_of_codes (Some 0) (Some 0) code ≡ code
-last_code (Some code) = ap Some (sums code)
-last_code None = refl
-
-pub last_packed : (character : ℕ) → packed_at (32 ∷ 32 ∷ character ∷ []) 0 ≡ code_of character
-last_packed character = rw blank_code (last_code (code_of character))
 
 pub six_coded : (text : List ℕ)
     → name_of (coded_at (first_six text) 0 ∷ coded_at (first_six text) 1 ∷ coded_at (first_six text) 2 ∷ coded_at (first_six text) 3

@@ -1,10 +1,8 @@
 //! `.IDENT`. (MACRO-11 Language Reference Manual, ".IDENT directive".)
 
-ghost use Rattle.std.specs.Prelude.{◌≡◌, ◌≤◌, is_none, length};
-ghost use Rattle.std.specs.List.{list_any};
+ghost use Rattle.std.specs.Prelude.{◌≡◌, ◌≤◌, length};
 ghost use Rattle.std.specs.Int.RustNames.{bit_or};
 ghost use Rattle.m11_arguments.specs.LeftOvers.{rest_letters};
-ghost use Rattle.m11_base.specs.Rad50.{code_of};
 ghost use Rattle.m11_scan.specs.Letters.{letter_A};
 ghost use Rattle.m11_scan.specs.Views.{bits_of};
 ghost use Rattle.m11_placement.specs.Exports as spec;
@@ -70,18 +68,10 @@ fn coded_at(text: &[u8], place: usize) -> u8
 fn coded(character: u8) -> u8
     ensures { result ≡ coded character }
 {
-    match code_of(character) {
+    match Rad50::code(character) {
         Some(_) => character,
         None => b' ',
     }
-}
-
-// The code of a character, if it has one: the word of two blanks and that character.
-#[tactic(auto, using(crate::proofs::Coding::last_packed))]
-fn code_of(character: u8) -> Option<u16>
-    ensures { result ≡ code_of character }
-{
-    Rad50::pack(&[b' ', b' ', character])
 }
 
 /// The letters of a `.IDENT`: A without a text, for a missing delimiter, and for a character outside RADIX-50.
@@ -124,18 +114,5 @@ fn bad_letters(line: &Line, start: usize) -> Letters
 fn character_letters(text: &[u8]) -> Letters
     ensures { bits_of result ≡ character_letters text.now }
 {
-    Letters::A.when(has_uncoded(text))
-}
-
-fn has_uncoded(text: &[u8]) -> bool
-    ensures { result ≡ list_any (λ character. is_none (code_of character)) text.now }
-{
-    let mut rest = text;
-    'characters: while let [character, others @ ..] = rest {
-        if code_of(*character).is_none() {
-            return true;
-        }
-        rest = others;
-    }
-    false
+    Letters::A.when(Rad50::has_uncoded(text))
 }

@@ -1,8 +1,6 @@
 //! Words of RADIX-50. (MACRO-11 Language Reference Manual, ".RAD50 directive".)
 
-ghost use Rattle.std.specs.Prelude.{◌≡◌, ◌∷◌, [], IfOk, is_none, map};
-ghost use Rattle.std.specs.List.{list_any};
-ghost use Rattle.m11_base.specs.Rad50.{code_of};
+ghost use Rattle.std.specs.Prelude.{◌≡◌, ◌∷◌, [], IfOk, map};
 ghost use Rattle.m11_placement.specs.Contents.{fixed_word};
 ghost use Rattle.m11_placement.specs.Strings as spec;
 ghost use Rattle.m11_scan.specs.Views.{bits_of};
@@ -82,41 +80,19 @@ fn packed(first: u16, second: u16, third: u16) -> u16
     (word % 65536) as u16
 }
 
-// The code of a character: the word of it after two blanks. One that has none counts as a blank.
+// The code of a character. One that has none counts as a blank.
 fn character_code(character: u8) -> u16
     ensures { result ≡ spec.character_code character }
 {
-    match code_of(character) {
+    match Rad50::code(character) {
         Some(code) => code,
         None => 0,
     }
-}
-
-// The code of a character, if it has one: the word of two blanks and this character.
-#[tactic(auto, unfolding(m11_base::specs::Rad50::code_of, m11_base::specs::Rad50::alphabet))]
-fn code_of(character: u8) -> Option<u16>
-    ensures { result ≡ code_of character }
-{
-    Rad50::pack(&[b' ', b' ', character])
 }
 
 // A for a character without a code.
 fn character_letters(text: &[u8]) -> Letters
     ensures { bits_of result ≡ spec.character_letters text.now }
 {
-    Letters::A.when(has_bad_character(text))
-}
-
-// Whether some character has no code.
-fn has_bad_character(text: &[u8]) -> bool
-    ensures { result ≡ list_any (λ character. is_none (code_of character)) text.now }
-{
-    let mut rest = text;
-    'characters: while let [character, others @ ..] = rest {
-        if code_of(*character).is_none() {
-            return true;
-        }
-        rest = others;
-    }
-    false
+    Letters::A.when(Rad50::has_uncoded(text))
 }

@@ -1,8 +1,7 @@
-use Rattle.std.proofs.Common.{◌≡◌, length}
-use Rattle.std.specs.Prelude.{is_none}
+use Rattle.std.proofs.Common.{◌≡◌, length, is_none}
 use Rattle.std.specs.List.{list_any}
 use Rattle.m11_base.specs.Rad50.{code_of}
-use Rattle.m11_strings.proofs.packing.has_bad_character.Given as goal
+use Rattle.m11_base.proofs.rad50.Rad50.has_uncoded.Given as goal
 
 abbrev pub invariant-characters : goal.invariant-characters
 invariant-characters l =
