@@ -9,7 +9,8 @@ use Rattle.m11_obj.specs.declared.gsd.GsdKind.{GsdKind}
 use Rattle.m11_obj.specs.declared.gsd.GsdKind.TheVariants.{ModuleName, ControlSection, InternalSymbol, TransferAddress, GlobalSymbol, ProgramSection, Identification}
 use Rattle.m11_modules.specs.Parts.{Part, Directory, Entry, EndOfDirectory, Text, Relocations, Relocated, EndOfModule, EndOfFile}
 use Rattle.m11_modules.specs.Places.{distinct, global_of, modules_in, this_module}
-use Rattle.m11_modules.specs.Rules.{defines, has_bits}
+use Rattle.m11_modules.specs.Rules.{defines}
+use Rattle.m11_obj.specs.Gsd.{has_bits}
 use Rattle.m11_layout.specs.Tables.{Gathered, gathered_after, nothing_gathered, with_definition, with_entry, with_first, with_reference, with_relocated, with_weak}
 use Rattle.m11_layout.specs.Globals.{definition_by, definition_in, definitions_of, first_definition, last_section, place_of}
 use Rattle.m11_layout.specs.declared.definition.Definition.{Definition}

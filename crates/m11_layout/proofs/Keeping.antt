@@ -1,7 +1,8 @@
 -- What a part leaves alone.
 use Rattle.std.proofs.Common.{◌≡◌, ℕ, Bool, true, false, if◌then◌else◌, List, Option, Some, None, refl}
 use Rattle.m11_obj.specs.declared.gsd.GsdEntry.{GsdEntry}
-use Rattle.m11_modules.specs.Rules.{defines, has_bits}
+use Rattle.m11_modules.specs.Rules.{defines}
+use Rattle.m11_obj.specs.Gsd.{has_bits}
 use Rattle.m11_layout.specs.Tables.{Gathered, with_definition, with_reference, with_relocated, with_symbol, with_weak}
 use Rattle.m11_layout.specs.declared.definition.Definition.{Definition}
 

@@ -9,7 +9,8 @@ use Rattle.m11_obj.specs.declared.gsd.GsdKind.TheVariants.{ModuleName, ControlSe
 use Rattle.m11_modules.specs.Names.{is_among}
 use Rattle.m11_modules.specs.Parts.{Part, Directory, Entry, EndOfDirectory, Text, Relocations, Relocated, EndOfModule, EndOfFile}
 use Rattle.m11_modules.specs.Places.{ends_module, global_by, global_in, global_of, modules_in, this_module}
-use Rattle.m11_modules.specs.Rules.{defines, has_bits}
+use Rattle.m11_modules.specs.Rules.{defines}
+use Rattle.m11_obj.specs.Gsd.{has_bits}
 use Rattle.m11_layout.specs.Globals.{definition_by, definition_in, definitions_of, last_section, reference_by, reference_in, references_of, relocated_reference, weak_by, weak_in, weak_names}
 use Rattle.m11_layout.specs.Modules.{reported_after}
 use Rattle.m11_layout.specs.declared.definition.Definition.{Definition}

@@ -15,7 +15,8 @@ use Rattle.m11_obj.specs.declared.gsd.GsdKind.TheVariants.{ModuleName, ControlSe
 use Rattle.m11_modules.specs.Names.{is_among}
 use Rattle.m11_modules.specs.Parts.{Part, Directory, Entry, EndOfDirectory, Text, Relocations, Relocated, EndOfModule, EndOfFile}
 use Rattle.m11_modules.specs.Places.{ends_module, global_of, this_module}
-use Rattle.m11_modules.specs.Rules.{defines, has_bits}
+use Rattle.m11_modules.specs.Rules.{defines}
+use Rattle.m11_obj.specs.Gsd.{has_bits}
 use Rattle.m11_modules.proofs.KnownAfter.{this_module_ended, this_module_goes_on}
 use Rattle.m11_layout.specs.Tables.{Gathered, gathered_after, nothing_gathered, with_definition, with_entry, with_reference, with_relocated, with_weak}
 use Rattle.m11_layout.specs.Globals.{reference_by, reference_in, references_of, referred, relocated_reference, weak_by, weak_in, weak_names}

@@ -14,7 +14,8 @@ use Rattle.m11_obj.specs.declared.gsd.GsdKind.TheVariants.{ModuleName, ControlSe
 use Rattle.m11_modules.specs.Names.{is_among}
 use Rattle.m11_modules.specs.Parts.{Part, Directory, Entry, EndOfDirectory, Text, Relocations, Relocated, EndOfModule, EndOfFile}
 use Rattle.m11_modules.specs.Places.{Known, distinct, ends_module, global_in, global_names, global_of, known_of, modules_in, section_by, section_in, section_names, sections_in, stage_after, this_module}
-use Rattle.m11_modules.specs.Rules.{defines, fault_of, first_fault, has_bits, most_modules, most_sections}
+use Rattle.m11_modules.specs.Rules.{defines, fault_of, first_fault, most_modules, most_sections}
+use Rattle.m11_obj.specs.Gsd.{has_bits}
 use Rattle.m11_modules.proofs.KnownAfter.{known_after_part, this_module_goes_on}
 use Rattle.m11_layout.specs.Tables.{Gathered, gathered_after, gathered_after_all, is_contribution, nothing_gathered, with_definition, with_entry, with_reference, with_relocated, with_weak}
 use Rattle.m11_layout.specs.Globals.{definitions_of, references_of}

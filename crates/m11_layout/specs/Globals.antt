@@ -10,7 +10,8 @@ use Rattle.m11_obj.specs.declared.gsd.GsdKind.TheVariants.{GlobalSymbol}
 use Rattle.m11_modules.specs.Names.{is_among}
 use Rattle.m11_modules.specs.Parts.{Part, Entry, Relocated}
 use Rattle.m11_modules.specs.Places.{distinct, this_module, modules_in, sections_in, global_of}
-use Rattle.m11_modules.specs.Rules.{has_bits, defines}
+use Rattle.m11_modules.specs.Rules.{defines}
+use Rattle.m11_obj.specs.Gsd.{has_bits}
 use Rattle.m11_layout.specs.Modules.{name_at, reported_after}
 use Rattle.m11_layout.specs.Sections.{module_base}
 use Rattle.m11_layout.specs.declared.definition.Definition.{Definition}

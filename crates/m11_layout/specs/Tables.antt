@@ -14,7 +14,8 @@ use Rattle.m11_obj.specs.declared.gsd.GsdKind.TheVariants.{ModuleName, ControlSe
 use Rattle.m11_modules.specs.Names.{is_among}
 use Rattle.m11_modules.specs.Parts.{Part, Entry, Relocated, EndOfModule}
 use Rattle.m11_modules.specs.Places.{global_of}
-use Rattle.m11_modules.specs.Rules.{has_bits, defines}
+use Rattle.m11_modules.specs.Rules.{defines}
+use Rattle.m11_obj.specs.Gsd.{has_bits}
 use Rattle.m11_layout.specs.declared.definition.Definition.{Definition}
 use Rattle.m11_layout.specs.declared.definition.Total.{Total}
 use Rattle.m11_layout.specs.declared.definition.Transfer.{Transfer}

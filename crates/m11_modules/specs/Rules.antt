@@ -2,10 +2,10 @@
 -- (RT-11 Volume and File Formats Manual, "Object file format". The faults, their order and the limits are this
 -- project's own.)
 use Rattle.std.specs.Prelude.{ℕ, ◌+◌, ◌<◌, ◌≤◌, ◌&&◌, not, nat_lt, nat_le, nat_eq, Bool, true, false, List, [], ◌∷◌, ◌++◌, length, Option, Some, None, Result, Ok, Err, if◌then◌else◌}
-use Rattle.std.specs.Int.RustNames.{bit_and}
 use Rattle.std.specs.Option.{is_none, is_some, option_or, unwrap_or}
 use Rattle.std.specs.Map.{lookup}
 use Rattle.m11_base.specs.Rad50.{Name, is_same_name}
+use Rattle.m11_obj.specs.Gsd.{has_bits}
 use Rattle.m11_obj.specs.declared.gsd.GsdEntry.{GsdEntry}
 use Rattle.m11_obj.specs.declared.gsd.GsdKind.{GsdKind}
 use Rattle.m11_obj.specs.declared.gsd.GsdKind.TheVariants.{ControlSection, TransferAddress, GlobalSymbol, ProgramSection}
@@ -66,10 +66,7 @@ abbrev pub begin_fault : Stage → ℕ → Option ModuleFault
 begin_fault Between modules = first_there ((nat_le most_modules modules, TooManyModules) ∷ [])
 begin_fault stage modules = None
 
--- all bits of the mask are set: octal 10 for a definition, octal 40 for a relocatable one
-abbrev pub has_bits : ℕ → ℕ → Bool
-has_bits mask flags = nat_eq (bit_and flags mask) mask
-
+-- octal 10 is a definition, octal 40 a relocatable one
 abbrev pub defines : GsdEntry → Bool
 defines entry = has_bits 0o10 entry.flags
 

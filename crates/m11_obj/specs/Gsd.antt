@@ -1,7 +1,8 @@
 -- The entries of the global symbol directory. (RT-11 Volume and File Formats Manual, "Object file
 -- format", GSD block.) Names that are no RADIX-50 words are refused for every type, which is this
 -- project's own.
-use Rattle.std.specs.Prelude.{ℕ, ◌<◌, ◌^◌, List, ◌∷◌, ◌++◌, All}
+use Rattle.std.specs.Prelude.{ℕ, ◌==◌, ◌<◌, ◌^◌, Bool, List, ◌∷◌, ◌++◌, All}
+use Rattle.std.specs.Int.RustNames.{bit_and}
 use Rattle.std.specs.List.{flat_map}
 use Rattle.m11_base.specs.Devices.{Bytes}
 use Rattle.m11_base.specs.Rad50.{Name, IsName}
@@ -23,6 +24,10 @@ kind_code Identification = 6
 -- the two words of a name
 abbrev pub name_bytes : Name → Bytes
 name_bytes name = word_bytes name.0 ++ word_bytes name.1
+
+-- all bits of a mask are set in a flags byte
+abbrev pub has_bits : ℕ → ℕ → Bool
+has_bits mask flags = bit_and flags mask == mask
 
 -- eight bytes: two name words, the flags byte, the type byte, the value word
 abbrev pub entry_bytes : GsdEntry → Bytes
