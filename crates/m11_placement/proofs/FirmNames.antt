@@ -2,15 +2,13 @@
 use Rattle.std.proofs.Common.{◌≡◌, ◌∙◌, ℕ, Bool, true, false, List, [], ◌∷◌, map, Option, Some, None, refl, sym, ap, true≢false}
 use Rattle.m11_arguments.specs.Expressions as expressions
 use Rattle.m11_scan.specs.Cutting.{Lexeme, tokens_from}
-use Rattle.m11_scan.specs.Letters.{letter_A}
 use Rattle.m11_scan.specs.declared.radix.Radix.{Radix}
-use Rattle.m11_scan.specs.declared.sort.Sort.{Sort}
-use Rattle.m11_scan.specs.declared.sort.Sort.TheVariants.{Name, Number, DecimalNumber, LocalSymbol, Character, TwoCharacters, Packed, BinaryRadix, OctalRadix, DecimalRadix, Complement, Plus, Minus, Times, Over, And, Or, Less, Greater, Percent, NumberSign, At, Open, Close, Comma, Colon, TwoColons, Equals, TwoEquals}
+use Rattle.m11_values.proofs.Meanings.{atom_agrees, first_agrees, others_agree, with_atom}
 use Rattle.m11_values.specs.declared.names.Symbol.{Symbol}
 use Rattle.m11_values.specs.declared.names.Symbol.TheVariants.{Ordinary, Local, Counter}
-use Rattle.m11_values.specs.Quantities.{Quantity, absolute, missing}
-use Rattle.m11_values.specs.Symbols.{AgreeOn, with_symbol}
-use Rattle.m11_values.specs.Terms.{Atom, Fixed, Item, atom_of, item, meaning_or, symbol_in}
+use Rattle.m11_values.specs.Quantities.{Quantity}
+use Rattle.m11_values.specs.Symbols.{AgreeOn}
+use Rattle.m11_values.specs.Terms.{Atom, Item, atom_of, item, symbol_in}
 use Rattle.m11_values.specs.Values.{value_of}
 use Rattle.m11_placement.specs.Definitions.{Definition, Key, Named, Numbered, firm_part, firm_parts, is_same, last_definition, later_or}
 use Rattle.m11_placement.specs.Meanings.{AreFirm, Context, Knows, Map, defined_or, empty_map, firm_known, is_firm, is_firm_in, known_at, stands_for, undefined}
@@ -67,58 +65,6 @@ symbols_alike map context table place (symbol ∷ symbols) firm =
     (symbol_alike map context table place symbol firm.0, symbols_alike map context table place symbols firm.1)
 
 -- ---- expressions
-
-meaning_agrees : (first second : Symbol → Quantity) (other : Quantity) (symbol : Option Symbol)
-    → AgreeOn (with_symbol symbol []) first second → meaning_or first other symbol ≡ meaning_or second other symbol
-meaning_agrees first second other None agree = refl
-meaning_agrees first second other (Some symbol) agree = agree.0
-
-atom_agrees : (first second : Symbol → Quantity) (sort : Sort) (text : List ℕ)
-    → AgreeOn (with_symbol (symbol_in sort text) []) first second → atom_of first sort text ≡ atom_of second sort text
-atom_agrees first second Name text agree =
-    ap (λ (v : Quantity). Fixed v) (meaning_agrees first second missing (symbol_in Name text) agree)
-atom_agrees first second LocalSymbol text agree =
-    ap (λ (v : Quantity). Fixed v) (meaning_agrees first second (absolute 0 letter_A) (symbol_in LocalSymbol text) agree)
-atom_agrees first second Number text agree = refl
-atom_agrees first second DecimalNumber text agree = refl
-atom_agrees first second Character text agree = refl
-atom_agrees first second TwoCharacters text agree = refl
-atom_agrees first second Packed text agree = refl
-atom_agrees first second BinaryRadix text agree = refl
-atom_agrees first second OctalRadix text agree = refl
-atom_agrees first second DecimalRadix text agree = refl
-atom_agrees first second Complement text agree = refl
-atom_agrees first second Plus text agree = refl
-atom_agrees first second Minus text agree = refl
-atom_agrees first second Times text agree = refl
-atom_agrees first second Over text agree = refl
-atom_agrees first second And text agree = refl
-atom_agrees first second Or text agree = refl
-atom_agrees first second Less text agree = refl
-atom_agrees first second Greater text agree = refl
-atom_agrees first second Percent text agree = refl
-atom_agrees first second NumberSign text agree = refl
-atom_agrees first second At text agree = refl
-atom_agrees first second Open text agree = refl
-atom_agrees first second Close text agree = refl
-atom_agrees first second Comma text agree = refl
-atom_agrees first second Colon text agree = refl
-atom_agrees first second TwoColons text agree = refl
-atom_agrees first second Equals text agree = refl
-atom_agrees first second TwoEquals text agree = refl
-
-first_agrees : (first second : Symbol → Quantity) (symbol : Option Symbol) (symbols : List Symbol)
-    → AgreeOn (with_symbol symbol symbols) first second → AgreeOn (with_symbol symbol []) first second
-first_agrees first second (Some symbol) symbols agree = (agree.0, tt)
-first_agrees first second None symbols agree = tt
-
-others_agree : (first second : Symbol → Quantity) (symbol : Option Symbol) (symbols : List Symbol)
-    → AgreeOn (with_symbol symbol symbols) first second → AgreeOn symbols first second
-others_agree first second (Some symbol) symbols agree = agree.1
-others_agree first second None symbols agree = agree
-
-abbrev with_atom : Sort → Atom → List Item → List Item
-with_atom sort atom items = record { sort = sort; atom = atom } ∷ items
 
 items_agree : (first second : Symbol → Quantity) (tokens : List Lexeme) → AgreeOn (expressions.symbols_in tokens) first second
     → map (item first) tokens ≡ map (item second) tokens

@@ -5,6 +5,6 @@ mod Folds
 mod FurtherLetters
 mod Groups
 mod LastOperators
-mod Meanings
+pub mod Meanings
 mod OpenBrackets
 mod Parts

@@ -18,7 +18,7 @@ meaning_agrees : (first second : Symbol → Quantity) (other : Quantity) (symbol
 meaning_agrees first second other None agree = refl
 meaning_agrees first second other (Some symbol) agree = agree.0
 
-atom_agrees : (first second : Symbol → Quantity) (sort : Sort) (text : List ℕ)
+pub atom_agrees : (first second : Symbol → Quantity) (sort : Sort) (text : List ℕ)
     → AgreeOn (with_symbol (symbol_in sort text) []) first second → atom_of first sort text ≡ atom_of second sort text
 atom_agrees first second Name text agree =
     ap (λ (v : Quantity). Fixed v) (meaning_agrees first second missing (symbol_in Name text) agree)
@@ -52,12 +52,12 @@ atom_agrees first second TwoColons text agree = refl
 atom_agrees first second Equals text agree = refl
 atom_agrees first second TwoEquals text agree = refl
 
-first_agrees : (first second : Symbol → Quantity) (symbol : Option Symbol) (symbols : List Symbol)
+pub first_agrees : (first second : Symbol → Quantity) (symbol : Option Symbol) (symbols : List Symbol)
     → AgreeOn (with_symbol symbol symbols) first second → AgreeOn (with_symbol symbol []) first second
 first_agrees first second (Some symbol) symbols agree = (agree.0, tt)
 first_agrees first second None symbols agree = tt
 
-others_agree : (first second : Symbol → Quantity) (symbol : Option Symbol) (symbols : List Symbol)
+pub others_agree : (first second : Symbol → Quantity) (symbol : Option Symbol) (symbols : List Symbol)
     → AgreeOn (with_symbol symbol symbols) first second → AgreeOn symbols first second
 others_agree first second (Some symbol) symbols agree = agree.1
 others_agree first second None symbols agree = agree
