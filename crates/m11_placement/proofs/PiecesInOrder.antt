@@ -6,19 +6,16 @@ use Rattle.std.specs.Prelude.{◌==◌, ◌&&◌, not, if◌then◌else◌, Opti
 use Rattle.m11_base.specs.Rad50.{Name}
 use Rattle.m11_object_text.specs.declared.pieces.Piece.{Piece}
 use Rattle.m11_object_text.specs.declared.pieces.PieceContent.{PieceContent}
-use Rattle.m11_statements.specs.Labels.{labels_at}
-use Rattle.m11_statements.specs.declared.labels.Label.{Label}
-use Rattle.m11_statements.specs.declared.labels.LabelKind.{LabelKind}
-use Rattle.m11_statements.specs.declared.labels.LabelKind.TheVariants as label
 use Rattle.m11_unfolding.specs.Unfolding.{Given}
+use Rattle.m11_placement.proofs.LabelPlaces.{Standing, labels_stay}
 use Rattle.m11_placement.proofs.LinesFill.{lines_fill}
 use Rattle.m11_placement.specs.Alignment.{gap}
 use Rattle.m11_placement.specs.Assignments.{assigned}
 use Rattle.m11_placement.specs.Changes.{Change, Keeps, Counts, Selects, Assigns, Numbers, Exports, Sets, changed, numbered}
 use Rattle.m11_placement.specs.Contents.{content_size, contents_size, further, pieces_from}
-use Rattle.m11_placement.specs.Definitions.{Definition, Key, Named, Numbered, is_defined, is_labelled}
+use Rattle.m11_placement.specs.Definitions.{Definition, Named, is_labelled}
 use Rattle.m11_placement.specs.Filling.{Fills, gap_before}
-use Rattle.m11_placement.specs.Labels.{global_if, label_name, labelled, with_block, with_definition, with_doubled, with_kind, with_label, with_labels, with_name}
+use Rattle.m11_placement.specs.Labels.{global_if, with_definition, with_doubled}
 use Rattle.m11_placement.specs.Lines.{Assigning, Deed, Operating, Rests, Setting, after_line, deed, line_change, line_put, pieces, put_place, section_name, stands}
 use Rattle.m11_placement.specs.Meanings.{Map}
 use Rattle.m11_placement.specs.Order.{LieFrom, pieces_if, pieces_in}
@@ -82,45 +79,11 @@ moves_add section other (first ∷ moves) move =
     by_first true first before more = refl
     by_first false first before more = refl
 
--- ---- labels leave the moves and the section
-
-abbrev Standing_of : Type 0
-Standing_of = List Moved × ℕ
-
-abbrev standing : Table → Standing_of
-standing table = (table.moves, table.settings.section)
-
-name_by : (is_there is_global : Bool) (table : Table) (name : Name)
-    → standing (if is_there then with_doubled (Named name) table
-    else global_if is_global name (with_block (with_definition (labelled table (Named name)) table))) ≡ standing table
-name_by true is_global table name = refl
-name_by false true table name = refl
-name_by false false table name = refl
-
-name_keeps : (is_global : Bool) (table : Table) (name : Option Name) → standing (with_name is_global table name) ≡ standing table
-name_keeps is_global table (Some name) = name_by (is_defined (Named name) table.definitions) is_global table name
-name_keeps is_global table None = refl
-
-key_by : (is_there : Bool) (table : Table) (key : Key)
-    → standing (if is_there then with_doubled key table else with_definition (labelled table key) table) ≡ standing table
-key_by true table key = refl
-key_by false table key = refl
-
-kind_keeps : (table : Table) (name : Option Name) (kind : LabelKind) → standing (with_kind table name kind) ≡ standing table
-kind_keeps table name label.Ordinary = name_keeps false table name
-kind_keeps table name label.Global = name_keeps true table name
-kind_keeps table name (label.Local number) =
-    key_by (is_defined (Numbered table.settings.block number) table.definitions) table (Numbered table.settings.block number)
-kind_keeps table name label.Outside = refl
-
-all_keep : (line : List ℕ) (table : Table) (labels : List Label) → standing (with_labels line table labels) ≡ standing table
-all_keep line table [] = refl
-all_keep line table (named ∷ labels) =
-    all_keep line (with_label line table named) labels ∙ kind_keeps table (label_name line named) named.kind
+-- ---- labels leave the moves
 
 stood_moves : (table : Table) (given : Given) → (stands table given).moves ≡ table.moves
 stood_moves table given =
-    ap (λ (s : Standing_of). s.0) (all_keep given.live.line.text table (labels_at given.live.line.text))
+    ap (λ (s : Standing). s.0) (labels_stay table given.live.line.text)
 
 -- ---- what a change adds to the moves
 
