@@ -108,13 +108,13 @@ fn begun_by<N: Names>(
 // The expression after `#`.
 fn immediate(line: &Line, is_deferred: bool, start: u8) -> OperandRead
     requires { start ≤ length line.now.text }
-    ensures read { read_seen result ≡ spec.read (AfterCounter (spec.immediate is_deferred) start)
+    ensures read { read_seen result ≡ spec.read (AfterCounter (spec.autoincrement is_deferred) start)
         (expression_end line.now.text start) 0 }
     ensures within { result.end ≤ length line.now.text }
 {
     let end = expression_end(line, usize::from(start));
     OperandRead {
-        form: Form::AfterCounter(stepping(is_deferred), start),
+        form: Form::AfterCounter(autoincrement(is_deferred), start),
         end: place_in(line, end),
         letters: Letters::none(),
     }
@@ -137,7 +137,7 @@ fn after_minus<N: Names>(
     match next_token(line, usize::from(end)) {
         Some(token) if opens_after(line, end, token) => closed(
             line,
-            Form::InRegister(decreased(is_deferred), token.end),
+            Form::InRegister(autodecrement(is_deferred), token.end),
             token.end,
         ),
         _ => expression(line, is_deferred, start, names),
@@ -222,7 +222,7 @@ fn stepped(line: &Line, is_deferred: bool, register: u8, end: u8) -> OperandRead
 {
     match next_token(line, usize::from(end)) {
         Some(token) if is_plus(token.sort) => OperandRead {
-            form: Form::InRegister(stepping(is_deferred), register),
+            form: Form::InRegister(autoincrement(is_deferred), register),
             end: token.end,
             letters: Letters::none(),
         },
@@ -266,8 +266,8 @@ fn pointed(is_deferred: bool, register: u8) -> Form
     }
 }
 
-fn stepping(is_deferred: bool) -> Mode
-    ensures { result ≡ spec.immediate is_deferred }
+fn autoincrement(is_deferred: bool) -> Mode
+    ensures { result ≡ spec.autoincrement is_deferred }
 {
     if is_deferred {
         Mode::AutoincrementDeferred
@@ -276,8 +276,8 @@ fn stepping(is_deferred: bool) -> Mode
     }
 }
 
-fn decreased(is_deferred: bool) -> Mode
-    ensures { result ≡ spec.decreased is_deferred }
+fn autodecrement(is_deferred: bool) -> Mode
+    ensures { result ≡ spec.autodecrement is_deferred }
 {
     if is_deferred {
         Mode::AutodecrementDeferred

@@ -39,11 +39,11 @@ abbrev pub read : Form → ℕ → ℕ → Read
 read form end letters = record { form = form; end = end; letters = letters }
 
 -- the modes without and with `@`
-abbrev pub immediate : Bool → Mode
-immediate is_deferred = if is_deferred then mode.AutoincrementDeferred else mode.Autoincrement
+abbrev pub autoincrement : Bool → Mode
+autoincrement is_deferred = if is_deferred then mode.AutoincrementDeferred else mode.Autoincrement
 
-abbrev pub decreased : Bool → Mode
-decreased is_deferred = if is_deferred then mode.AutodecrementDeferred else mode.Autodecrement
+abbrev pub autodecrement : Bool → Mode
+autodecrement is_deferred = if is_deferred then mode.AutodecrementDeferred else mode.Autodecrement
 
 abbrev pub indexed : Bool → Mode
 indexed is_deferred = if is_deferred then mode.IndexDeferred else mode.Index
@@ -80,7 +80,7 @@ closed form line register = closed_by form (expression_end line register) (token
 abbrev pub stepped_by : Bool → ℕ → ℕ → List Lexeme → Read
 stepped_by is_deferred register end [] = read (pointed is_deferred register) end 0
 stepped_by is_deferred register end (token ∷ tokens) =
-    if is_plus token.sort then read (InRegister (immediate is_deferred) register) token.end 0
+    if is_plus token.sort then read (InRegister (autoincrement is_deferred) register) token.end 0
     else read (pointed is_deferred register) end 0
 
 -- `(`, and what stands in it and after it
@@ -116,13 +116,13 @@ abbrev pub after_minus : Known → Bool → Bytes → ℕ → ℕ → List Lexem
 after_minus firm is_deferred line start end [] = expression firm is_deferred line start
 after_minus firm is_deferred line start end (token ∷ tokens) =
     if is_open token.sort && not (skipped_between line end token.start)
-    then closed (InRegister (decreased is_deferred) token.end) line token.end
+    then closed (InRegister (autodecrement is_deferred) token.end) line token.end
     else expression firm is_deferred line start
 
 -- what begins with a token, after `@` or without it
 abbrev pub begun_by : Known → Bool → Bytes → ℕ → Sort → ℕ → List Lexeme → Read
 begun_by firm is_deferred line start sorts.NumberSign end tokens =
-    read (AfterCounter (immediate is_deferred) end) (expression_end line end) 0
+    read (AfterCounter (autoincrement is_deferred) end) (expression_end line end) 0
 begun_by firm is_deferred line start sorts.Open end tokens = bracketed is_deferred line end
 begun_by firm is_deferred line start sorts.Minus end tokens = after_minus firm is_deferred line start end tokens
 begun_by firm is_deferred line start sort end tokens = expression firm is_deferred line start
