@@ -127,6 +127,10 @@ pub fn directive_named(name: &[u8]) -> Option<Directive>
     ensures { result ≡ spec.directive_named (six_of name.now) }
 {
     let six = six_characters(name);
+    // each begins so, and most operators don't
+    if six[0] != b'.' {
+        return None;
+    }
     let found = DIRECTIVES.iter().find(|row| row.name == six);
     match found {
         Some(row) => Some(row.directive),

@@ -73,6 +73,10 @@ fn find_operator(name: &[u8; 6]) -> Option<Operator>
 fn directive_of(name: &[u8; 6]) -> Option<Directive>
     ensures { result ≡ directive_named name.now }
 {
+    // each begins so, and most operators don't
+    if name[0] != b'.' {
+        return None;
+    }
     let found = DIRECTIVES.iter().find(|row| row.name == *name);
     match found {
         Some(row) => Some(row.directive),
