@@ -44,14 +44,12 @@ impl<E: Copy> Latch<E> {
         ensures same { result ≡ outcome }
         ensures kept { self.new ≡ option_or self.old (result_err outcome) }
     {
-        match outcome {
-            Ok(value) => Ok(value),
-            Err(error) => {
-                if self.error.is_none() {
-                    self.error = Some(error);
-                }
-                Err(error)
-            }
+        // by a reference, so that what is handed on isn't taken apart
+        if let Err(error) = &outcome
+            && self.error.is_none()
+        {
+            self.error = Some(*error);
         }
+        outcome
     }
 }

@@ -84,12 +84,15 @@ impl Remaining {
         ensures taken { spec.Takes self.old.left self.new.left result }
         ensures free { self.new.has_statement ≡ false }
     {
-        if let Some(statement) = self.statement.take() {
-            return Some(Taken::Line(statement, self.is_expanding()));
+        // asked first, since most often none stands there, and room for a line is long to move
+        if self.statement.is_some() {
+            return self.take_statement();
         }
         let Some(mut frame) = self.frames.pop() else {
-            let line = self.fed.take()?;
-            return Some(Taken::Line(line, false));
+            return match self.fed.take() {
+                Some(line) => Some(Taken::Line(line, false)),
+                None => None,
+            };
         };
         match frame.next() {
             Some(line) => {
@@ -97,6 +100,18 @@ impl Remaining {
                 Some(Taken::Line(line, true))
             }
             None => Some(Taken::End(frame.into_mark())),
+        }
+    }
+
+    // Takes the statement of an `.IIF`.
+    fn take_statement(&mut self) -> Option<Taken>
+        requires { self.old.has_statement ≡ true }
+        ensures taken { spec.Takes self.old.left self.new.left result }
+        ensures free { self.new.has_statement ≡ false }
+    {
+        match self.statement.take() {
+            Some(statement) => Some(Taken::Line(statement, self.is_expanding())),
+            None => None,
         }
     }
 

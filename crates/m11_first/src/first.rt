@@ -111,10 +111,12 @@ fn take_left(pass: &mut SourcePass, facts: &mut Facts) -> Result<bool, PassFault
     the_calls_place_the_lines_of_a_source();
     let map = Map::none();
     'lines: loop {
-        match pass.next(&map)? {
-            Turn::NeedLine => return Ok(false),
-            Turn::End => return Ok(true),
-            Turn::Placed(line) => facts.note(&line, pass.table())?,
+        // without `?`, which would move the line once more
+        match pass.next(&map) {
+            Ok(Turn::NeedLine) => return Ok(false),
+            Ok(Turn::End) => return Ok(true),
+            Ok(Turn::Placed(line)) => facts.note(&line, pass.table())?,
+            Err(fault) => return Err(fault),
         }
     }
 }

@@ -77,10 +77,15 @@ impl State {
         ensures goes_on { IfOk result (λ _. self.new.unfolder.fault ≡ None) }
         ensures sound { IfOk result (λ _. IsSound self.new.unfolder.stage.taken self.new.pass self.new.mentioned) }
     {
-        match self.unfolder.next()? {
-            Step::NeedLine => Ok(Turn::NeedLine),
-            Step::End => Ok(Turn::End),
-            Step::Line(live) => Ok(Turn::Placed(self.place(map, live)?)),
+        // without `?`, which would move lines once more
+        match self.unfolder.next() {
+            Ok(Step::NeedLine) => Ok(Turn::NeedLine),
+            Ok(Step::End) => Ok(Turn::End),
+            Ok(Step::Line(live)) => match self.place(map, live) {
+                Ok(placed) => Ok(Turn::Placed(placed)),
+                Err(fault) => Err(fault),
+            },
+            Err(fault) => Err(PassFault::from(fault)),
         }
     }
 

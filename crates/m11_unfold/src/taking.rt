@@ -89,23 +89,8 @@ impl State {
                 Ok(()) => Ok(Moved::Passes),
                 Err(fault) => Err(fault),
             },
-            None => Ok(self.skip_or_give(line, is_expanded)),
-        }
-    }
-
-    // A line that stands in no body is skipped, or becomes live.
-    fn skip_or_give(&mut self, line: Line, is_expanded: bool) -> Moved
-        requires room { self.old.conditions.nested < 4294967295 }
-        requires expanded { is_expanded ≡ is_expanding self.old.left.left }
-        ensures moves { Results None
-            (spec.live_or_skipped (spec.skipped self.old.conditions line.text) line (stage_of self.old))
-            (stage_of self.new) (Ok result) }
-        ensures left { self.new.left ≡ self.old.left }
-    {
-        if skip(&mut self.conditions, &line) {
-            Moved::Passes
-        } else {
-            Moved::Gives(line, is_expanded)
+            None if skip(&mut self.conditions, &line) => Ok(Moved::Passes),
+            None => Ok(Moved::Gives(line, is_expanded)),
         }
     }
 

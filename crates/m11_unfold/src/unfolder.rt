@@ -131,12 +131,14 @@ impl State {
         ensures free { spec.IsFree self.new.left.has_statement result }
     {
         'moves: loop {
-            match self.advance(alloc)? {
-                Moved::Passes => {}
-                Moved::Gives(line, is_expanded) => {
+            // without `?`, which would move the line once more
+            match self.advance(alloc) {
+                Ok(Moved::Passes) => {}
+                Ok(Moved::Gives(line, is_expanded)) => {
                     return Ok(Step::Line(LiveLine { line, is_expanded }));
                 }
-                Moved::Rests => return Ok(self.rested()),
+                Ok(Moved::Rests) => return Ok(self.rested()),
+                Err(fault) => return Err(fault),
             }
         }
     }
