@@ -44,7 +44,7 @@ impl Frame {
             rounds,
             mark,
         };
-        if frame.template.body.len() == 0 {
+        if frame.template.body().len() == 0 {
             frame.rounds.clear();
         }
         frame
@@ -56,12 +56,12 @@ impl Frame {
         ensures none { IfNone result (spec.lines_of self.old ≡ []) }
         ensures mark { self.new.mark ≡ self.old.mark }
     {
-        let lines = self.template.body.len();
+        let lines = self.template.body().len();
         let actuals = self.rounds.first()?;
         let line = substitute(
             self.template.formals(),
             actuals,
-            self.template.body.text(self.place),
+            self.template.body().text(self.place),
         );
         self.place += 1;
         if self.place == lines {

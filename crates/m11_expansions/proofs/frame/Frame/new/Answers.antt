@@ -6,7 +6,7 @@ use Rattle.m11_expansions.proofs.frame.Frame.new.Goals as goal
 
 pub returns-then-len-eq0-clause-lines : goal.returns-then-len-eq0-clause-lines
 returns-then-len-eq0-clause-lines c =
-    let same = ap (λ (t : Template). length t.body) c.behind-frame.view_is in
+    let same = ap (λ (l : List (List ℕ)). length l) c.body.ensures in
     let length_is = ap (λ (t : Template). length t.body) c.deref.ensures in
     ap (λ (r : List (List (List ℕ))). of_rounds c.args.template.value.formals c.args.template.value.body
     c.args.template.value.body r) c.clear.ensures

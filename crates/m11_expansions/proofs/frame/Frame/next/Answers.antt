@@ -1,4 +1,4 @@
-use Rattle.std.proofs.Common.{◌∙◌, ap, length, get_or, []}
+use Rattle.std.proofs.Common.{◌∙◌, ℕ, List, ap, length, get_or, []}
 use Rattle.m11_expansions.specs.Bodies.{Template}
 use Rattle.m11_expansions.proofs.Stacks.{at_end, in_round}
 use Rattle.m11_expansions.proofs.frame.Frame.next.Goals.{then-self-lines, else-self-lines}
@@ -9,9 +9,9 @@ returns-clause-some c =
     let frame = c.self.inside in
     let template = frame.template.value in
     let named = c.formals.ensures ∙ ap (λ (t : Template). t.formals) c.deref-2.ensures in
-    let read = c.text.ensures
-    ∙ ap (λ (t : Template). get_or t.body frame.place []) (c.behind-self-2.view_is ∙ c.deref-3.ensures) in
-    let count = c.len-lines.ensures ∙ ap (λ (t : Template). length t.body) (c.behind-self.view_is ∙ c.deref.ensures) in
+    let read = c.text.ensures ∙ ap (λ (l : List (List ℕ)). get_or l frame.place []) c.body-2.ensures
+    ∙ ap (λ (t : Template). get_or t.body frame.place []) c.deref-3.ensures in
+    let count = c.len-lines.ensures ∙ ap (λ (l : List (List ℕ)). length l) c.body.ensures ∙ ap (λ (t : Template). length t.body) c.deref.ensures in
     elim c.if-self-lines.branch [
       | then-self-lines w ↦
           at_end template frame.mark frame.place frame.rounds c.formals.result.now c.in_ok-actuals.actuals.now c.text.result.now
