@@ -8,7 +8,7 @@ ghost use Rattle.m11_arguments.specs.Directives as spec;
 ghost use Rattle.m11_arguments.specs.Directives.{every_name};
 
 use m11_base::Name;
-use m11_scan::{Line, six_characters};
+use m11_scan::{Line, is_same_six, six_characters};
 use m11_statements::{Body, Operators, Span, statement};
 
 /// A directive whose line does something with lines after it, or ends the source.
@@ -131,7 +131,7 @@ pub fn directive_named(name: &[u8]) -> Option<Directive>
     if six[0] != b'.' {
         return None;
     }
-    let found = DIRECTIVES.iter().find(|row| row.name == six);
+    let found = DIRECTIVES.iter().find(|row| is_same_six(&row.name, &six));
     match found {
         Some(row) => Some(row.directive),
         None => None,

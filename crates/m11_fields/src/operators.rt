@@ -10,6 +10,7 @@ ghost use Rattle.m11_placement.specs.Operators as spec;
 
 use m11_base::{Op, Row, other_names, rows};
 use m11_placement::{Directive, DirectiveRow, Operator};
+use m11_scan::is_same_six;
 
 macro_rules! row {
     ($name:literal, $directive:expr) => {
@@ -77,7 +78,7 @@ fn directive_of(name: &[u8; 6]) -> Option<Directive>
     if name[0] != b'.' {
         return None;
     }
-    let found = DIRECTIVES.iter().find(|row| row.name == *name);
+    let found = DIRECTIVES.iter().find(|row| is_same_six(&row.name, name));
     match found {
         Some(row) => Some(row.directive),
         None => None,
@@ -108,7 +109,7 @@ fn operation_of(name: &[u8; 6]) -> Option<Op>
 fn operation_in(list: &[Row], name: &[u8; 6]) -> Option<Op>
     ensures { result ≡ named_in list.now name.now }
 {
-    let found = list.iter().find(|row| row.name == *name);
+    let found = list.iter().find(|row| is_same_six(&row.name, name));
     match found {
         Some(row) => Some(row.operation),
         None => None,

@@ -4,7 +4,7 @@ ghost use Rattle.std.specs.Prelude.{◌≡◌};
 ghost use Rattle.m11_base.specs.Mnemonics.{six_of};
 ghost use Rattle.m11_scan.specs.Conditions.{condition_named};
 
-use crate::names::six_characters;
+use crate::names::{is_same_six, six_characters};
 
 /// What `.IF` and `.IIF` may ask.
 #[derive(Clone, Copy, PartialEq, Eq, Debug)]
@@ -98,7 +98,7 @@ pub fn read_condition(name: &[u8]) -> Option<Condition>
     ensures { result ≡ condition_named (six_of name.now) }
 {
     let six = six_characters(name);
-    let found = CONDITIONS.iter().find(|row| row.name == six);
+    let found = CONDITIONS.iter().find(|row| is_same_six(&row.name, &six));
     match found {
         Some(row) => Some(row.condition),
         None => None,

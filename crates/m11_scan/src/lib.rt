@@ -29,7 +29,7 @@ pub use laws::{
 };
 pub use letters::Letters;
 pub use m11_lines::{LINE_LIMIT, Line};
-pub use names::{read_name, read_packed, six_characters};
+pub use names::{is_same_six, read_name, read_packed, six_characters};
 pub use numbers::{Number, read_number};
 pub use pieces::Piece;
 pub use radix::Radix;

@@ -2,6 +2,7 @@
 
 ghost use Rattle.std.specs.Prelude.{◌≡◌, true};
 ghost use Rattle.std.specs.Option.{is_some};
+ghost use Rattle.std.specs.Str.{bytes_eq};
 ghost use Rattle.m11_base.specs.Mnemonics.{character_at, six_of};
 ghost use Rattle.m11_base.specs.Rad50.{name_of};
 ghost use Rattle.m11_scan.specs.Names.{has_name_characters_alone, packed_letters, packed_word, word_or_none};
@@ -32,6 +33,16 @@ pub fn six_characters(text: &[u8]) -> [u8; 6]
         character_at(text, 4),
         character_at(text, 5),
     ]
+}
+
+/// Whether two names of six characters are the same.
+pub fn is_same_six(first: &[u8; 6], second: &[u8; 6]) -> bool
+    ensures { result ≡ bytes_eq first.now second.now }
+{
+    let [a, b, c, d, e, f] = *first;
+    let [g, h, i, j, k, l] = *second;
+    // the third differs most often among the names of operators, so that mostly one pair is compared
+    c == i && b == h && d == j && a == g && e == k && f == l
 }
 
 /// The word of the characters after a `^R`: of the first three in upper case, with blanks where there are fewer. Where there is
