@@ -22,7 +22,12 @@ pub(crate) fn is_digit(byte: u8) -> bool
 pub fn is_name_character(byte: u8) -> bool
     ensures { result ≡ is_name_character byte }
 {
-    matches!(byte, b'A'..=b'Z' | b'a'..=b'z' | b'0'..=b'9' | b'$' | b'.')
+    // most are letters, so these are asked for first
+    (byte >= b'A' && byte <= b'Z')
+        || (byte >= b'a' && byte <= b'z')
+        || is_digit(byte)
+        || byte == b'$'
+        || byte == b'.'
 }
 
 /// How many digits a text begins with.

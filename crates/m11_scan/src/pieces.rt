@@ -1,7 +1,8 @@
 //! The piece that a text begins with. (MACRO-11 Language Reference Manual, "Symbols and expressions" and "Character
 //! set".)
 
-ghost use Rattle.std.specs.Prelude.{◌≡◌, ◌+◌, ◌<◌, ◌≤◌, length};
+ghost use Rattle.std.specs.Prelude.{◌≡◌, ◌+◌, ◌<◌, ◌≤◌, false, length, slice_index};
+ghost use Rattle.m11_scan.specs.Characters.{is_blank};
 ghost use Rattle.m11_scan.specs.Pieces as spec;
 
 use crate::characters::{digits_length, is_blank, is_digit, is_name_character, name_length};
@@ -17,9 +18,31 @@ pub struct Piece {
 }
 
 // The piece that a text begins with: the longest beginning that is a piece.
+#[inline(always)]
 #[tactic(auto, unfolding(crate::specs::Pieces::first_piece))]
 pub(crate) fn first_piece(text: &[u8]) -> Piece
     requires { 0 < length text.now }
+    ensures piece { result ≡ spec.first_piece text.now }
+    ensures begins { 0 < result.length }
+    ensures within { result.length ≤ length text.now }
+{
+    // most pieces are blanks, so nothing else is asked for before them
+    if is_blank(text[0]) {
+        Piece {
+            form: Form::Blank,
+            length: 1,
+        }
+    } else {
+        other_piece(text)
+    }
+}
+
+// A piece that begins with no blank.
+#[inline(never)]
+#[tactic(auto, unfolding(crate::specs::Pieces::first_piece))]
+fn other_piece(text: &[u8]) -> Piece
+    requires nonempty { 0 < length text.now }
+    requires other { is_blank (slice_index text.now 0) ≡ false }
     ensures piece { result ≡ spec.first_piece text.now }
     ensures begins { 0 < result.length }
     ensures within { result.length ≤ length text.now }
@@ -29,11 +52,6 @@ pub(crate) fn first_piece(text: &[u8]) -> Piece
         number_piece(text)
     } else if is_name_character(byte) {
         token(Sort::Name, name_length(text))
-    } else if is_blank(byte) {
-        Piece {
-            form: Form::Blank,
-            length: 1,
-        }
     } else if byte == b';' {
         Piece {
             form: Form::Comment,
