@@ -1,7 +1,7 @@
 //! What stands after the labels of a line. (MACRO-11 Language Reference Manual, "Operator field", "Direct assignment statements" and
 //! ".WORD directive".)
 
-ghost use Rattle.std.specs.Prelude.{◌≡◌, ◌≤◌, ℕ, Bool, length};
+ghost use Rattle.std.specs.Prelude.{◌≡◌, ◌<◌, ◌≤◌, ℕ, Bool, [], ◌∷◌, length, IfSome, MatchOption};
 ghost use Rattle.m11_scan.specs.Cutting.{tokens_from};
 ghost use Rattle.m11_scan.specs.Views.{lexeme};
 ghost use Rattle.m11_statements.specs.Bodies as spec;
@@ -47,15 +47,25 @@ pub enum Body {
     Words(u8),
 }
 
-// What stands in a line from a place on.
-pub(crate) fn body_at<O: Operators>(line: &Line, place: usize, operators: &O) -> Body
-    requires { place ≤ length line.now.text }
+// What stands in a line from a place on, by the token that stands next there.
+pub(crate) fn body_at<O: Operators>(
+    line: &Line,
+    place: usize,
+    next: Option<Token>,
+    operators: &O,
+) -> Body
+    requires within { place ≤ length line.now.text }
+    requires next { MatchOption next (tokens_from line.now.text place ≡ [])
+        (λ token. tokens_from line.now.text place ≡ lexeme line.now.text token ∷ tokens_from line.now.text token.end) }
+    requires next_begins { IfSome next (λ token. place ≤ token.start) }
+    requires next_ordered { IfSome next (λ token. token.start < token.end) }
+    requires next_within { IfSome next (λ token. token.end ≤ length line.now.text) }
     ensures body { result ≡ spec.body_in (O.known operators.now) line.now.text (tokens_from line.now.text place) }
     ensures least { place ≤ spec.reach result (length line.now.text) }
     ensures most { spec.reach result (length line.now.text) ≤ length line.now.text }
     ensures within { spec.end_of result (length line.now.text) ≤ length line.now.text }
 {
-    match next_token(line, place) {
+    match next {
         Some(first) => begun_body(line, first, operators),
         None => Body::Nothing,
     }

@@ -1,6 +1,6 @@
 //! The labels of a line. (MACRO-11 Language Reference Manual, "Label field" and "Local symbols".)
 
-ghost use Rattle.std.specs.Prelude.{◌≡◌, ◌+◌, ◌≤◌, [], ◌∷◌, length, IfSome, MatchOption};
+ghost use Rattle.std.specs.Prelude.{◌≡◌, ◌+◌, ◌<◌, ◌≤◌, [], ◌∷◌, length, IfSome, MatchOption};
 ghost use Rattle.m11_scan.specs.Cutting.{tokens_from};
 ghost use Rattle.m11_lines.specs.Line.{line_limit};
 ghost use Rattle.m11_scan.specs.Views.{lexeme};
@@ -60,6 +60,8 @@ pub(crate) struct LabelField {
     pub end: usize,
     // Whether one is a local symbol whose number isn't 1 to 65535.
     pub has_outside: bool,
+    // The token after the last label, if one stands there.
+    pub next: Option<Token>,
 }
 
 // The label field of a line. Without a label it ends where the line begins.
@@ -68,14 +70,36 @@ pub(crate) fn label_field(line: &Line) -> LabelField
     ensures outside { result.has_outside ≡ has_outside (spec.labels_at line.now.text) }
     ensures unlabelled { result.end ≡ 0 → spec.labels_at line.now.text ≡ [] }
     ensures within { result.end ≤ length line.now.text }
+    ensures next { MatchOption result.next (tokens_from line.now.text result.end ≡ [])
+        (λ token. tokens_from line.now.text result.end ≡ lexeme line.now.text token ∷ tokens_from line.now.text token.end) }
+    ensures next_begins { IfSome result.next (λ token. result.end ≤ token.start) }
+    ensures next_ordered { IfSome result.next (λ token. token.start < token.end) }
+    ensures next_within { IfSome result.next (λ token. token.end ≤ length line.now.text) }
 {
     let mut end = 0;
     let mut has_outside = false;
-    'labels: while let Some(label) = label_at(line, end) {
-        has_outside = has_outside || is_outside(label.kind);
-        end = usize::from(label.end);
+    let mut next = next_token(line, 0);
+    'labels: while let Some(name) = next {
+        match label_by(line, name) {
+            Some(label) => {
+                has_outside = has_outside || is_outside(label.kind);
+                end = usize::from(label.end);
+                next = next_token(line, end);
+            }
+            None => {
+                return LabelField {
+                    end,
+                    has_outside,
+                    next,
+                };
+            }
+        }
     }
-    LabelField { end, has_outside }
+    LabelField {
+        end,
+        has_outside,
+        next,
+    }
 }
 
 fn is_outside(kind: LabelKind) -> bool
@@ -95,6 +119,20 @@ fn label_at(line: &Line, place: usize) -> Option<Label>
     ensures limited { IfSome result (λ label. label.end ≤ line_limit) }
 {
     let name = next_token(line, place)?;
+    label_by(line, name)
+}
+
+// The label that begins with a token of a line, if one does.
+fn label_by(line: &Line, name: Token) -> Option<Label>
+    requires { name.end ≤ length line.now.text }
+    ensures label { MatchOption result
+        (spec.labels_in (lexeme line.now.text name ∷ tokens_from line.now.text name.end) ≡ [])
+        (λ label. spec.labels_in (lexeme line.now.text name ∷ tokens_from line.now.text name.end)
+        ≡ label ∷ spec.labels_in (tokens_from line.now.text label.end)) }
+    ensures after { IfSome result (λ label. name.end < label.end) }
+    ensures within { IfSome result (λ label. label.end ≤ length line.now.text) }
+    ensures limited { IfSome result (λ label. label.end ≤ line_limit) }
+{
     let colon = next_token(line, usize::from(name.end))?;
     label_of(line, name, colon)
 }

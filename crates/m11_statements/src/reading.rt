@@ -21,7 +21,7 @@ pub fn statement<O: Operators>(line: &Line, operators: &O) -> Statement
     ensures body_letters { bits_of result.body_letters ≡ spec.body_letters (O.known operators.now) line.now.text }
 {
     let labels = label_field(line);
-    let body = body_at(line, labels.end, operators);
+    let body = body_at(line, labels.end, labels.next, operators);
     let until = reach(body, line.text().len());
     Statement {
         labels_end: labels.end as u8,
