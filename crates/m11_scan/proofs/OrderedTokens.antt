@@ -2,11 +2,14 @@
 use Rattle.std.proofs.Common.{◌≡◌, ℕ, ◌+◌, ◌-◌, ◌<◌, ◌≤◌, List, [], ◌∷◌, ◌++◌, length, drop, refl, sym, ap, ◌∙◌, subst, arith}
 use Rattle.std.proofs.lemmas.Bool.{le-leb}
 use Rattle.std.proofs.lemmas.List.{drop-drop, length-drop, take-append-drop}
+use Rattle.m11_scan.specs.declared.sort.Sort.{Sort}
 use Rattle.m11_scan.specs.declared.sort.Form.{Form}
 use Rattle.m11_scan.specs.declared.sort.Form.TheVariants.{Cut, Blank, Comment, Skipped}
 use Rattle.m11_scan.specs.declared.pieces.Piece.{Piece}
 use Rattle.m11_scan.specs.Cutting.{Lexeme, lexemes_at, lexemes_from, pieces_of, text_between, tokens_from, tokens_of}
 use Rattle.m11_scan.specs.Cuts.{AreOrdered, IsCut, joined_from}
+use Rattle.m11_scan.specs.Pieces.{first_piece}
+use Rattle.m11_scan.proofs.NextPieces.{other_stands}
 use Rattle.m11_scan.proofs.OnlyCut.{pieces_of-cut}
 
 from_earlier : (size low high : ℕ) (tokens : List Lexeme) → low ≤ high → AreOrdered size high tokens
@@ -71,6 +74,18 @@ tokens_of-ordered line = ordered line 0 (pieces_of line) (omega arith) (pieces_o
 
 pub tokens_from-ordered : (line : List ℕ) (place : ℕ) → place ≤ length line → AreOrdered (length line) place (tokens_from line place)
 tokens_from-ordered line place le = ordered line place (pieces_of (drop place line)) le (pieces_of-cut (drop place line))
+
+-- where no token begins, the next one begins later
+pub next_later : (line : List ℕ) (start : ℕ) (piece : Piece) → start < length line → piece ≡ first_piece (drop start line)
+    → 0 < piece.length → start + piece.length ≤ length line → ((sort : Sort) → piece.form ≡ Cut sort → ⊥)
+    → (token : Lexeme) (tokens : List Lexeme) → tokens_from line start ≡ token ∷ tokens → start < token.start
+next_later line start piece inside is begins within other token tokens stands =
+    let after : tokens_from line (start + piece.length) ≡ token ∷ tokens =
+    sym (other_stands line start piece inside is begins other) ∙ stands in
+    let P : List Lexeme → Type 0 = λ ts. AreOrdered (length line) (start + piece.length) ts in
+    let all = subst P after (tokens_from-ordered line (start + piece.length) within) in
+    let first = all.0 in
+    omega arith
 
 pub tokens_of-joined : (line : List ℕ) → joined_from line 0 (tokens_of line) ≡ line
 tokens_of-joined line = joined line 0 (pieces_of line) (omega arith) (pieces_of-cut line) 0 (omega arith)

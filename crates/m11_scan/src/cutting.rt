@@ -1,7 +1,7 @@
 //! The tokens of a line. (MACRO-11 Language Reference Manual, "Symbols and expressions".)
 
-ghost use Rattle.std.specs.Prelude.{◌≡◌, ◌<◌, ◌≤◌, [], ◌∷◌, length, map, IfSome, MatchOption};
-ghost use Rattle.m11_scan.specs.Cutting.{text_between, tokens_from, tokens_of};
+ghost use Rattle.std.specs.Prelude.{◌≡◌, ◌<◌, ◌≤◌, List, [], ◌∷◌, None, length, map, IfSome, MatchOption};
+ghost use Rattle.m11_scan.specs.Cutting.{Lexeme, text_between, tokens_from, tokens_of};
 ghost use Rattle.m11_lines.specs.Line.{line_limit};
 ghost use Rattle.m11_scan.specs.Views.{lexeme};
 
@@ -99,4 +99,31 @@ pub fn next_token(line: &Line, place: usize) -> Option<Token>
         begin = end;
     }
     None
+}
+
+/// The token that begins at a place of a line, if one does.
+pub fn token_at(line: &Line, place: usize) -> Option<Token>
+    requires { place ≤ length line.now.text }
+    ensures token { IfSome result (λ token. tokens_from line.now.text place
+        ≡ lexeme line.now.text token ∷ tokens_from line.now.text token.end) }
+    ensures later { result ≡ None → (token : Lexeme) → (tokens : List Lexeme)
+        → tokens_from line.now.text place ≡ token ∷ tokens → place < token.start }
+    ensures place { IfSome result (λ token. token.start ≡ place) }
+    ensures begins { IfSome result (λ token. place < token.end) }
+    ensures within { IfSome result (λ token. token.end ≤ length line.now.text) }
+    ensures limited { length line.now.text ≤ line_limit }
+{
+    let text = line.text();
+    if place >= text.len() {
+        return None;
+    }
+    let piece = first_piece(&text[place..]);
+    match piece.form {
+        Form::Cut(sort) => Some(Token {
+            sort,
+            start: place as u8,
+            end: (place + piece.length) as u8,
+        }),
+        _ => None,
+    }
 }

@@ -20,7 +20,7 @@ mod texts;
 
 pub use characters::{digits_length, is_name_character, name_length};
 pub use conditions::{Condition, read_condition};
-pub use cutting::{Token, next_token, text_between, tokens, tokens_from};
+pub use cutting::{Token, next_token, text_between, token_at, tokens, tokens_from};
 pub use ends::expression_end;
 pub use expressions::{Role, Within, expression_length, role_of};
 pub use laws::{

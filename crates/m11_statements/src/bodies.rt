@@ -95,10 +95,13 @@ fn assignment_to(line: &Line, target: Token) -> Option<Body>
 {
     let end = usize::from(target.end);
     let equals = next_token(line, end)?;
+    // most tokens are no `=`, so this is asked for first
+    let body = assigned(line, target, equals)?;
     if skipped_between(line, end, usize::from(equals.start)) {
-        return None;
+        None
+    } else {
+        Some(body)
     }
-    assigned(line, target, equals)
 }
 
 fn assigned(line: &Line, target: Token, equals: Token) -> Option<Body>

@@ -10,7 +10,9 @@ ghost use Rattle.m11_statements.specs.Statements.{has_outside, is_outside};
 use crate::spans::Span;
 use arrayvec::ArrayVec;
 use bitflags::Flags;
-use m11_scan::{Letters, Line, Radix, Sort, Token, digits_length, next_token, read_number};
+use m11_scan::{
+    Letters, Line, Radix, Sort, Token, digits_length, next_token, read_number, token_at,
+};
 
 /// What a label is.
 #[derive(Clone, Copy, PartialEq, Eq, Debug, Default)]
@@ -133,7 +135,8 @@ fn label_by(line: &Line, name: Token) -> Option<Label>
     ensures within { IfSome result (λ label. label.end ≤ length line.now.text) }
     ensures limited { IfSome result (λ label. label.end ≤ line_limit) }
 {
-    let colon = next_token(line, usize::from(name.end))?;
+    // a colon stands directly after it
+    let colon = token_at(line, usize::from(name.end))?;
     label_of(line, name, colon)
 }
 
