@@ -39,10 +39,13 @@ pub fn six_characters(text: &[u8]) -> [u8; 6]
 pub fn is_same_six(first: &[u8; 6], second: &[u8; 6]) -> bool
     ensures { result ≡ bytes_eq first.now second.now }
 {
+    // the third differs most often among the names of operators, so that mostly one pair is compared
+    if first[2] != second[2] {
+        return false;
+    }
     let [a, b, c, d, e, f] = *first;
     let [g, h, i, j, k, l] = *second;
-    // the third differs most often among the names of operators, so that mostly one pair is compared
-    c == i && b == h && d == j && a == g && e == k && f == l
+    a == g && b == h && c == i && d == j && e == k && f == l
 }
 
 /// The word of the characters after a `^R`: of the first three in upper case, with blanks where there are fewer. Where there is
