@@ -47,6 +47,23 @@ impl Line {
         line
     }
 
+    /// No character any more.
+    pub fn clear(&mut self)
+        ensures { self.new ≡ no_line }
+    {
+        self.bytes.clear();
+        self.is_over_long = false;
+    }
+
+    /// The same as another line. Only its characters are copied.
+    pub fn copy_from(&mut self, other: &Line)
+        ensures { self.new ≡ other.now }
+    {
+        self.clear();
+        self.push_all(other.text());
+        self.is_over_long = other.is_over_long;
+    }
+
     /// More characters; those past the limit are dropped.
     pub fn push_all(&mut self, bytes: &[u8])
         ensures { self.new ≡ with_bytes self.old bytes.now }
