@@ -46,7 +46,7 @@ fn take_lines<F: Feed>(feeds: &mut [F], first: &mut First) -> Result<(), AsmFaul
             return Ok(());
         }
         match reader.next(feeds) {
-            Ok(Some(line)) => match first.line(line) {
+            Ok(Some(line)) => match first.line(&line) {
                 Ok(()) => {}
                 Err(fault) => return Err(of_pass(fault)),
             },

@@ -57,7 +57,7 @@ fn put_lines<F: Feed, S: Sink, T: Sink, U: Sink>(
             return Ok(());
         }
         match reader.next(feeds) {
-            Ok(Some(line)) => match second.line(line, object, listing, messages) {
+            Ok(Some(line)) => match second.line(&line, object, listing, messages) {
                 Ok(()) => {}
                 Err(fault) => return Err(fault),
             },

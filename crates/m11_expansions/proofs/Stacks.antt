@@ -8,7 +8,7 @@ use Rattle.m11_expansions.specs.Substitution.{line_with}
 use Rattle.std.proofs.lemmas.List.{drop_all, drop_more}
 use Rattle.m11_expansions.specs.declared.mark.Mark.{Mark}
 use Rattle.m11_expansions.specs.Left.{Left, Line, End, marks, has_mark, round, expanded, after_mark, count_in, bytes_in, conditions_in}
-use Rattle.m11_expansions.specs.Frames.{Frame, HasNext, of_rounds, lines_of, stacked, line_left, is_there, has_frame, first_of, without_first, remains, count_from, bytes_from, conditions_from}
+use Rattle.m11_expansions.specs.Frames.{Frame, HasNext, of_rounds, lines_of, stacked, line_left, line_where, is_there, has_frame, first_of, without_first, remains, count_from, bytes_from, conditions_from}
 
 -- ---- lines have no end
 
@@ -172,6 +172,26 @@ has-last (outer ∷ front) frame = refl
 pub expanding-last : (front : List Frame) (frame : Frame) (fed : Option SourceLine)
     → has_mark (marks (stacked (front ++ frame ∷ []) (line_left fed))) ≡ true
 expanding-last front frame fed = expanding-remains None (front ++ frame ∷ []) fed ∙ has-last front frame
+
+pub no_statement : (statement : Option SourceLine) → is_there statement ≡ false → statement ≡ None
+no_statement None free = refl
+no_statement (Some line) free = absurd cc
+
+-- neither a statement nor an expansion, and whether the line of the source is left
+pub none_fed : (statement : Option SourceLine) (frames : List Frame) (has_fed : Bool) (fed : SourceLine) → is_there statement ≡ false
+    → has_frame frames ≡ false → has_fed ≡ false → (remains statement frames (line_where has_fed fed)).left ≡ []
+none_fed (Some line) frames has_fed fed free bare is = absurd cc
+none_fed None (frame ∷ inner) has_fed fed free bare is = absurd cc
+none_fed None [] true fed free bare is = absurd cc
+none_fed None [] false fed free bare is = refl
+
+pub one_fed : (statement : Option SourceLine) (frames : List Frame) (has_fed : Bool) (fed : SourceLine) → is_there statement ≡ false
+    → has_frame frames ≡ false → has_fed ≡ true
+    → (remains statement frames (line_where has_fed fed)).left ≡ Line fed ∷ (remains statement frames None).left
+one_fed (Some line) frames has_fed fed free bare is = absurd cc
+one_fed None (frame ∷ inner) has_fed fed free bare is = absurd cc
+one_fed None [] false fed free bare is = absurd cc
+one_fed None [] true fed free bare is = refl
 
 pub feeds : (statement : Option SourceLine) (frames : List Frame) (fed : Option SourceLine) (line : SourceLine)
     → (remains statement frames fed).left ≡ [] → line_left statement ++ stacked frames (Line line ∷ []) ≡ Line line ∷ []

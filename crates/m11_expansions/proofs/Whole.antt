@@ -1,10 +1,10 @@
 -- Bodies and expansions as wholes.
-use Rattle.std.proofs.Common.{◌≡◌, ◌∙◌, ℕ, Bool, true, false, List, [], ◌∷◌, ◌++◌, map, refl, sym, ap, append_assoc, append-nil, Option, Some, None}
+use Rattle.std.proofs.Common.{◌≡◌, ◌∙◌, ℕ, Bool, true, false, List, [], ◌∷◌, ◌++◌, map, refl, ap, append_assoc, append-nil, Option, Some, None}
 use Rattle.std.specs.Prelude.{◌||◌, ◌&&◌, ◌==◌, if◌then◌else◌}
 use Rattle.std.specs.List.{flat_map, list_any}
 use Rattle.m11_base.specs.Mnemonics.{is_name_character}
 use Rattle.m11_lines.specs.Line.{SourceLine}
-use Rattle.m11_expansions.specs.Bodies.{Cut, HalfTaken, IsTaken, before_left, body_of, cut_after, cut_at, depth_after, depth_next, depth_past, taken_with, texts_of, with_line, with_lines}
+use Rattle.m11_expansions.specs.Bodies.{HalfTaken, IsTaken, before_left, body_of, cut_after, cut_at, depth_after, depth_next, depth_past, taken_with, texts_of, with_line, with_lines}
 use Rattle.m11_expansions.specs.Left.{End, Left, Line, expanded, round}
 use Rattle.m11_expansions.specs.Substitution.{Other, Piece, Run, actual_for, begins_replaced, in_run, is_put, is_replaced, joined, kept, line_with, pieces_of, put_or, substituted, text_of}
 use Rattle.m11_expansions.specs.declared.mark.Mark.{Mark}

@@ -38,6 +38,11 @@ abbrev pub line_left : Option SourceLine → List Left
 line_left None = []
 line_left (Some line) = Line line ∷ []
 
+-- a line, where it stands there
+abbrev pub line_where : Bool → SourceLine → Option SourceLine
+line_where false line = None
+line_where true line = Some line
+
 abbrev pub is_there : Option SourceLine → Bool
 is_there None = false
 is_there (Some line) = true

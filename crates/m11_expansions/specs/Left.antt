@@ -83,8 +83,8 @@ pub record Remains : Type 0 where
   pub left : List Left
   pub has_statement : Bool
 
--- what is left loses its head
-abbrev pub Takes : List Left → List Left → Option Taken → Type 0
-Takes old new None = (old ≡ []) × (new ≡ [])
-Takes old new (Some (taken.Line line is_expanded)) = (old ≡ Line line ∷ new) × (is_expanded ≡ is_expanding new)
-Takes old new (Some (taken.End mark)) = old ≡ End mark ∷ new
+-- what is left loses its head, which is put where lines are taken to, if it is a line
+abbrev pub Takes : List Left → List Left → SourceLine → Option Taken → Type 0
+Takes old new line None = (old ≡ []) × (new ≡ [])
+Takes old new line (Some (taken.Line is_expanded)) = (old ≡ Line line ∷ new) × (is_expanded ≡ is_expanding new)
+Takes old new line (Some (taken.End mark)) = old ≡ End mark ∷ new

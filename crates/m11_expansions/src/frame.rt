@@ -1,6 +1,6 @@
 //! One open expansion: a place in a body. (MACRO-11 Language Reference Manual, "Macro directives" and "Repeat block".)
 
-ghost use Rattle.std.specs.Prelude.{◌≡◌, ◌∷◌, [], IfSome, IfNone};
+ghost use Rattle.std.specs.Prelude.{◌≡◌, ◌∷◌, [], true, false};
 ghost use Rattle.m11_expansions.specs.Frames as spec;
 ghost use Rattle.m11_expansions.specs.Left as left;
 
@@ -50,15 +50,18 @@ impl Frame {
         frame
     }
 
-    // The next line, with the actuals put in.
-    pub(crate) fn next(&mut self) -> Option<Line>
-        ensures some { IfSome result (λ line. spec.lines_of self.old ≡ left.Line line ∷ spec.lines_of self.new) }
-        ensures none { IfNone result (spec.lines_of self.old ≡ []) }
+    // Puts the next line, with the actuals put in, into `line`. Returns whether one is left.
+    pub(crate) fn next(&mut self, line: &mut Line) -> bool
+        ensures some { result ≡ true → spec.lines_of self.old ≡ left.Line line.new ∷ spec.lines_of self.new }
+        ensures none { result ≡ false → spec.lines_of self.old ≡ [] }
         ensures mark { self.new.mark ≡ self.old.mark }
     {
         let lines = self.template.body().len();
-        let actuals = self.rounds.first()?;
-        let line = substitute(
+        let Some(actuals) = self.rounds.first() else {
+            return false;
+        };
+        substitute(
+            line,
             self.template.formals(),
             actuals,
             self.template.body().text(self.place),
@@ -68,7 +71,7 @@ impl Frame {
             self.place = 0;
             self.rounds.pass();
         }
-        Some(line)
+        true
     }
 
     // Leaves out all lines that are left.

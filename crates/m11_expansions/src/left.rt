@@ -21,7 +21,7 @@ pub const EXPANSION_LIMIT: usize = 16;
 #[derive(Drop, Debug)]
 pub enum Taken {
     /// A line, and whether it stands in an expansion.
-    Line(Line, bool),
+    Line(bool),
     /// The end of an expansion.
     End(Mark),
 }
@@ -34,17 +34,19 @@ pub struct Remaining {
     statement: Option<Line>,
     // The innermost expansion is last.
     frames: Vec<Frame>,
-    fed: Option<Line>,
+    // The line of the source, where it is left.
+    fed: Line,
+    has_fed: bool,
 }
 
 impl Model for Remaining {
     ghost use Rattle.std.specs.Prelude.{◌≤◌, length};
-    ghost use Rattle.m11_expansions.specs.Frames.{remains};
+    ghost use Rattle.m11_expansions.specs.Frames.{line_where, remains};
     ghost use Rattle.m11_expansions.specs.Left.{Remains};
 
     ghost Value = { Remains };
 
-    ghost view = { λ r. remains r.statement r.frames.items r.fed };
+    ghost view = { λ r. remains r.statement r.frames.items (line_where r.has_fed r.fed) };
 
     ghost invariant = { λ r. length r.frames.items ≤ 16 };
 }
@@ -58,17 +60,19 @@ impl Remaining {
         Remaining {
             statement: None,
             frames: Vec::new(alloc),
-            fed: None,
+            fed: Line::new(),
+            has_fed: false,
         }
     }
 
     /// The next line of the source, where nothing is left.
-    pub fn feed(&mut self, line: Line)
+    pub fn feed(&mut self, line: &Line)
         requires { self.old.left ≡ [] }
-        ensures left { self.new.left ≡ spec.Line line ∷ [] }
+        ensures left { self.new.left ≡ spec.Line line.now ∷ [] }
         ensures free { self.new.has_statement ≡ false }
     {
-        self.fed = Some(line);
+        self.fed.copy_from(line);
+        self.has_fed = true;
     }
 
     /// Puts a statement before what is left, where none stands there.
@@ -79,39 +83,64 @@ impl Remaining {
         self.statement = Some(statement);
     }
 
-    /// Takes what is next, if anything is left.
-    pub fn take(&mut self) -> Option<Taken>
-        ensures taken { spec.Takes self.old.left self.new.left result }
+    /// Takes what is next, if anything is left. A line is put into `line`, where it stays, since moving it takes longer than reading it.
+    pub fn take(&mut self, line: &mut Line) -> Option<Taken>
+        ensures taken { spec.Takes self.old.left self.new.left line.new result }
         ensures free { self.new.has_statement ≡ false }
     {
-        // asked first, since most often none stands there, and room for a line is long to move
         if self.statement.is_some() {
-            return self.take_statement();
+            return self.take_statement(line);
         }
-        let Some(mut frame) = self.frames.pop() else {
-            return match self.fed.take() {
-                Some(line) => Some(Taken::Line(line, false)),
-                None => None,
-            };
-        };
-        match frame.next() {
-            Some(line) => {
-                self.frames.push_reserved(frame);
-                Some(Taken::Line(line, true))
-            }
-            None => Some(Taken::End(frame.into_mark())),
+        if self.is_expanding() {
+            self.take_expanded(line)
+        } else {
+            self.take_fed(line)
         }
     }
 
     // Takes the statement of an `.IIF`.
-    fn take_statement(&mut self) -> Option<Taken>
+    fn take_statement(&mut self, line: &mut Line) -> Option<Taken>
         requires { self.old.has_statement ≡ true }
-        ensures taken { spec.Takes self.old.left self.new.left result }
+        ensures taken { spec.Takes self.old.left self.new.left line.new result }
         ensures free { self.new.has_statement ≡ false }
     {
         match self.statement.take() {
-            Some(statement) => Some(Taken::Line(statement, self.is_expanding())),
+            Some(statement) => {
+                *line = statement;
+                Some(Taken::Line(self.is_expanding()))
+            }
             None => None,
+        }
+    }
+
+    // Takes the line of the source, where no expansion is open.
+    fn take_fed(&mut self, line: &mut Line) -> Option<Taken>
+        requires free { self.old.has_statement ≡ false }
+        requires unexpanded { spec.is_expanding self.old.left ≡ false }
+        ensures taken { spec.Takes self.old.left self.new.left line.new result }
+        ensures free { self.new.has_statement ≡ false }
+    {
+        if !self.has_fed {
+            return None;
+        }
+        line.copy_from(&self.fed);
+        self.has_fed = false;
+        Some(Taken::Line(false))
+    }
+
+    // Takes a line of the innermost expansion, or its end.
+    fn take_expanded(&mut self, line: &mut Line) -> Option<Taken>
+        requires free { self.old.has_statement ≡ false }
+        requires expanded { spec.is_expanding self.old.left ≡ true }
+        ensures taken { spec.Takes self.old.left self.new.left line.new result }
+        ensures free { self.new.has_statement ≡ false }
+    {
+        let mut frame = self.frames.pop()?;
+        if frame.next(line) {
+            self.frames.push_reserved(frame);
+            Some(Taken::Line(true))
+        } else {
+            Some(Taken::End(frame.into_mark()))
         }
     }
 
@@ -146,7 +175,7 @@ impl Remaining {
                 frame.leave();
                 self.frames.push_reserved(frame);
             }
-            None => self.fed = None,
+            None => self.has_fed = false,
         }
     }
 

@@ -8,13 +8,13 @@ use crate::text::Text;
 use m11_base::Name;
 use m11_scan::{Line, is_name_character, name_length, read_name};
 
-/// The line of a body's text in a round of an expansion: each run of name characters that is a formal by its first six gives
+/// Puts into a line a body's text in a round of an expansion: each run of name characters that is a formal by its first six gives
 /// way to that formal's actual, and with it one `'` directly before it and one directly after it. What is past 132
 /// characters is dropped.
-pub fn substitute(formals: &[Name], actuals: &[Text], text: &[u8]) -> Line
-    ensures { result ≡ spec.line_with formals.now actuals.now text.now }
+pub fn substitute(line: &mut Line, formals: &[Name], actuals: &[Text], text: &[u8])
+    ensures { line.new ≡ spec.line_with formals.now actuals.now text.now }
 {
-    let mut line = Line::new();
+    line.clear();
     let mut rest = text;
     let mut is_after = false;
     'pieces: while !rest.is_empty() {
@@ -25,7 +25,6 @@ pub fn substitute(formals: &[Name], actuals: &[Text], text: &[u8]) -> Line
         is_after = is_actual;
         rest = after;
     }
-    line
 }
 
 // Whether a piece is a `'` directly before or after what is replaced.

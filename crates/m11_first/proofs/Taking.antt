@@ -37,8 +37,8 @@ Feeds = (map : Map) (before : Gathered) (source : List SourceLine) (lines : List
 
 abbrev pub TurnsSo : Type 0
 TurnsSo = (map : Map) (before : Gathered) (source : List SourceLine) (lines : List Numbered) (old new : Going)
-    (result : Result Turn PassFault) → PassStands map before source lines old → Turns map old new result
-    → Reaches map before source lines new result
+    (placed : PlacedLine) (result : Result Turn PassFault) → PassStands map before source lines old → Turns map old new placed result
+    → Reaches map before source lines new placed result
 
 -- ---- one line more
 
@@ -64,21 +64,21 @@ facts_more all one = ap facts_of (givens_more all one) ∙ finds_more (givens al
 abbrev pub SomeTaken : List SourceLine → Going → Facts → Type 0
 SomeTaken source going facts = (lines : List Numbered) × Taken source lines going facts
 
-module _ (turn : TurnsSo) (source : List SourceLine) (old new : Going) (facts : Facts) (some : SomeTaken source old facts)
+module _ (turn : TurnsSo) (source : List SourceLine) (old new : Going) (placed : PlacedLine) (facts : Facts) (some : SomeTaken source old facts)
     (map_ : Map) (none : map_ ≡ empty_map) where
-  module _ (came : Turn) (turned : Turns map_ old new (Ok came)) where
-    reached : Reaches empty_map none_gathered source some.0 new (Ok came)
+  module _ (came : Turn) (turned : Turns map_ old new placed (Ok came)) where
+    reached : Reaches empty_map none_gathered source some.0 new placed (Ok came)
     reached =
-        let P : Map → Type 0 = λ m. Turns m old new (Ok came) in
-        turn empty_map none_gathered source some.0 old new (Ok came) some.1.stands (subst P none turned)
+        let P : Map → Type 0 = λ m. Turns m old new placed (Ok came) in
+        turn empty_map none_gathered source some.0 old new placed (Ok came) some.1.stands (subst P none turned)
 
     -- what is noted of a placed line is what it says
-    pub placed_more : (placed : PlacedLine) → came ≡ Placed placed → (later : Facts) (table : Table) → table ≡ new.kept.table
+    pub placed_more : came ≡ Placed → (later : Facts) (table : Table) → table ≡ new.kept.table
         → ((before : Table) (given : Given) (put : Put) → IsPlaced empty_map before given placed put
         → Alike table (after_line empty_map before given) → later ≡ with_line before given facts)
         → SomeTaken source new later
-    placed_more placed is later table table_is notes =
-        let P : Turn → Type 0 = λ t. Reaches empty_map none_gathered source some.0 new (Ok t) in
+    placed_more is later table table_is notes =
+        let P : Turn → Type 0 = λ t. Reaches empty_map none_gathered source some.0 new placed (Ok t) in
         let here : PlacesLine empty_map none_gathered source some.0 new placed = subst P is reached in
         let one = numbered (length source) (given_by (table_at empty_map some.0) (live_in placed) here.stage) in
         let A : Table → Type 0 = λ t. Alike new.kept.table t in
@@ -95,26 +95,26 @@ module _ (turn : TurnsSo) (source : List SourceLine) (old new : Going) (facts : 
 
     pub rests_all : came ≡ NeedLine → TakesAll source new facts false
     rests_all is =
-        let P : Turn → Type 0 = λ t. Reaches empty_map none_gathered source some.0 new (Ok t) in
-        let here : Reaches empty_map none_gathered source some.0 new (Ok NeedLine) = subst P is reached in
+        let P : Turn → Type 0 = λ t. Reaches empty_map none_gathered source some.0 new placed (Ok t) in
+        let here : Reaches empty_map none_gathered source some.0 new placed (Ok NeedLine) = subst P is reached in
         record { lines = some.0; taken = record { stands = here.0; facts_are = some.1.facts_are }; ended = sym here.2 }
 
     pub ends_all : came ≡ End → TakesAll source new facts true
     ends_all is =
-        let P : Turn → Type 0 = λ t. Reaches empty_map none_gathered source some.0 new (Ok t) in
-        let here : Reaches empty_map none_gathered source some.0 new (Ok End) = subst P is reached in
+        let P : Turn → Type 0 = λ t. Reaches empty_map none_gathered source some.0 new placed (Ok t) in
+        let here : Reaches empty_map none_gathered source some.0 new placed (Ok End) = subst P is reached in
         record { lines = some.0; taken = record { stands = here.0; facts_are = some.1.facts_are }; ended = sym here.1 }
 
   -- a fault of the pass, which is handed on
-  pub fails_all : (fault : PassFault) (later : Facts) (result : Result Bool PassFault) → Turns map_ old new (Err fault)
+  pub fails_all : (fault : PassFault) (later : Facts) (result : Result Bool PassFault) → Turns map_ old new placed (Err fault)
       → IsErrAnd result (λ f. f ≡ fault) → TakesLeft source new later result
   fails_all fault later (Ok ended) turned is = absurd is
   fails_all fault later (Err other) turned is =
-      let M : Map → Type 0 = λ m. Turns m old new (Err fault) in
+      let M : Map → Type 0 = λ m. Turns m old new placed (Err fault) in
       let P : PassFault → Type 0 = λ f. Refused empty_map [] source some.0 f in (
         some.0,
         subst P (sym is)
-            (turn empty_map none_gathered source some.0 old new (Err fault) some.1.stands (subst M none turned)),
+            (turn empty_map none_gathered source some.0 old new placed (Err fault) some.1.stands (subst M none turned)),
       )
 
 -- ---- a line of the source

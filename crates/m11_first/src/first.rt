@@ -55,8 +55,8 @@ impl First {
     ///
     /// Errors: `Unfold` where a limit of unfolding is passed, `TooManySymbols`, `TooManySections`, the first one in the order of the lines,
     /// and within a line in that of labels, operator and arguments; and `NoMemory`.
-    pub fn line(&mut self, line: Line) -> Result<(), PassFault>
-        ensures takes { (source : List SourceLine) → FirstStands source self.old → FirstTakes source line self.old self.new result }
+    pub fn line(&mut self, line: &Line) -> Result<(), PassFault>
+        ensures takes { (source : List SourceLine) → FirstStands source self.old → FirstTakes source line.now self.old self.new result }
         ensures again { (fault : PassFault) → self.old.fault ≡ Some fault → (result ≡ Err fault) × (self.new ≡ self.old) }
         ensures fault { self.new.fault ≡ result_err result }
     {
@@ -110,13 +110,12 @@ fn take_left(pass: &mut SourcePass, facts: &mut Facts) -> Result<bool, PassFault
 {
     the_calls_place_the_lines_of_a_source();
     let map = Map::none();
+    let mut line = pass.placed_line();
     'lines: loop {
-        // without `?`, which would move the line once more
-        match pass.next(&map) {
-            Ok(Turn::NeedLine) => return Ok(false),
-            Ok(Turn::End) => return Ok(true),
-            Ok(Turn::Placed(line)) => facts.note(&line, pass.table())?,
-            Err(fault) => return Err(fault),
+        match pass.next(&map, &mut line)? {
+            Turn::NeedLine => return Ok(false),
+            Turn::End => return Ok(true),
+            Turn::Placed => facts.note(&line, pass.table())?,
         }
     }
 }

@@ -231,11 +231,11 @@ module _ (map_ : Map) (live : Live) (before : Stage) (old new : Going) (stood : 
 
 -- ---- a refusal that is handed on
 
-pub places_fails : (map_ : Map) (live : Live) (stage : Stage) (old new : Going) (fault : PassFault) (result : Result PlacedLine PassFault)
+pub places_fails : (map_ : Map) (live : Live) (stage : Stage) (old new : Going) (fault : PassFault) (placed : PlacedLine) (result : Result (Unit {0}) PassFault)
     → ((table : Table) → Matches old.kept table → Fails (line_fault map_ table old.gathered.names live stage) fault)
-    → IsErrAnd result (λ f. f ≡ fault) → Places map_ live stage old new result
-places_fails map_ live stage old new fault (Ok placed) fails is = absurd is
-places_fails map_ live stage old new fault (Err other) fails is = λ table matches.
+    → IsErrAnd result (λ f. f ≡ fault) → Places map_ live stage old new placed result
+places_fails map_ live stage old new fault placed (Ok _) fails is = absurd is
+places_fails map_ live stage old new fault placed (Err other) fails is = λ table matches.
     let P : PassFault → Type 0 = λ f. Fails (line_fault map_ table old.gathered.names live stage) f in
     subst P (sym is) (fails table matches)
 

@@ -157,14 +157,16 @@ module _ (map_ : Map) (before : Gathered) where
     refused fault (turning.FailsAt.AtLine live stage comes fails) =
         fails_so live stage comes fault (fails (table_at map_ all) stands.matches)
 
-    turned : (new : Going) (result : Result Turn PassFault) → Turns map_ old new result → Reaches map_ before source all new result
-    turned new (Ok NeedLine) (stepped, unplaced) =
+    turned : (new : Going) (placed : PlacedLine) (result : Result Turn PassFault) → Turns map_ old new placed result
+        → Reaches map_ before source all new placed result
+    turned new placed (Ok NeedLine) (stepped, unplaced) =
         (rests new unplaced (passing new.unfolder.stage stepped.0), stepped.1, stepped.2)
-    turned new (Ok End) (stepped, unplaced) = (rests new unplaced (passing new.unfolder.stage stepped.0), stepped.1)
-    turned new (Ok (Placed placed)) next = places new placed next
-    turned new (Err fault) fails = refused fault fails
+    turned new placed (Ok End) (stepped, unplaced) = (rests new unplaced (passing new.unfolder.stage stepped.0), stepped.1)
+    turned new placed (Ok Placed) next = places new placed next
+    turned new placed (Err fault) fails = refused fault fails
 
 pub turns : (map_ : Map) (before : Gathered) (source : List SourceLine) (all : List Numbered) (old new : Going)
-    (result : Result Turn PassFault) → PassStands map_ before source all old → Turns map_ old new result
-    → Reaches map_ before source all new result
-turns map_ before source all old new result stands turned_so = turned map_ before source all old stands new result turned_so
+    (placed : PlacedLine) (result : Result Turn PassFault) → PassStands map_ before source all old → Turns map_ old new placed result
+    → Reaches map_ before source all new placed result
+turns map_ before source all old new placed result stands turned_so =
+    turned map_ before source all old stands new placed result turned_so

@@ -1,7 +1,7 @@
 -- What the calls below a pass's own come to.
-use Rattle.std.proofs.Common.{◌≡◌, ◌∙◌, ◌<◌, ◌≤◌, ℕ, ◌+◌, ◌*◌, List, [], ◌++◌, length, Result, Ok, Err, IfErr, IsErrAnd, refl, sym, ap, subst, arith}
+use Rattle.std.proofs.Common.{Bool, ◌≡◌, ◌∙◌, ◌<◌, ◌≤◌, ℕ, ◌+◌, ◌*◌, List, [], ◌++◌, length, Result, Ok, Err, IfErr, IsErrAnd, refl, sym, ap, subst, arith}
 use Rattle.m11_unfold.specs.Unfolder.{Comes, Steps, Stops, live_of}
-use Rattle.m11_unfold.specs.declared.steps.LiveLine.{LiveLine}
+use Rattle.m11_lines.specs.Line.{SourceLine}
 use Rattle.m11_unfold.specs.declared.steps.Step.{Step}
 use Rattle.m11_unfold.specs.declared.steps.Step.TheVariants as step
 use Rattle.m11_unfolding.specs.Stages.{Stage}
@@ -120,42 +120,43 @@ first_sound kept gathered matches few =
 
 -- ---- what comes of a step of unfolding
 
-pub comes_of : (before after : Stage) (next : Step) (live : LiveLine) → next ≡ step.Line live → Steps before after (Ok next)
-    → Comes before (live_of live) after
-comes_of before after next live is stepped = let P : Step → Type 0 = λ s. Steps before after (Ok s) in subst P is stepped
+pub comes_of : (before after : Stage) (line : SourceLine) (next : Step) (is_expanded : Bool) → next ≡ step.Line is_expanded
+    → Steps before after line (Ok next) → Comes before (live_of line is_expanded) after
+comes_of before after line next is_expanded is stepped =
+    let P : Step → Type 0 = λ s. Steps before after line (Ok s) in subst P is stepped
 
-pub taken_rests : (before after : Stage) (next : Step) → next ≡ step.NeedLine → Steps before after (Ok next)
+pub taken_rests : (before after : Stage) (line : SourceLine) (next : Step) → next ≡ step.NeedLine → Steps before after line (Ok next)
     → before.taken ≤ after.taken
-taken_rests before after next is stepped =
-    let P : Step → Type 0 = λ s. Steps before after (Ok s) in
-    let rests : Steps before after (Ok step.NeedLine) = subst P is stepped in leads_takes before after [] rests.0
+taken_rests before after line next is stepped =
+    let P : Step → Type 0 = λ s. Steps before after line (Ok s) in
+    let rests : Steps before after line (Ok step.NeedLine) = subst P is stepped in leads_takes before after [] rests.0
 
-pub taken_ends : (before after : Stage) (next : Step) → next ≡ step.End → Steps before after (Ok next)
+pub taken_ends : (before after : Stage) (line : SourceLine) (next : Step) → next ≡ step.End → Steps before after line (Ok next)
     → before.taken ≤ after.taken
-taken_ends before after next is stepped =
-    let P : Step → Type 0 = λ s. Steps before after (Ok s) in
-    let ends : Steps before after (Ok step.End) = subst P is stepped in leads_takes before after [] ends.0
+taken_ends before after line next is stepped =
+    let P : Step → Type 0 = λ s. Steps before after line (Ok s) in
+    let ends : Steps before after line (Ok step.End) = subst P is stepped in leads_takes before after [] ends.0
 
 -- ---- turns
 
 module _ (map_ : Map) (old new : Going) where
-  pub unfolding_fails : (fault : UnfoldFault) (result : Result Turn PassFault) → Stops old.unfolder.stage fault
-      → IsErrAnd result (λ f. f ≡ of_unfolding fault) → Turns map_ old new result
-  unfolding_fails fault (Ok turn) stops is = absurd is
-  unfolding_fails fault (Err other) stops is = turning.FailsAt.BeforeLine fault is stops
+  pub unfolding_fails : (fault : UnfoldFault) (placed : PlacedLine) (result : Result Turn PassFault) → Stops old.unfolder.stage fault
+      → IsErrAnd result (λ f. f ≡ of_unfolding fault) → Turns map_ old new placed result
+  unfolding_fails fault placed (Ok turn) stops is = absurd is
+  unfolding_fails fault placed (Err other) stops is = turning.FailsAt.BeforeLine fault is stops
 
-  pub line_fails : (live : Live) (stage : Stage) (fault : PassFault) (result : Result Turn PassFault)
+  pub line_fails : (live : Live) (stage : Stage) (fault : PassFault) (placed : PlacedLine) (result : Result Turn PassFault)
       → Comes old.unfolder.stage live stage
       → ((table : Table) → Matches old.kept table → Fails (line_fault map_ table old.gathered.names live stage) fault)
-      → IsErrAnd result (λ f. f ≡ fault) → Turns map_ old new result
-  line_fails live stage fault (Ok turn) comes fails is = absurd is
-  line_fails live stage fault (Err other) comes fails is =
+      → IsErrAnd result (λ f. f ≡ fault) → Turns map_ old new placed result
+  line_fails live stage fault placed (Ok turn) comes fails is = absurd is
+  line_fails live stage fault placed (Err other) comes fails is =
       let P : PassFault → Type 0 = λ f. FailsAt map_ old f in
       subst P (sym is) (turning.FailsAt.AtLine live stage comes fails)
 
   pub line_places : (middle : Going) (live : Live) (stage : Stage) (placed : PlacedLine) → live_in placed ≡ live
       → middle.kept ≡ old.kept → middle.gathered ≡ old.gathered
-      → Comes old.unfolder.stage live stage → Places map_ live stage middle new (Ok placed) → PlacesNext map_ old new placed
+      → Comes old.unfolder.stage live stage → Places map_ live stage middle new placed (Ok tt) → PlacesNext map_ old new placed
   line_places middle live stage placed same kept gathered comes places =
       let C : Live → Type 0 = λ l. Comes old.unfolder.stage l stage in
       record {

@@ -40,9 +40,9 @@ pub record PlacesLine (map : Map) (before : Gathered) (source : List SourceLine)
       (lines ++ numbered (length source) (given_by (table_at map lines) (live_in placed) stage) ∷ []) new
   pub placed_so : IsPlaced map (table_at map lines) (given_by (table_at map lines) (live_in placed) stage) placed new.put
 
-abbrev pub Reaches : Map → Gathered → List SourceLine → List Numbered → Going → Result Turn PassFault → Type 0
-Reaches map before source lines new (Ok NeedLine) =
+abbrev pub Reaches : Map → Gathered → List SourceLine → List Numbered → Going → PlacedLine → Result Turn PassFault → Type 0
+Reaches map before source lines new placed (Ok NeedLine) =
     PassStands map before source lines new × (new.unfolder.stage.left ≡ []) × (new.unfolder.stage.has_ended ≡ false)
-Reaches map before source lines new (Ok End) = PassStands map before source lines new × (new.unfolder.stage.has_ended ≡ true)
-Reaches map before source lines new (Ok (Placed placed)) = PlacesLine map before source lines new placed
-Reaches map before source lines new (Err fault) = Refused map before.names source lines fault
+Reaches map before source lines new placed (Ok End) = PassStands map before source lines new × (new.unfolder.stage.has_ended ≡ true)
+Reaches map before source lines new placed (Ok Placed) = PlacesLine map before source lines new placed
+Reaches map before source lines new placed (Err fault) = Refused map before.names source lines fault

@@ -31,10 +31,10 @@ pub record PlacesAfter (map : Map) (table : Table) (live : Live) (stage : Stage)
   pub placed_so : IsPlaced map table (given_by table live stage) placed new.put
 
 -- whatever table it is of which the pass keeps what counts; or the line passes a limit
-abbrev pub Places : Map → Live → Stage → Going → Going → Result PlacedLine PassFault → Type 0
-Places map live stage old new (Ok placed) =
+abbrev pub Places : Map → Live → Stage → Going → Going → PlacedLine → Result (Unit {0}) PassFault → Type 0
+Places map live stage old new placed (Ok _) =
     (table : Table) → Matches old.kept table → PlacesAfter map table live stage old new placed
-Places map live stage old new (Err fault) =
+Places map live stage old new placed (Err fault) =
     (table : Table) → Matches old.kept table → Fails (line_fault map table old.gathered.names live stage) fault
 
 -- nothing is placed
@@ -46,7 +46,7 @@ pub record IsUnplaced (old new : Going) : Type 0 where
 pub record PlacesNext (map : Map) (old new : Going) (placed : PlacedLine) : Type 0 where
   pub stage : Stage
   pub comes : Comes old.unfolder.stage (live_in placed) stage
-  pub places : Places map (live_in placed) stage old new (Ok placed)
+  pub places : Places map (live_in placed) stage old new placed (Ok tt)
 
 -- a limit is passed before a line becomes live, or at one that becomes live
 pub data FailsAt (map : Map) (old : Going) (fault : PassFault) : Type 0 where
@@ -55,23 +55,24 @@ pub data FailsAt (map : Map) (old : Going) (fault : PassFault) : Type 0 where
       → ((table : Table) → Matches old.kept table → Fails (line_fault map table old.gathered.names live stage) fault)
       → FailsAt map old fault
 
--- from one placed line to the next, or to the end of what is left
-abbrev pub Turns : Map → Going → Going → Result Turn PassFault → Type 0
-Turns map old new (Ok NeedLine) = Steps old.unfolder.stage new.unfolder.stage (Ok step.NeedLine) × IsUnplaced old new
-Turns map old new (Ok End) = Steps old.unfolder.stage new.unfolder.stage (Ok step.End) × IsUnplaced old new
-Turns map old new (Ok (Placed placed)) = PlacesNext map old new placed
-Turns map old new (Err fault) = FailsAt map old fault
+-- from one placed line to the next, which stands where the call places it, or to the end of what is left
+abbrev pub Turns : Map → Going → Going → PlacedLine → Result Turn PassFault → Type 0
+Turns map old new placed (Ok NeedLine) =
+    Steps old.unfolder.stage new.unfolder.stage placed.line (Ok step.NeedLine) × IsUnplaced old new
+Turns map old new placed (Ok End) = Steps old.unfolder.stage new.unfolder.stage placed.line (Ok step.End) × IsUnplaced old new
+Turns map old new placed (Ok Placed) = PlacesNext map old new placed
+Turns map old new placed (Err fault) = FailsAt map old fault
 
 -- a line is needed only where nothing is left
 abbrev pub IsEmpty : Stage → Result Turn PassFault → Type 0
 IsEmpty after (Ok NeedLine) = after.left ≡ []
 IsEmpty after (Ok End) = Unit {0}
-IsEmpty after (Ok (Placed placed)) = Unit {0}
+IsEmpty after (Ok Placed) = Unit {0}
 IsEmpty after (Err fault) = Unit {0}
 
 -- and at a placed line more lines were taken than before, within the limit
 abbrev pub IsNext : ℕ → Stage → Result Turn PassFault → Type 0
 IsNext taken after (Ok NeedLine) = after.left ≡ []
 IsNext taken after (Ok End) = Unit {0}
-IsNext taken after (Ok (Placed placed)) = (taken < after.taken) × (after.taken ≤ most_lines)
+IsNext taken after (Ok Placed) = (taken < after.taken) × (after.taken ≤ most_lines)
 IsNext taken after (Err fault) = Unit {0}

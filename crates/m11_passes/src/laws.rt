@@ -9,6 +9,7 @@ ghost use Rattle.m11_passes.specs.Reaching.{Reaches};
 ghost use Rattle.m11_passes.specs.States.{Going, PassStands, fed};
 ghost use Rattle.m11_passes.specs.Turns.{Turns};
 ghost use Rattle.m11_passes.specs.declared.fault.PassFault.{PassFault};
+ghost use Rattle.m11_passes.specs.declared.placed.PlacedLine.{PlacedLine};
 ghost use Rattle.m11_passes.specs.declared.turns.Turn.{Turn};
 
 /// A pass that stands after the live lines of a source stands for a source of one line more once that is fed; and after `next` it stands
@@ -20,6 +21,6 @@ pub fn the_calls_place_the_lines_of_a_source()
         → PassStands map before source lines going → going.unfolder.stage.left ≡ [] → going.unfolder.stage.has_ended ≡ false
         → PassStands map before (source ++ line ∷ []) lines (fed line going) }
     ensures turns { (map : Map) (before : Gathered) (source : List SourceLine) (lines : List Numbered) (old new : Going)
-        (result : Result Turn PassFault) → PassStands map before source lines old → Turns map old new result
-        → Reaches map before source lines new result }
+        (placed : PlacedLine) (result : Result Turn PassFault) → PassStands map before source lines old → Turns map old new placed result
+        → Reaches map before source lines new placed result }
 {}

@@ -1,11 +1,15 @@
 //! A live line as a pass places it. (MACRO-11 Language Reference Manual, "Source program format".)
 
+ghost use Rattle.std.specs.Prelude.{◌≡◌};
+ghost use Rattle.m11_lines.specs.Line.{no_line};
+
 use m11_base::Name;
 use m11_listing::Item;
 use m11_placing::Deed;
 use m11_scan::{Letters, Line};
 
-/// A live line as a pass places it. What it puts is kept by the pass.
+/// A live line as a pass places it. What it puts is kept by the pass. One stands where its lines are placed, one after the other, since
+/// moving a line takes longer than reading it.
 #[derive(Drop)]
 pub struct PlacedLine {
     /// The line, with actuals put in.
@@ -26,4 +30,23 @@ pub struct PlacedLine {
     pub assigned: Option<Item>,
     /// Whether the levels of listing after it show it.
     pub is_shown: bool,
+}
+
+impl PlacedLine {
+    // Room for a line, in a section.
+    pub(crate) fn new(section: Name) -> PlacedLine
+        ensures { result.line ≡ no_line }
+    {
+        PlacedLine {
+            line: Line::new(),
+            is_expanded: false,
+            deed: Deed::Rests,
+            letters: Letters::none(),
+            section,
+            place: 0,
+            counter: 0,
+            assigned: None,
+            is_shown: false,
+        }
+    }
 }

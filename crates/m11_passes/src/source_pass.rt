@@ -2,6 +2,7 @@
 
 ghost use Rattle.std.specs.Prelude.{◌≡◌, ◌<◌, ◌≤◌, [], None, Some, Err, IfOk, length};
 ghost use Rattle.std.specs.Result.{result_err};
+ghost use Rattle.m11_lines.specs.Line.{no_line};
 ghost use Rattle.m11_placement.specs.Limits.{most_names, most_sections};
 ghost use Rattle.m11_placing.specs.Passes.{size_at};
 ghost use Rattle.m11_unfolding.specs.Stages.{start};
@@ -10,6 +11,8 @@ ghost use Rattle.m11_passes.specs.Turns.{IsEmpty, IsNext, Turns};
 ghost use Rattle.m11_placement.specs.Meanings.{Map as Meanings};
 
 use crate::fault::PassFault;
+use crate::operating::section_name;
+use crate::placed::PlacedLine;
 use crate::state::State;
 use crate::turns::Turn;
 use m11_base::Latch;
@@ -56,26 +59,34 @@ impl SourcePass {
     }
 
     /// The next line of the source, where nothing is left to take: at the start, and after `NeedLine`.
-    pub fn feed(&mut self, line: Line)
+    pub fn feed(&mut self, line: &Line)
         requires { self.old.going.unfolder.stage.left ≡ [] }
-        ensures { self.new ≡ record { going = fed line self.old.going; fault = self.old.fault } }
+        ensures { self.new ≡ record { going = fed line.now self.old.going; fault = self.old.fault } }
     {
         self.state.unfolder.feed(line);
     }
 
-    /// What comes next, under what the whole source gives its names: nothing in a first pass.
+    /// Room for the lines that this pass places: a line without a character.
+    pub fn placed_line(&self) -> PlacedLine
+        ensures { result.line ≡ no_line }
+    {
+        PlacedLine::new(section_name(&self.state.pass))
+    }
+
+    /// What comes next, under what the whole source gives its names: nothing in a first pass. A line that becomes live is placed in
+    /// `placed`.
     ///
     /// Errors: `Unfold` where a limit of unfolding is passed, `TooManySymbols`, `TooManySections`, the first one in the order of the lines,
     /// and within a line in that of labels, operator and arguments; and `NoMemory`.
-    pub fn next(&mut self, map: &Map<'_>) -> Result<Turn, PassFault>
-        ensures turns { self.old.fault ≡ None → Turns map.now self.old.going self.new.going result }
+    pub fn next(&mut self, map: &Map<'_>, placed: &mut PlacedLine) -> Result<Turn, PassFault>
+        ensures turns { self.old.fault ≡ None → Turns map.now self.old.going self.new.going placed.new result }
         ensures again { (fault : PassFault) → self.old.fault ≡ Some fault → result ≡ Err fault }
         ensures fault { self.new.fault ≡ result_err result }
         ensures empty { IsEmpty self.new.going.unfolder.stage result }
         ensures next { self.old.fault ≡ None → IsNext self.old.going.unfolder.stage.taken self.new.going.unfolder.stage result }
     {
         self.fault.check()?;
-        let turn = self.state.next(map);
+        let turn = self.state.next(map, placed);
         self.fault.keep(turn)
     }
 

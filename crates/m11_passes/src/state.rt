@@ -31,7 +31,7 @@ use m11_placing::{LabelLetters, Mentioned, Pass, deed_after_labels, line_letters
 use m11_scan::{Letters, Line};
 use m11_statements::{LABEL_LIMIT, Label, Span, Statement, labels_of, statement};
 use m11_table::{FirmNames, Map, Table};
-use m11_unfold::{Act, LiveLine, Step, Unfolder};
+use m11_unfold::{Act, Step, Unfolder};
 use m11_unfolding::UnfoldFault;
 use std::alloc::{AllocError, Global};
 
@@ -67,43 +67,42 @@ impl State {
         }
     }
 
-    // What comes next.
-    pub(crate) fn next(&mut self, map: &Map<'_>) -> Result<Turn, PassFault>
+    // What comes next. A line that becomes live is placed in `placed`.
+    pub(crate) fn next(&mut self, map: &Map<'_>, placed: &mut PlacedLine) -> Result<Turn, PassFault>
         requires goes_on { self.old.unfolder.fault ≡ None }
         requires sound { IsSound self.old.unfolder.stage.taken self.old.pass self.old.mentioned }
-        ensures turns { Turns map.now (going_of self.old) (going_of self.new) result }
+        ensures turns { Turns map.now (going_of self.old) (going_of self.new) placed.new result }
         ensures empty { IsEmpty self.new.unfolder.stage result }
         ensures next { IsNext self.old.unfolder.stage.taken self.new.unfolder.stage result }
         ensures goes_on { IfOk result (λ _. self.new.unfolder.fault ≡ None) }
         ensures sound { IfOk result (λ _. IsSound self.new.unfolder.stage.taken self.new.pass self.new.mentioned) }
     {
-        // without `?`, which would move lines once more
-        match self.unfolder.next() {
-            Ok(Step::NeedLine) => Ok(Turn::NeedLine),
-            Ok(Step::End) => Ok(Turn::End),
-            Ok(Step::Line(live)) => match self.place(map, live) {
-                Ok(placed) => Ok(Turn::Placed(placed)),
-                Err(fault) => Err(fault),
-            },
-            Err(fault) => Err(PassFault::from(fault)),
+        match self.unfolder.next(&mut placed.line)? {
+            Step::NeedLine => Ok(Turn::NeedLine),
+            Step::End => Ok(Turn::End),
+            Step::Line(is_expanded) => {
+                placed.is_expanded = is_expanded;
+                self.place(map, placed)?;
+                Ok(Turn::Placed)
+            }
         }
     }
 
     // Places a line that became live.
-    fn place(&mut self, map: &Map<'_>, live: LiveLine) -> Result<PlacedLine, PassFault>
+    fn place(&mut self, map: &Map<'_>, placed: &mut PlacedLine) -> Result<(), PassFault>
         requires goes_on { self.old.unfolder.fault ≡ None }
         requires kept { IsKept self.old.unfolder.stage }
         requires free { self.old.unfolder.has_statement ≡ false }
         requires room { HasRoom self.old.unfolder.stage.taken 67 1 self.old.pass.table }
         requires few { IsFew self.old.pass self.old.mentioned }
-        ensures same { IfOk result (λ placed. live_in placed ≡ steps.live_of live) }
-        ensures places { Places map.now (steps.live_of live) self.old.unfolder.stage (going_of self.old) (going_of self.new) result }
+        ensures same { IfOk result (λ _. live_in placed.new ≡ live_in placed.old) }
+        ensures places { Places map.now (live_in placed.old) self.old.unfolder.stage (going_of self.old) (going_of self.new) placed.new result }
         ensures taken { IfOk result (λ _. self.new.unfolder.stage.taken ≡ self.old.unfolder.stage.taken) }
         ensures kept { IfOk result (λ _. IsKept self.new.unfolder.stage) }
         ensures goes_on { IfOk result (λ _. self.new.unfolder.fault ≡ None) }
         ensures sound { IfOk result (λ _. IsSound self.new.unfolder.stage.taken self.new.pass self.new.mentioned) }
     {
-        let line = &live.line;
+        let line = &placed.line;
         let statement = statement(line, &EveryName);
         let labels = labels_before(line, statement.labels_end);
         let found = define_labels(
@@ -129,19 +128,16 @@ impl State {
             &deed,
         )?;
         let assigned = change_line(&mut self.pass, map, line, act.arguments, &deed)?;
-        let is_shown = is_shown(&self.pass, live.is_expanded);
+        let is_shown = is_shown(&self.pass, placed.is_expanded);
         let letters = all_letters(line, &statement, found, &self.put, &act.notes);
-        Ok(PlacedLine {
-            line: live.line,
-            is_expanded: live.is_expanded,
-            deed,
-            letters,
-            section,
-            place,
-            counter,
-            assigned,
-            is_shown,
-        })
+        placed.deed = deed;
+        placed.letters = letters;
+        placed.section = section;
+        placed.place = place;
+        placed.counter = counter;
+        placed.assigned = assigned;
+        placed.is_shown = is_shown;
+        Ok(())
     }
 }
 

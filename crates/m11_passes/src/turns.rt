@@ -1,14 +1,12 @@
 //! What comes next in a pass.
 
-use crate::placed::PlacedLine;
-
 /// What comes next in a pass.
-#[derive(Drop)]
+#[derive(Clone, Copy, PartialEq, Eq, Debug)]
 pub enum Turn {
     /// Nothing is left: the next line of the source is to be fed, or the source has ended.
     NeedLine,
     /// `.END` became live.
     End,
     /// A line became live, and is placed.
-    Placed(PlacedLine),
+    Placed,
 }

@@ -25,11 +25,12 @@ use std::process::Abort;
 fn take_rest(pass: &mut SourcePass, map: &Map<'_>, text: &mut Vec<u8>) -> Result<bool, PassFault>
     ensures { result ≡ Ok true → pass.new.going.unfolder.stage.left ≡ [] }
 {
+    let mut line = pass.placed_line();
     'turns: for _ in 0..300_000 {
-        match pass.next(map)? {
+        match pass.next(map, &mut line)? {
             Turn::NeedLine => return Ok(true),
             Turn::End => return Ok(false),
-            Turn::Placed(line) => put_line(line.letters, pass.contents(), text)?,
+            Turn::Placed => put_line(line.letters, pass.contents(), text)?,
         }
     }
     Ok(false)
@@ -45,7 +46,7 @@ fn go_over(
     requires { pass.old.going.unfolder.stage.left ≡ [] }
 {
     'source: for line in source {
-        pass.feed(Line::from_bytes(line.as_bytes()));
+        pass.feed(&Line::from_bytes(line.as_bytes()));
         if !take_rest(pass, map, text)? {
             return Ok(());
         }

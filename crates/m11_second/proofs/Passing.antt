@@ -30,15 +30,15 @@ use Rattle.m11_second.proofs.LinesWritten.{next_writes, written_more}
 -- the law of the calls of a pass
 abbrev pub TurnsSo : Type 0
 TurnsSo = (map : Map) (before : Gathered) (source : List SourceLine) (lines : List Numbered) (old new : Going)
-    (result : Result Turn PassFault) → PassStands map before source lines old → Turns map old new result
-    → Reaches map before source lines new result
+    (placed : PlacedLine) (result : Result Turn PassFault) → PassStands map before source lines old → Turns map old new placed result
+    → Reaches map before source lines new placed result
 
 -- some lines were taken and written, whichever
 abbrev pub SomeTaken : Program → List SourceLine → Outputs → Outputs → Going → Writing → Type 0
 SomeTaken program source first now going writing = (lines : List Numbered) × Taken program source lines first now going writing
 
-module _ (turn : TurnsSo) (program : Program) (source : List SourceLine) (first now : Outputs) (old new : Going) (writing : Writing)
-    (some : SomeTaken program source first now old writing) (map_ : Map) (same : map_ ≡ program.map) where
+module _ (turn : TurnsSo) (program : Program) (source : List SourceLine) (first now : Outputs) (old new : Going) (placed : PlacedLine)
+    (writing : Writing) (some : SomeTaken program source first now old writing) (map_ : Map) (same : map_ ≡ program.map) where
   -- nothing is stopped among the writes of the lines so far: memory was refused before the next one
   all_between : StopsBetween first now (written program some.0)
   all_between = record {
@@ -48,16 +48,16 @@ module _ (turn : TurnsSo) (program : Program) (source : List SourceLine) (first 
     gains = some.1.gains;
   }
 
-  module _ (came : Turn) (turned : Turns map_ old new (Ok came)) where
-    reached : Reaches program.map program.mentioned source some.0 new (Ok came)
+  module _ (came : Turn) (turned : Turns map_ old new placed (Ok came)) where
+    reached : Reaches program.map program.mentioned source some.0 new placed (Ok came)
     reached =
-        let P : Map → Type 0 = λ m. Turns m old new (Ok came) in
-        turn program.map program.mentioned source some.0 old new (Ok came) some.1.stands (subst P same turned)
+        let P : Map → Type 0 = λ m. Turns m old new placed (Ok came) in
+        turn program.map program.mentioned source some.0 old new placed (Ok came) some.1.stands (subst P same turned)
 
     pub rests_all : came ≡ NeedLine → TakesAll program source first now new writing false
     rests_all is =
-        let P : Turn → Type 0 = λ t. Reaches program.map program.mentioned source some.0 new (Ok t) in
-        let here : Reaches program.map program.mentioned source some.0 new (Ok NeedLine) = subst P is reached in
+        let P : Turn → Type 0 = λ t. Reaches program.map program.mentioned source some.0 new placed (Ok t) in
+        let here : Reaches program.map program.mentioned source some.0 new placed (Ok NeedLine) = subst P is reached in
         record {
           lines = some.0;
           taken = record { stands = here.0; keeps = some.1.keeps; gains = some.1.gains };
@@ -66,17 +66,17 @@ module _ (turn : TurnsSo) (program : Program) (source : List SourceLine) (first 
 
     pub ends_all : came ≡ End → TakesAll program source first now new writing true
     ends_all is =
-        let P : Turn → Type 0 = λ t. Reaches program.map program.mentioned source some.0 new (Ok t) in
-        let here : Reaches program.map program.mentioned source some.0 new (Ok End) = subst P is reached in
+        let P : Turn → Type 0 = λ t. Reaches program.map program.mentioned source some.0 new placed (Ok t) in
+        let here : Reaches program.map program.mentioned source some.0 new placed (Ok End) = subst P is reached in
         record {
           lines = some.0;
           taken = record { stands = here.0; keeps = some.1.keeps; gains = some.1.gains };
           ended = sym here.1;
         }
 
-    module _ (placed : PlacedLine) (is : came ≡ Placed placed) where
+    module _ (is : came ≡ Placed) where
       here : PlacesLine program.map program.mentioned source some.0 new placed
-      here = let P : Turn → Type 0 = λ t. Reaches program.map program.mentioned source some.0 new (Ok t) in subst P is reached
+      here = let P : Turn → Type 0 = λ t. Reaches program.map program.mentioned source some.0 new placed (Ok t) in subst P is reached
 
       one : Numbered
       one = numbered (length source) (given_by (table_at program.map some.0) (live_in placed) here.stage)
@@ -133,11 +133,11 @@ module _ (turn : TurnsSo) (program : Program) (source : List SourceLine) (first 
             (stops_so stopped (stops_more stopped (writes one new.put some.1.keeps here.placed_so (sym contents_are) number_is)))
 
   -- the pass passes a limit, or memory is refused
-  module _ (limit : PassFault) (turned : Turns map_ old new (Err limit)) where
+  module _ (limit : PassFault) (turned : Turns map_ old new placed (Err limit)) where
     refused : Refused program.map program.mentioned.names source some.0 limit
     refused =
-        let P : Map → Type 0 = λ m. Turns m old new (Err limit) in
-        turn program.map program.mentioned source some.0 old new (Err limit) some.1.stands (subst P same turned)
+        let P : Map → Type 0 = λ m. Turns m old new placed (Err limit) in
+        turn program.map program.mentioned source some.0 old new placed (Err limit) some.1.stands (subst P same turned)
 
     fails_so : (limit : PassFault) → Refused program.map program.mentioned.names source some.0 limit
         → SecondFails program source first now (of_pass limit)

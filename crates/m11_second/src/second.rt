@@ -99,14 +99,14 @@ impl Second {
     /// an output, after which nothing more is written; and `NoMemory` between two writes.
     pub fn line<S: Sink, T: Sink, U: Sink>(
         &mut self,
-        line: Line,
+        line: &Line,
         object: &mut S,
         listing: &mut Option<T>,
         messages: &mut U,
     ) -> Result<(), AsmFault>
         ensures takes { (program : Program) (source : List SourceLine) (first : Outputs) → SecondStands program source first
             (outputs_of S.Sink T.Sink U.Sink object.old listing.old messages.old) self.old
-            → SecondTakes program source line first (record {
+            → SecondTakes program source line.now first (record {
               before = outputs_of S.Sink T.Sink U.Sink object.old listing.old messages.old;
               now = outputs_of S.Sink T.Sink U.Sink object.new listing.new messages.new;
               old = self.old;

@@ -67,10 +67,10 @@ refuses source done before TooMuchText stands stops = exceeds source done before
 refuses source done before TooManyMacros stands stops = exceeds source done before TooManyMacros stands stops
 refuses source done before NoMemory stands stops = tt
 
-pub reaches : (source : List SourceLine) (done : List Given) (before after : Stage) (result : Result Step UnfoldFault)
-    → Unfolds source done before → Steps before after result → Reaches source done after result
-reaches source done before after (Ok NeedLine) stands stepped = passes_on source done before after stands stepped.0
-reaches source done before after (Ok End) stands stepped = passes_on source done before after stands stepped.0
-reaches source done before after (Ok (Line live)) stands stepped =
-    λ known acts. comes source done before after (live_of live) known stands stepped acts
-reaches source done before after (Err fault) stands stepped = refuses source done before fault stands stepped
+pub reaches : (source : List SourceLine) (done : List Given) (before after : Stage) (line : SourceLine) (result : Result Step UnfoldFault)
+    → Unfolds source done before → Steps before after line result → Reaches source done after line result
+reaches source done before after line (Ok NeedLine) stands stepped = passes_on source done before after stands stepped.0
+reaches source done before after line (Ok End) stands stepped = passes_on source done before after stands stepped.0
+reaches source done before after line (Ok (Line is_expanded)) stands stepped =
+    λ known acts. comes source done before after (live_of line is_expanded) known stands stepped acts
+reaches source done before after line (Err fault) stands stepped = refuses source done before fault stands stepped

@@ -23,9 +23,9 @@ Refuses source done NoMemory = Unit {0}
 Refuses source done fault = Exceeds source done fault
 
 -- after a step: the lines so far are those of the unfolding, and a line that became live is the next one of it, once its operator is done
-abbrev pub Reaches : List SourceLine → List Given → Stage → Result Step UnfoldFault → Type 0
-Reaches source done after (Ok NeedLine) = Unfolds source done after
-Reaches source done after (Ok End) = Unfolds source done after
-Reaches source done after (Ok (Line live)) = (known : Known) → act_fault after live.line.text ≡ None
-    → Unfolds source (done ++ given known (live_of live) after ∷ []) (act known after live.line.text).after
-Reaches source done after (Err fault) = Refuses source done fault
+abbrev pub Reaches : List SourceLine → List Given → Stage → SourceLine → Result Step UnfoldFault → Type 0
+Reaches source done after line (Ok NeedLine) = Unfolds source done after
+Reaches source done after line (Ok End) = Unfolds source done after
+Reaches source done after line (Ok (Line is_expanded)) = (known : Known) → act_fault after line.text ≡ None
+    → Unfolds source (done ++ given known (live_of line is_expanded) after ∷ []) (act known after line.text).after
+Reaches source done after line (Err fault) = Refuses source done fault

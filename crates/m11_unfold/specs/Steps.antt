@@ -23,25 +23,25 @@ abbrev pub with_line : SourceLine → Stage → Stage
 with_line line stage = record stage { left = Line line ∷ stage.left }
 
 -- a move that passes no limit leads to the stage after, or fails
-abbrev pub Results : Option UnfoldFault → Move → Stage → Result Moved UnfoldFault → Type 0
-Results passed move after (Ok Rests) = move ≡ taking.Rests
-Results passed move after (Ok Passes) = (passed ≡ None) × (move ≡ taking.Passes after)
-Results passed move after (Ok (Gives line is_expanded)) =
+abbrev pub Results : Option UnfoldFault → Move → Stage → SourceLine → Result Moved UnfoldFault → Type 0
+Results passed move after line (Ok Rests) = move ≡ taking.Rests
+Results passed move after line (Ok Passes) = (passed ≡ None) × (move ≡ taking.Passes after)
+Results passed move after line (Ok (Gives is_expanded)) =
     (passed ≡ None) × (move ≡ taking.Gives (record { line = line; is_expanded = is_expanded }) after)
-Results passed move after (Err fault) = Fails passed fault
+Results passed move after line (Err fault) = Fails passed fault
 
-abbrev pub Moves : Stage → Stage → Result Moved UnfoldFault → Type 0
-Moves before after (Ok Rests) = (move before ≡ taking.Rests) × (after ≡ before)
-Moves before after (Ok Passes) = (next_fault before ≡ None) × (move before ≡ taking.Passes after)
-Moves before after (Ok (Gives line is_expanded)) =
+abbrev pub Moves : Stage → Stage → SourceLine → Result Moved UnfoldFault → Type 0
+Moves before after line (Ok Rests) = (move before ≡ taking.Rests) × (after ≡ before)
+Moves before after line (Ok Passes) = (next_fault before ≡ None) × (move before ≡ taking.Passes after)
+Moves before after line (Ok (Gives is_expanded)) =
     (next_fault before ≡ None) × (move before ≡ taking.Gives (record { line = line; is_expanded = is_expanded }) after)
-Moves before after (Err fault) = Fails (next_fault before) fault
+Moves before after line (Err fault) = Fails (next_fault before) fault
 
 -- after a live line no statement stands before what is left
 abbrev pub IsFree : Bool → Result Moved UnfoldFault → Type 0
 IsFree has_statement (Ok Rests) = Unit {0}
 IsFree has_statement (Ok Passes) = Unit {0}
-IsFree has_statement (Ok (Gives line is_expanded)) = has_statement ≡ false
+IsFree has_statement (Ok (Gives is_expanded)) = has_statement ≡ false
 IsFree has_statement (Err fault) = Unit {0}
 
 -- a line comes into a body, or fails

@@ -4,6 +4,7 @@ use Rattle.std.specs.Prelude.{◌≡◌, Bool, true, false, [], Option, Some, No
 use Rattle.m11_arguments.specs.Expressions.{Known}
 use Rattle.m11_base.specs.Devices.{Bytes}
 use Rattle.m11_expansions.specs.Left.{argument_count}
+use Rattle.m11_lines.specs.Line.{SourceLine}
 use Rattle.m11_unfolding.specs.Acting.{act, act_fault}
 use Rattle.m11_unfolding.specs.Limits.{next_fault}
 use Rattle.m11_unfolding.specs.Stages.{Stage}
@@ -14,7 +15,6 @@ use Rattle.m11_unfolding.specs.declared.fault.UnfoldFault.TheVariants.{NoMemory}
 use Rattle.m11_unfold.specs.Kept.{IsKept}
 use Rattle.m11_unfold.specs.Steps.{Fails}
 use Rattle.m11_unfold.specs.declared.steps.Act.{Act}
-use Rattle.m11_unfold.specs.declared.steps.LiveLine.{LiveLine}
 use Rattle.m11_unfold.specs.declared.steps.Step.{Step}
 use Rattle.m11_unfold.specs.declared.steps.Step.TheVariants.{NeedLine, End, Line}
 
@@ -29,8 +29,9 @@ abbrev pub IsWithin : Option UnfoldFault → Stage → Type 0
 IsWithin None stage = IsKept stage
 IsWithin (Some fault) stage = Unit {0}
 
-abbrev pub live_of : LiveLine → taking.Live
-live_of live = record { line = live.line; is_expanded = live.is_expanded }
+-- a line that became live, by what a step says of it
+abbrev pub live_of : SourceLine → Bool → taking.Live
+live_of line is_expanded = record { line = line; is_expanded = is_expanded }
 
 -- a line becomes live, after moves that give none
 pub record Comes (before : Stage) (live : taking.Live) (after : Stage) : Type 0 where
@@ -49,25 +50,25 @@ abbrev pub Stops : Stage → UnfoldFault → Type 0
 Stops before NoMemory = Unit {0}
 Stops before fault = Passes before fault
 
--- from one live line to the next, or to the end of what is left
-abbrev pub Steps : Stage → Stage → Result Step UnfoldFault → Type 0
-Steps before after (Ok NeedLine) = Leads before [] after × (after.left ≡ []) × (after.has_ended ≡ false)
-Steps before after (Ok End) = Leads before [] after × (after.has_ended ≡ true)
-Steps before after (Ok (Line live)) = Comes before (live_of live) after
-Steps before after (Err fault) = Stops before fault
+-- from one live line to the next, or to the end of what is left; the line is where the call puts it
+abbrev pub Steps : Stage → Stage → SourceLine → Result Step UnfoldFault → Type 0
+Steps before after line (Ok NeedLine) = Leads before [] after × (after.left ≡ []) × (after.has_ended ≡ false)
+Steps before after line (Ok End) = Leads before [] after × (after.has_ended ≡ true)
+Steps before after line (Ok (Line is_expanded)) = Comes before (live_of line is_expanded) after
+Steps before after line (Err fault) = Stops before fault
 
 -- after a live line no statement stands before what is left
 abbrev pub IsFree : Bool → Result Step UnfoldFault → Type 0
 IsFree has_statement (Ok NeedLine) = Unit {0}
 IsFree has_statement (Ok End) = Unit {0}
-IsFree has_statement (Ok (Line live)) = has_statement ≡ false
+IsFree has_statement (Ok (Line is_expanded)) = has_statement ≡ false
 IsFree has_statement (Err fault) = Unit {0}
 
 -- a line is needed only where nothing is left
 abbrev pub IsEmpty : Stage → Result Step UnfoldFault → Type 0
 IsEmpty after (Ok NeedLine) = after.left ≡ []
 IsEmpty after (Ok End) = Unit {0}
-IsEmpty after (Ok (Line live)) = Unit {0}
+IsEmpty after (Ok (Line is_expanded)) = Unit {0}
 IsEmpty after (Err fault) = Unit {0}
 
 -- what comes where nothing is taken any more

@@ -18,8 +18,9 @@ pub fn the_calls_unfold_the_source()
     ensures begins { Unfolds [] [] (start []) }
     ensures feeds { (source : List SourceLine) (line : SourceLine) (done : List Given) (stage : Stage) → Unfolds source done stage
         → stage.left ≡ [] → Unfolds (source ++ line ∷ []) done (record stage { left = Line line ∷ [] }) }
-    ensures steps { (source : List SourceLine) (done : List Given) (before after : Stage) (result : Result Step UnfoldFault)
-        → Unfolds source done before → Steps before after result → Reaches source done after result }
+    ensures steps { (source : List SourceLine) (done : List Given) (before after : Stage) (line : SourceLine)
+        (result : Result Step UnfoldFault) → Unfolds source done before → Steps before after line result
+        → Reaches source done after line result }
     ensures longer { (source more : List SourceLine) (done : List Given) (stage : Stage) → Unfolds source done stage
         → Unfolds (source ++ more) done (with_more more stage) }
 {}

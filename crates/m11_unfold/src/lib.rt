@@ -16,5 +16,5 @@ mod taking;
 mod unfolder;
 
 pub use laws::the_calls_unfold_the_source;
-pub use steps::{Act, LiveLine, Step};
+pub use steps::{Act, Step};
 pub use unfolder::Unfolder;

@@ -1,26 +1,16 @@
 //! What an unfolder's calls return.
 
 use m11_arguments::Notes;
-use m11_scan::Line;
-
-/// A line that became live.
-#[derive(Drop, Debug)]
-pub struct LiveLine {
-    /// The line, with actuals put in.
-    pub line: Line,
-    /// Whether an expansion gave it.
-    pub is_expanded: bool,
-}
 
 /// What comes next of a source.
-#[derive(Drop, Debug)]
+#[derive(Clone, Copy, PartialEq, Eq, Debug)]
 pub enum Step {
     /// Nothing is left: the next line of the source is to be fed, or the source has ended.
     NeedLine,
     /// `.END` became live.
     End,
-    /// A line became live.
-    Line(LiveLine),
+    /// A line became live, and whether an expansion gave it.
+    Line(bool),
 }
 
 /// What the operator of a live line gave.

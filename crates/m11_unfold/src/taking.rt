@@ -34,28 +34,28 @@ const BYTE_MOST: u64 = 65_536;
 const MACRO_MOST: usize = 256;
 
 // What one move gives.
-#[derive(Drop)]
+#[derive(Clone, Copy)]
 pub enum Moved {
     // Nothing is taken any more.
     Rests,
     // Something was taken, and no line became live.
     Passes,
     // A line became live, and whether an expansion gave it.
-    Gives(Line, bool),
+    Gives(bool),
 }
 
 impl State {
-    // Makes one move.
-    pub(crate) fn advance(&mut self, alloc: Global) -> Result<Moved, UnfoldFault>
+    // Makes one move. A line that it takes is put into `line`.
+    pub(crate) fn advance(&mut self, alloc: Global, line: &mut Line) -> Result<Moved, UnfoldFault>
         requires { IsKept (stage_of self.old) }
-        ensures moves { Moves (stage_of self.old) (stage_of self.new) result }
+        ensures moves { Moves (stage_of self.old) (stage_of self.new) line.new result }
         ensures free { IsFree self.new.left.has_statement result }
     {
         if self.has_ended {
             return Ok(Moved::Rests);
         }
-        match self.left.take() {
-            Some(Taken::Line(line, is_expanded)) => self.take_line(alloc, line, is_expanded),
+        match self.left.take(line) {
+            Some(Taken::Line(is_expanded)) => self.take_line(alloc, line, is_expanded),
             Some(Taken::End(mark)) => {
                 self.opening = None;
                 self.conditions = mark.conditions;
@@ -69,15 +69,15 @@ impl State {
     fn take_line(
         &mut self,
         alloc: Global,
-        line: Line,
+        line: &Line,
         is_expanded: bool,
     ) -> Result<Moved, UnfoldFault>
-        requires kept { IsKept (with_line line (stage_of self.old)) }
+        requires kept { IsKept (with_line line.now (stage_of self.old)) }
         requires free { self.old.left.has_statement ≡ false }
         requires expanded { is_expanded ≡ is_expanding self.old.left.left }
-        ensures moves { Results (line_fault (with_line line (stage_of self.old)) line.text)
-            (spec.line_taken self.old.opening line (spec.one_taken self.old.left.left (stage_of self.old)))
-            (stage_of self.new) result }
+        ensures moves { Results (line_fault (with_line line.now (stage_of self.old)) line.now.text)
+            (spec.line_taken self.old.opening line.now (spec.one_taken self.old.left.left (stage_of self.old)))
+            (stage_of self.new) line.now result }
         ensures free { self.new.left.has_statement ≡ false }
     {
         if self.taken >= LINE_MOST {
@@ -85,12 +85,12 @@ impl State {
         }
         self.taken += 1;
         match self.opening.take() {
-            Some(opening) => match self.take_into(alloc, opening, &line) {
+            Some(opening) => match self.take_into(alloc, opening, line) {
                 Ok(()) => Ok(Moved::Passes),
                 Err(fault) => Err(fault),
             },
-            None if skip(&mut self.conditions, &line) => Ok(Moved::Passes),
-            None => Ok(Moved::Gives(line, is_expanded)),
+            None if skip(&mut self.conditions, line) => Ok(Moved::Passes),
+            None => Ok(Moved::Gives(is_expanded)),
         }
     }
 

@@ -11,7 +11,7 @@ ghost use Rattle.m11_unfold.specs.Unfolder as spec;
 ghost use Rattle.m11_unfold.specs.Views.{stage_of};
 
 use crate::state::State;
-use crate::steps::{Act, LiveLine, Step};
+use crate::steps::{Act, Step};
 use crate::taking::Moved;
 use m11_arguments::Notes;
 use m11_base::Latch;
@@ -60,10 +60,10 @@ impl Unfolder {
     }
 
     /// The next line of the source, where nothing is left to take: at the start, and after `NeedLine`.
-    pub fn feed(&mut self, line: Line)
+    pub fn feed(&mut self, line: &Line)
         requires { self.old.stage.left ≡ [] }
         ensures { self.new ≡ record {
-          stage = record self.old.stage { left = lefts.Line line ∷ [] };
+          stage = record self.old.stage { left = lefts.Line line.now ∷ [] };
           has_statement = false;
           fault = self.old.fault;
         } }
@@ -71,12 +71,13 @@ impl Unfolder {
         self.state.left.feed(line);
     }
 
-    /// What comes next. Its operator is to be done, by `act`, before the step after it.
+    /// What comes next. A line that becomes live is put into `line`, with actuals put in. Its operator is to be done, by `act`, before the
+    /// step after it.
     ///
     /// Errors: `TooManyLines` before the 200,001st line is taken, `TooMuchText` before bodies have more than 65,536 bytes,
     /// `TooManyMacros` before the 257th name is defined, `TooDeep` before a repeat opens the 17th expansion, and `NoMemory`.
-    pub fn next(&mut self) -> Result<Step, UnfoldFault>
-        ensures steps { self.old.fault ≡ None → spec.Steps self.old.stage self.new.stage result }
+    pub fn next(&mut self, line: &mut Line) -> Result<Step, UnfoldFault>
+        ensures steps { self.old.fault ≡ None → spec.Steps self.old.stage self.new.stage line.new result }
         ensures again { (fault : UnfoldFault) → self.old.fault ≡ Some fault → result ≡ Err fault }
         ensures fault { self.new.fault ≡ result_err result }
         ensures empty { spec.IsEmpty self.new.stage result }
@@ -84,7 +85,7 @@ impl Unfolder {
         ensures kept { spec.IsWithin self.new.fault self.new.stage }
     {
         self.fault.check()?;
-        let step = self.state.next_live(self.alloc);
+        let step = self.state.next_live(self.alloc, line);
         self.fault.keep(step)
     }
 
@@ -123,22 +124,18 @@ impl Unfolder {
 
 impl State {
     // Moves on up to the next live line, or to the end of what is left.
-    pub(crate) fn next_live(&mut self, alloc: Global) -> Result<Step, UnfoldFault>
+    pub(crate) fn next_live(&mut self, alloc: Global, line: &mut Line) -> Result<Step, UnfoldFault>
         requires { IsKept (stage_of self.old) }
-        ensures steps { spec.Steps (stage_of self.old) (stage_of self.new) result }
+        ensures steps { spec.Steps (stage_of self.old) (stage_of self.new) line.new result }
         ensures empty { spec.IsEmpty (stage_of self.new) result }
         ensures kept { IfOk result (λ _. IsKept (stage_of self.new)) }
         ensures free { spec.IsFree self.new.left.has_statement result }
     {
         'moves: loop {
-            // without `?`, which would move the line once more
-            match self.advance(alloc) {
-                Ok(Moved::Passes) => {}
-                Ok(Moved::Gives(line, is_expanded)) => {
-                    return Ok(Step::Line(LiveLine { line, is_expanded }));
-                }
-                Ok(Moved::Rests) => return Ok(self.rested()),
-                Err(fault) => return Err(fault),
+            match self.advance(alloc, line)? {
+                Moved::Passes => {}
+                Moved::Gives(is_expanded) => return Ok(Step::Line(is_expanded)),
+                Moved::Rests => return Ok(self.rested()),
             }
         }
     }

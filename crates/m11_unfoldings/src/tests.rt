@@ -13,7 +13,7 @@ mod sources;
 use m11_arguments::operator;
 use m11_base::Name;
 use m11_scan::{Letters, Line};
-use m11_unfold::{Act, LiveLine, Step, Unfolder};
+use m11_unfold::{Act, Step, Unfolder};
 use m11_unfolding::UnfoldFault;
 use m11_values::{Names, Radix, Symbol, Value};
 use std::alloc::{AllocError, Global};
@@ -59,22 +59,34 @@ fn of_name(name: Name) -> Value
     }
 }
 
+// A line that became live, and whether an expansion gave it.
+#[derive(Clone, Copy)]
+struct LiveLine<'a> {
+    line: &'a Line,
+    is_expanded: bool,
+}
+
 // What is kept of the live lines of a source.
 trait Keeps {
     // A live line, and what its operator gave.
-    fn keep(&mut self, live: &LiveLine, act: &Act) -> Result<(), AllocError>;
+    fn keep(&mut self, live: &LiveLine<'_>, act: &Act) -> Result<(), AllocError>;
 }
 
 // Takes what is left. Returns whether the next line of the source is needed.
 fn take_rest<K: Keeps>(unfolder: &mut Unfolder, kept: &mut K) -> Result<bool, UnfoldFault>
     ensures { result ≡ Ok true → unfolder.new.stage.left ≡ [] }
 {
+    let mut line = Line::new();
     'steps: for _ in 0..300_000 {
-        match unfolder.next()? {
+        match unfolder.next(&mut line)? {
             Step::NeedLine => return Ok(true),
             Step::End => return Ok(false),
-            Step::Line(live) => {
-                let act = unfolder.act(&live.line, operator(&live.line), &Known)?;
+            Step::Line(is_expanded) => {
+                let act = unfolder.act(&line, operator(&line), &Known)?;
+                let live = LiveLine {
+                    line: &line,
+                    is_expanded,
+                };
                 kept.keep(&live, &act)?;
             }
         }
@@ -96,7 +108,7 @@ fn feed_all<K: Keeps>(
 {
     let (text, count) = lines;
     'lines: for _ in 0..count {
-        unfolder.feed(Line::from_bytes(text.as_bytes()));
+        unfolder.feed(&Line::from_bytes(text.as_bytes()));
         if !take_rest(unfolder, kept)? {
             return Ok(false);
         }
@@ -135,7 +147,7 @@ struct Written {
 }
 
 impl Keeps for Written {
-    fn keep(&mut self, live: &LiveLine, act: &Act) -> Result<(), AllocError> {
+    fn keep(&mut self, live: &LiveLine<'_>, act: &Act) -> Result<(), AllocError> {
         match self.form {
             Form::Texts => sources::write(&mut self.text, live, act),
             Form::Notes => noted_lines::write(&mut self.text, live, act),

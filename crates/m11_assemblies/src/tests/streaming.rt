@@ -13,7 +13,7 @@ use std::test::Fail;
 // Takes lines in the first pass.
 fn take_lines(first: &mut First, source: &[&str]) -> Result<(), PassFault> {
     for line in source {
-        first.line(Line::from_bytes(line.as_bytes()))?;
+        first.line(&Line::from_bytes(line.as_bytes()))?;
     }
     Ok(())
 }
@@ -50,7 +50,7 @@ impl Outputs {
     // Takes a line.
     fn take(&mut self, second: &mut Second, line: &str) -> Result<(), AsmFault> {
         second.line(
-            Line::from_bytes(line.as_bytes()),
+            &Line::from_bytes(line.as_bytes()),
             &mut self.object,
             &mut self.listing,
             &mut self.messages,

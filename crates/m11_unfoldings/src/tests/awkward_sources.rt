@@ -1,8 +1,8 @@
 //! Sources of lines of conditions, repeats and macros from a fixed sequence: each ends, and fed again gives the same.
 
-use super::{Keeps, take_rest};
+use super::{Keeps, LiveLine, take_rest};
 use m11_scan::Line;
-use m11_unfold::{Act, LiveLine, Unfolder};
+use m11_unfold::{Act, Unfolder};
 use m11_unfolding::UnfoldFault;
 use std::alloc::{AllocError, Global};
 use std::process::Abort;
@@ -63,7 +63,7 @@ impl Sum {
 }
 
 impl Keeps for Sum {
-    fn keep(&mut self, live: &LiveLine, act: &Act) -> Result<(), AllocError> {
+    fn keep(&mut self, live: &LiveLine<'_>, act: &Act) -> Result<(), AllocError> {
         self.lines = self.lines.wrapping_add(1);
         for byte in live.line.text() {
             self.add(u64::from(*byte));
@@ -83,7 +83,7 @@ fn unfolded(alloc: Global, seed: u64, count: u8) -> (Sum, Option<UnfoldFault>) {
     let mut number = seed;
     'lines: for _ in 0..count {
         number = next_number(number);
-        unfolder.feed(Line::from_bytes(LINES[(number >> 59) as usize].as_bytes()));
+        unfolder.feed(&Line::from_bytes(LINES[(number >> 59) as usize].as_bytes()));
         match take_rest(&mut unfolder, &mut live) {
             Ok(true) => {}
             Ok(false) => return (live, None),

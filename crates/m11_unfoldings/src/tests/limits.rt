@@ -2,9 +2,9 @@
 
 ghost use Rattle.std.specs.Prelude.{◌<◌};
 
-use super::{Form, Keeps, Lines, TextRow, check_texts, feed_all, take_rest, unfold};
+use super::{Form, Keeps, Lines, LiveLine, TextRow, check_texts, feed_all, take_rest, unfold};
 use m11_scan::Line;
-use m11_unfold::{Act, LiveLine, Unfolder};
+use m11_unfold::{Act, Unfolder};
 use m11_unfolding::UnfoldFault;
 use std::alloc::{AllocError, Global};
 use std::process::Abort;
@@ -14,7 +14,7 @@ use std::process::Abort;
 struct Count(u32);
 
 impl Keeps for Count {
-    fn keep(&mut self, _live: &LiveLine, act: &Act) -> Result<(), AllocError> {
+    fn keep(&mut self, _live: &LiveLine<'_>, act: &Act) -> Result<(), AllocError> {
         if !act.is_own {
             self.0 = self.0.wrapping_add(1);
         }
@@ -323,7 +323,7 @@ fn macros_defined(alloc: Global, count: u16, names: u16, last: Lines) -> Result<
     let mut unfolder = Unfolder::new(alloc);
     let mut live = Count(0);
     'macros: for number in 0..count {
-        unfolder.feed(header(number % names));
+        unfolder.feed(&header(number % names));
         if !take_rest(&mut unfolder, &mut live)? {
             return Ok(());
         }
@@ -349,7 +349,7 @@ fn two_hundred_and_fifty_six_macros_may_be_defined(rt: HostRuntime) {
 }
 
 // The text of a line that isn't unfolding's own, in place of the one before it.
-pub(super) fn write(text: &mut Vec<u8>, live: &LiveLine, act: &Act) -> Result<(), AllocError> {
+pub(super) fn write(text: &mut Vec<u8>, live: &LiveLine<'_>, act: &Act) -> Result<(), AllocError> {
     if !act.is_own {
         text.clear();
         text.extend_from_slice(live.line.text())?;
@@ -401,5 +401,8 @@ fn a_fault_is_returned_again(rt: HostRuntime) {
     }
     let found = feed_all(&mut unfolder, (LONG, 513), &mut live);
     assert_eq!(&rt; found, Err(UnfoldFault::TooMuchText));
-    assert!(&rt; unfolder.next().is_err(), "the step after it");
+    assert!(&rt;
+        unfolder.next(&mut Line::new()).is_err(),
+        "the step after it"
+    );
 }

@@ -1,12 +1,12 @@
 //! The letters and symbols of lines that are unfolding's own, and the count of actuals around lines of calls.
 
-use super::{Form, TextRow, check_texts};
-use m11_unfold::{Act, LiveLine};
+use super::{Form, LiveLine, TextRow, check_texts};
+use m11_unfold::Act;
 use std::alloc::AllocError;
 
 // Adds, of a line that is unfolding's own or stands in a call, its letters, how many symbols its arguments read, and, after `/`, how many
 // actuals the call has.
-pub(super) fn write(text: &mut Vec<u8>, _live: &LiveLine, act: &Act) -> Result<(), AllocError> {
+pub(super) fn write(text: &mut Vec<u8>, _live: &LiveLine<'_>, act: &Act) -> Result<(), AllocError> {
     if !act.is_own && act.arguments.is_none() {
         return Ok(());
     }

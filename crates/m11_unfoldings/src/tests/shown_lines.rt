@@ -1,12 +1,12 @@
 //! Sources, and all their live lines with what unfolding finds of them.
 
-use super::{Form, TextRow, check_texts};
-use m11_unfold::{Act, LiveLine};
+use super::{Form, LiveLine, TextRow, check_texts};
+use m11_unfold::Act;
 use std::alloc::AllocError;
 
 // Adds a live line after a `|`. Before it stand the letters of its operator and arguments, `L` where it is too long, `+` where an
 // expansion gave it, and `*` where it is unfolding's own.
-pub(super) fn write(text: &mut Vec<u8>, live: &LiveLine, act: &Act) -> Result<(), AllocError> {
+pub(super) fn write(text: &mut Vec<u8>, live: &LiveLine<'_>, act: &Act) -> Result<(), AllocError> {
     text.extend_from_slice(&act.notes.letters().text())?;
     mark(text, b'L', live.line.is_over_long())?;
     mark(text, b'+', live.is_expanded)?;

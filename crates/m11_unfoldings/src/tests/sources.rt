@@ -1,11 +1,11 @@
 //! Sources, and the lines of them that become live and are none of unfolding's own.
 
-use super::{Form, TextRow, check_texts};
-use m11_unfold::{Act, LiveLine};
+use super::{Form, LiveLine, TextRow, check_texts};
+use m11_unfold::Act;
 use std::alloc::AllocError;
 
 // Adds the text of a line that isn't unfolding's own, with its end.
-pub(super) fn write(text: &mut Vec<u8>, live: &LiveLine, act: &Act) -> Result<(), AllocError> {
+pub(super) fn write(text: &mut Vec<u8>, live: &LiveLine<'_>, act: &Act) -> Result<(), AllocError> {
     if !act.is_own {
         text.extend_from_slice(live.line.text())?;
         text.push(b'\n')?;

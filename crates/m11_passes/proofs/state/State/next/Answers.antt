@@ -1,58 +1,59 @@
-use Rattle.std.proofs.Common.{Err, refl, arith}
+use Rattle.std.proofs.Common.{refl, arith}
 use Rattle.m11_unfold.specs.Unfolder.{live_of}
 use Rattle.m11_passes.proofs.Counting.{comes_takes}
 use Rattle.m11_passes.proofs.Turning.{comes_of, line_fails, line_places, room_more, sound_more, taken_ends, taken_rests, unfolding_fails}
 use Rattle.m11_passes.specs.States.{going_of}
 use Rattle.m11_passes.proofs.state.State.next.Goals as goal
 
-pub returns-in-Err-clause-turns : goal.returns-in-Err-clause-turns
-returns-in-Err-clause-turns c =
+pub returns-in_err-next-clause-turns : goal.returns-in_err-next-clause-turns
+returns-in_err-next-clause-turns c =
     unfolding_fails c.args.map.now (going_of c.args.self.now)
-    (going_of (record c.args.self.now { unfolder = c.next.new.self })) c.in-Err.fault (Err c.from.result)
-    (c.in-Err.ensures.steps c.requires.goes_on) c.from.ensures
+    (going_of (record c.args.self.now { unfolder = c.next.new.self })) c.in_err-next.field-0.0
+    (record c.args.placed.now { line = c.next.new.line }) c.from_residual.result
+    (c.in_err-next.ensures.steps c.requires.goes_on) c.from_residual.ensures.1
 
 pub place-requires-clause-room : goal.place-requires-clause-room
 place-requires-clause-room c =
     room_more c.args.self.now.pass.table c.args.self.now.unfolder.stage.taken c.next.new.self.stage.taken
-    (comes_takes c.args.self.now.unfolder.stage c.next.new.self.stage (live_of c.in-Ok-Line.live)
-    (comes_of c.args.self.now.unfolder.stage c.next.new.self.stage c.in-Ok-Line.field-0 c.in-Ok-Line.live c.in-Ok-Line.field-0-is
-    (c.in-Ok-Line.ensures.steps c.requires.goes_on)))
+    (comes_takes c.args.self.now.unfolder.stage c.next.new.self.stage (live_of c.next.new.line c.in-Line.is_expanded)
+    (comes_of c.args.self.now.unfolder.stage c.next.new.self.stage c.next.new.line c.in_ok-next.field-0 c.in-Line.is_expanded
+    c.in-Line.is (c.in_ok-next.ensures.steps c.requires.goes_on)))
     c.requires.sound.room
 
-pub returns-in-Err-place-clause-turns : goal.returns-in-Err-place-clause-turns
-returns-in-Err-place-clause-turns c =
-    line_fails c.args.map.now (going_of c.args.self.now) (going_of c.place.new.self) (live_of c.in-Ok-Line.live)
-    c.next.new.self.stage c.in-Err-place.fault (Err c.in-Err-place.fault)
-    (comes_of c.args.self.now.unfolder.stage c.next.new.self.stage c.in-Ok-Line.field-0 c.in-Ok-Line.live c.in-Ok-Line.field-0-is
-    (c.in-Ok-Line.ensures.steps c.requires.goes_on))
-    c.in-Err-place.ensures.places refl
+pub returns-in_err-place-in-Line-clause-turns : goal.returns-in_err-place-in-Line-clause-turns
+returns-in_err-place-in-Line-clause-turns c =
+    line_fails c.args.map.now (going_of c.args.self.now) (going_of c.place.new.self) (live_of c.next.new.line c.in-Line.is_expanded)
+    c.next.new.self.stage c.in_err-place-in-Line.field-0.0 c.place.new.placed c.from_residual-in_err-place-in-Line.result
+    (comes_of c.args.self.now.unfolder.stage c.next.new.self.stage c.next.new.line c.in_ok-next.field-0 c.in-Line.is_expanded
+    c.in-Line.is (c.in_ok-next.ensures.steps c.requires.goes_on))
+    c.in_err-place-in-Line.ensures.places c.from_residual-in_err-place-in-Line.ensures.1
 
-pub returns-in-Ok-NeedLine-clause-sound : goal.returns-in-Ok-NeedLine-clause-sound
-returns-in-Ok-NeedLine-clause-sound c =
+pub returns-in-NeedLine-clause-sound : goal.returns-in-NeedLine-clause-sound
+returns-in-NeedLine-clause-sound c =
     sound_more c.args.self.now.unfolder.stage.taken c.next.new.self.stage.taken c.args.self.now.pass c.args.self.now.mentioned
-    (taken_rests c.args.self.now.unfolder.stage c.next.new.self.stage c.in-Ok-NeedLine.field-0 c.in-Ok-NeedLine.field-0-is
-    (c.in-Ok-NeedLine.ensures.steps c.requires.goes_on)) c.requires.sound
+    (taken_rests c.args.self.now.unfolder.stage c.next.new.self.stage c.next.new.line c.in_ok-next.field-0 c.in-NeedLine.is
+    (c.in_ok-next.ensures.steps c.requires.goes_on)) c.requires.sound
 
-pub returns-in-Ok-End-clause-sound : goal.returns-in-Ok-End-clause-sound
-returns-in-Ok-End-clause-sound c =
+pub returns-in-End-clause-sound : goal.returns-in-End-clause-sound
+returns-in-End-clause-sound c =
     sound_more c.args.self.now.unfolder.stage.taken c.next.new.self.stage.taken c.args.self.now.pass c.args.self.now.mentioned
-    (taken_ends c.args.self.now.unfolder.stage c.next.new.self.stage c.in-Ok-End.field-0 c.in-Ok-End.field-0-is
-    (c.in-Ok-End.ensures.steps c.requires.goes_on)) c.requires.sound
+    (taken_ends c.args.self.now.unfolder.stage c.next.new.self.stage c.next.new.line c.in_ok-next.field-0 c.in-End.is
+    (c.in_ok-next.ensures.steps c.requires.goes_on)) c.requires.sound
 
-pub returns-in-Ok-clause-turns : goal.returns-in-Ok-clause-turns
-returns-in-Ok-clause-turns c =
+pub returns-in_ok-place-in-Line-clause-turns : goal.returns-in_ok-place-in-Line-clause-turns
+returns-in_ok-place-in-Line-clause-turns c =
     line_places c.args.map.now (going_of c.args.self.now) (going_of c.place.new.self)
-    (going_of (record c.args.self.now { unfolder = c.next.new.self })) (live_of c.in-Ok-Line.live) c.next.new.self.stage
-    c.in-Ok.placed c.in-Ok.ensures.same refl refl
-    (comes_of c.args.self.now.unfolder.stage c.next.new.self.stage c.in-Ok-Line.field-0 c.in-Ok-Line.live c.in-Ok-Line.field-0-is
-    (c.in-Ok-Line.ensures.steps c.requires.goes_on))
-    c.in-Ok.ensures.places
+    (going_of (record c.args.self.now { unfolder = c.next.new.self })) (live_of c.next.new.line c.in-Line.is_expanded)
+    c.next.new.self.stage c.place.new.placed c.in_ok-place-in-Line.ensures.same refl refl
+    (comes_of c.args.self.now.unfolder.stage c.next.new.self.stage c.next.new.line c.in_ok-next.field-0 c.in-Line.is_expanded
+    c.in-Line.is (c.in_ok-next.ensures.steps c.requires.goes_on))
+    c.in_ok-place-in-Line.ensures.places
 
-pub returns-in-Ok-clause-next : goal.returns-in-Ok-clause-next
-returns-in-Ok-clause-next c =
-    let more = comes_takes c.args.self.now.unfolder.stage c.next.new.self.stage (live_of c.in-Ok-Line.live)
-    (comes_of c.args.self.now.unfolder.stage c.next.new.self.stage c.in-Ok-Line.field-0 c.in-Ok-Line.live c.in-Ok-Line.field-0-is
-    (c.in-Ok-Line.ensures.steps c.requires.goes_on)) in
-    let same = c.in-Ok.ensures.taken in
-    let most = c.in-Ok.ensures.kept.lines in
+pub returns-in_ok-place-in-Line-clause-next : goal.returns-in_ok-place-in-Line-clause-next
+returns-in_ok-place-in-Line-clause-next c =
+    let more = comes_takes c.args.self.now.unfolder.stage c.next.new.self.stage (live_of c.next.new.line c.in-Line.is_expanded)
+    (comes_of c.args.self.now.unfolder.stage c.next.new.self.stage c.next.new.line c.in_ok-next.field-0 c.in-Line.is_expanded
+    c.in-Line.is (c.in_ok-next.ensures.steps c.requires.goes_on)) in
+    let same = c.in_ok-place-in-Line.ensures.taken in
+    let most = c.in_ok-place-in-Line.ensures.kept.lines in
     (omega (arith, more, same), most)

@@ -13,8 +13,8 @@ pub moves-smaller : goal.moves-smaller
 moves-smaller c =
     let before = stage_of c.moves.self in
     let after = stage_of c.advance.new.self in
-    let P : Moved → Type 0 = λ m. Moves before after (Ok m) in
-    let moves = subst P c.in-Ok-Passes.field-0-is c.in-Ok-Passes.ensures.moves in
+    let P : Moved → Type 0 = λ m. Moves before after c.advance.new.line (Ok m) in
+    let moves = subst P c.in-Passes.is c.in_ok-advance.ensures.moves in
     let keeps = subst (Keeps before) moves.1 (kept_next before c.moves.invariant.kept moves.0) in
     keeps.1
 
@@ -22,18 +22,18 @@ pub moves-preserved : goal.moves-preserved
 moves-preserved c =
     let before = stage_of c.moves.self in
     let after = stage_of c.advance.new.self in
-    let P : Moved → Type 0 = λ m. Moves before after (Ok m) in
-    let moves = subst P c.in-Ok-Passes.field-0-is c.in-Ok-Passes.ensures.moves in
+    let P : Moved → Type 0 = λ m. Moves before after c.advance.new.line (Ok m) in
+    let moves = subst P c.in-Passes.is c.in_ok-advance.ensures.moves in
     let keeps = subst (Keeps before) moves.1 (kept_next before c.moves.invariant.kept moves.0) in
     record {
       passing = steps.Leads.Passing [] before after c.moves.invariant.passing moves.0 moves.1;
       kept = keeps.0;
     }
 
-pub returns-in-Ok-Gives-clause-kept : goal.returns-in-Ok-Gives-clause-kept
-returns-in-Ok-Gives-clause-kept c =
+pub returns-in-Gives-clause-kept : goal.returns-in-Gives-clause-kept
+returns-in-Gives-clause-kept c =
     let before = stage_of c.moves.self in
     let after = stage_of c.advance.new.self in
-    let P : Moved → Type 0 = λ m. Moves before after (Ok m) in
-    let moves = subst P c.in-Ok-Gives.field-0-is c.in-Ok-Gives.ensures.moves in
+    let P : Moved → Type 0 = λ m. Moves before after c.advance.new.line (Ok m) in
+    let moves = subst P c.in-Gives.is c.in_ok-advance.ensures.moves in
     subst (Keeps before) moves.1 (kept_next before c.moves.invariant.kept moves.0)

@@ -11,5 +11,5 @@ returns-in-Err-clause-moves c =
     let under = c.if-self-ge-LINE_MOST.false in
     let room : c.args.self.now.taken < most_lines = omega (arith, under) in
     let P : Option UnfoldFault → Type 0 = λ f. Fails f c.in-Err.fault in
-    subst P (sym (fault_inside (stage_of c.args.self.now) c.args.line c.in-Some.opening (sym c.in-Some.ensures.value) room))
+    subst P (sym (fault_inside (stage_of c.args.self.now) c.args.line.now c.in-Some.opening (sym c.in-Some.ensures.value) room))
     c.in-Err.ensures.takes
