@@ -50,7 +50,7 @@ DIRECTIVES = set(""".WORD .BYTE .ASCII .ASCIZ .RAD50 .BLKB .BLKW .EVEN .ODD .LIM
 .TITLE .IDENT .LIST .NLIST .ENABL .DSABL .SBTTL .PAGE .END .NARG .NCHR""".split())
 UNFOLD = set(".IF .IFF .IFT .IFTF .ENDC .IIF .MACRO .REPT .IRP .IRPC .ENDM .ENDR .MEXIT".split())
 # What no expression begins with: a register or a target is then missing.
-NO_EXPRESSION = (",", "end", "(", ")", "@", "#")
+NO_EXPRESSION = (",", "end", "(", ")", "@", "#", ">")
 OPENERS = {".MACRO", ".REPT", ".IRP", ".IRPC"}
 CLOSERS = {".ENDM", ".ENDR"}
 
