@@ -4,6 +4,7 @@ mod Headers
 mod Immediately
 mod Insides
 pub mod Joining
+mod LoneTerms
 mod Numerals
 mod Repetitions
 mod Tests

@@ -1,11 +1,13 @@
 -- An expression that stands at a place of a line, where only an absolute number may stand. (MACRO-11 Language Reference Manual,
 -- "Expressions".)
-use Rattle.std.specs.Prelude.{ℕ, List, [], ◌∷◌, map, take}
+use Rattle.std.specs.Prelude.{ℕ, Bool, true, false, not, List, [], ◌∷◌, map, take}
 use Rattle.std.specs.Int.RustNames.{bit_or}
 use Rattle.m11_base.specs.Devices.{Bytes}
 use Rattle.m11_scan.specs.Cutting.{Lexeme, tokens_from}
 use Rattle.m11_scan.specs.Ends.{expression_end, sort_in}
-use Rattle.m11_scan.specs.Expressions.{expression_length}
+use Rattle.m11_scan.specs.Expressions.{expression_length, role_of}
+use Rattle.m11_scan.specs.declared.expressions.Role.{Role}
+use Rattle.m11_scan.specs.declared.expressions.Role.TheVariants.{Term, Sign, Operator}
 use Rattle.m11_scan.specs.declared.radix.Radix.{Radix}
 use Rattle.m11_values.specs.declared.names.Symbol.{Symbol}
 use Rattle.m11_values.specs.Operations.{absence}
@@ -52,3 +54,20 @@ number_letters known line place =
 -- the symbols that it reads
 abbrev pub symbols_at : Bytes → ℕ → List Symbol
 symbols_at line place = symbols_in (expression_in (tokens_from line place))
+
+-- ---- one term
+
+abbrev pub is_term : Role → Bool
+is_term Term = true
+is_term role = false
+
+-- what stands between two terms
+abbrev pub joins : Role → Bool
+joins Sign = true
+joins Operator = true
+joins role = false
+
+-- an expression that has a term before some tokens goes no further
+abbrev pub ends_before : List Lexeme → Bool
+ends_before [] = true
+ends_before (token ∷ tokens) = not (joins (role_of token.sort))

@@ -1,8 +1,10 @@
 //! Expressions that stand at a place of a line. (MACRO-11 Language Reference Manual, "Expressions".)
 
-ghost use Rattle.std.specs.Prelude.{◌≡◌, ◌≤◌, length, IfOk};
+ghost use Rattle.std.specs.Prelude.{◌≡◌, ◌≤◌, ◌∷◌, [], length, IfOk, IfSome};
 ghost use Rattle.m11_scan.specs.Ends.{expression_end};
-ghost use Rattle.m11_scan.specs.Views.{bits_of};
+ghost use Rattle.m11_scan.specs.Cutting.{tokens_from};
+ghost use Rattle.m11_scan.specs.Expressions.{role_of};
+ghost use Rattle.m11_scan.specs.Views.{bits_of, lexeme};
 ghost use Rattle.m11_values.specs.Quantities.{quantity};
 ghost use Rattle.m11_values.specs.Values.{expression_tokens};
 ghost use Rattle.m11_arguments.specs.Expressions as spec;
@@ -11,7 +13,10 @@ ghost use Rattle.m11_arguments.specs.Notes.{with_symbols};
 
 use crate::left_overs::skip_letters;
 use crate::notes::Notes;
-use m11_scan::{Letters, Line, Token, expression_end, expression_length, tokens_from};
+use m11_scan::{
+    Letters, Line, Role, Sort, Token, expression_end, expression_length, next_token, role_of,
+    tokens_from,
+};
 use m11_values::{Names, Value, value};
 use std::alloc::AllocError;
 
@@ -63,8 +68,10 @@ pub fn value_at<N: Names>(line: &Line, place: usize, names: &N) -> Value
     ensures { quantity result
         ≡ spec.value_at (known_by (N.base names.now) (N.stands_for names.now)) line.now.text place }
 {
-    let tokens = tokens_from(line, place);
-    value(tokens.as_slice(), line, names).0
+    match lone_term(line, place) {
+        Some(term) => value(&[term], line, names).0,
+        None => value(tokens_from(line, place).as_slice(), line, names).0,
+    }
 }
 
 /// Notes the symbols that the expression at a place reads, in order. Error: memory may be refused.
@@ -72,8 +79,50 @@ pub fn note_symbols(line: &Line, place: usize, notes: &mut Notes) -> Result<(), 
     requires { place ≤ length line.now.text }
     ensures { IfOk result (λ _. notes.new ≡ with_symbols notes.old (spec.symbols_at line.now.text place)) }
 {
-    let tokens = tokens_from(line, place);
-    notes.add_symbols(expression_of(tokens.as_slice()), line)
+    match lone_term(line, place) {
+        Some(term) => notes.add_symbols(&[term], line),
+        None => {
+            let tokens = tokens_from(line, place);
+            notes.add_symbols(expression_of(tokens.as_slice()), line)
+        }
+    }
+}
+
+// The term that alone is the expression at a place, if one is. Most expressions are one term, and of those no token need be cut past the
+// next one.
+fn lone_term(line: &Line, place: usize) -> Option<Token>
+    requires { place ≤ length line.now.text }
+    ensures alone { IfSome result (λ term. spec.expression_in (tokens_from line.now.text place) ≡ lexeme line.now.text term ∷ []) }
+    ensures whole { IfSome result (λ term. spec.expression_in (lexeme line.now.text term ∷ []) ≡ lexeme line.now.text term ∷ []) }
+{
+    match next_token(line, place) {
+        Some(token) if is_term(token.sort) && ends_at(line, usize::from(token.end)) => Some(token),
+        _ => None,
+    }
+}
+
+fn is_term(sort: Sort) -> bool
+    ensures { result ≡ spec.is_term (role_of sort) }
+{
+    matches!(role_of(sort), Role::Term)
+}
+
+// Whether an expression that has a term before a place goes no further.
+fn ends_at(line: &Line, place: usize) -> bool
+    requires { place ≤ length line.now.text }
+    ensures { result ≡ spec.ends_before (tokens_from line.now.text place) }
+{
+    match next_token(line, place) {
+        Some(token) => !joins(token.sort),
+        None => true,
+    }
+}
+
+// Whether a token stands between two terms.
+fn joins(sort: Sort) -> bool
+    ensures { result ≡ spec.joins (role_of sort) }
+{
+    matches!(role_of(sort), Role::Sign | Role::Operator)
 }
 
 // The expression that tokens begin with.
