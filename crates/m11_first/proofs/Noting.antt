@@ -1,4 +1,4 @@
--- What is noted of a placed line is what the line says.
+-- What is noted of a live line is what the line says.
 use Rattle.std.proofs.Common.{◌≡◌, ◌∙◌, ◌<◌, ◌≤◌, ℕ, min, length, Bool, true, false, if◌then◌else◌, Option, Some, None, Result, Ok, Err, IfOk, refl, sym, ap, subst, arith}
 use Rattle.std.proofs.Math.Nat.{min-eq_left}
 use Rattle.m11_arguments.specs.Directives.{every_name}
@@ -16,7 +16,7 @@ use Rattle.m11_unfolding.specs.Taking.{Live}
 use Rattle.m11_unfolding.specs.Unfolding.{Given}
 use Rattle.m11_values.specs.Quantities.{Quantity}
 use Rattle.m11_placement.specs.Changes.{changed}
-use Rattle.m11_placement.specs.Contents.{Put, has_expression}
+use Rattle.m11_placement.specs.Contents.{has_expression}
 use Rattle.m11_placement.specs.Exports.{transfer}
 use Rattle.m11_placement.specs.Lines.{Assigning, Deed, Operating, Rests, Setting, after_line, change_of, deed, deed_of, line_change, operating, stands}
 use Rattle.m11_placement.specs.Meanings.{empty_map, known_at}
@@ -32,8 +32,8 @@ use Rattle.m11_placing.specs.Deeds.{deed_seen}
 use Rattle.m11_placing.specs.declared.deeds.Deed as code
 use Rattle.m11_placing.specs.declared.deeds.Deed.TheVariants as seen
 use Rattle.m11_table.specs.Alike.{Alike}
-use Rattle.m11_passes.specs.Placed.{IsPlaced}
-use Rattle.m11_passes.specs.declared.placed.PlacedLine.{PlacedLine}
+use Rattle.m11_passes.specs.Placed.{IsLive}
+use Rattle.m11_passes.specs.declared.placed.LiveLine.{LiveLine}
 use Rattle.m11_first.specs.Facts.{Facts, each_once, with_line}
 use Rattle.m11_first.specs.Noted.{with_deed, with_directive, with_operator}
 
@@ -111,7 +111,7 @@ ends_so before given start is =
     ap (λ (d : Deed). changed empty_map given.live.line.text
     (change_of (firm_table (stands before given)) given.live.line.text given.arguments d) (stands before given)) (sym is)
 
--- ---- a placed line
+-- ---- a live line
 
 module _ (before table : Table) (given : Given) (facts : Facts) (alike : Alike table (after_line empty_map before given))
     (stood : BodyStands (labels_end given.live.line.text) (length given.live.line.text) (body_of every_name given.live.line.text)) where
@@ -152,18 +152,17 @@ module _ (before table : Table) (given : Given) (facts : Facts) (alike : Alike t
       ∙ by_directed (stands before given) given.live.line.text facts (directed given)
 
 pub noted : ((known : Name → Bool) (line : Bytes) → BodyStands (labels_end line) (length line) (body_of known line))
-    → (before table : Table) (given : Given) (placed : PlacedLine) (put : Put) (old new : Facts)
-    → IsPlaced empty_map before given placed put → Alike table (after_line empty_map before given)
-    → new ≡ with_deed table placed.line.text placed.deed old → new ≡ with_line before given old
-noted stand before table given placed put old new is alike so =
-    so ∙ ap (λ (l : Live). with_deed table l.line.text placed.deed old) is.live_is
-    ∙ told_so before table given old alike (stand every_name given.live.line.text) placed.deed is.deed_is
+    → (before table : Table) (given : Given) (live : LiveLine) (old new : Facts)
+    → IsLive given live → Alike table (after_line empty_map before given)
+    → new ≡ with_deed table live.line.text live.deed old → new ≡ with_line before given old
+noted stand before table given live old new is alike so =
+    so ∙ ap (λ (l : Live). with_deed table l.line.text live.deed old) is.live_is
+    ∙ told_so before table given old alike (stand every_name given.live.line.text) live.deed is.deed_is
 
 pub notes : ((known : Name → Bool) (line : Bytes) → BodyStands (labels_end line) (length line) (body_of known line))
-    → (table : Table) (placed : PlacedLine) (old new : Facts) {E : Type 0} (result : Result (Unit {0}) E)
-    → IfOk result (λ _. new ≡ with_deed table placed.line.text placed.deed old)
-    → IfOk result (λ _. (before : Table) (given : Given) (put : Put) → IsPlaced empty_map before given placed put
+    → (table : Table) (live : LiveLine) (old new : Facts) {E : Type 0} (result : Result (Unit {0}) E)
+    → IfOk result (λ _. new ≡ with_deed table live.line.text live.deed old)
+    → IfOk result (λ _. (before : Table) (given : Given) → IsLive given live
     → Alike table (after_line empty_map before given) → new ≡ with_line before given old)
-notes stand table placed old new (Ok done) so =
-    λ before given put is alike. noted stand before table given placed put old new is alike so
-notes stand table placed old new (Err fault) so = tt
+notes stand table live old new (Ok done) so = λ before given is alike. noted stand before table given live old new is alike so
+notes stand table live old new (Err fault) so = tt

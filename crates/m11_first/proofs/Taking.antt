@@ -7,7 +7,6 @@ use Rattle.std.specs.Result.{result_err}
 use Rattle.m11_lines.specs.Line.{SourceLine}
 use Rattle.m11_unfolding.specs.Stages.{Stage, start}
 use Rattle.m11_unfolding.specs.Unfolding.{Given}
-use Rattle.m11_placement.specs.Contents.{Put}
 use Rattle.m11_placement.specs.Lines.{after_line}
 use Rattle.m11_placement.specs.Meanings.{Map, empty_map}
 use Rattle.m11_placement.specs.Placements.{after_lines, table_after}
@@ -16,15 +15,15 @@ use Rattle.m11_placing.specs.Mentioned.{Gathered, none_gathered}
 use Rattle.m11_table.specs.Alike.{Alike}
 use Rattle.m11_passes.specs.Lines as lines
 use Rattle.m11_passes.specs.Lines.{Numbered, givens, numbered, table_at}
-use Rattle.m11_passes.specs.Placed.{IsPlaced, live_in}
+use Rattle.m11_passes.specs.Placed.{IsLive, live_in}
 use Rattle.m11_passes.specs.Reaching.{PlacesLine, Reaches, Refused}
 use Rattle.m11_passes.specs.Refusals.{given_by}
 use Rattle.m11_passes.specs.States.{Going, PassState, PassStands, fed}
-use Rattle.m11_passes.specs.Turns.{Turns}
+use Rattle.m11_passes.specs.Turns.{SaysLive, Turns}
 use Rattle.m11_passes.specs.declared.fault.PassFault.{PassFault}
-use Rattle.m11_passes.specs.declared.placed.PlacedLine.{PlacedLine}
+use Rattle.m11_passes.specs.declared.placed.LiveLine.{LiveLine}
 use Rattle.m11_passes.specs.declared.turns.Turn.{Turn}
-use Rattle.m11_passes.specs.declared.turns.Turn.TheVariants.{NeedLine, End, Placed}
+use Rattle.m11_passes.specs.declared.turns.Turn.TheVariants.{NeedLine, End, Line}
 use Rattle.m11_first.specs.Facts.{Facts, facts_of, no_facts, with_line}
 use Rattle.m11_first.specs.First.{FirstStands, FirstState, FirstTakes, GoesOn, Taken, TakesAll, TakesLeft}
 use Rattle.m11_first.proofs.FactsFound.{finds_more}
@@ -36,9 +35,10 @@ Feeds = (map : Map) (before : Gathered) (source : List SourceLine) (lines : List
     → PassStands map before (source ++ line ∷ []) lines (fed line going)
 
 abbrev pub TurnsSo : Type 0
-TurnsSo = (map : Map) (before : Gathered) (source : List SourceLine) (lines : List Numbered) (old new : Going)
-    (placed : PlacedLine) (result : Result Turn PassFault) → PassStands map before source lines old → Turns map old new placed result
-    → Reaches map before source lines new placed result
+TurnsSo = (before : Gathered) (source : List SourceLine) (lines : List Numbered) (old new : Going)
+    (live : LiveLine) (result : Result Turn PassFault) → PassStands empty_map before source lines old
+    → Turns empty_map old new (live_in live) (SaysLive live) result
+    → Reaches empty_map before source lines new (live_in live) (SaysLive live) result
 
 -- ---- one line more
 
@@ -64,58 +64,54 @@ facts_more all one = ap facts_of (givens_more all one) ∙ finds_more (givens al
 abbrev pub SomeTaken : List SourceLine → Going → Facts → Type 0
 SomeTaken source going facts = (lines : List Numbered) × Taken source lines going facts
 
-module _ (turn : TurnsSo) (source : List SourceLine) (old new : Going) (placed : PlacedLine) (facts : Facts) (some : SomeTaken source old facts)
-    (map_ : Map) (none : map_ ≡ empty_map) where
-  module _ (came : Turn) (turned : Turns map_ old new placed (Ok came)) where
-    reached : Reaches empty_map none_gathered source some.0 new placed (Ok came)
-    reached =
-        let P : Map → Type 0 = λ m. Turns m old new placed (Ok came) in
-        turn empty_map none_gathered source some.0 old new placed (Ok came) some.1.stands (subst P none turned)
+module _ (turn : TurnsSo) (source : List SourceLine) (old new : Going) (live : LiveLine) (facts : Facts) (some : SomeTaken source old facts)
+  where
+    module _ (came : Turn) (turned : Turns empty_map old new (live_in live) (SaysLive live) (Ok came)) where
+      reached : Reaches empty_map none_gathered source some.0 new (live_in live) (SaysLive live) (Ok came)
+      reached = turn none_gathered source some.0 old new live (Ok came) some.1.stands turned
 
-    -- what is noted of a placed line is what it says
-    pub placed_more : came ≡ Placed → (later : Facts) (table : Table) → table ≡ new.kept.table
-        → ((before : Table) (given : Given) (put : Put) → IsPlaced empty_map before given placed put
-        → Alike table (after_line empty_map before given) → later ≡ with_line before given facts)
-        → SomeTaken source new later
-    placed_more is later table table_is notes =
-        let P : Turn → Type 0 = λ t. Reaches empty_map none_gathered source some.0 new placed (Ok t) in
-        let here : PlacesLine empty_map none_gathered source some.0 new placed = subst P is reached in
-        let one = numbered (length source) (given_by (table_at empty_map some.0) (live_in placed) here.stage) in
-        let A : Table → Type 0 = λ t. Alike new.kept.table t in
-        let B : Table → Type 0 = λ t. Alike t (after_line empty_map (table_at empty_map some.0) one.given) in (
-          some.0 ++ one ∷ [],
-          record {
-            stands = here.stands;
-            facts_are = notes (table_at empty_map some.0) one.given new.put here.placed_so
-                (subst B (sym table_is) (subst A (table_more some.0 one) here.stands.matches.alike))
-                ∙ ap (with_line (table_at empty_map some.0) one.given) some.1.facts_are
-                ∙ sym (facts_more some.0 one);
-          },
+      -- what is noted of a live line is what it says
+      pub placed_more : came ≡ Line → (later : Facts) (table : Table) → table ≡ new.kept.table
+          → ((before : Table) (given : Given) → IsLive given live
+          → Alike table (after_line empty_map before given) → later ≡ with_line before given facts)
+          → SomeTaken source new later
+      placed_more is later table table_is notes =
+          let P : Turn → Type 0 = λ t. Reaches empty_map none_gathered source some.0 new (live_in live) (SaysLive live) (Ok t) in
+          let here : PlacesLine empty_map none_gathered source some.0 new (live_in live) (SaysLive live) = subst P is reached in
+          let one = numbered (length source) (given_by (table_at empty_map some.0) (live_in live) here.stage) in
+          let A : Table → Type 0 = λ t. Alike new.kept.table t in
+          let B : Table → Type 0 = λ t. Alike t (after_line empty_map (table_at empty_map some.0) one.given) in (
+            some.0 ++ one ∷ [],
+            record {
+              stands = here.stands;
+              facts_are = notes (table_at empty_map some.0) one.given here.is_said
+                  (subst B (sym table_is) (subst A (table_more some.0 one) here.stands.matches.alike))
+                  ∙ ap (with_line (table_at empty_map some.0) one.given) some.1.facts_are
+                  ∙ sym (facts_more some.0 one);
+            },
+          )
+
+      pub rests_all : came ≡ NeedLine → TakesAll source new facts false
+      rests_all is =
+          let P : Turn → Type 0 = λ t. Reaches empty_map none_gathered source some.0 new (live_in live) (SaysLive live) (Ok t) in
+          let here : Reaches empty_map none_gathered source some.0 new (live_in live) (SaysLive live) (Ok NeedLine) = subst P is reached in
+          record { lines = some.0; taken = record { stands = here.0; facts_are = some.1.facts_are }; ended = sym here.2 }
+
+      pub ends_all : came ≡ End → TakesAll source new facts true
+      ends_all is =
+          let P : Turn → Type 0 = λ t. Reaches empty_map none_gathered source some.0 new (live_in live) (SaysLive live) (Ok t) in
+          let here : Reaches empty_map none_gathered source some.0 new (live_in live) (SaysLive live) (Ok End) = subst P is reached in
+          record { lines = some.0; taken = record { stands = here.0; facts_are = some.1.facts_are }; ended = sym here.1 }
+
+    -- a fault of the pass, which is handed on
+    pub fails_all : (fault : PassFault) (later : Facts) (result : Result Bool PassFault) → Turns empty_map old new (live_in live) (SaysLive live) (Err fault)
+        → IsErrAnd result (λ f. f ≡ fault) → TakesLeft source new later result
+    fails_all fault later (Ok ended) turned is = absurd is
+    fails_all fault later (Err other) turned is =
+        let P : PassFault → Type 0 = λ f. Refused empty_map [] source some.0 f in (
+          some.0,
+          subst P (sym is) (turn none_gathered source some.0 old new live (Err fault) some.1.stands turned),
         )
-
-    pub rests_all : came ≡ NeedLine → TakesAll source new facts false
-    rests_all is =
-        let P : Turn → Type 0 = λ t. Reaches empty_map none_gathered source some.0 new placed (Ok t) in
-        let here : Reaches empty_map none_gathered source some.0 new placed (Ok NeedLine) = subst P is reached in
-        record { lines = some.0; taken = record { stands = here.0; facts_are = some.1.facts_are }; ended = sym here.2 }
-
-    pub ends_all : came ≡ End → TakesAll source new facts true
-    ends_all is =
-        let P : Turn → Type 0 = λ t. Reaches empty_map none_gathered source some.0 new placed (Ok t) in
-        let here : Reaches empty_map none_gathered source some.0 new placed (Ok End) = subst P is reached in
-        record { lines = some.0; taken = record { stands = here.0; facts_are = some.1.facts_are }; ended = sym here.1 }
-
-  -- a fault of the pass, which is handed on
-  pub fails_all : (fault : PassFault) (later : Facts) (result : Result Bool PassFault) → Turns map_ old new placed (Err fault)
-      → IsErrAnd result (λ f. f ≡ fault) → TakesLeft source new later result
-  fails_all fault later (Ok ended) turned is = absurd is
-  fails_all fault later (Err other) turned is =
-      let M : Map → Type 0 = λ m. Turns m old new placed (Err fault) in
-      let P : PassFault → Type 0 = λ f. Refused empty_map [] source some.0 f in (
-        some.0,
-        subst P (sym is)
-            (turn empty_map none_gathered source some.0 old new placed (Err fault) some.1.stands (subst M none turned)),
-      )
 
 -- ---- a line of the source
 

@@ -5,8 +5,7 @@ ghost use Rattle.std.specs.Prelude.{◌≡◌, ◌≤◌, [], ◌∷◌, IfOk, l
 ghost use Rattle.m11_directives.specs.Changes.{names_among};
 ghost use Rattle.m11_first.specs.Facts.{each_once, no_facts, with_line};
 ghost use Rattle.m11_first.specs.Noted.{with_deed, with_directive, with_operator};
-ghost use Rattle.m11_passes.specs.Placed.{IsPlaced};
-ghost use Rattle.m11_placement.specs.Contents.{Put};
+ghost use Rattle.m11_passes.specs.Placed.{IsLive};
 ghost use Rattle.m11_placement.specs.Elements.{listed_names};
 ghost use Rattle.m11_placement.specs.Exports as exports;
 ghost use Rattle.m11_placement.specs.Lines.{after_line};
@@ -20,7 +19,7 @@ ghost use Rattle.m11_values.specs.Quantities.{quantity};
 use indexmap::IndexSet;
 use m11_base::Name;
 use m11_directives::{identification, listed_names, title, transfer};
-use m11_passes::PlacedLine;
+use m11_passes::LiveLine;
 use m11_placement::{Directive, Operator};
 use m11_placing::Deed;
 use m11_scan::Line;
@@ -95,23 +94,23 @@ impl Facts {
         self.transfer
     }
 
-    /// Notes what a placed line says, where the table is that after the line. Error: memory may be refused.
-    pub fn note(&mut self, line: &PlacedLine, table: &Table) -> Result<(), AllocError>
-        ensures { IfOk result (λ _. (before : LineTable) (given : Given) (put : Put) → IsPlaced empty_map before given line.now put
+    /// Notes what a live line says, where the table is that after the line. Error: memory may be refused.
+    pub fn note(&mut self, live: &LiveLine, table: &Table) -> Result<(), AllocError>
+        ensures { IfOk result (λ _. (before : LineTable) (given : Given) → IsLive given live.now
             → Alike table.now (after_line empty_map before given) → self.new ≡ with_line before given self.old) }
     {
         // what stands in a line lies in it
         labels_and_body_stand_in_order();
-        self.note_deed(line, table)
+        self.note_deed(live, table)
     }
 
     // What stands after its labels says.
-    fn note_deed(&mut self, line: &PlacedLine, table: &Table) -> Result<(), AllocError>
-        ensures { IfOk result (λ _. self.new ≡ with_deed table.now line.now.line.text line.now.deed self.old) }
+    fn note_deed(&mut self, live: &LiveLine, table: &Table) -> Result<(), AllocError>
+        ensures { IfOk result (λ _. self.new ≡ with_deed table.now live.now.line.text live.now.deed self.old) }
     {
-        match line.deed {
+        match live.deed {
             Deed::Operates(operator, start) => {
-                self.note_operator(&line.line, table, operator, start)
+                self.note_operator(&live.line, table, operator, start)
             }
             _ => Ok(()),
         }

@@ -11,10 +11,9 @@ ghost use Rattle.m11_first.specs.First.{FirstStands, FirstTakes, Taken, TakesLef
 use crate::facts::Facts;
 use crate::symbols::Symbols;
 use m11_base::Latch;
-use m11_passes::{PassFault, SourcePass, Turn, the_calls_place_the_lines_of_a_source};
+use m11_passes::{LiveLine, PassFault, SourcePass, Turn, the_calls_place_the_lines_of_a_source};
 use m11_placing::Mentioned;
 use m11_scan::Line;
-use m11_table::Map;
 use std::alloc::{AllocError, Global};
 use std::marker::Model;
 
@@ -100,7 +99,7 @@ impl First {
     }
 }
 
-// Places what is left to take, and notes what it says: whether `.END` became live.
+// Defines what is left to take, and notes what it says: whether `.END` became live.
 fn take_left(pass: &mut SourcePass, facts: &mut Facts) -> Result<bool, PassFault>
     requires { pass.old.fault ≡ None }
     ensures takes { (source : List SourceLine) (lines : List Numbered) → Taken source lines pass.old.going facts.old
@@ -109,13 +108,12 @@ fn take_left(pass: &mut SourcePass, facts: &mut Facts) -> Result<bool, PassFault
     ensures needs { IfOk result (λ has_ended. has_ended ≡ false → pass.new.going.unfolder.stage.left ≡ []) }
 {
     the_calls_place_the_lines_of_a_source();
-    let map = Map::none();
-    let mut line = pass.placed_line();
+    let mut live = LiveLine::new();
     'lines: loop {
-        match pass.next(&map, &mut line)? {
+        match pass.define(&mut live)? {
             Turn::NeedLine => return Ok(false),
             Turn::End => return Ok(true),
-            Turn::Placed => facts.note(&line, pass.table())?,
+            Turn::Line => facts.note(&live, pass.table())?,
         }
     }
 }

@@ -64,7 +64,7 @@ module _ (map : Map) (table : Table) (given : Given) (placed : PlacedLine) (put 
 
   pub shown_so : ((table : Table) (line : Bytes) → place (labels_stand table line) ≡ place table)
       → not (letters == 0) || placed.is_shown ≡ true → (all : List Item)
-      → all ≡ items_of contents ++ option_to_list placed.assigned → (text : Bytes) → text ≡ placed.line.text
+      → all ≡ items_of contents ++ option_to_list placed.assigned → (text : Bytes) → text ≡ placed.live.line.text
       → all_to_listing (listed_lines (letters_text letters) number placed.counter placed.place all text)
       ≡ listing_writes map table letters number given
   unfolding listing_writes
@@ -77,5 +77,5 @@ module _ (map : Map) (table : Table) (given : Given) (placed : PlacedLine) (put 
       (put_place (stands table given) (deed given.is_own given.live.line.text)) l text)) (items_so all are)
       ∙ ap (λ (t : Bytes). all_to_listing (listed_lines shown number (place table)
       (put_place (stands table given) (deed given.is_own given.live.line.text)) (items map table given) t))
-      (text_is ∙ ap (λ (l : Live). l.line.text) is.live_is)
+      (text_is ∙ ap (λ (l : Live). l.line.text) is.is_live.live_is)
       ∙ sym (ap (λ (b : Bool). if b then all_to_listing (lines_of map table letters number given) else []) (listed_by ∙ shows))

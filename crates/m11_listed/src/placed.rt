@@ -51,7 +51,7 @@ pub fn put_placed<T: Sink>(
         return Ok(());
     }
     gather(items, contents, line.assigned)?;
-    let text = line.line.text();
+    let text = line.live.line.text();
     put_listed(
         listing,
         letters,

@@ -3,25 +3,25 @@
 
 ghost use Rattle.std.specs.Prelude.{◌≡◌, ◌<◌, ◌≤◌, length};
 ghost use Rattle.m11_directives.specs.Changes.{change_seen};
+ghost use Rattle.m11_fields.specs.Reads.{fields_seen};
+ghost use Rattle.m11_operators.specs.Reading.{fields_at, operator_fields};
 ghost use Rattle.m11_placement.specs.Effects as spec;
-ghost use Rattle.m11_placement.specs.Instructions as instructions;
 ghost use Rattle.m11_placement.specs.Tables.{firm_table};
 
 use crate::alignment::{gap, place_for, to_even, to_odd};
-use m11_base::Op;
 use m11_contents::{LIMIT_SIZE, byte_block_size, byte_size, word_block_size, word_size};
 use m11_directives::{
     Change, Move, absolute_section, argument_count, character_count, control_section, global, list,
     program_section, radix, unlist,
 };
-use m11_fields::{fields_at, instruction_size, is_even};
+use m11_fields::{Fields, instruction_size, is_even};
 use m11_placement::{Directive, Operator};
 use m11_scan::Line;
 use m11_strings::{ascii_size, asciz_size, rad50_size};
-use m11_table::{FirmNames, Table};
+use m11_table::Table;
 
-/// What an operator changes, whose name ends at a place of its line. It is asked of firm names alone. `arguments` is the number of
-/// actuals of the macro around the line.
+/// What an operator changes, whose name ends at a place of its line, and whose fields these are. It is asked of firm names alone.
+/// `arguments` is the number of actuals of the macro around the line.
 #[tactic(auto, using(crate::proofs::FirmEffects::change_firm))]
 pub fn operator_change(
     table: &Table,
@@ -29,16 +29,20 @@ pub fn operator_change(
     start: usize,
     arguments: Option<u16>,
     operator: Operator,
+    fields: &Fields,
 ) -> Change
     requires within { start ≤ length line.now.text }
     requires listed { table.now.settings.listed < u64.MAX }
     requires unlisted { table.now.settings.unlisted < u64.MAX }
+    requires fields { fields_seen fields.now ≡ operator_fields table.now line.now.text start operator }
     ensures { change_seen result ≡ spec.operator_change (firm_table table.now) line.now.text start arguments operator }
 {
     let is_even = is_even(operator);
     let passed = gap(is_even, table.place());
     let here = place_for(is_even, table.place());
-    change_at(table, passed, here, line, start, arguments, operator)
+    change_at(
+        table, passed, here, line, start, arguments, operator, fields,
+    )
 }
 
 // What an operator changes that stands at a place, after some bytes that are passed over.
@@ -50,16 +54,17 @@ fn change_at(
     start: usize,
     arguments: Option<u16>,
     operator: Operator,
+    fields: &Fields,
 ) -> Change
     requires within { start ≤ length line.now.text }
     requires listed { table.now.settings.listed < u64.MAX }
     requires unlisted { table.now.settings.unlisted < u64.MAX }
+    requires fields { fields_seen fields.now ≡ fields_at table.now here line.now.text start operator }
     ensures { change_seen result ≡ spec.change_by table.now passed here line.now.text start arguments operator }
 {
     match operator {
-        Operator::Instruction(operation) => {
-            let size = operation_size(table, here, line, start, operation);
-            steps(passed, u32::from(size))
+        Operator::Instruction(_) => {
+            steps(passed, u32::from(instruction_size(fields.list.as_slice())))
         }
         Operator::Directs(directive) => {
             directive_change(table, passed, here, line, start, arguments, directive)
@@ -73,16 +78,6 @@ fn steps(passed: u16, size: u32) -> Change
     ensures { change_seen result ≡ spec.steps passed size }
 {
     Change::Counts(Move::Steps(u32::from(passed) + size))
-}
-
-// How many bytes an instruction has. Its fields are asked of firm names.
-fn operation_size(table: &Table, here: u16, line: &Line, start: usize, operation: Op) -> u16
-    requires { start ≤ length line.now.text }
-    ensures { result ≡ instructions.size table.now here line.now.text start operation }
-{
-    let names = FirmNames::new(table, here);
-    let fields = fields_at(line, start, operation, &names);
-    instruction_size(fields.list.as_slice())
 }
 
 // What a directive changes.

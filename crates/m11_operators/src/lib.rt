@@ -5,7 +5,9 @@
 mod alignment;
 mod changes;
 mod operators;
+mod reading;
 
 pub use alignment::{gap, gap_letters, place_for};
 pub use changes::operator_change;
 pub use operators::put_operator;
+pub use reading::{no_fields, operator_fields};

@@ -4,6 +4,8 @@
 ghost use Rattle.std.specs.Prelude.{◌≡◌, ◌≤◌, length, IfOk, IsTrue};
 ghost use Rattle.std.specs.Int.RustNames.{bit_or};
 ghost use Rattle.m11_fields.specs.ListedOperations.{has_listed_operation, is_listed};
+ghost use Rattle.m11_fields.specs.Reads.{fields_seen};
+ghost use Rattle.m11_operators.specs.Reading.{fields_at, operator_fields};
 ghost use Rattle.m11_placement.specs.Assigning.{number_letters};
 ghost use Rattle.m11_placement.specs.Contents.{followed_by, nothing};
 ghost use Rattle.m11_placement.specs.Counts as counts;
@@ -26,15 +28,15 @@ use m11_directives::{
     identification_letters, list_letters, number_letters, page_letters, program_letters,
     radix_letters, subtitle_letters, title_letters,
 };
-use m11_fields::{fields_at, is_even};
+use m11_fields::{Fields, is_even};
 use m11_placement::{Directive, Operator};
 use m11_scan::{Letters, Line};
 use m11_strings::{put_ascii, put_asciz, put_rad50};
-use m11_table::{FirmNames, Map, Table};
+use m11_table::{Map, Table};
 use std::alloc::AllocError;
 
-/// What an operator puts, whose name ends at a place of its line, with its letters. What has to stand at an even place goes on to the next
-/// one, with B. `arguments` is the number of actuals of the macro around the line. Error: memory may be refused.
+/// What an operator puts, whose name ends at a place of its line, and whose fields these are, with its letters. What has to stand at an even
+/// place goes on to the next one, with B. `arguments` is the number of actuals of the macro around the line. Error: memory may be refused.
 pub fn put_operator(
     put: &mut Put,
     map: &Map<'_>,
@@ -43,16 +45,19 @@ pub fn put_operator(
     start: usize,
     arguments: Option<u16>,
     operator: Operator,
+    fields: &Fields,
 ) -> Result<(), AllocError>
     requires within { start ≤ length line.now.text }
     requires listed { IsTrue (has_listed_operation operator) }
+    requires fields { fields_seen fields.now ≡ operator_fields table.now line.now.text start operator }
+    requires ends { fields.now.end ≤ length line.now.text }
     ensures { IfOk result (λ _. put.new ≡ followed_by put.old
         (lines.operation_put map.now table.now line.now.text arguments operator start)) }
 {
     let is_even = is_even(operator);
     put.add_letters(gap_letters(is_even, table.place()));
     let setting = Setting::new(map, table, place_for(is_even, table.place()), line);
-    put_at(put, &setting, start, arguments, operator)
+    put_at(put, &setting, start, arguments, operator, fields)
 }
 
 // What an operator puts at the place of a setting.
@@ -62,39 +67,43 @@ fn put_at(
     start: usize,
     arguments: Option<u16>,
     operator: Operator,
+    fields: &Fields,
 ) -> Result<(), AllocError>
     requires within { start ≤ length setting.now.line }
     requires listed { IsTrue (has_listed_operation operator) }
+    requires fields { fields_seen fields.now ≡ fields_at setting.now.table setting.now.place setting.now.line start operator }
+    requires ends { fields.now.end ≤ length setting.now.line }
     ensures { IfOk result (λ _. put.new ≡ followed_by put.old (effects.operator_put
         setting.now.map setting.now.table setting.now.place setting.now.line start arguments operator)) }
 {
     match operator {
-        Operator::Instruction(operation) => put_operation(put, setting, start, operation),
+        Operator::Instruction(operation) => put_operation(put, setting, start, operation, fields),
         Operator::Directs(directive) => put_directive(put, setting, start, arguments, directive),
     }
 }
 
-// The words of an instruction. Its fields are asked of firm names.
+// The words of an instruction.
 fn put_operation(
     put: &mut Put,
     setting: &Setting,
     start: usize,
     operation: Op,
+    fields: &Fields,
 ) -> Result<(), AllocError>
     requires within { start ≤ length setting.now.line }
     requires listed { IsTrue (is_listed operation) }
+    requires fields { fields_seen fields.now
+        ≡ instructions.fields setting.now.table setting.now.place setting.now.line start operation }
+    requires ends { fields.now.end ≤ length setting.now.line }
     ensures { IfOk result (λ _. put.new ≡ followed_by put.old (instructions.words
         setting.now.map setting.now.table setting.now.place setting.now.line start operation)) }
 {
-    let names = FirmNames::new(setting.table(), setting.place());
-    let fields = fields_at(setting.line(), start, operation, &names);
-    let list = fields.list.as_slice();
     put_instruction(
         put,
         setting,
         operation,
         start,
-        list,
+        fields.list.as_slice(),
         usize::from(fields.end),
         fields.letters,
     )

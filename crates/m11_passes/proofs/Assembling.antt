@@ -1,5 +1,5 @@
 -- A live line is placed as its definition says, or refused by its first limit.
-use Rattle.std.proofs.Common.{◌≡◌, ◌∙◌, ◌<◌, ◌≤◌, ℕ, ◌+◌, ◌*◌, List, [], length, Option, None, Result, Ok, Err, IsErrAnd, refl, sym, ap, subst, arith}
+use Rattle.std.proofs.Common.{◌≡◌, ◌∙◌, ◌<◌, ◌≤◌, ℕ, ◌+◌, ◌*◌, List, [], length, Option, None, Result, Ok, Err, IfOk, IfErr, IsErrAnd, refl, sym, ap, subst, arith}
 use Rattle.std.specs.Prelude.{false}
 use Rattle.std.specs.Int.RustNames.{bit_or}
 use Rattle.std.specs.Option.{option_to_list}
@@ -10,6 +10,7 @@ use Rattle.m11_base.specs.Devices.{Bytes}
 use Rattle.m11_scan.specs.Views.{bits_of}
 use Rattle.m11_statements.specs.Labels.{labels_at, labels_end}
 use Rattle.m11_statements.specs.Statements.{body_of, label_letters}
+use Rattle.m11_statements.specs.declared.bodies.Body.{Body}
 use Rattle.m11_unfold.specs.Unfolder.{Acts, Unfolding}
 use Rattle.m11_unfold.specs.declared.steps.Act.{Act as Acting}
 use Rattle.m11_unfolding.specs.Stages.{Stage, start}
@@ -21,7 +22,7 @@ use Rattle.m11_placement.specs.Changes.{Change, changed}
 use Rattle.m11_placement.specs.Contents.{Put}
 use Rattle.m11_placement.specs.Labels.{labels_letters, labels_stand}
 use Rattle.m11_placement.specs.Limits.{most_local_symbols, most_names, most_sections}
-use Rattle.m11_placement.specs.Items.{deed_items, is_shown, value_items}
+use Rattle.m11_placement.specs.Items.{assigned_items, deed_items, is_shown, value_items}
 use Rattle.m11_placement.specs.Lines.{Deed, Rests, Assigning, Setting, Operating, after_line, deed, line_change, line_put, put_by, put_place, section_name, stands}
 use Rattle.m11_placement.specs.Meanings.{Map, empty_map, known_at, stands_for}
 use Rattle.m11_placement.specs.declared.meanings.Context.TheVariants.{Knows}
@@ -37,25 +38,28 @@ use Rattle.m11_placing.specs.Lines.{letters_from}
 use Rattle.m11_placing.specs.Mentioned.{Gathered, with_all}
 use Rattle.m11_placing.specs.Moved.{moved_letters}
 use Rattle.m11_placing.specs.Passes.{Follows, Kept, Matches}
-use Rattle.m11_placing.specs.declared.labels.LabelLetters.{LabelLetters}
+use Rattle.m11_placing.specs.declared.deeds.Deed as code
 use Rattle.m11_table.specs.Alike as tables
 use Rattle.m11_table.specs.Alike.{Alike}
 use Rattle.m11_table.specs.Asking.{FirmAsked, firm_asked}
 use Rattle.m11_passes.proofs.Placing.{Act, IsActOf, all_so, change_is, deed_so, line_fits, matches_so, mentions_refused, notes_so, puts, sections_refused, stage_so}
 use Rattle.m11_passes.proofs.Settling.{change_modest, changed_moves, labels_blocks}
 use Rattle.m11_passes.proofs.Turning.{first_sound}
+use Rattle.m11_passes.specs.Begun.{Begins, Finishes}
 use Rattle.m11_passes.specs.Bounds.{HasRoom, IsSound, IsSoundUntil}
 use Rattle.m11_passes.specs.Faults.{Fails, Refuses}
-use Rattle.m11_passes.specs.Labelled.{Labels}
 use Rattle.m11_passes.specs.Lines.{PassLines}
 use Rattle.m11_passes.specs.Lines as lines
 use Rattle.m11_passes.specs.Operated.{change_after, mentions_after}
 use Rattle.m11_passes.specs.Placed.{live_in}
-use Rattle.m11_passes.specs.Refusals.{given_by, line_fault, mentions_of_labels}
+use Rattle.m11_passes.specs.Refusals.{given_by, line_fault}
 use Rattle.m11_passes.specs.States.{Going, GoesOnUntil, PassStands}
-use Rattle.m11_passes.specs.Turns.{Places, PlacesAfter}
+use Rattle.m11_passes.specs.Turns.{LeavesAfter, Places, Said, SaysLive, SaysPlaced}
+use Rattle.m11_passes.specs.declared.begun.Begun.{Begun}
 use Rattle.m11_passes.specs.declared.fault.PassFault.{PassFault}
 use Rattle.m11_passes.specs.declared.fault.PassFault.TheVariants.{TooManySymbols, TooManySections, Unfold, NoMemory}
+use Rattle.m11_listing.specs.declared.items.Item.{Item}
+use Rattle.m11_passes.specs.declared.placed.LiveLine.{LiveLine}
 use Rattle.m11_passes.specs.declared.placed.PlacedLine.{PlacedLine}
 
 -- ---- a new pass
@@ -116,126 +120,223 @@ deed_items_alike map_ one other alike line change (Operating operator start) = r
 
 -- ---- one line
 
-module _ (map_ : Map) (live : Live) (before : Stage) (old new : Going) (stood : Kept) (named : Gathered) (found : LabelLetters)
-    (done : Act) (of : Deed)
-    (labels : Labels map_ old.gathered.names live.line.text old.kept stood found)
-    (named_are : named ≡ with_all (mentions_of_labels live.line.text) old.gathered)
-    (acts : IsActOf (known_after_labels stood.table) live.line.text before new.unfolder.stage done)
-    (deed_is : of ≡ deed done.is_own live.line.text) where
+module _ (map_ : Map) (live : Live) (old middle : Going) (does : code.Deed) (begun : Begun)
+    (begins : Begins map_ live old middle does begun) where
   abbrev text : Bytes
   text = live.line.text
+
+  abbrev before : Stage
+  before = old.unfolder.stage
+
+  abbrev stood : Kept
+  stood = middle.kept
+
+  abbrev named : Gathered
+  named = middle.gathered
+
+  abbrev of : Deed
+  of = deed_seen does
+
+  abbrev done : Act
+  done = record { is_own = begun.act.is_own; notes = begun.act.notes; arguments = begun.act.arguments }
+
+  acts : IsActOf (known_after_labels stood.table) text before middle.unfolder.stage done
+  acts = record {
+    fits = begins.acts.0;
+    stage_is = begins.acts.1;
+    own_is = begins.acts.2;
+    notes_are = begins.acts.3;
+    arguments_are = begins.acts.4;
+  }
 
   -- mentions pass a limit
   pub mention_fails : (fault : PassFault)
       → Refuses fault (most_names < length (with_all (mentions_after stood.table text done.notes done.arguments of) named).names) ⊥
       → (table : Table) → Matches old.kept table → Fails (line_fault map_ table old.gathered.names live before) fault
   mention_fails TooManySymbols many table matches =
-      let here = labels table matches in
+      let here = begins.labels table matches in
       let P : Deed → Type 0 = λ d.
       most_names < length (with_all (mentions_after stood.table text done.notes done.arguments d) named).names in
       let Q : Gathered → Type 0 = λ g. most_names < length
       (with_all (mentions_after stood.table text done.notes done.arguments (deed done.is_own text)) g).names in
-      mentions_refused map_ table live before new.unfolder.stage done stood old.gathered here.matches acts here.fits
-      (subst Q named_are (subst P deed_is many))
+      mentions_refused map_ table live before middle.unfolder.stage done stood old.gathered here.matches acts here.fits
+      (subst Q begins.named (subst P begins.deed_is many))
   mention_fails TooManySections many table matches = absurd many
   mention_fails (Unfold inner) many table matches = absurd many
   mention_fails NoMemory many table matches = tt
 
   module _ (all : Gathered) (all_are : all ≡ with_all (mentions_after stood.table text done.notes done.arguments of) named)
-      (few : length all.names ≤ most_names) where
+      (few : length all.names ≤ most_names) (symbols : stood.local_symbols ≤ most_local_symbols) where
     all_told : all ≡ with_all (mentions_after stood.table text done.notes done.arguments (deed done.is_own text)) named
-    all_told = all_are ∙ ap (λ (d : Deed). with_all (mentions_after stood.table text done.notes done.arguments d) named) deed_is
+    all_told =
+        all_are ∙ ap (λ (d : Deed). with_all (mentions_after stood.table text done.notes done.arguments d) named) begins.deed_is
 
     -- the section of a line is one too many
-    pub change_fails : stood.local_symbols ≤ most_local_symbols → (fault : PassFault)
+    change_fails : (fault : PassFault)
         → ((table : Table) → Matches stood table → Refuses fault ⊥ (most_sections < length
         (changed map_ text (change_after stood.table text done.arguments of) table).sections))
         → (table : Table) → Matches old.kept table → Fails (line_fault map_ table old.gathered.names live before) fault
-    change_fails symbols TooManySymbols many table matches = absurd (many (labels_stand table text) (labels table matches).matches)
-    change_fails symbols TooManySections many table matches =
-        let here = labels table matches in
+    change_fails TooManySymbols many table matches =
+        absurd (many (labels_stand table text) (begins.labels table matches).matches)
+    change_fails TooManySections many table matches =
+        let here = begins.labels table matches in
         let P : Deed → Type 0 = λ d. most_sections < length
         (changed map_ text (change_after stood.table text done.arguments d) (labels_stand table text)).sections in
-        sections_refused map_ table live before new.unfolder.stage done stood old.gathered here.matches acts here.fits named named_are
-        all all_told few symbols (subst P deed_is (many (labels_stand table text) here.matches))
-    change_fails symbols (Unfold inner) many table matches = absurd (many (labels_stand table text) (labels table matches).matches)
-    change_fails symbols NoMemory many table matches = tt
+        sections_refused map_ table live before middle.unfolder.stage done stood old.gathered here.matches acts here.fits named
+        begins.named all all_told few symbols (subst P begins.deed_is (many (labels_stand table text) here.matches))
+    change_fails (Unfold inner) many table matches =
+        absurd (many (labels_stand table text) (begins.labels table matches).matches)
+    change_fails NoMemory many table matches = tt
 
-    -- the line is placed
-    pub placed_after : (placed : PlacedLine) → live_in placed ≡ live → deed_seen placed.deed ≡ of
-        → new.put ≡ put_by map_ stood.table text done.arguments of → new.gathered ≡ all
+    -- the pass stands after the line
+    leaves : (new : Going) → new.unfolder ≡ middle.unfolder → new.gathered ≡ all
         → Follows stood new.kept (λ t. changed map_ text (change_after stood.table text done.arguments of) t)
-        → new.kept.local_symbols ≤ most_local_symbols → length new.kept.table.sections ≤ most_sections
-        → placed.section ≡ section_name stood.table → placed.place ≡ put_place stood.table of
-        → placed.counter ≡ place stood.table
-        → option_to_list placed.assigned ≡ deed_items map_ stood.table text (change_after stood.table text done.arguments of) of
-        → placed.is_shown ≡ is_shown new.kept.table.settings placed.is_expanded
-        → bits_of placed.letters ≡ bit_or (letters_from text (labels_end text) (body_of every_name text) (label_letters live.line)
-        (bits_of found.doubled) new.put.letters done.notes.letters) (bits_of found.moved)
-        → (table : Table) → Matches old.kept table → PlacesAfter map_ table live before old new placed
-    placed_after placed same deed_so_far put_is gathered_is follows symbols sections section_is place_is counter_is assigned_is shown_is letters_are table matches =
-        let here = labels table matches in
+        → new.kept.local_symbols ≡ stood.local_symbols → length new.kept.table.sections ≤ most_sections
+        → (item : Option Item)
+        → option_to_list item ≡ deed_items map_ stood.table text (change_after stood.table text done.arguments of) of
+        → (table : Table) → Matches old.kept table → LeavesAfter map_ table live before old new
+        × (option_to_list item ≡ assigned_items map_ table (given_by table live before))
+    leaves new unfolder_is gathered_is follows symbols_are sections item shows table matches =
+        let here = begins.labels table matches in
         let line : Given = given_by table live before in
+        let N : ℕ → Type 0 = λ n. n ≤ most_local_symbols in
         let F : Deed → Type 0 = λ d. Follows stood new.kept
         (λ t. changed map_ text (change_after stood.table text done.arguments d) t) in
-        let follows_so = subst F deed_is follows in
-        let own = deed_so map_ table live before new.unfolder.stage done stood old.gathered here.matches acts in
-        let put_so : new.put ≡ line_put map_ (stands table line) line
-        = puts map_ table live before new.unfolder.stage done stood old.gathered here.matches acts new.put
-        (put_is ∙ ap (λ (d : Deed). put_by map_ stood.table text done.arguments d) deed_is) in
+        let follows_so = subst F begins.deed_is follows in
+        let own = deed_so map_ table live before middle.unfolder.stage done stood old.gathered here.matches acts in
         let changes : change_after stood.table text done.arguments (deed done.is_own text)
         ≡ line_change (firm_table (stands table line)) line
-        = change_is map_ table live before new.unfolder.stage done stood old.gathered here.matches acts here.fits named named_are
-        all all_told in
-        let matches_after : Matches new.kept (after_line map_ table line)
-        = matches_so map_ table live before new.unfolder.stage done stood old.gathered here.matches acts here.fits named named_are
-        all all_told few new.kept follows_so in
-        let notes : done.notes ≡ line.notes
-        = notes_so map_ table live before new.unfolder.stage done stood old.gathered here.matches acts in
-        record {
-          fits = line_fits map_ table live before new.unfolder.stage done stood old.gathered here.matches acts here.fits named
-              named_are all all_told few new.kept follows_so symbols sections;
-          stage_is = stage_so map_ table live before new.unfolder.stage done stood old.gathered here.matches acts;
-          matches = matches_after;
-          gathered = gathered_is ∙ all_so map_ table live before new.unfolder.stage done stood old.gathered here.matches acts here.fits
-              named named_are all all_told;
-          placed_so = record {
-            live_is = same;
-            deed_is = deed_so_far ∙ deed_is ∙ own;
-            letters_are = letters_are
-                ∙ ap (λ (n : ℕ). bit_or (letters_from text (labels_end text) (body_of every_name text) (label_letters live.line)
-                (bits_of found.doubled) new.put.letters done.notes.letters) n) here.moved
-                ∙ ap (λ (n : ℕ). bit_or n (moved_letters map_ text table (labels_at text)))
-                (ap (λ (n : ℕ). letters_from text (labels_end text) (body_of every_name text) (label_letters live.line)
-                n new.put.letters done.notes.letters) here.doubled
-                ∙ ap (λ (p : Put). letters_from text (labels_end text) (body_of every_name text) (label_letters live.line)
-                (labels_letters text table (labels_at text)) p.letters done.notes.letters) put_so
-                ∙ ap (λ (n : Notes). letters_from text (labels_end text) (body_of every_name text) (label_letters live.line)
-                (labels_letters text table (labels_at text)) (line_put map_ (stands table line) line).letters n.letters) notes);
-            section_is = section_is ∙ section_alike stood.table (labels_stand table text) here.matches.alike;
-            place_is = place_is ∙ put_place_alike stood.table (labels_stand table text) here.matches.alike of
-                ∙ ap (put_place (labels_stand table text)) (deed_is ∙ own);
-            contents_are = ap (λ (p : Put). p.contents) put_so;
-            counter_is = counter_is ∙ alike_place stood.table (labels_stand table text) here.matches.alike;
-            assigned_is = assigned_is
-                ∙ ap (λ (d : Deed). deed_items map_ stood.table text (change_after stood.table text done.arguments d) d) deed_is
-                ∙ ap (λ (c : Change). deed_items map_ stood.table text c (deed done.is_own text)) changes
-                ∙ ap (deed_items map_ stood.table text (line_change (firm_table (stands table line)) line)) own
-                ∙ deed_items_alike map_ stood.table (stands table line) here.matches.alike text
-                (line_change (firm_table (stands table line)) line) (deed line.is_own text);
-            shown_is = shown_is
-                ∙ ap (λ (s : Settings). is_shown s placed.is_expanded) matches_after.alike.settings
-                ∙ ap (λ (l : Live). is_shown (after_line map_ table line).settings l.is_expanded) same;
-          };
-        }
+        = change_is map_ table live before middle.unfolder.stage done stood old.gathered here.matches acts here.fits named
+        begins.named all all_told in (
+          record {
+            fits = line_fits map_ table live before middle.unfolder.stage done stood old.gathered here.matches acts here.fits named
+                begins.named all all_told few new.kept follows_so (subst N (sym symbols_are) symbols) sections;
+            stage_is = ap (λ (u : Unfolding). u.stage) unfolder_is
+                ∙ stage_so map_ table live before middle.unfolder.stage done stood old.gathered here.matches acts;
+            matches = matches_so map_ table live before middle.unfolder.stage done stood old.gathered here.matches acts here.fits named
+                begins.named all all_told few new.kept follows_so;
+            gathered = gathered_is ∙ all_so map_ table live before middle.unfolder.stage done stood old.gathered here.matches acts
+                here.fits named begins.named all all_told;
+          },
+          shows
+              ∙ ap (λ (d : Deed). deed_items map_ stood.table text (change_after stood.table text done.arguments d) d) begins.deed_is
+              ∙ ap (λ (c : Change). deed_items map_ stood.table text c (deed done.is_own text)) changes
+              ∙ ap (deed_items map_ stood.table text (line_change (firm_table (stands table line)) line)) own
+              ∙ deed_items_alike map_ stood.table (stands table line) here.matches.alike text
+              (line_change (firm_table (stands table line)) line) (deed line.is_own text),
+        )
+
+    -- what the line changes is done, or its section is one too many
+    pub finishes : (new : Going) → new.unfolder ≡ middle.unfolder → new.gathered ≡ all → (result : Result (Option Item) PassFault)
+        → IfOk result (λ _. Follows stood new.kept (λ t. changed map_ text (change_after stood.table text done.arguments of) t))
+        → IfOk result (λ _. new.kept.local_symbols ≡ stood.local_symbols)
+        → IfOk result (λ _. length new.kept.table.sections ≤ most_sections)
+        → IfOk result (λ item. option_to_list item
+        ≡ deed_items map_ stood.table text (change_after stood.table text done.arguments of) of)
+        → IfErr result (λ fault. (table : Table) → Matches stood table → Refuses fault ⊥ (most_sections < length
+        (changed map_ text (change_after stood.table text done.arguments of) table).sections))
+        → Finishes map_ live before old new result
+    finishes new unfolder_is gathered_is (Ok item) follows symbols_are sections shows refuses =
+        leaves new unfolder_is gathered_is follows symbols_are sections item shows
+    finishes new unfolder_is gathered_is (Err fault) follows symbols_are sections shows refuses = change_fails fault refuses
+
+  -- ---- the line is placed
+
+  pub placed_so : (new : Going) (placed : PlacedLine) → live_in placed.live ≡ live → placed.live.deed ≡ does
+      → new.put ≡ put_by map_ stood.table text done.arguments of
+      → placed.section ≡ section_name stood.table → placed.place ≡ put_place stood.table of → placed.counter ≡ place stood.table
+      → placed.is_shown ≡ is_shown new.kept.table.settings placed.live.is_expanded
+      → bits_of placed.letters ≡ bit_or (letters_from text begun.statement.labels_end begun.statement.body
+      (bits_of begun.statement.label_letters) (bits_of begun.found.doubled) new.put.letters done.notes.letters)
+      (bits_of begun.found.moved)
+      → Finishes map_ live before old new (Ok placed.assigned)
+      → Places map_ live before old new (SaysPlaced map_ placed new.put) (Ok tt)
+  placed_so new placed same deed_so_far put_is section_is place_is counter_is shown_is letters_are finishes_so table matches =
+      let here = begins.labels table matches in
+      let line : Given = given_by table live before in
+      let finished = finishes_so table matches in
+      let own = deed_so map_ table live before middle.unfolder.stage done stood old.gathered here.matches acts in
+      let put_so : new.put ≡ line_put map_ (stands table line) line
+      = puts map_ table live before middle.unfolder.stage done stood old.gathered here.matches acts new.put
+      (put_is ∙ ap (λ (d : Deed). put_by map_ stood.table text done.arguments d) begins.deed_is) in
+      let notes : done.notes ≡ line.notes
+      = notes_so map_ table live before middle.unfolder.stage done stood old.gathered here.matches acts in
+      record {
+        leaves = finished.0;
+        is_said = record {
+          is_live = record { live_is = same; deed_is = ap deed_seen deed_so_far ∙ begins.deed_is ∙ own };
+          letters_are = letters_are
+              ∙ ap (λ (n : ℕ). bit_or (letters_from text n begun.statement.body (bits_of begun.statement.label_letters)
+              (bits_of begun.found.doubled) new.put.letters done.notes.letters) (bits_of begun.found.moved))
+              begins.states.labels_end_is
+              ∙ ap (λ (b : Body). bit_or (letters_from text (labels_end text) b (bits_of begun.statement.label_letters)
+              (bits_of begun.found.doubled) new.put.letters done.notes.letters) (bits_of begun.found.moved)) begins.states.body_is
+              ∙ ap (λ (n : ℕ). bit_or (letters_from text (labels_end text) (body_of every_name text) n
+              (bits_of begun.found.doubled) new.put.letters done.notes.letters) (bits_of begun.found.moved))
+              begins.states.letters_are
+              ∙ ap (λ (n : ℕ). bit_or (letters_from text (labels_end text) (body_of every_name text) (label_letters live.line)
+              (bits_of begun.found.doubled) new.put.letters done.notes.letters) n) here.moved
+              ∙ ap (λ (n : ℕ). bit_or n (moved_letters map_ text table (labels_at text)))
+              (ap (λ (n : ℕ). letters_from text (labels_end text) (body_of every_name text) (label_letters live.line)
+              n new.put.letters done.notes.letters) here.doubled
+              ∙ ap (λ (p : Put). letters_from text (labels_end text) (body_of every_name text) (label_letters live.line)
+              (labels_letters text table (labels_at text)) p.letters done.notes.letters) put_so
+              ∙ ap (λ (n : Notes). letters_from text (labels_end text) (body_of every_name text) (label_letters live.line)
+              (labels_letters text table (labels_at text)) (line_put map_ (stands table line) line).letters n.letters) notes);
+          section_is = section_is ∙ section_alike stood.table (labels_stand table text) here.matches.alike;
+          place_is = place_is ∙ put_place_alike stood.table (labels_stand table text) here.matches.alike of
+              ∙ ap (put_place (labels_stand table text)) (begins.deed_is ∙ own);
+          contents_are = ap (λ (p : Put). p.contents) put_so;
+          counter_is = counter_is ∙ alike_place stood.table (labels_stand table text) here.matches.alike;
+          assigned_is = finished.1;
+          shown_is = shown_is
+              ∙ ap (λ (s : Settings). is_shown s placed.live.is_expanded) finished.0.matches.alike.settings
+              ∙ ap (λ (l : Live). is_shown (after_line map_ table line).settings l.is_expanded) same;
+        };
+      }
+
+  -- ---- the line is defined
+
+  pub defined_so : (new : Going) (line : LiveLine) (item : Option Item) → live_in line ≡ live → line.deed ≡ does
+      → Finishes map_ live before old new (Ok item)
+      → Places map_ live before old new (SaysLive line) (Ok tt)
+  defined_so new line item same deed_so_far finishes_so table matches =
+      let here = begins.labels table matches in
+      let own = deed_so map_ table live before middle.unfolder.stage done stood old.gathered here.matches acts in
+      record {
+        leaves = (finishes_so table matches).0;
+        is_said = record { live_is = same; deed_is = ap deed_seen deed_so_far ∙ begins.deed_is ∙ own };
+      }
+
+-- what the line puts makes no difference
+pub begins_still : (map_ : Map) (live : Live) (old middle : Going) (does : code.Deed) (begun : Begun) (put : Put)
+    → Begins map_ live old middle does begun → Begins map_ live old (record middle { put = put }) does begun
+begins_still map_ live old middle does begun put begins = record {
+  labels = begins.labels;
+  named = begins.named;
+  acts = begins.acts;
+  deed_is = begins.deed_is;
+  states = begins.states;
+  fields_are = begins.fields_are;
+}
 
 -- ---- a refusal that is handed on
 
-pub places_fails : (map_ : Map) (live : Live) (stage : Stage) (old new : Going) (fault : PassFault) (placed : PlacedLine) (result : Result (Unit {0}) PassFault)
+pub places_fails : (map_ : Map) (live : Live) (stage : Stage) (old new : Going) (fault : PassFault) (said : Said)
+    (result : Result (Unit {0}) PassFault)
     → ((table : Table) → Matches old.kept table → Fails (line_fault map_ table old.gathered.names live stage) fault)
-    → IsErrAnd result (λ f. f ≡ fault) → Places map_ live stage old new placed result
-places_fails map_ live stage old new fault placed (Ok _) fails is = absurd is
-places_fails map_ live stage old new fault placed (Err other) fails is = λ table matches.
+    → IsErrAnd result (λ f. f ≡ fault) → Places map_ live stage old new said result
+places_fails map_ live stage old new fault said (Ok _) fails is = absurd is
+places_fails map_ live stage old new fault said (Err other) fails is = λ table matches.
+    let P : PassFault → Type 0 = λ f. Fails (line_fault map_ table old.gathered.names live stage) f in
+    subst P (sym is) (fails table matches)
+
+pub finish_fails : (map_ : Map) (live : Live) (stage : Stage) (old new : Going) (fault : PassFault)
+    (result : Result (Option Item) PassFault)
+    → ((table : Table) → Matches old.kept table → Fails (line_fault map_ table old.gathered.names live stage) fault)
+    → IsErrAnd result (λ f. f ≡ fault) → Finishes map_ live stage old new result
+finish_fails map_ live stage old new fault (Ok _) fails is = absurd is
+finish_fails map_ live stage old new fault (Err other) fails is = λ table matches.
     let P : PassFault → Type 0 = λ f. Fails (line_fault map_ table old.gathered.names live stage) f in
     subst P (sym is) (fails table matches)
 
@@ -293,3 +394,18 @@ changed_room taken map_ stood new line arguments of room follows few =
       section = subst at (sym alike.settings) (subst all (sym alike.sections) (moves.section room.section));
       sections = few;
     }
+
+-- the line is done, and the pass is sound after it
+pub settled : (map_ : Map) (first new : Kept) (gathered : Gathered) (line : Bytes) (arguments : Option ℕ) (doing : Deed) (taken : ℕ)
+    → HasRoom taken 1 1 first.table → first.local_symbols ≤ most_local_symbols → length gathered.names ≤ most_names
+    → {A : Type 0} (result : Result A PassFault)
+    → IfOk result (λ _. tables.Follows first.table new.table (λ t. changed map_ line (change_after first.table line arguments doing) t))
+    → IfOk result (λ _. length new.table.sections ≤ most_sections) → IfOk result (λ _. new.local_symbols ≡ first.local_symbols)
+    → IfOk result (λ _. IsSound taken new gathered)
+settled map_ first new gathered line arguments doing taken room symbols names (Ok unit) follows sections same =
+    let N : ℕ → Type 0 = λ n. n ≤ most_local_symbols in
+    record {
+      room = changed_room taken map_ first.table new.table line arguments doing room follows sections;
+      few = record { symbols = subst N (sym same) symbols; names = names };
+    }
+settled map_ first new gathered line arguments doing taken room symbols names (Err fault) follows sections same = tt

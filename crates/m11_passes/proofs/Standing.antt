@@ -12,7 +12,7 @@ use Rattle.m11_unfolding.specs.declared.fault.UnfoldFault.{UnfoldFault}
 use Rattle.m11_unfolding.specs.declared.fault.UnfoldFault.TheVariants as limit
 use Rattle.m11_placement.specs.Limits.{names_after}
 use Rattle.m11_placement.specs.Lines.{after_line}
-use Rattle.m11_placement.specs.Meanings.{Map}
+use Rattle.m11_placement.specs.Meanings.{Map, empty_map}
 use Rattle.m11_placement.specs.Mentions.{mentions}
 use Rattle.m11_placement.specs.Placements.{after_lines, table_after}
 use Rattle.m11_placement.specs.Tables.{Table, first_table}
@@ -26,13 +26,14 @@ use Rattle.m11_passes.specs.Reaching.{Exceeds, PlacesLine, Reaches, Refused}
 use Rattle.m11_passes.specs.Reaching as reaching
 use Rattle.m11_passes.specs.Refusals.{given_by, line_fault}
 use Rattle.m11_passes.specs.States.{Going, PassStands, fed, gathered_after}
-use Rattle.m11_passes.specs.Turns.{FailsAt, IsUnplaced, PlacesAfter, PlacesNext, Turns}
+use Rattle.m11_passes.specs.Turns.{FailsAt, IsUnplaced, PlacesAfter, PlacesNext, Said, SaysLive, SaysPlaced, Turns}
 use Rattle.m11_passes.specs.Turns as turning
 use Rattle.m11_passes.specs.declared.fault.PassFault.{PassFault}
 use Rattle.m11_passes.specs.declared.fault.PassFault.TheVariants.{TooManySymbols, TooManySections, Unfold, NoMemory}
+use Rattle.m11_passes.specs.declared.placed.LiveLine.{LiveLine}
 use Rattle.m11_passes.specs.declared.placed.PlacedLine.{PlacedLine}
 use Rattle.m11_passes.specs.declared.turns.Turn.{Turn}
-use Rattle.m11_passes.specs.declared.turns.Turn.TheVariants.{NeedLine, End, Placed}
+use Rattle.m11_passes.specs.declared.turns.Turn.TheVariants.{NeedLine, End, Line}
 
 -- ---- one line more
 
@@ -122,22 +123,21 @@ module _ (map_ : Map) (before : Gathered) where
       fails_so (Unfold inner) fails = exceeds (Unfold inner) fails
       fails_so NoMemory fails = tt
 
-    places : (new : Going) (placed : PlacedLine) → PlacesNext map_ old new placed → PlacesLine map_ before source all new placed
-    places new placed next =
-        let live = live_in placed in
+    places : (new : Going) (live : Live) (said : Said) → PlacesNext map_ old new live said → PlacesLine map_ before source all new live said
+    places new live said next =
         let one = given_by (table_at map_ all) live next.stage in
-        let here : PlacesAfter map_ (table_at map_ all) live next.stage old new placed = next.places (table_at map_ all) stands.matches in
+        let here : PlacesAfter map_ (table_at map_ all) live next.stage old new said = next.places (table_at map_ all) stands.matches in
         let P : Stage → Type 0 = λ s. PassLines map_ before.names source (all ++ numbered (length source) one ∷ []) s in
         let Q : Table → Type 0 = λ t. Matches new.kept t in
         record {
           stage = next.stage;
           stands = record {
-            lines_are = subst P (sym here.stage_is) (placing live next.stage next.comes here.fits);
-            matches = subst Q (sym (table_more all (numbered (length source) one))) here.matches;
-            gathered = here.gathered ∙ ap (with_all (mentions (table_at map_ all) one)) stands.gathered
+            lines_are = subst P (sym here.leaves.stage_is) (placing live next.stage next.comes here.leaves.fits);
+            matches = subst Q (sym (table_more all (numbered (length source) one))) here.leaves.matches;
+            gathered = here.leaves.gathered ∙ ap (with_all (mentions (table_at map_ all) one)) stands.gathered
                 ∙ sym (all_more all (numbered (length source) one));
           };
-          placed_so = here.placed_so;
+          is_said = here.is_said;
         }
 
     before_line : (fault : UnfoldFault) → Stops old.unfolder.stage fault → Refused map_ before.names source all (of_unfolding fault)
@@ -157,16 +157,30 @@ module _ (map_ : Map) (before : Gathered) where
     refused fault (turning.FailsAt.AtLine live stage comes fails) =
         fails_so live stage comes fault (fails (table_at map_ all) stands.matches)
 
-    turned : (new : Going) (placed : PlacedLine) (result : Result Turn PassFault) → Turns map_ old new placed result
-        → Reaches map_ before source all new placed result
-    turned new placed (Ok NeedLine) (stepped, unplaced) =
+    turned : (new : Going) (live : Live) (said : Said) (result : Result Turn PassFault) → Turns map_ old new live said result
+        → Reaches map_ before source all new live said result
+    turned new live said (Ok NeedLine) (stepped, unplaced) =
         (rests new unplaced (passing new.unfolder.stage stepped.0), stepped.1, stepped.2)
-    turned new placed (Ok End) (stepped, unplaced) = (rests new unplaced (passing new.unfolder.stage stepped.0), stepped.1)
-    turned new placed (Ok Placed) next = places new placed next
-    turned new placed (Err fault) fails = refused fault fails
+    turned new live said (Ok End) (stepped, unplaced) = (rests new unplaced (passing new.unfolder.stage stepped.0), stepped.1)
+    turned new live said (Ok Line) next = places new live said next
+    turned new live said (Err fault) fails = refused fault fails
 
-pub turns : (map_ : Map) (before : Gathered) (source : List SourceLine) (all : List Numbered) (old new : Going)
-    (placed : PlacedLine) (result : Result Turn PassFault) → PassStands map_ before source all old → Turns map_ old new placed result
-    → Reaches map_ before source all new placed result
-turns map_ before source all old new placed result stands turned_so =
-    turned map_ before source all old stands new placed result turned_so
+turns : (map_ : Map) (before : Gathered) (source : List SourceLine) (all : List Numbered) (old new : Going)
+    (live : Live) (said : Said) (result : Result Turn PassFault) → PassStands map_ before source all old
+    → Turns map_ old new live said result → Reaches map_ before source all new live said result
+turns map_ before source all old new live said result stands turned_so =
+    turned map_ before source all old stands new live said result turned_so
+
+pub next_turns : (map_ : Map) (before : Gathered) (source : List SourceLine) (all : List Numbered) (old new : Going)
+    (placed : PlacedLine) (result : Result Turn PassFault) → PassStands map_ before source all old
+    → Turns map_ old new (live_in placed.live) (SaysPlaced map_ placed new.put) result
+    → Reaches map_ before source all new (live_in placed.live) (SaysPlaced map_ placed new.put) result
+next_turns map_ before source all old new placed result stands turned_so =
+    turns map_ before source all old new (live_in placed.live) (SaysPlaced map_ placed new.put) result stands turned_so
+
+pub define_turns : (before : Gathered) (source : List SourceLine) (all : List Numbered) (old new : Going)
+    (live : LiveLine) (result : Result Turn PassFault) → PassStands empty_map before source all old
+    → Turns empty_map old new (live_in live) (SaysLive live) result
+    → Reaches empty_map before source all new (live_in live) (SaysLive live) result
+define_turns before source all old new live result stands turned_so =
+    turns empty_map before source all old new (live_in live) (SaysLive live) result stands turned_so

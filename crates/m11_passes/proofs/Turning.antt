@@ -22,13 +22,11 @@ use Rattle.m11_placing.specs.declared.fault.PlacingFault.TheVariants as limit
 use Rattle.m11_passes.proofs.Counting.{leads_takes}
 use Rattle.m11_passes.specs.Bounds.{HasRoom, IsSound}
 use Rattle.m11_passes.specs.Faults.{Fails, Refuses, of_placing, of_unfolding}
-use Rattle.m11_passes.specs.Placed.{live_in}
 use Rattle.m11_passes.specs.Refusals.{given_by, line_fault}
 use Rattle.m11_passes.specs.States.{Going}
-use Rattle.m11_passes.specs.Turns.{FailsAt, Places, PlacesAfter, PlacesNext, Turns}
+use Rattle.m11_passes.specs.Turns.{FailsAt, Places, PlacesAfter, PlacesNext, Said, Turns}
 use Rattle.m11_passes.specs.Turns as turning
 use Rattle.m11_passes.specs.declared.fault.PassFault.{PassFault}
-use Rattle.m11_passes.specs.declared.placed.PlacedLine.{PlacedLine}
 use Rattle.m11_passes.specs.declared.turns.Turn.{Turn}
 
 -- a fault that is handed on as another one
@@ -139,38 +137,39 @@ taken_ends before after line next is stepped =
 
 -- ---- turns
 
-module _ (map_ : Map) (old new : Going) where
-  pub unfolding_fails : (fault : UnfoldFault) (placed : PlacedLine) (result : Result Turn PassFault) → Stops old.unfolder.stage fault
-      → IsErrAnd result (λ f. f ≡ of_unfolding fault) → Turns map_ old new placed result
-  unfolding_fails fault placed (Ok turn) stops is = absurd is
-  unfolding_fails fault placed (Err other) stops is = turning.FailsAt.BeforeLine fault is stops
+module _ (map_ : Map) (old new : Going) (said : Said) where
+  pub unfolding_fails : (fault : UnfoldFault) (live : Live) (result : Result Turn PassFault) → Stops old.unfolder.stage fault
+      → IsErrAnd result (λ f. f ≡ of_unfolding fault) → Turns map_ old new live said result
+  unfolding_fails fault live (Ok turn) stops is = absurd is
+  unfolding_fails fault live (Err other) stops is = turning.FailsAt.BeforeLine fault is stops
 
-  pub line_fails : (live : Live) (stage : Stage) (fault : PassFault) (placed : PlacedLine) (result : Result Turn PassFault)
+  pub line_fails : (live here : Live) (stage : Stage) (fault : PassFault) (result : Result Turn PassFault)
       → Comes old.unfolder.stage live stage
       → ((table : Table) → Matches old.kept table → Fails (line_fault map_ table old.gathered.names live stage) fault)
-      → IsErrAnd result (λ f. f ≡ fault) → Turns map_ old new placed result
-  line_fails live stage fault placed (Ok turn) comes fails is = absurd is
-  line_fails live stage fault placed (Err other) comes fails is =
+      → IsErrAnd result (λ f. f ≡ fault) → Turns map_ old new here said result
+  line_fails live here stage fault (Ok turn) comes fails is = absurd is
+  line_fails live here stage fault (Err other) comes fails is =
       let P : PassFault → Type 0 = λ f. FailsAt map_ old f in
       subst P (sym is) (turning.FailsAt.AtLine live stage comes fails)
 
-  pub line_places : (middle : Going) (live : Live) (stage : Stage) (placed : PlacedLine) → live_in placed ≡ live
+  pub line_places : (middle : Going) (live here : Live) (stage : Stage) → here ≡ live
       → middle.kept ≡ old.kept → middle.gathered ≡ old.gathered
-      → Comes old.unfolder.stage live stage → Places map_ live stage middle new placed (Ok tt) → PlacesNext map_ old new placed
-  line_places middle live stage placed same kept gathered comes places =
-      let C : Live → Type 0 = λ l. Comes old.unfolder.stage l stage in
-      record {
+      → Comes old.unfolder.stage live stage → Places map_ live stage middle new said (Ok tt) → PlacesNext map_ old new here said
+  line_places middle live here stage same kept gathered comes places =
+      let L : Live → Type 0 = λ l. PlacesNext map_ old new l said in
+      subst L (sym same) (record {
         stage = stage;
-        comes = subst C (sym same) comes;
+        comes = comes;
         places = λ table matches.
             let K : Kept → Type 0 = λ k. Matches k table in
-            let here : PlacesAfter map_ table live stage middle new placed = places table (subst K (sym kept) matches) in
-            let L : Live → Type 0 = λ l. PlacesAfter map_ table l stage old new placed in
-            subst L (sym same) (record {
-              fits = ap (λ (g : Gathered). line_fault map_ table g.names live stage) (sym gathered) ∙ here.fits;
-              stage_is = here.stage_is;
-              matches = here.matches;
-              gathered = here.gathered ∙ ap (with_all (mentions table (given_by table live stage))) gathered;
-              placed_so = here.placed_so;
-            });
-      }
+            let after : PlacesAfter map_ table live stage middle new said = places table (subst K (sym kept) matches) in
+            record {
+              leaves = record {
+                fits = ap (λ (g : Gathered). line_fault map_ table g.names live stage) (sym gathered) ∙ after.leaves.fits;
+                stage_is = after.leaves.stage_is;
+                matches = after.leaves.matches;
+                gathered = after.leaves.gathered ∙ ap (with_all (mentions table (given_by table live stage))) gathered;
+              };
+              is_said = after.is_said;
+            };
+      })

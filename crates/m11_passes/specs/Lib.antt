@@ -1,3 +1,4 @@
+pub mod Begun
 pub mod Bounds
 pub mod Faults
 pub mod Labelled

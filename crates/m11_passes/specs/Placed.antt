@@ -13,10 +13,16 @@ use Rattle.m11_placement.specs.Meanings.{Map}
 use Rattle.m11_placement.specs.Tables.{Table, place}
 use Rattle.m11_placing.specs.Deeds.{deed_seen}
 use Rattle.m11_placing.specs.Moved.{moved_letters}
+use Rattle.m11_passes.specs.declared.placed.LiveLine.{LiveLine}
 use Rattle.m11_passes.specs.declared.placed.PlacedLine.{PlacedLine}
 
-abbrev pub live_in : PlacedLine → Live
-live_in placed = record { line = placed.line; is_expanded = placed.is_expanded }
+abbrev pub live_in : LiveLine → Live
+live_in live = record { line = live.line; is_expanded = live.is_expanded }
+
+-- it is this line, and this is what stands after its labels
+pub record IsLive (given : Given) (live : LiveLine) : Type 0 where
+  pub live_is : live_in live ≡ given.live
+  pub deed_is : deed_seen live.deed ≡ deed given.is_own given.live.line.text
 
 -- the letters of a line, and P where a label of it has another place than the map says
 abbrev pub all_letters : Map → Table → Given → ℕ
@@ -25,8 +31,7 @@ all_letters map table given =
 
 -- it is this line after a table, and this is what it put
 pub record IsPlaced (map : Map) (table : Table) (given : Given) (placed : PlacedLine) (put : Put) : Type 0 where
-  pub live_is : live_in placed ≡ given.live
-  pub deed_is : deed_seen placed.deed ≡ deed given.is_own given.live.line.text
+  pub is_live : IsLive given placed.live
   pub letters_are : bits_of placed.letters ≡ all_letters map table given
   pub section_is : placed.section ≡ section_name (stands table given)
   pub place_is : placed.place ≡ put_place (stands table given) (deed given.is_own given.live.line.text)

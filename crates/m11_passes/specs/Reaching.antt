@@ -10,14 +10,13 @@ use Rattle.m11_placement.specs.Meanings.{Map}
 use Rattle.m11_placing.specs.Mentioned.{Gathered}
 use Rattle.m11_passes.specs.Faults.{of_unfolding}
 use Rattle.m11_passes.specs.Lines.{Numbered, PassLines, names_at, numbered, table_at}
-use Rattle.m11_passes.specs.Placed.{IsPlaced, live_in}
 use Rattle.m11_passes.specs.Refusals.{given_by, line_fault}
 use Rattle.m11_passes.specs.States.{Going, PassStands}
+use Rattle.m11_passes.specs.Turns.{Said}
 use Rattle.m11_passes.specs.declared.fault.PassFault.{PassFault}
 use Rattle.m11_passes.specs.declared.fault.PassFault.TheVariants.{NoMemory}
-use Rattle.m11_passes.specs.declared.placed.PlacedLine.{PlacedLine}
 use Rattle.m11_passes.specs.declared.turns.Turn.{Turn}
-use Rattle.m11_passes.specs.declared.turns.Turn.TheVariants.{NeedLine, End, Placed}
+use Rattle.m11_passes.specs.declared.turns.Turn.TheVariants.{NeedLine, End, Line}
 
 -- after these live lines of a source its unfolding passes a limit before the next one, or the next one passes a limit
 pub data Exceeds (map : Map) (names : List Name) (source : List SourceLine) (lines : List Numbered) (fault : PassFault) : Type 0 where
@@ -32,17 +31,17 @@ abbrev pub Refused : Map → List Name → List SourceLine → List Numbered →
 Refused map names source lines NoMemory = Unit {0}
 Refused map names source lines fault = Exceeds map names source lines fault
 
--- the next live line of a source is placed
+-- the next live line of a source is placed, and this is said of it
 pub record PlacesLine (map : Map) (before : Gathered) (source : List SourceLine) (lines : List Numbered) (new : Going)
-    (placed : PlacedLine) : Type 0 where
+    (live : Live) (said : Said) : Type 0 where
   pub stage : Stage
   pub stands : PassStands map before source
-      (lines ++ numbered (length source) (given_by (table_at map lines) (live_in placed) stage) ∷ []) new
-  pub placed_so : IsPlaced map (table_at map lines) (given_by (table_at map lines) (live_in placed) stage) placed new.put
+      (lines ++ numbered (length source) (given_by (table_at map lines) live stage) ∷ []) new
+  pub is_said : said (table_at map lines) (given_by (table_at map lines) live stage)
 
-abbrev pub Reaches : Map → Gathered → List SourceLine → List Numbered → Going → PlacedLine → Result Turn PassFault → Type 0
-Reaches map before source lines new placed (Ok NeedLine) =
+abbrev pub Reaches : Map → Gathered → List SourceLine → List Numbered → Going → Live → Said → Result Turn PassFault → Type 0
+Reaches map before source lines new live said (Ok NeedLine) =
     PassStands map before source lines new × (new.unfolder.stage.left ≡ []) × (new.unfolder.stage.has_ended ≡ false)
-Reaches map before source lines new placed (Ok End) = PassStands map before source lines new × (new.unfolder.stage.has_ended ≡ true)
-Reaches map before source lines new placed (Ok Placed) = PlacesLine map before source lines new placed
-Reaches map before source lines new placed (Err fault) = Refused map before.names source lines fault
+Reaches map before source lines new live said (Ok End) = PassStands map before source lines new × (new.unfolder.stage.has_ended ≡ true)
+Reaches map before source lines new live said (Ok Line) = PlacesLine map before source lines new live said
+Reaches map before source lines new live said (Err fault) = Refused map before.names source lines fault

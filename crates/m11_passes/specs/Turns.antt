@@ -5,7 +5,9 @@ use Rattle.m11_unfold.specs.declared.steps.Step.TheVariants as step
 use Rattle.m11_unfolding.specs.Limits.{most_lines}
 use Rattle.m11_unfolding.specs.Stages.{Stage}
 use Rattle.m11_unfolding.specs.Taking.{Live}
+use Rattle.m11_unfolding.specs.Unfolding.{Given}
 use Rattle.m11_unfolding.specs.declared.fault.UnfoldFault.{UnfoldFault}
+use Rattle.m11_placement.specs.Contents.{Put}
 use Rattle.m11_placement.specs.Lines.{after_line}
 use Rattle.m11_placement.specs.Meanings.{Map}
 use Rattle.m11_placement.specs.Mentions.{mentions}
@@ -14,27 +16,42 @@ use Rattle.m11_placing.specs.Mentioned.{with_all}
 use Rattle.m11_placing.specs.Passes.{Matches}
 use Rattle.m11_passes.specs.Faults.{Fails, of_unfolding}
 use Rattle.m11_passes.specs.Lines.{acted}
-use Rattle.m11_passes.specs.Placed.{IsPlaced, live_in}
+use Rattle.m11_passes.specs.Placed.{IsLive, IsPlaced}
 use Rattle.m11_passes.specs.Refusals.{given_by, line_fault}
 use Rattle.m11_passes.specs.States.{Going}
 use Rattle.m11_passes.specs.declared.fault.PassFault.{PassFault}
+use Rattle.m11_passes.specs.declared.placed.LiveLine.{LiveLine}
 use Rattle.m11_passes.specs.declared.placed.PlacedLine.{PlacedLine}
 use Rattle.m11_passes.specs.declared.turns.Turn.{Turn}
-use Rattle.m11_passes.specs.declared.turns.Turn.TheVariants.{NeedLine, End, Placed}
+use Rattle.m11_passes.specs.declared.turns.Turn.TheVariants.{NeedLine, End, Line}
 
--- a line that became live, up to a stage, is placed after a table
-pub record PlacesAfter (map : Map) (table : Table) (live : Live) (stage : Stage) (old new : Going) (placed : PlacedLine) : Type 0 where
+-- a line that became live, up to a stage, passes no limit, and the pass stands after it
+pub record LeavesAfter (map : Map) (table : Table) (live : Live) (stage : Stage) (old new : Going) : Type 0 where
   pub fits : line_fault map table old.gathered.names live stage ≡ None
   pub stage_is : new.unfolder.stage ≡ acted table live stage
   pub matches : Matches new.kept (after_line map table (given_by table live stage))
   pub gathered : new.gathered ≡ with_all (mentions table (given_by table live stage)) old.gathered
-  pub placed_so : IsPlaced map table (given_by table live stage) placed new.put
+
+-- what a call says of a line, by the table before it: that it is placed so, or what stands after its labels alone
+abbrev pub Said : Type 1
+Said = Table → Given → Type 0
+
+abbrev pub SaysPlaced : Map → PlacedLine → Put → Said
+SaysPlaced map placed put = λ table given. IsPlaced map table given placed put
+
+abbrev pub SaysLive : LiveLine → Said
+SaysLive live = λ table given. IsLive given live
+
+-- it is placed after a table, and this is said of it
+pub record PlacesAfter (map : Map) (table : Table) (live : Live) (stage : Stage) (old new : Going) (said : Said) : Type 0 where
+  pub leaves : LeavesAfter map table live stage old new
+  pub is_said : said table (given_by table live stage)
 
 -- whatever table it is of which the pass keeps what counts; or the line passes a limit
-abbrev pub Places : Map → Live → Stage → Going → Going → PlacedLine → Result (Unit {0}) PassFault → Type 0
-Places map live stage old new placed (Ok _) =
-    (table : Table) → Matches old.kept table → PlacesAfter map table live stage old new placed
-Places map live stage old new placed (Err fault) =
+abbrev pub Places : Map → Live → Stage → Going → Going → Said → Result (Unit {0}) PassFault → Type 0
+Places map live stage old new said (Ok _) =
+    (table : Table) → Matches old.kept table → PlacesAfter map table live stage old new said
+Places map live stage old new said (Err fault) =
     (table : Table) → Matches old.kept table → Fails (line_fault map table old.gathered.names live stage) fault
 
 -- nothing is placed
@@ -43,10 +60,10 @@ pub record IsUnplaced (old new : Going) : Type 0 where
   pub gathered : new.gathered ≡ old.gathered
 
 -- a line becomes live, and is placed
-pub record PlacesNext (map : Map) (old new : Going) (placed : PlacedLine) : Type 0 where
+pub record PlacesNext (map : Map) (old new : Going) (live : Live) (said : Said) : Type 0 where
   pub stage : Stage
-  pub comes : Comes old.unfolder.stage (live_in placed) stage
-  pub places : Places map (live_in placed) stage old new placed (Ok tt)
+  pub comes : Comes old.unfolder.stage live stage
+  pub places : Places map live stage old new said (Ok tt)
 
 -- a limit is passed before a line becomes live, or at one that becomes live
 pub data FailsAt (map : Map) (old : Going) (fault : PassFault) : Type 0 where
@@ -55,24 +72,24 @@ pub data FailsAt (map : Map) (old : Going) (fault : PassFault) : Type 0 where
       → ((table : Table) → Matches old.kept table → Fails (line_fault map table old.gathered.names live stage) fault)
       → FailsAt map old fault
 
--- from one placed line to the next, which stands where the call places it, or to the end of what is left
-abbrev pub Turns : Map → Going → Going → PlacedLine → Result Turn PassFault → Type 0
-Turns map old new placed (Ok NeedLine) =
-    Steps old.unfolder.stage new.unfolder.stage placed.line (Ok step.NeedLine) × IsUnplaced old new
-Turns map old new placed (Ok End) = Steps old.unfolder.stage new.unfolder.stage placed.line (Ok step.End) × IsUnplaced old new
-Turns map old new placed (Ok Placed) = PlacesNext map old new placed
-Turns map old new placed (Err fault) = FailsAt map old fault
+-- from one live line to the next, which stands where the call puts it, or to the end of what is left
+abbrev pub Turns : Map → Going → Going → Live → Said → Result Turn PassFault → Type 0
+Turns map old new live said (Ok NeedLine) =
+    Steps old.unfolder.stage new.unfolder.stage live.line (Ok step.NeedLine) × IsUnplaced old new
+Turns map old new live said (Ok End) = Steps old.unfolder.stage new.unfolder.stage live.line (Ok step.End) × IsUnplaced old new
+Turns map old new live said (Ok Line) = PlacesNext map old new live said
+Turns map old new live said (Err fault) = FailsAt map old fault
 
 -- a line is needed only where nothing is left
 abbrev pub IsEmpty : Stage → Result Turn PassFault → Type 0
 IsEmpty after (Ok NeedLine) = after.left ≡ []
 IsEmpty after (Ok End) = Unit {0}
-IsEmpty after (Ok Placed) = Unit {0}
+IsEmpty after (Ok Line) = Unit {0}
 IsEmpty after (Err fault) = Unit {0}
 
--- and at a placed line more lines were taken than before, within the limit
+-- and at a live line more lines were taken than before, within the limit
 abbrev pub IsNext : ℕ → Stage → Result Turn PassFault → Type 0
 IsNext taken after (Ok NeedLine) = after.left ≡ []
 IsNext taken after (Ok End) = Unit {0}
-IsNext taken after (Ok Placed) = (taken < after.taken) × (after.taken ≤ most_lines)
+IsNext taken after (Ok Line) = (taken < after.taken) × (after.taken ≤ most_lines)
 IsNext taken after (Err fault) = Unit {0}

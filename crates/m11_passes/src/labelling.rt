@@ -1,6 +1,6 @@
 //! The labels of a live line. (MACRO-11 Language Reference Manual, "Label field" and "Local symbols".)
 
-ghost use Rattle.std.specs.Prelude.{◌≡◌, ◌<◌, ◌+◌, ◌^◌, IfOk, IfErr, length};
+ghost use Rattle.std.specs.Prelude.{◌≡◌, ◌<◌, ◌≤◌, ◌+◌, ◌^◌, [], IfOk, IfErr, length};
 ghost use Rattle.m11_placement.specs.Labels.{labels_stand};
 ghost use Rattle.m11_placement.specs.Tables.{Table as LineTable};
 ghost use Rattle.m11_placing.specs.Mentioned.{with_all};
@@ -15,11 +15,38 @@ ghost use Rattle.m11_passes.specs.Refusals.{labels_fault, mentions_of_labels};
 use crate::fault::PassFault;
 use m11_placing::{LabelLetters, Mentioned, Pass};
 use m11_scan::Line;
-use m11_statements::Label;
+use m11_statements::{Label, labels_of};
 use m11_table::Map;
 
-// Defines the labels of a line, and notes their names.
+// Defines the labels of a line, by the place after the last one, and notes their names.
 pub(crate) fn define_labels(
+    pass: &mut Pass,
+    mentioned: &mut Mentioned,
+    map: &Map<'_>,
+    line: &Line,
+    labels_end: u8,
+) -> Result<LabelLetters, PassFault>
+    requires unlabelled { labels_end ≡ 0 → labels_at line.now.text ≡ [] }
+    requires blocks { pass.old.table.settings.block + 66 < 2 ^ 64 }
+    requires few { IsFew pass.old mentioned.old }
+    ensures stand { IfOk result (λ letters. Labels map.now mentioned.old.names line.now.text pass.old pass.new letters) }
+    ensures mentions { IfOk result (λ _. mentioned.new ≡ with_all (mentions_of_labels line.now.text) mentioned.old) }
+    ensures tables { IfOk result (λ _. tables.Follows pass.old.table pass.new.table (λ before. labels_stand before line.now.text)) }
+    ensures few { IfOk result (λ _. IsFew pass.new mentioned.new) }
+    ensures refuses { IfErr result (λ fault. (before : LineTable) → Matches pass.old before
+        → Fails (labels_fault mentioned.old.names before line.now.text) fault) }
+    ensures fits { length (labels_at line.now.text) ≤ 66 }
+{
+    // most lines have none, and a list with room for as many as a line may have takes time to make
+    if labels_end == 0 {
+        return define_all(pass, mentioned, map, line, &[]);
+    }
+    let labels = labels_of(line);
+    define_all(pass, mentioned, map, line, labels.as_slice())
+}
+
+// Defines these labels of a line, which are all that it has.
+fn define_all(
     pass: &mut Pass,
     mentioned: &mut Mentioned,
     map: &Map<'_>,

@@ -3,6 +3,7 @@
 //! program format", "Symbols and expressions" and "Macro directives".)
 #![tactic(auto)]
 
+mod begun;
 mod fault;
 mod labelling;
 mod laws;
@@ -14,6 +15,6 @@ mod turns;
 
 pub use fault::PassFault;
 pub use laws::the_calls_place_the_lines_of_a_source;
-pub use placed::PlacedLine;
+pub use placed::{LiveLine, PlacedLine};
 pub use source_pass::SourcePass;
 pub use turns::Turn;

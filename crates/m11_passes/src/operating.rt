@@ -3,12 +3,13 @@
 ghost use Rattle.std.specs.Prelude.{◌≡◌, ◌<◌, ◌≤◌, ◌+◌, ◌^◌, IfOk, IfErr, IsTrue, length, map};
 ghost use Rattle.std.specs.Option.{option_to_list};
 ghost use Rattle.m11_placement.specs.Changes.{changed};
+ghost use Rattle.m11_fields.specs.Reads.{fields_seen};
 ghost use Rattle.m11_placement.specs.Items.{deed_items, is_shown};
 ghost use Rattle.m11_placement.specs.Limits.{most_names, most_sections};
 ghost use Rattle.m11_placement.specs.Lines.{put_by, put_place, section_name};
 ghost use Rattle.m11_placement.specs.Tables.{Table as LineTable, place};
-ghost use Rattle.m11_placing.specs.Deeds.{IsWithin, deed_seen, is_listed};
-ghost use Rattle.m11_placement.specs.Mentions.{deed_mentions, mention};
+ghost use Rattle.m11_placing.specs.Deeds.{IsWithin, deed_fields, deed_seen, is_listed};
+ghost use Rattle.m11_placement.specs.Mentions.{mention};
 ghost use Rattle.m11_placement.specs.declared.meanings.Context.TheVariants.{Knows};
 ghost use Rattle.m11_placing.specs.Mentioned.{Adds, with_all};
 ghost use Rattle.m11_placing.specs.Passes.{Follows, Matches};
@@ -20,7 +21,7 @@ use crate::fault::PassFault;
 use m11_arguments::Notes;
 use m11_base::Name;
 use m11_contents::Put;
-use m11_fields::is_even;
+use m11_fields::{Fields, is_even};
 use m11_listing::Item;
 use m11_operators::place_for;
 use m11_placement::Context;
@@ -36,14 +37,17 @@ pub(crate) fn put_line(
     line: &Line,
     arguments: Option<u16>,
     deed: &Deed,
+    fields: &Fields,
 ) -> Result<(), PassFault>
     requires within { IsWithin (length line.now.text) deed.now }
     requires listed { IsTrue (is_listed deed.now) }
+    requires fields { fields_seen fields.now ≡ deed_fields pass.now.table line.now.text deed.now }
+    requires ends { fields.now.end ≤ length line.now.text }
     ensures puts { IfOk result (λ _. put.new ≡ put_by map.now pass.now.table line.now.text arguments (deed_seen deed.now)) }
     ensures refuses { IfErr result (λ fault. Refuses fault ⊥ ⊥) }
 {
     put.clear();
-    put_deed(put, map, pass.table(), line, arguments, deed)?;
+    put_deed(put, map, pass.table(), line, arguments, deed, fields)?;
     Ok(())
 }
 
@@ -54,38 +58,26 @@ fn mention_read(mentioned: &mut Mentioned, notes: &Notes) -> Result<(), PlacingF
     mentioned.add_all(notes.symbols(), Context::Knows)
 }
 
-// What stands after the labels of a line mentions.
-fn mention_deed(
-    mentioned: &mut Mentioned,
-    pass: &Pass,
-    line: &Line,
-    arguments: Option<u16>,
-    deed: &Deed,
-) -> Result<(), PlacingFault>
-    requires { IsWithin (length line.now.text) deed.now }
-    ensures { Adds (deed_mentions pass.now.table line.now.text arguments (deed_seen deed.now)) mentioned.old mentioned.new result }
-{
-    mentioned.add_deed(pass.table(), line, arguments, deed)
-}
-
-// The symbols that unfolding read, and those that the operator mentions.
+// The symbols that unfolding read, and those that the operator mentions, with the fields that it has by a table.
 pub(crate) fn mention_line(
     mentioned: &mut Mentioned,
-    pass: &Pass,
     line: &Line,
     notes: &Notes,
     arguments: Option<u16>,
     deed: &Deed,
+    fields: &Fields,
 ) -> Result<(), PassFault>
     requires within { IsWithin (length line.now.text) deed.now }
-    ensures mentions { IfOk result (λ _. mentioned.new
-        ≡ with_all (mentions_after pass.now.table line.now.text notes.now arguments (deed_seen deed.now)) mentioned.old) }
-    ensures few { IfOk result (λ _. length mentioned.old.names ≤ most_names → length mentioned.new.names ≤ most_names) }
-    ensures refuses { IfErr result (λ fault. Refuses fault (most_names < length
-        (with_all (mentions_after pass.now.table line.now.text notes.now arguments (deed_seen deed.now)) mentioned.old).names) ⊥) }
+    ensures mentions { (table : LineTable) → fields_seen fields.now ≡ deed_fields table line.now.text deed.now → IfOk result
+        (λ _. mentioned.new ≡ with_all (mentions_after table line.now.text notes.now arguments (deed_seen deed.now)) mentioned.old) }
+    ensures few { (table : LineTable) → fields_seen fields.now ≡ deed_fields table line.now.text deed.now → IfOk result
+        (λ _. length mentioned.old.names ≤ most_names → length mentioned.new.names ≤ most_names) }
+    ensures refuses { (table : LineTable) → fields_seen fields.now ≡ deed_fields table line.now.text deed.now → IfErr result
+        (λ fault. Refuses fault (most_names < length
+        (with_all (mentions_after table line.now.text notes.now arguments (deed_seen deed.now)) mentioned.old).names) ⊥) }
 {
     mention_read(mentioned, notes)?;
-    mention_deed(mentioned, pass, line, arguments, deed)?;
+    mentioned.add_deed(line, arguments, deed, fields)?;
     Ok(())
 }
 
@@ -96,8 +88,10 @@ pub(crate) fn change_line(
     line: &Line,
     arguments: Option<u16>,
     deed: &Deed,
+    fields: &Fields,
 ) -> Result<Option<Item>, PassFault>
     requires within { IsWithin (length line.now.text) deed.now }
+    requires fields { fields_seen fields.now ≡ deed_fields pass.old.table line.now.text deed.now }
     requires listed { pass.old.table.settings.listed + 1 < 2 ^ 64 }
     requires unlisted { pass.old.table.settings.unlisted + 1 < 2 ^ 64 }
     requires block { pass.old.table.settings.block + 1 < 2 ^ 64 }
@@ -114,7 +108,7 @@ pub(crate) fn change_line(
     ensures refuses { IfErr result (λ fault. (before : LineTable) → Matches pass.old before → Refuses fault ⊥ (most_sections < length
         (changed map.now line.now.text (change_after pass.old.table line.now.text arguments (deed_seen deed.now)) before).sections)) }
 {
-    let change = deed_change(pass.table(), line, arguments, deed);
+    let change = deed_change(pass.table(), line, arguments, deed, fields);
     let assigned = assigned_item(map, pass.table(), line, &change, deed);
     pass.take(map, line, &change)?;
     Ok(assigned)

@@ -8,16 +8,36 @@ use m11_listing::Item;
 use m11_placing::Deed;
 use m11_scan::{Letters, Line};
 
-/// A live line as a pass places it. What it puts is kept by the pass. One stands where its lines are placed, one after the other, since
-/// moving a line takes longer than reading it.
+/// A live line, and what stands after its labels. One stands where the lines of a pass are put, one after the other, since moving a line
+/// takes longer than reading it.
 #[derive(Drop)]
-pub struct PlacedLine {
+pub struct LiveLine {
     /// The line, with actuals put in.
     pub line: Line,
     /// Whether an expansion gave it.
     pub is_expanded: bool,
     /// What stands after its labels.
     pub deed: Deed,
+}
+
+impl LiveLine {
+    /// Room for the live lines of a pass.
+    pub fn new() -> LiveLine
+        ensures { result.line ≡ no_line }
+    {
+        LiveLine {
+            line: Line::new(),
+            is_expanded: false,
+            deed: Deed::Rests,
+        }
+    }
+}
+
+/// A live line as a pass places it. What it puts is kept by the pass.
+#[derive(Drop)]
+pub struct PlacedLine {
+    /// The line, and what stands after its labels.
+    pub live: LiveLine,
     /// Its letters, with P where a label of it has another place than the map says.
     pub letters: Letters,
     /// The section that it stands in.
@@ -33,14 +53,12 @@ pub struct PlacedLine {
 }
 
 impl PlacedLine {
-    // Room for a line, in a section.
+    // Room for the lines of a pass, in a section.
     pub(crate) fn new(section: Name) -> PlacedLine
-        ensures { result.line ≡ no_line }
+        ensures { result.live.line ≡ no_line }
     {
         PlacedLine {
-            line: Line::new(),
-            is_expanded: false,
-            deed: Deed::Rests,
+            live: LiveLine::new(),
             letters: Letters::none(),
             section,
             place: 0,

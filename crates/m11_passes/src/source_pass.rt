@@ -6,13 +6,14 @@ ghost use Rattle.m11_lines.specs.Line.{no_line};
 ghost use Rattle.m11_placement.specs.Limits.{most_names, most_sections};
 ghost use Rattle.m11_placing.specs.Passes.{size_at};
 ghost use Rattle.m11_unfolding.specs.Stages.{start};
+ghost use Rattle.m11_passes.specs.Placed.{live_in};
 ghost use Rattle.m11_passes.specs.States.{PassStands, fed};
-ghost use Rattle.m11_passes.specs.Turns.{IsEmpty, IsNext, Turns};
-ghost use Rattle.m11_placement.specs.Meanings.{Map as Meanings};
+ghost use Rattle.m11_passes.specs.Turns.{IsEmpty, IsNext, SaysLive, SaysPlaced, Turns};
+ghost use Rattle.m11_placement.specs.Meanings.{Map as Meanings, empty_map};
 
 use crate::fault::PassFault;
 use crate::operating::section_name;
-use crate::placed::PlacedLine;
+use crate::placed::{LiveLine, PlacedLine};
 use crate::state::State;
 use crate::turns::Turn;
 use m11_base::Latch;
@@ -23,7 +24,7 @@ use m11_table::{Map, Table};
 use std::alloc::{AllocError, Global};
 use std::marker::Model;
 
-/// One pass over a source: lines are fed in order, and `next` gives each live line as it is placed. It keeps at most 4,096 names besides
+/// One pass over a source: lines are fed in order, and `next` gives each live line as it is placed, or `define` gives it with what it defines alone. It keeps at most 4,096 names besides
 /// those of the registers, 16,384 local symbols, 64 sections, and what an unfolder keeps. After a fault each call returns it again.
 #[derive(Drop)]
 pub struct SourcePass {
@@ -67,19 +68,19 @@ impl SourcePass {
     }
 
     /// Room for the lines that this pass places: a line without a character.
-    pub fn placed_line(&self) -> PlacedLine
-        ensures { result.line ≡ no_line }
+    pub fn room_for_line(&self) -> PlacedLine
+        ensures { result.live.line ≡ no_line }
     {
         PlacedLine::new(section_name(&self.state.pass))
     }
 
-    /// What comes next, under what the whole source gives its names: nothing in a first pass. A line that becomes live is placed in
-    /// `placed`.
+    /// What comes next, under what the whole source gives its names. A line that becomes live is placed in `placed`.
     ///
     /// Errors: `Unfold` where a limit of unfolding is passed, `TooManySymbols`, `TooManySections`, the first one in the order of the lines,
     /// and within a line in that of labels, operator and arguments; and `NoMemory`.
     pub fn next(&mut self, map: &Map<'_>, placed: &mut PlacedLine) -> Result<Turn, PassFault>
-        ensures turns { self.old.fault ≡ None → Turns map.now self.old.going self.new.going placed.new result }
+        ensures turns { self.old.fault ≡ None → Turns map.now self.old.going self.new.going (live_in placed.new.live)
+            (SaysPlaced map.now placed.new self.new.going.put) result }
         ensures again { (fault : PassFault) → self.old.fault ≡ Some fault → result ≡ Err fault }
         ensures fault { self.new.fault ≡ result_err result }
         ensures empty { IsEmpty self.new.going.unfolder.stage result }
@@ -87,6 +88,21 @@ impl SourcePass {
     {
         self.fault.check()?;
         let turn = self.state.next(map, placed);
+        self.fault.keep(turn)
+    }
+
+    /// What comes next in a first pass, where the whole source has given its names nothing. A line that becomes live stands in `live`, and
+    /// what it puts is not asked for. Errors as those of `next`.
+    pub fn define(&mut self, live: &mut LiveLine) -> Result<Turn, PassFault>
+        ensures turns { self.old.fault ≡ None → Turns empty_map self.old.going self.new.going (live_in live.new)
+            (SaysLive live.new) result }
+        ensures again { (fault : PassFault) → self.old.fault ≡ Some fault → result ≡ Err fault }
+        ensures fault { self.new.fault ≡ result_err result }
+        ensures empty { IsEmpty self.new.going.unfolder.stage result }
+        ensures next { self.old.fault ≡ None → IsNext self.old.going.unfolder.stage.taken self.new.going.unfolder.stage result }
+    {
+        self.fault.check()?;
+        let turn = self.state.define_next(live);
         self.fault.keep(turn)
     }
 

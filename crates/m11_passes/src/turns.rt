@@ -7,6 +7,6 @@ pub enum Turn {
     NeedLine,
     /// `.END` became live.
     End,
-    /// A line became live, and is placed.
-    Placed,
+    /// A line became live, and its place is found.
+    Line,
 }

@@ -1,7 +1,11 @@
 -- What the definitions see of what stands after the labels of a line. (MACRO-11 Language Reference Manual, "Operator field".)
 use Rattle.std.specs.Prelude.{ℕ, ◌≤◌, Bool, true}
+use Rattle.m11_base.specs.Devices.{Bytes}
 use Rattle.m11_fields.specs.ListedOperations.{has_listed_operation}
+use Rattle.m11_operators.specs.Reading.{operator_fields}
+use Rattle.m11_placement.specs.Fields.{Fields, no_fields}
 use Rattle.m11_placement.specs.Lines as lines
+use Rattle.m11_placement.specs.Tables.{Table}
 use Rattle.m11_placing.specs.declared.deeds.Deed.{Deed}
 use Rattle.m11_placing.specs.declared.deeds.Deed.TheVariants.{Rests, Assigns, Sets, Operates}
 
@@ -22,3 +26,8 @@ IsWithin size (Operates operator start) = start ≤ size
 abbrev pub is_listed : Deed → Bool
 is_listed (Operates operator start) = has_listed_operation operator
 is_listed deed = true
+
+-- its fields: those of an instruction
+abbrev pub deed_fields : Table → Bytes → Deed → Fields
+deed_fields table line (Operates operator start) = operator_fields table line start operator
+deed_fields table line deed = no_fields 0

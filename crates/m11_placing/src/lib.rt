@@ -14,7 +14,7 @@ mod mentions;
 mod moved;
 mod pass;
 
-pub use deeds::{Deed, deed_after_labels};
+pub use deeds::{Deed, deed_after_labels, deed_fields};
 pub use fault::PlacingFault;
 pub use items::{add_content_items, assigned_item, is_shown};
 pub use labels::LabelLetters;

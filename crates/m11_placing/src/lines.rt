@@ -2,10 +2,11 @@
 
 ghost use Rattle.std.specs.Prelude.{◌≡◌, ◌<◌, ◌≤◌, IfOk, IsTrue, length};
 ghost use Rattle.m11_directives.specs.Changes.{change_seen};
+ghost use Rattle.m11_fields.specs.Reads.{fields_seen};
 ghost use Rattle.m11_placement.specs.Contents.{followed_by};
 ghost use Rattle.m11_placement.specs.Lines as spec;
 ghost use Rattle.m11_placement.specs.Tables.{firm_table};
-ghost use Rattle.m11_placing.specs.Deeds.{IsWithin, deed_seen, is_listed};
+ghost use Rattle.m11_placing.specs.Deeds.{IsWithin, deed_fields, deed_seen, is_listed};
 ghost use Rattle.m11_placing.specs.Lines.{letters_from};
 ghost use Rattle.m11_placement.specs.Assigning as assigning;
 ghost use Rattle.m11_scan.specs.Views.{bits_of};
@@ -14,19 +15,27 @@ use crate::deeds::Deed;
 use m11_arguments::skip_letters;
 use m11_contents::Put;
 use m11_directives::{Change, assignment, assignment_letters, counter_change, counter_letters};
+use m11_fields::Fields;
 use m11_operators::{operator_change, put_operator};
 use m11_scan::{Letters, Line};
 use m11_statements::{Assignment, Body};
 use m11_table::{Map, Table};
 use std::alloc::AllocError;
 
-/// What stands after the labels of a line changes for the lines after it. It is asked of firm names alone. `arguments` is the
-/// number of actuals of the macro around the line.
+/// What stands after the labels of a line, with its fields, changes for the lines after it. It is asked of firm names alone. `arguments` is
+/// the number of actuals of the macro around the line.
 #[tactic(auto, using(crate::proofs::FirmCounters::counter_firm))]
-pub fn deed_change(table: &Table, line: &Line, arguments: Option<u16>, deed: &Deed) -> Change
+pub fn deed_change(
+    table: &Table,
+    line: &Line,
+    arguments: Option<u16>,
+    deed: &Deed,
+    fields: &Fields,
+) -> Change
     requires within { IsWithin (length line.now.text) deed.now }
     requires listed { table.now.settings.listed < u64.MAX }
     requires unlisted { table.now.settings.unlisted < u64.MAX }
+    requires fields { fields_seen fields.now ≡ deed_fields table.now line.now.text deed.now }
     ensures { change_seen result ≡ spec.change_of (firm_table table.now) line.now.text arguments (deed_seen deed.now) }
 {
     match *deed {
@@ -34,7 +43,7 @@ pub fn deed_change(table: &Table, line: &Line, arguments: Option<u16>, deed: &De
         Deed::Assigns(made) => assignment(line, made.name, made.is_global, made.value),
         Deed::Sets(start) => counter_change(table, line, usize::from(start)),
         Deed::Operates(operator, start) => {
-            operator_change(table, line, usize::from(start), arguments, operator)
+            operator_change(table, line, usize::from(start), arguments, operator, fields)
         }
     }
 }
@@ -48,9 +57,12 @@ pub fn put_deed(
     line: &Line,
     arguments: Option<u16>,
     deed: &Deed,
+    fields: &Fields,
 ) -> Result<(), AllocError>
     requires within { IsWithin (length line.now.text) deed.now }
     requires listed { IsTrue (is_listed deed.now) }
+    requires fields { fields_seen fields.now ≡ deed_fields table.now line.now.text deed.now }
+    requires ends { fields.now.end ≤ length line.now.text }
     ensures { IfOk result (λ _. put.new
         ≡ followed_by put.old (spec.put_by map.now table.now line.now.text arguments (deed_seen deed.now))) }
 {
@@ -76,6 +88,7 @@ pub fn put_deed(
                 usize::from(start),
                 arguments,
                 operator,
+                fields,
             )
         }
     }

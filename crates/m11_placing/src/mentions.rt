@@ -1,14 +1,16 @@
 //! The symbols that a line defines or reads. (MACRO-11 Language Reference Manual, "Symbols", "Table of contents and symbol table" and
 //! ".GLOBL directive".)
 
-ghost use Rattle.std.specs.Prelude.{◌≡◌, ◌≤◌, ◌++◌, None, length, map, true};
+ghost use Rattle.std.specs.Prelude.{◌≡◌, ◌≤◌, ◌++◌, length, map};
 ghost use Rattle.std.specs.List.{flat_map};
 ghost use Rattle.m11_directives.specs.Changes.{change_seen, names_among};
-ghost use Rattle.m11_placement.specs.Alignment.{place_for};
+ghost use Rattle.m11_fields.specs.Reads.{fields_seen};
+ghost use Rattle.m11_operators.specs.Reading.{operator_fields};
 ghost use Rattle.m11_placement.specs.Assigning.{target};
 ghost use Rattle.m11_placement.specs.declared.meanings.Context.TheVariants.{Knows};
 ghost use Rattle.m11_placement.specs.Mentions as spec;
-ghost use Rattle.m11_placing.specs.Deeds.{IsWithin, deed_seen};
+ghost use Rattle.m11_placement.specs.Tables.{Table as LineTable};
+ghost use Rattle.m11_placing.specs.Deeds.{IsWithin, deed_fields, deed_seen};
 ghost use Rattle.m11_placing.specs.Mentioned.{Adds};
 
 use crate::changing::within;
@@ -16,14 +18,13 @@ use crate::deeds::Deed;
 use crate::fault::PlacingFault;
 use crate::mentioned::Mentioned;
 use m11_arguments::{Notes, note_symbols};
-use m11_base::{Name, Op};
+use m11_base::Name;
 use m11_directives::{Change, argument_count, character_count, listed_names};
-use m11_fields::{elements_at, fields_at};
+use m11_fields::{Fields, elements_at};
 use m11_placement::{Context, Directive, Field, Form, Operator};
 use m11_scan::{Line, read_name};
 use m11_statements::{Assignment, Label, LabelKind, Part, PartKind};
 use m11_strings::parts_at;
-use m11_table::{FirmNames, Table};
 use m11_values::Symbol;
 
 impl Mentioned {
@@ -62,24 +63,25 @@ impl Mentioned {
         }
     }
 
-    /// What stands after the labels of a line, with the number of actuals of a macro around it, by the table once its labels stand. Errors
-    /// as those of `add_all`.
+    /// What stands after the labels of a line, with the number of actuals of a macro around it and the fields that it has by the table once
+    /// its labels stand. Errors as those of `add_all`.
     pub fn add_deed(
         &mut self,
-        table: &Table,
         line: &Line,
         arguments: Option<u16>,
         deed: &Deed,
+        fields: &Fields,
     ) -> Result<(), PlacingFault>
         requires { IsWithin (length line.now.text) deed.now }
-        ensures { Adds (spec.deed_mentions table.now line.now.text arguments (deed_seen deed.now)) self.old self.new result }
+        ensures { (table : LineTable) → fields_seen fields.now ≡ deed_fields table line.now.text deed.now
+            → Adds (spec.deed_mentions table line.now.text arguments (deed_seen deed.now)) self.old self.new result }
     {
         match *deed {
             Deed::Rests => Ok(()),
             Deed::Assigns(assignment) => self.add_assignment(line, assignment),
             Deed::Sets(start) => self.read(line, start, Context::Knows),
             Deed::Operates(operator, start) => {
-                self.add_operator(table, line, start, arguments, operator)
+                self.add_operator(line, start, arguments, operator, fields)
             }
         }
     }
@@ -87,19 +89,18 @@ impl Mentioned {
     // The arguments of an operator.
     fn add_operator(
         &mut self,
-        table: &Table,
         line: &Line,
         start: u8,
         arguments: Option<u16>,
         operator: Operator,
+        fields: &Fields,
     ) -> Result<(), PlacingFault>
         requires { start ≤ length line.now.text }
-        ensures { Adds (spec.operator_mentions table.now line.now.text start arguments operator) self.old self.new result }
+        ensures { (table : LineTable) → fields_seen fields.now ≡ operator_fields table line.now.text start operator
+            → Adds (spec.operator_mentions table line.now.text start arguments operator) self.old self.new result }
     {
         match operator {
-            Operator::Instruction(operation) => {
-                self.add_instruction(table, line, usize::from(start), operation)
-            }
+            Operator::Instruction(_) => self.add_fields(line, fields.list.as_slice()),
             Operator::Directs(directive) => self.add_directive(line, start, arguments, directive),
         }
     }
@@ -122,22 +123,6 @@ impl Mentioned {
 }
 
 impl Mentioned {
-    // The fields of an instruction. Their forms are asked of firm names.
-    fn add_instruction(
-        &mut self,
-        table: &Table,
-        line: &Line,
-        start: usize,
-        operation: Op,
-    ) -> Result<(), PlacingFault>
-        requires { start ≤ length line.now.text }
-        ensures { Adds (spec.operator_mentions table.now line.now.text start None (Operator.Instruction operation)) self.old self.new result }
-    {
-        let names = FirmNames::new(table, even_place(table.place()));
-        let fields = fields_at(line, start, operation, &names);
-        self.add_fields(line, fields.list.as_slice())
-    }
-
     fn add_fields(&mut self, line: &Line, fields: &[Field]) -> Result<(), PlacingFault>
         ensures { Adds (flat_map (spec.field_mentions line.now.text) fields.now) self.old self.new result }
     {
@@ -280,11 +265,4 @@ impl Mentioned {
             _ => Ok(()),
         }
     }
-}
-
-// An instruction stands at an even place: at the next one after an odd place.
-fn even_place(place: u16) -> u16
-    ensures { result ≡ place_for true place }
-{
-    place.wrapping_add(place % 2)
 }

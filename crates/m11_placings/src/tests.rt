@@ -25,12 +25,12 @@ use std::process::Abort;
 fn take_rest(pass: &mut SourcePass, map: &Map<'_>, text: &mut Vec<u8>) -> Result<bool, PassFault>
     ensures { result ≡ Ok true → pass.new.going.unfolder.stage.left ≡ [] }
 {
-    let mut line = pass.placed_line();
+    let mut line = pass.room_for_line();
     'turns: for _ in 0..300_000 {
         match pass.next(map, &mut line)? {
             Turn::NeedLine => return Ok(true),
             Turn::End => return Ok(false),
-            Turn::Placed => put_line(line.letters, pass.contents(), text)?,
+            Turn::Line => put_line(line.letters, pass.contents(), text)?,
         }
     }
     Ok(false)

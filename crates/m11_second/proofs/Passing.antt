@@ -10,12 +10,12 @@ use Rattle.m11_passes.specs.Placed.{IsPlaced, live_in}
 use Rattle.m11_passes.specs.Reaching.{PlacesLine, Reaches, Refused}
 use Rattle.m11_passes.specs.Refusals.{given_by}
 use Rattle.m11_passes.specs.States.{Going, PassStands}
-use Rattle.m11_passes.specs.Turns.{Turns}
+use Rattle.m11_passes.specs.Turns.{SaysPlaced, Turns}
 use Rattle.m11_passes.specs.declared.fault.PassFault.{PassFault}
 use Rattle.m11_passes.specs.declared.fault.PassFault.TheVariants as pass
 use Rattle.m11_passes.specs.declared.placed.PlacedLine.{PlacedLine}
 use Rattle.m11_passes.specs.declared.turns.Turn.{Turn}
-use Rattle.m11_passes.specs.declared.turns.Turn.TheVariants.{NeedLine, End, Placed}
+use Rattle.m11_passes.specs.declared.turns.Turn.TheVariants.{NeedLine, End, Line}
 use Rattle.m11_placement.specs.Contents.{Put}
 use Rattle.m11_placement.specs.Meanings.{Map}
 use Rattle.m11_placing.specs.Mentioned.{Gathered}
@@ -30,8 +30,9 @@ use Rattle.m11_second.proofs.LinesWritten.{next_writes, written_more}
 -- the law of the calls of a pass
 abbrev pub TurnsSo : Type 0
 TurnsSo = (map : Map) (before : Gathered) (source : List SourceLine) (lines : List Numbered) (old new : Going)
-    (placed : PlacedLine) (result : Result Turn PassFault) → PassStands map before source lines old → Turns map old new placed result
-    → Reaches map before source lines new placed result
+    (placed : PlacedLine) (result : Result Turn PassFault) → PassStands map before source lines old
+    → Turns map old new (live_in placed.live) (SaysPlaced map placed new.put) result
+    → Reaches map before source lines new (live_in placed.live) (SaysPlaced map placed new.put) result
 
 -- some lines were taken and written, whichever
 abbrev pub SomeTaken : Program → List SourceLine → Outputs → Outputs → Going → Writing → Type 0
@@ -48,16 +49,16 @@ module _ (turn : TurnsSo) (program : Program) (source : List SourceLine) (first 
     gains = some.1.gains;
   }
 
-  module _ (came : Turn) (turned : Turns map_ old new placed (Ok came)) where
-    reached : Reaches program.map program.mentioned source some.0 new placed (Ok came)
+  module _ (came : Turn) (turned : Turns map_ old new (live_in placed.live) (SaysPlaced map_ placed new.put) (Ok came)) where
+    reached : Reaches program.map program.mentioned source some.0 new (live_in placed.live) (SaysPlaced program.map placed new.put) (Ok came)
     reached =
-        let P : Map → Type 0 = λ m. Turns m old new placed (Ok came) in
+        let P : Map → Type 0 = λ m. Turns m old new (live_in placed.live) (SaysPlaced m placed new.put) (Ok came) in
         turn program.map program.mentioned source some.0 old new placed (Ok came) some.1.stands (subst P same turned)
 
     pub rests_all : came ≡ NeedLine → TakesAll program source first now new writing false
     rests_all is =
-        let P : Turn → Type 0 = λ t. Reaches program.map program.mentioned source some.0 new placed (Ok t) in
-        let here : Reaches program.map program.mentioned source some.0 new placed (Ok NeedLine) = subst P is reached in
+        let P : Turn → Type 0 = λ t. Reaches program.map program.mentioned source some.0 new (live_in placed.live) (SaysPlaced program.map placed new.put) (Ok t) in
+        let here : Reaches program.map program.mentioned source some.0 new (live_in placed.live) (SaysPlaced program.map placed new.put) (Ok NeedLine) = subst P is reached in
         record {
           lines = some.0;
           taken = record { stands = here.0; keeps = some.1.keeps; gains = some.1.gains };
@@ -66,20 +67,20 @@ module _ (turn : TurnsSo) (program : Program) (source : List SourceLine) (first 
 
     pub ends_all : came ≡ End → TakesAll program source first now new writing true
     ends_all is =
-        let P : Turn → Type 0 = λ t. Reaches program.map program.mentioned source some.0 new placed (Ok t) in
-        let here : Reaches program.map program.mentioned source some.0 new placed (Ok End) = subst P is reached in
+        let P : Turn → Type 0 = λ t. Reaches program.map program.mentioned source some.0 new (live_in placed.live) (SaysPlaced program.map placed new.put) (Ok t) in
+        let here : Reaches program.map program.mentioned source some.0 new (live_in placed.live) (SaysPlaced program.map placed new.put) (Ok End) = subst P is reached in
         record {
           lines = some.0;
           taken = record { stands = here.0; keeps = some.1.keeps; gains = some.1.gains };
           ended = sym here.1;
         }
 
-    module _ (is : came ≡ Placed) where
-      here : PlacesLine program.map program.mentioned source some.0 new placed
-      here = let P : Turn → Type 0 = λ t. Reaches program.map program.mentioned source some.0 new placed (Ok t) in subst P is reached
+    module _ (is : came ≡ Line) where
+      here : PlacesLine program.map program.mentioned source some.0 new (live_in placed.live) (SaysPlaced program.map placed new.put)
+      here = let P : Turn → Type 0 = λ t. Reaches program.map program.mentioned source some.0 new (live_in placed.live) (SaysPlaced program.map placed new.put) (Ok t) in subst P is reached
 
       one : Numbered
-      one = numbered (length source) (given_by (table_at program.map some.0) (live_in placed) here.stage)
+      one = numbered (length source) (given_by (table_at program.map some.0) (live_in placed.live) here.stage)
 
       module _ (number : ℕ) (number_is : number ≡ length source) (contents : List PieceContent) (contents_are : contents ≡ new.put.contents)
           (later : Outputs) (writing' : Writing) where
@@ -96,10 +97,10 @@ module _ (turn : TurnsSo) (program : Program) (source : List SourceLine) (first 
           some.0 ++ one ∷ [],
           record {
             stands = here.stands;
-            keeps = keeps one new.put some.1.keeps here.placed_so (sym contents_are) number_is;
+            keeps = keeps one new.put some.1.keeps here.is_said (sym contents_are) number_is;
             gains = subst (λ (ws : List Write). Gains first later ws) (sym (written_more program some.0 one))
                 (gains_then assembly first now later (written program some.0) (next_writes program some.0 one) some.1.gains
-                (writes one new.put some.1.keeps here.placed_so (sym contents_are) number_is));
+                (writes one new.put some.1.keeps here.is_said (sym contents_are) number_is));
           },
         )
 
@@ -130,13 +131,13 @@ module _ (turn : TurnsSo) (program : Program) (source : List SourceLine) (first 
         stops_there stopped (Err other) writes is =
             let P : AsmFault → Type 0 = λ f. SecondFails program source first later f in
             subst P (sym is)
-            (stops_so stopped (stops_more stopped (writes one new.put some.1.keeps here.placed_so (sym contents_are) number_is)))
+            (stops_so stopped (stops_more stopped (writes one new.put some.1.keeps here.is_said (sym contents_are) number_is)))
 
   -- the pass passes a limit, or memory is refused
-  module _ (limit : PassFault) (turned : Turns map_ old new placed (Err limit)) where
+  module _ (limit : PassFault) (turned : Turns map_ old new (live_in placed.live) (SaysPlaced map_ placed new.put) (Err limit)) where
     refused : Refused program.map program.mentioned.names source some.0 limit
     refused =
-        let P : Map → Type 0 = λ m. Turns m old new placed (Err limit) in
+        let P : Map → Type 0 = λ m. Turns m old new (live_in placed.live) (SaysPlaced m placed new.put) (Err limit) in
         turn program.map program.mentioned source some.0 old new placed (Err limit) some.1.stands (subst P same turned)
 
     fails_so : (limit : PassFault) → Refused program.map program.mentioned.names source some.0 limit

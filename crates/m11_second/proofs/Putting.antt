@@ -136,17 +136,17 @@ module _ (program : Program) (lines : List Numbered) (one : Numbered) (placed : 
       ∙ ap (λ (p : ℕ). pieces_from (section_name stood) p contents) is.place_is
       ∙ ap (pieces_from (section_name stood) place) (sym same ∙ is.contents_are)
 
-  pub text_so : placed.line.text ≡ one.given.live.line.text
-  text_so = ap (λ (l : Live). l.line.text) is.live_is
+  pub text_so : placed.live.line.text ≡ one.given.live.line.text
+  text_so = ap (λ (l : Live). l.line.text) is.is_live.live_is
 
   pub letters_so : (transfer : Option Quantity) → transfer ≡ program.transfer
-      → bit_or (bits_of placed.letters) (end_in (transfer_letters transfer) (directed_in (deed_seen placed.deed)))
+      → bit_or (bits_of placed.letters) (end_in (transfer_letters transfer) (directed_in (deed_seen placed.live.deed)))
       ≡ letters_at program lines one
   letters_so transfer told =
       let own : ℕ = all_letters program.map (table_at program.map lines) one.given in
-      ap (λ (l : ℕ). bit_or l (end_in (transfer_letters transfer) (directed_in (deed_seen placed.deed)))) is.letters_are
-      ∙ ap (λ (t : Option Quantity). bit_or own (end_in (transfer_letters t) (directed_in (deed_seen placed.deed)))) told
-      ∙ ap (λ (d : Deed). bit_or own (end_in (transfer_letters program.transfer) (directed_in d))) is.deed_is
+      ap (λ (l : ℕ). bit_or l (end_in (transfer_letters transfer) (directed_in (deed_seen placed.live.deed)))) is.letters_are
+      ∙ ap (λ (t : Option Quantity). bit_or own (end_in (transfer_letters t) (directed_in (deed_seen placed.live.deed)))) told
+      ∙ ap (λ (d : Deed). bit_or own (end_in (transfer_letters program.transfer) (directed_in d))) is.is_live.deed_is
 
 -- the lines of a line in the listing, with these letters and this number
 abbrev pub shown : Program → List Numbered → Numbered → ℕ → ℕ → List Write

@@ -37,12 +37,12 @@ pub fn take_left<S: Sink, T: Sink, U: Sink>(
     ensures needs { IfOk result (λ has_ended. has_ended ≡ false → pass.new.going.unfolder.stage.left ≡ []) }
 {
     the_calls_place_the_lines_of_a_source();
-    let mut line = pass.placed_line();
+    let mut line = pass.room_for_line();
     'lines: loop {
         match pass.next(map, &mut line) {
             Ok(Turn::NeedLine) => return Ok(false),
             Ok(Turn::End) => return Ok(true),
-            Ok(Turn::Placed) => {
+            Ok(Turn::Line) => {
                 writing.put_line(&line, number, pass.contents(), object, listing, messages)?
             }
             Err(fault) => return Err(of_pass(fault)),

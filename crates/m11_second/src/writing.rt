@@ -134,9 +134,11 @@ impl Writing {
     {
         self.begin(object)?;
         self.put_pieces(line, contents, object)?;
-        let letters = line.letters.with(end_letters(&line.deed, self.transfer));
+        let letters = line
+            .letters
+            .with(end_letters(&line.live.deed, self.transfer));
         self.list(line, letters, number, contents, listing)?;
-        self.report(letters, number, line.line.text(), messages)
+        self.report(letters, number, line.live.line.text(), messages)
     }
 
     // The head of the object, where it isn't written.

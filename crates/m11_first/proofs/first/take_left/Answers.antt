@@ -3,28 +3,28 @@ use Rattle.m11_first.proofs.first.take_left.Goals as goal
 
 pub lines-preserved : goal.lines-preserved
 lines-preserved c = record {
-  goes_on = c.in_ok-next.ensures.fault;
+  goes_on = c.in_ok-define.ensures.fault;
   takes = λ source lines taken.
-      placed_more c.the_calls_place_the_lines_of_a_source.ensures.turns source c.lines.pass.going c.next.new.self.going c.next.new.placed
-      c.lines.facts (c.lines.invariant.takes source lines taken) c.none-map.result c.none-map.ensures c.in_ok-next.field-0
-      (c.in_ok-next.ensures.turns c.lines.invariant.goes_on) c.in-Placed.is c.note.new.self c.table.result.now
-      c.table.ensures c.in_ok-note-in-Placed.ensures;
+      placed_more c.the_calls_place_the_lines_of_a_source.ensures.defines source c.lines.pass.going c.define.new.self.going c.define.new.live
+      c.lines.facts (c.lines.invariant.takes source lines taken) c.in_ok-define.field-0
+      (c.in_ok-define.ensures.turns c.lines.invariant.goes_on) c.in-Line.is c.note.new.self c.table.result.now
+      c.table.ensures c.in_ok-note-in-Line.ensures;
 }
 
 pub returns-in-NeedLine-clause-takes : goal.returns-in-NeedLine-clause-takes
 returns-in-NeedLine-clause-takes c = λ source lines taken.
-    rests_all c.the_calls_place_the_lines_of_a_source.ensures.turns source c.lines.pass.going c.next.new.self.going c.next.new.placed
-    c.lines.facts (c.lines.invariant.takes source lines taken) c.none-map.result c.none-map.ensures c.in_ok-next.field-0
-    (c.in_ok-next.ensures.turns c.lines.invariant.goes_on) c.in-NeedLine.is
+    rests_all c.the_calls_place_the_lines_of_a_source.ensures.defines source c.lines.pass.going c.define.new.self.going c.define.new.live
+    c.lines.facts (c.lines.invariant.takes source lines taken) c.in_ok-define.field-0
+    (c.in_ok-define.ensures.turns c.lines.invariant.goes_on) c.in-NeedLine.is
 
 pub returns-in-End-clause-takes : goal.returns-in-End-clause-takes
 returns-in-End-clause-takes c = λ source lines taken.
-    ends_all c.the_calls_place_the_lines_of_a_source.ensures.turns source c.lines.pass.going c.next.new.self.going c.next.new.placed
-    c.lines.facts (c.lines.invariant.takes source lines taken) c.none-map.result c.none-map.ensures c.in_ok-next.field-0
-    (c.in_ok-next.ensures.turns c.lines.invariant.goes_on) c.in-End.is
+    ends_all c.the_calls_place_the_lines_of_a_source.ensures.defines source c.lines.pass.going c.define.new.self.going c.define.new.live
+    c.lines.facts (c.lines.invariant.takes source lines taken) c.in_ok-define.field-0
+    (c.in_ok-define.ensures.turns c.lines.invariant.goes_on) c.in-End.is
 
-pub returns-in_err-next-clause-takes : goal.returns-in_err-next-clause-takes
-returns-in_err-next-clause-takes c = λ source lines taken.
-    fails_all c.the_calls_place_the_lines_of_a_source.ensures.turns source c.lines.pass.going c.next.new.self.going c.next.new.placed
-    c.lines.facts (c.lines.invariant.takes source lines taken) c.none-map.result c.none-map.ensures c.in_err-next.field-0.0
-    c.lines.facts c.from_residual.result (c.in_err-next.ensures.turns c.lines.invariant.goes_on) c.from_residual.ensures.1
+pub returns-in_err-define-clause-takes : goal.returns-in_err-define-clause-takes
+returns-in_err-define-clause-takes c = λ source lines taken.
+    fails_all c.the_calls_place_the_lines_of_a_source.ensures.defines source c.lines.pass.going c.define.new.self.going c.define.new.live
+    c.lines.facts (c.lines.invariant.takes source lines taken) c.in_err-define.field-0.0
+    c.lines.facts c.from_residual.result (c.in_err-define.ensures.turns c.lines.invariant.goes_on) c.from_residual.ensures.1

@@ -1,11 +1,23 @@
-use Rattle.std.proofs.Common.{◌≡◌, ℕ, Bool, IfOk, subst, ap, ◌∙◌}
+use Rattle.std.proofs.Common.{◌≡◌, ℕ, Bool, IfOk, subst, sym, ap, ◌∙◌}
 use Rattle.m11_contents.proofs.Joining.{lettered_by}
 use Rattle.m11_contents.specs.Settings.{Standpoint}
 use Rattle.m11_placement.specs.Alignment.{gap_letters, place_for}
 use Rattle.m11_placement.specs.Contents.{Put}
 use Rattle.m11_placement.specs.Effects.{operator_put}
 use Rattle.m11_placement.specs.Operators.{is_even}
+use Rattle.m11_operators.specs.Reading.{fields_at}
 use Rattle.m11_operators.proofs.operators.put_operator.Goals as goal
+
+pub put_at-requires-clause-fields : goal.put_at-requires-clause-fields
+put_at-requires-clause-fields c =
+    let line = c.args.line.now.text in
+    let even = is_even c.args.operator in
+    c.requires.fields
+    ∙ sym
+    (ap (λ (s : Standpoint). fields_at s.table s.place s.line c.args.start c.args.operator) c.new-setting.ensures
+    ∙ ap (λ (n : ℕ). fields_at c.args.table.now n line c.args.start c.args.operator)
+    (c.place_for.ensures ∙ ap (λ (b : Bool). place_for b c.place-2.result) c.is_even-is_even.ensures
+    ∙ ap (λ (n : ℕ). place_for even n) c.place-2.ensures))
 
 pub returns : goal.returns
 returns c =

@@ -7,10 +7,8 @@ use Rattle.m11_passes.proofs.state.State.next.Goals as goal
 
 pub returns-in_err-next-clause-turns : goal.returns-in_err-next-clause-turns
 returns-in_err-next-clause-turns c =
-    unfolding_fails c.args.map.now (going_of c.args.self.now)
-    (going_of (record c.args.self.now { unfolder = c.next.new.self })) c.in_err-next.field-0.0
-    (record c.args.placed.now { line = c.next.new.line }) c.from_residual.result
-    (c.in_err-next.ensures.steps c.requires.goes_on) c.from_residual.ensures.1
+    unfolding_fails c.args.map.now (going_of c.args.self.now) (going_of (record c.args.self.now { unfolder = c.next.new.self })) _
+    c.in_err-next.field-0.0 _ c.from_residual.result (c.in_err-next.ensures.steps c.requires.goes_on) c.from_residual.ensures.1
 
 pub place-requires-clause-room : goal.place-requires-clause-room
 place-requires-clause-room c =
@@ -22,8 +20,8 @@ place-requires-clause-room c =
 
 pub returns-in_err-place-in-Line-clause-turns : goal.returns-in_err-place-in-Line-clause-turns
 returns-in_err-place-in-Line-clause-turns c =
-    line_fails c.args.map.now (going_of c.args.self.now) (going_of c.place.new.self) (live_of c.next.new.line c.in-Line.is_expanded)
-    c.next.new.self.stage c.in_err-place-in-Line.field-0.0 c.place.new.placed c.from_residual-in_err-place-in-Line.result
+    line_fails c.args.map.now (going_of c.args.self.now) (going_of c.place.new.self) _ (live_of c.next.new.line c.in-Line.is_expanded) _
+    c.next.new.self.stage c.in_err-place-in-Line.field-0.0 c.from_residual-in_err-place-in-Line.result
     (comes_of c.args.self.now.unfolder.stage c.next.new.self.stage c.next.new.line c.in_ok-next.field-0 c.in-Line.is_expanded
     c.in-Line.is (c.in_ok-next.ensures.steps c.requires.goes_on))
     c.in_err-place-in-Line.ensures.places c.from_residual-in_err-place-in-Line.ensures.1
@@ -42,9 +40,9 @@ returns-in-End-clause-sound c =
 
 pub returns-in_ok-place-in-Line-clause-turns : goal.returns-in_ok-place-in-Line-clause-turns
 returns-in_ok-place-in-Line-clause-turns c =
-    line_places c.args.map.now (going_of c.args.self.now) (going_of c.place.new.self)
-    (going_of (record c.args.self.now { unfolder = c.next.new.self })) (live_of c.next.new.line c.in-Line.is_expanded)
-    c.next.new.self.stage c.place.new.placed c.in_ok-place-in-Line.ensures.same refl refl
+    line_places c.args.map.now (going_of c.args.self.now) (going_of c.place.new.self) _
+    (going_of (record c.args.self.now { unfolder = c.next.new.self })) (live_of c.next.new.line c.in-Line.is_expanded) _
+    c.next.new.self.stage c.place.ensures.same refl refl
     (comes_of c.args.self.now.unfolder.stage c.next.new.self.stage c.next.new.line c.in_ok-next.field-0 c.in-Line.is_expanded
     c.in-Line.is (c.in_ok-next.ensures.steps c.requires.goes_on))
     c.in_ok-place-in-Line.ensures.places

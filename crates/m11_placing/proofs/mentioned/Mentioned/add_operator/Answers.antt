@@ -1,12 +1,18 @@
-use Rattle.std.proofs.Common.{ℕ, subst}
-use Rattle.m11_placement.specs.Mentions.{operator_mentions}
-use Rattle.m11_placement.specs.declared.operators.Operator.TheVariants.{Instruction}
+use Rattle.std.proofs.Common.{◌∙◌, List, ap, subst}
+use Rattle.std.specs.List.{flat_map}
+use Rattle.m11_placement.specs.Fields.{Fields}
+use Rattle.m11_placement.specs.Mentions.{field_mentions}
+use Rattle.m11_placement.specs.declared.fields.Field.{Field}
+use Rattle.m11_operators.specs.Reading.{operator_fields}
 use Rattle.m11_placing.specs.Mentioned.{Adds}
 use Rattle.m11_placing.proofs.mentioned.Mentioned.add_operator.Goals as goal
 
 pub returns-in-Instruction : goal.returns-in-Instruction
-returns-in-Instruction c =
-    let P : ℕ → Type 0 = λ s. Adds
-    (operator_mentions c.args.table.now c.args.line.now.text s c.args.arguments (Instruction c.in-Instruction.operation))
-    c.args.self.now c.add_instruction.new.self c.add_instruction.result in
-    rw c.in-Instruction.is (subst P c.from.ensures c.add_instruction.ensures)
+returns-in-Instruction c = λ table are.
+    let P : List Field → Type 0 = λ l. Adds (flat_map (field_mentions c.args.line.now.text) l) c.args.self.now c.add_fields.new.self
+    c.add_fields.result in
+    rw c.in-Instruction.is
+    (subst P
+    (c.as_slice.ensures.value
+    ∙ ap (λ (f : Fields). f.list) (are ∙ ap (operator_fields table c.args.line.now.text c.args.start) c.in-Instruction.is))
+    c.add_fields.ensures)

@@ -1,5 +1,5 @@
 use Rattle.m11_passes.proofs.Assembling.{acts_told}
-use Rattle.m11_passes.proofs.state.act_under.Goals as goal
+use Rattle.m11_passes.proofs.begun.act_under.Goals as goal
 
 pub returns-clause-acts : goal.returns-clause-acts
 returns-clause-acts c =

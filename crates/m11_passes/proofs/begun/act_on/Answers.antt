@@ -2,7 +2,7 @@ use Rattle.std.proofs.Common.{subst}
 use Rattle.m11_placement.specs.Tables.{Table}
 use Rattle.m11_placement.specs.Unfolded.{known_after_labels}
 use Rattle.m11_unfold.specs.Unfolder.{Acts}
-use Rattle.m11_passes.proofs.state.act_on.Goals as goal
+use Rattle.m11_passes.proofs.begun.act_on.Goals as goal
 
 pub returns-clause-acts : goal.returns-clause-acts
 returns-clause-acts c =

@@ -1,0 +1,20 @@
+-- The fields of an operator, as a line writes them: those of an instruction. A directive has none. (MACRO-11 Language Reference Manual,
+-- "Operand field".)
+use Rattle.std.specs.Prelude.{ℕ}
+use Rattle.m11_base.specs.Devices.{Bytes}
+use Rattle.m11_placement.specs.Alignment.{place_for}
+use Rattle.m11_placement.specs.Fields.{Fields, no_fields}
+use Rattle.m11_placement.specs.Instructions as instructions
+use Rattle.m11_placement.specs.Operators.{is_even}
+use Rattle.m11_placement.specs.Tables.{Table, place}
+use Rattle.m11_placement.specs.declared.operators.Operator.{Operator}
+use Rattle.m11_placement.specs.declared.operators.Operator.TheVariants.{Instruction, Directs}
+
+-- of an operator that puts what it puts at a place, and whose name ends at a place of its line
+abbrev pub fields_at : Table → ℕ → Bytes → ℕ → Operator → Fields
+fields_at table here line start (Instruction operation) = instructions.fields table here line start operation
+fields_at table here line start (Directs directive) = no_fields 0
+
+-- where the table says that it does
+abbrev pub operator_fields : Table → Bytes → ℕ → Operator → Fields
+operator_fields table line start operator = fields_at table (place_for (is_even operator) (place table)) line start operator

@@ -1,0 +1,57 @@
+//! Reads the fields of operators, once for what they put, mention and change. (MACRO-11 Language Reference Manual, "Operand field".)
+
+ghost use Rattle.std.specs.Prelude.{◌≡◌, ◌≤◌, length};
+ghost use Rattle.m11_fields.specs.Reads.{fields_seen};
+ghost use Rattle.m11_operators.specs.Reading as spec;
+ghost use Rattle.m11_placement.specs.Fields.{no_fields};
+ghost use Rattle.m11_placement.specs.Instructions as instructions;
+
+use crate::alignment::place_for;
+use arrayvec::ArrayVec;
+use m11_base::Op;
+use m11_fields::{Fields, fields_at};
+use m11_placement::Operator;
+use m11_scan::{Letters, Line};
+use m11_table::{FirmNames, Table};
+
+/// The fields of an operator whose name ends at a place of its line: those of an instruction, whose forms are asked of firm names. A
+/// directive has none.
+pub fn operator_fields(table: &Table, line: &Line, start: usize, operator: Operator) -> Fields
+    requires { start ≤ length line.now.text }
+    ensures fields { fields_seen result ≡ spec.operator_fields table.now line.now.text start operator }
+    ensures ends { result.end ≤ length line.now.text }
+{
+    match operator {
+        Operator::Instruction(operation) => {
+            operation_fields(
+                table,
+                place_for(true, table.place()),
+                line,
+                start,
+                operation,
+            )
+        }
+        Operator::Directs(_) => no_fields(),
+    }
+}
+
+/// The fields of what has none.
+pub fn no_fields() -> Fields
+    ensures fields { fields_seen result ≡ no_fields 0 }
+    ensures ends { result.end ≡ 0 }
+{
+    Fields {
+        list: ArrayVec::new(),
+        end: 0,
+        letters: Letters::none(),
+    }
+}
+
+// Those of an instruction at a place.
+fn operation_fields(table: &Table, here: u16, line: &Line, start: usize, operation: Op) -> Fields
+    requires { start ≤ length line.now.text }
+    ensures fields { fields_seen result ≡ instructions.fields table.now here line.now.text start operation }
+    ensures ends { result.end ≤ length line.now.text }
+{
+    fields_at(line, start, operation, &FirmNames::new(table, here))
+}

@@ -1,0 +1,33 @@
+use Rattle.std.proofs.Common.{Ok, refl, subst}
+use Rattle.m11_unfolding.specs.Taking.{Live}
+use Rattle.m11_placement.specs.Meanings.{Map}
+use Rattle.m11_passes.proofs.Assembling.{defined_so, places_fails}
+use Rattle.m11_passes.specs.Placed.{live_in}
+use Rattle.m11_passes.specs.States.{going_of}
+use Rattle.m11_passes.specs.Turns.{Places, SaysLive}
+use Rattle.m11_passes.proofs.state.State.define.Goals as goal
+
+pub returns-in_err-finish-clause-places : goal.returns-in_err-finish-clause-places
+returns-in_err-finish-clause-places c =
+    let old = going_of c.args.self.now in
+    let new = going_of c.finish.new.self in
+    let live = c.begin.new.live in
+    let result = c.from_residual-in_err-finish.result in
+    let M : Map → Type 0 = λ m. Places m (live_in c.args.live.now) old.unfolder.stage old new (SaysLive live) result in
+    let L : Live → Type 0 = λ l. Places c.none-map.result l old.unfolder.stage old new (SaysLive live) result in
+    subst M c.none-map.ensures
+    (subst L c.begin.ensures.same
+    (places_fails c.none-map.result (live_in live) old.unfolder.stage old new c.in_err-finish.field-0.0 (SaysLive live) result
+    (c.in_err-finish.ensures.finishes old c.in_ok-begun.ensures.begins) c.from_residual-in_err-finish.ensures.1))
+
+pub returns-clause-places : goal.returns-clause-places
+returns-clause-places c =
+    let old = going_of c.args.self.now in
+    let new = going_of c.finish.new.self in
+    let live = c.begin.new.live in
+    let M : Map → Type 0 = λ m. Places m (live_in c.args.live.now) old.unfolder.stage old new (SaysLive live) (Ok tt) in
+    let L : Live → Type 0 = λ l. Places c.none-map.result l old.unfolder.stage old new (SaysLive live) (Ok tt) in
+    subst M c.none-map.ensures
+    (subst L c.begin.ensures.same
+    (defined_so c.none-map.result (live_in live) old (going_of c.begin.new.self) live.deed c.in_ok-begun.begun c.in_ok-begun.ensures.begins
+    new live c.in_ok-finish.field-0 refl refl (c.in_ok-finish.ensures.finishes old c.in_ok-begun.ensures.begins)))

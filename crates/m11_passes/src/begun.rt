@@ -1,0 +1,117 @@
+//! How a live line begins: its labels, and what unfolding does of its operator. (MACRO-11 Language Reference Manual, "Label field" and
+//! "Operator field".)
+
+ghost use Rattle.std.specs.Prelude.{◌≡◌, ◌≤◌, [], IfOk, IfErr, IsTrue, false, None, length};
+ghost use Rattle.m11_arguments.specs.Directives.{operator as line_operator};
+ghost use Rattle.m11_placement.specs.Tables.{Table as LineTable};
+ghost use Rattle.m11_placement.specs.Unfolded.{known_after_labels};
+ghost use Rattle.m11_placing.specs.Deeds.{IsWithin, is_listed};
+ghost use Rattle.m11_placing.specs.Passes.{Matches};
+ghost use Rattle.m11_unfold.specs.Kept.{IsKept};
+ghost use Rattle.m11_unfold.specs.Unfolder as steps;
+ghost use Rattle.m11_passes.specs.Begun.{Begins};
+ghost use Rattle.m11_passes.specs.Bounds.{HasRoom, IsFew};
+ghost use Rattle.m11_passes.specs.Faults.{Fails};
+ghost use Rattle.m11_passes.specs.Placed.{live_in};
+ghost use Rattle.m11_passes.specs.Refusals.{line_fault};
+ghost use Rattle.m11_passes.specs.States.{going_of};
+
+use crate::fault::PassFault;
+use crate::labelling::define_labels;
+use crate::placed::LiveLine;
+use crate::state::State;
+use m11_arguments::{EveryName, operator_in};
+use m11_fields::Fields;
+use m11_placing::{LabelLetters, Pass, deed_after_labels, deed_fields};
+use m11_scan::Line;
+use m11_statements::{Span, Statement, statement};
+use m11_table::{FirmNames, Map, Table};
+use m11_unfold::{Act, Unfolder};
+use m11_unfolding::UnfoldFault;
+
+// What was found of a line whose labels stand and whose operator unfolding has done.
+#[derive(Drop)]
+pub struct Begun {
+    pub(crate) statement: Statement,
+    // The letters of its labels.
+    pub(crate) found: LabelLetters,
+    pub(crate) act: Act,
+    // The fields of what stands after its labels.
+    pub(crate) fields: Fields,
+}
+
+impl State {
+    // Defines the labels of a line, lets unfolding do its operator, and finds what it does after its labels.
+    pub(crate) fn begin(&mut self, map: &Map<'_>, live: &mut LiveLine) -> Result<Begun, PassFault>
+        requires goes_on { self.old.unfolder.fault ≡ None }
+        requires kept { IsKept self.old.unfolder.stage }
+        requires free { self.old.unfolder.has_statement ≡ false }
+        requires room { HasRoom self.old.unfolder.stage.taken 67 1 self.old.pass.table }
+        requires few { IsFew self.old.pass self.old.mentioned }
+        ensures same { live_in live.new ≡ live_in live.old }
+        ensures begins { IfOk result (λ begun. Begins map.now (live_in live.new) (going_of self.old) (going_of self.new) live.new.deed begun) }
+        ensures fails { IfErr result (λ fault. (table : LineTable) → Matches self.old.pass table
+            → Fails (line_fault map.now table self.old.mentioned.names (live_in live.old) self.old.unfolder.stage) fault) }
+        ensures within { IfOk result (λ _. IsWithin (length live.old.line.text) live.new.deed) }
+        ensures ends { IfOk result (λ begun. begun.fields.end ≤ length live.old.line.text) }
+        ensures listed { IfOk result (λ _. IsTrue (is_listed live.new.deed)) }
+        ensures room { IfOk result (λ _. HasRoom self.old.unfolder.stage.taken 1 1 self.new.pass.table) }
+        ensures few { IfOk result (λ _. IsFew self.new.pass self.new.mentioned) }
+        ensures taken { IfOk result (λ _. self.new.unfolder.stage.taken ≡ self.old.unfolder.stage.taken) }
+        ensures kept { IfOk result (λ _. IsKept self.new.unfolder.stage) }
+        ensures goes_on { IfOk result (λ _. self.new.unfolder.fault ≡ None) }
+    {
+        let line = &live.line;
+        let statement = statement(line, &EveryName);
+        let found = define_labels(
+            &mut self.pass,
+            &mut self.mentioned,
+            map,
+            line,
+            statement.labels_end,
+        )?;
+        let operator = operator_in(statement.body);
+        let act = act_on(&mut self.unfolder, line, operator, &self.pass)?;
+        live.deed = deed_after_labels(act.is_own, &live.line, statement.body);
+        Ok(Begun {
+            statement,
+            found,
+            act,
+            fields: deed_fields(self.pass.table(), &live.line, &live.deed),
+        })
+    }
+}
+
+// What unfolding does of a line, once its labels stand.
+fn act_on(
+    unfolder: &mut Unfolder,
+    line: &Line,
+    operator: Option<Span>,
+    pass: &Pass,
+) -> Result<Act, UnfoldFault>
+    requires operator { operator ≡ line_operator line.now.text }
+    requires free { unfolder.old.has_statement ≡ false }
+    requires goes_on { unfolder.old.fault ≡ None }
+    ensures acts { steps.Acts (known_after_labels pass.now.table) line.now.text unfolder.old.stage unfolder.new.stage result }
+    ensures goes_on { IfOk result (λ _. unfolder.new.fault ≡ None) }
+    ensures kept { IfOk result (λ _. IsKept unfolder.new.stage) }
+{
+    act_under(unfolder, line, operator, pass.table())
+}
+
+// Under the firm names of a table.
+fn act_under(
+    unfolder: &mut Unfolder,
+    line: &Line,
+    operator: Option<Span>,
+    table: &Table,
+) -> Result<Act, UnfoldFault>
+    requires operator { operator ≡ line_operator line.now.text }
+    requires free { unfolder.old.has_statement ≡ false }
+    requires goes_on { unfolder.old.fault ≡ None }
+    ensures acts { steps.Acts (known_after_labels table.now) line.now.text unfolder.old.stage unfolder.new.stage result }
+    ensures goes_on { IfOk result (λ _. unfolder.new.fault ≡ None) }
+    ensures kept { IfOk result (λ _. IsKept unfolder.new.stage) }
+{
+    unfolder.act(line, operator, &FirmNames::new(table, table.place()))
+}
