@@ -1,6 +1,12 @@
-//! What the lines of sources give, in two passes: tests alone, which use only what the crates below hand out. Expected words, bytes,
-//! letters and sizes were worked by hand from the language manual.
+//! Pieces and the records that they make, directories, lines of listings, and what the lines of sources give in two passes: tests alone,
+//! which use only what the crates below hand out. Expected words, bytes, letters, lines and sizes were worked by hand from the manuals.
 #![tactic(auto)]
 
+#[cfg(test)]
+mod directories;
+#[cfg(test)]
+mod listings;
+#[cfg(test)]
+mod object_texts;
 #[cfg(test)]
 mod tests;

@@ -1,6 +1,6 @@
 use Rattle.std.proofs.Common.{◌∙◌, ap, length, List}
 use Rattle.m11_placement.specs.declared.sections.Section.{Section}
-use Rattle.m11_directories.proofs.tests.table.Goals as goal
+use Rattle.m11_placings.proofs.directories.table.Goals as goal
 
 pub returns : goal.returns
 returns c =

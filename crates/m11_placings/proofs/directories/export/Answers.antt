@@ -1,5 +1,5 @@
-use Rattle.m11_directories.proofs.Keeping.{global_keeps}
-use Rattle.m11_directories.proofs.tests.export.Goals as goal
+use Rattle.m11_placings.proofs.Keeping.{global_keeps}
+use Rattle.m11_placings.proofs.directories.export.Goals as goal
 
 pub returns : goal.returns
 returns c = global_keeps c.args.table.now c.export.new.self c.args.name c.in_ok-export.ensures
