@@ -4,7 +4,6 @@ mod Headers
 mod Immediately
 mod Insides
 pub mod Joining
-mod LoneTerms
 mod Numerals
 mod Repetitions
 mod Tests

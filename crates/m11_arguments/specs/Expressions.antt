@@ -1,10 +1,12 @@
 -- An expression that stands at a place of a line, where only an absolute number may stand. (MACRO-11 Language Reference Manual,
 -- "Expressions".)
-use Rattle.std.specs.Prelude.{ℕ, Bool, true, false, not, List, [], ◌∷◌, map, take}
+use Rattle.std.specs.Prelude.{◌≡◌, ℕ, ◌&&◌, Bool, true, false, not, List, [], ◌∷◌, map, take, Option, Some, None}
 use Rattle.std.specs.Int.RustNames.{bit_or}
 use Rattle.m11_base.specs.Devices.{Bytes}
 use Rattle.m11_scan.specs.Cutting.{Lexeme, tokens_from}
 use Rattle.m11_scan.specs.Ends.{expression_end, sort_in}
+use Rattle.m11_scan.specs.Views.{lexeme}
+use Rattle.m11_scan.specs.declared.cutting.Token.{Token}
 use Rattle.m11_scan.specs.Expressions.{expression_length, role_of}
 use Rattle.m11_scan.specs.declared.expressions.Role.{Role}
 use Rattle.m11_scan.specs.declared.expressions.Role.TheVariants.{Term, Sign, Operator}
@@ -71,3 +73,18 @@ joins role = false
 abbrev pub ends_before : List Lexeme → Bool
 ends_before [] = true
 ends_before (token ∷ tokens) = not (joins (role_of token.sort))
+
+-- the expression that tokens begin with is one term
+abbrev pub is_lone : List Lexeme → Bool
+is_lone [] = false
+is_lone (token ∷ tokens) = is_term (role_of token.sort) && ends_before tokens
+
+-- what stands next after a term joins it to another one
+abbrev pub joins_next : Option Token → Bool
+joins_next (Some token) = joins (role_of token.sort)
+joins_next None = false
+
+-- a token of a line is a term, and the expression at a place
+abbrev pub IsAlone : Bytes → ℕ → Token → Type 0
+IsAlone line place term =
+    (role_of term.sort ≡ Term) × (expression_in (tokens_from line place) ≡ lexeme line term ∷ [])

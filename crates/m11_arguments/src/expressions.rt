@@ -1,23 +1,19 @@
 //! Expressions that stand at a place of a line. (MACRO-11 Language Reference Manual, "Expressions".)
 
-ghost use Rattle.std.specs.Prelude.{◌≡◌, ◌≤◌, ◌∷◌, [], length, IfOk, IfSome};
+ghost use Rattle.std.specs.Prelude.{◌≡◌, ◌≤◌, length, IfOk, IfSome};
+ghost use Rattle.m11_lines.specs.Line.{line_limit};
 ghost use Rattle.m11_scan.specs.Ends.{expression_end};
-ghost use Rattle.m11_scan.specs.Cutting.{tokens_from};
-ghost use Rattle.m11_scan.specs.Expressions.{role_of};
-ghost use Rattle.m11_scan.specs.Views.{bits_of, lexeme};
+ghost use Rattle.m11_scan.specs.Views.{bits_of};
 ghost use Rattle.m11_values.specs.Quantities.{quantity};
-ghost use Rattle.m11_values.specs.Values.{expression_tokens};
 ghost use Rattle.m11_arguments.specs.Expressions as spec;
-ghost use Rattle.m11_arguments.specs.Expressions.{known_by};
+ghost use Rattle.m11_arguments.specs.Expressions.{IsAlone, known_by};
 ghost use Rattle.m11_arguments.specs.Notes.{with_symbols};
 
+use crate::extents::lone_term;
 use crate::left_overs::skip_letters;
 use crate::notes::Notes;
-use m11_scan::{
-    Letters, Line, Role, Sort, Token, expression_end, expression_length, next_token, role_of,
-    tokens_from,
-};
-use m11_values::{Names, Value, value};
+use m11_scan::{Letters, Line, Token, expression_at};
+use m11_values::{Names, Value, expression_value, term_value};
 use std::alloc::AllocError;
 
 // The number of an expression.
@@ -48,17 +44,48 @@ pub(crate) fn number_at<N: Names>(
     ensures most { IfOk result (λ number. number.end ≤ length line.now.text) }
     ensures notes { IfOk result (λ _. notes.new ≡ with_symbols notes.old (spec.symbols_at line.now.text place)) }
 {
-    let value = value_at(line, place, names);
-    note_symbols(line, place, notes)?;
-    let end = expression_end(line, place);
+    let read = read_expression(line, place, names, notes)?;
+    let value = read.value;
     let letters = value
         .letters
         .with(value.kind.absence())
-        .with(skip_letters(line, place, end));
+        .with(skip_letters(line, place, read.end));
     Ok(Number {
         value: value.number,
         letters,
-        end: end as u8,
+        end: read.end as u8,
+    })
+}
+
+// The value of an expression, and the place after it.
+#[derive(Clone, Copy)]
+pub(crate) struct Reading {
+    pub(crate) value: Value,
+    pub(crate) end: usize,
+}
+
+// Reads the expression at a place, whose symbols are noted. Each token of it is cut once.
+fn read_expression<N: Names>(
+    line: &Line,
+    place: usize,
+    names: &N,
+    notes: &mut Notes,
+) -> Result<Reading, AllocError>
+    requires { place ≤ length line.now.text }
+    ensures value { IfOk result (λ read. quantity read.value
+        ≡ spec.value_at (known_by (N.base names.now) (N.stands_for names.now)) line.now.text place) }
+    ensures end { IfOk result (λ read. read.end ≡ expression_end line.now.text place) }
+    ensures least { IfOk result (λ read. place ≤ read.end) }
+    ensures most { IfOk result (λ read. read.end ≤ length line.now.text) }
+    ensures limited { length line.now.text ≤ line_limit }
+    ensures notes { IfOk result (λ _. notes.new ≡ with_symbols notes.old (spec.symbols_at line.now.text place)) }
+{
+    let expression = expression_at(line, place);
+    let tokens = expression.tokens.as_slice();
+    notes.add_symbols(tokens, line)?;
+    Ok(Reading {
+        value: expression_value(tokens, line, names),
+        end: expression.end,
     })
 }
 
@@ -68,9 +95,19 @@ pub fn value_at<N: Names>(line: &Line, place: usize, names: &N) -> Value
     ensures { quantity result
         ≡ spec.value_at (known_by (N.base names.now) (N.stands_for names.now)) line.now.text place }
 {
-    match lone_term(line, place) {
-        Some(term) => value(&[term], line, names).0,
-        None => value(tokens_from(line, place).as_slice(), line, names).0,
+    value_by(line, place, lone_term(line, place), names)
+}
+
+/// The same, with its one token where it is found to be one term.
+pub fn value_by<N: Names>(line: &Line, place: usize, term: Option<Token>, names: &N) -> Value
+    requires within { place ≤ length line.now.text }
+    requires term { IfSome term (λ term. IsAlone line.now.text place term) }
+    ensures { quantity result
+        ≡ spec.value_at (known_by (N.base names.now) (N.stands_for names.now)) line.now.text place }
+{
+    match term {
+        Some(term) => term_value(&term, line, names),
+        None => expression_value(expression_at(line, place).tokens.as_slice(), line, names),
     }
 }
 
@@ -81,53 +118,6 @@ pub fn note_symbols(line: &Line, place: usize, notes: &mut Notes) -> Result<(), 
 {
     match lone_term(line, place) {
         Some(term) => notes.add_symbols(&[term], line),
-        None => {
-            let tokens = tokens_from(line, place);
-            notes.add_symbols(expression_of(tokens.as_slice()), line)
-        }
+        None => notes.add_symbols(expression_at(line, place).tokens.as_slice(), line),
     }
-}
-
-// The term that alone is the expression at a place, if one is. Most expressions are one term, and of those no token need be cut past the
-// next one.
-fn lone_term(line: &Line, place: usize) -> Option<Token>
-    requires { place ≤ length line.now.text }
-    ensures alone { IfSome result (λ term. spec.expression_in (tokens_from line.now.text place) ≡ lexeme line.now.text term ∷ []) }
-    ensures whole { IfSome result (λ term. spec.expression_in (lexeme line.now.text term ∷ []) ≡ lexeme line.now.text term ∷ []) }
-{
-    match next_token(line, place) {
-        Some(token) if is_term(token.sort) && ends_at(line, usize::from(token.end)) => Some(token),
-        _ => None,
-    }
-}
-
-fn is_term(sort: Sort) -> bool
-    ensures { result ≡ spec.is_term (role_of sort) }
-{
-    matches!(role_of(sort), Role::Term)
-}
-
-// Whether an expression that has a term before a place goes no further.
-fn ends_at(line: &Line, place: usize) -> bool
-    requires { place ≤ length line.now.text }
-    ensures { result ≡ spec.ends_before (tokens_from line.now.text place) }
-{
-    match next_token(line, place) {
-        Some(token) => !joins(token.sort),
-        None => true,
-    }
-}
-
-// Whether a token stands between two terms.
-fn joins(sort: Sort) -> bool
-    ensures { result ≡ spec.joins (role_of sort) }
-{
-    matches!(role_of(sort), Role::Sign | Role::Operator)
-}
-
-// The expression that tokens begin with.
-fn expression_of(tokens: &[Token]) -> &[Token]
-    ensures { result.now ≡ expression_tokens tokens.now }
-{
-    &tokens[..expression_length(tokens)]
 }

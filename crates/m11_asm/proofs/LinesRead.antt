@@ -4,8 +4,8 @@ use Rattle.std.proofs.lemmas.List.{length-map}
 use Rattle.std.proofs.lemmas.List.Sums.{length-filter}
 use Rattle.m11_base.specs.Feed.{Text}
 use Rattle.m11_lines.specs.Line.{SourceLine, line_of}
-use Rattle.m11_lines.specs.Lines.{RawLine, is_line, line_text, lines_in, most_bytes, most_lines}
-use Rattle.m11_lines.specs.Reader.{LineReading, ReadsNext, place}
+use Rattle.m11_lines.specs.Lines.{RawLine, is_line, line_text, lines_in, most_lines}
+use Rattle.m11_lines.specs.Reader.{LineReading, ReadsNext, place, unread}
 use Rattle.m11_lines.specs.declared.fault.LineFault.TheVariants.{Read, TooMuchSource, TooManyLines}
 use Rattle.m11_readings.specs.Calls.{BeginReading, HasRead, start}
 use Rattle.m11_readings.specs.Readings.{Reading, lines_of, reading_of}
@@ -32,8 +32,7 @@ lines_counted pieces =
 
 module _ {F : Type 0} (text : F → Option Text) (faults : F → ℕ) where
   pub reader_begins : (initial : List F) (reader : LineReading)
-      → reader ≡ record { source = 0; bytes_left = most_bytes; lines_left = most_lines; fault = None }
-      → SoFar text faults initial initial reader []
+      → reader ≡ unread → SoFar text faults initial initial reader []
   reader_begins initial reader is =
       let P : LineReading → Type 0 = λ r. SoFar text faults initial initial r [] in
       subst P (sym is) (record { has = begins (start text faults initial); sound = refl })

@@ -6,8 +6,8 @@ use Rattle.m11_asm_outputs.specs.declared.fault.AsmFault.{AsmFault}
 use Rattle.m11_asm_outputs.specs.declared.fault.AsmFault.TheVariants as fault
 use Rattle.m11_base.specs.Feed.{Text}
 use Rattle.m11_lines.specs.Line.{SourceLine}
-use Rattle.m11_lines.specs.Lines.{most_bytes, most_lines}
-use Rattle.m11_lines.specs.Reader.{LineReading, ReadsNext, place}
+use Rattle.m11_lines.specs.Lines.{most_lines}
+use Rattle.m11_lines.specs.Reader.{LineReading, ReadsNext, place, unread}
 use Rattle.m11_lines.specs.declared.fault.LineFault.{LineFault}
 use Rattle.m11_lines.specs.declared.fault.LineFault.TheVariants.{Read, TooMuchSource, TooManyLines}
 use Rattle.m11_passes.specs.Lines as lines
@@ -48,8 +48,7 @@ module _ {F : Type 0} (text : F → Option Text) (faults : F → ℕ) (program :
   -- memory was refused before the first line
   none_begins : (feeds : List F) → ReadsSecond (pass_of text faults feeds feeds) program old old (Err fault.NoMemory)
   none_begins feeds =
-      let reader : LineReading = record { source = 0; bytes_left = most_bytes; lines_left = most_lines; fault = None } in
-      let b = begun text faults feeds feeds reader [] (reader_begins text faults feeds reader refl) in (
+      let b = begun text faults feeds feeds unread [] (reader_begins text faults feeds unread refl) in (
         b.reading,
         b.reads,
         record {

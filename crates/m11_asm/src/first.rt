@@ -46,11 +46,11 @@ fn take_lines<F: Feed>(feeds: &mut [F], first: &mut First) -> Result<(), AsmFaul
             return Ok(());
         }
         match reader.next(feeds) {
-            Ok(Some(line)) => match first.line(&line) {
+            Ok(true) => match first.line(reader.line()) {
                 Ok(()) => {}
                 Err(fault) => return Err(of_pass(fault)),
             },
-            Ok(None) => return Ok(()),
+            Ok(false) => return Ok(()),
             Err(fault) => return Err(AsmFault::from(fault)),
         }
     }

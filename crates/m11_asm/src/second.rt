@@ -57,11 +57,11 @@ fn put_lines<F: Feed, S: Sink, T: Sink, U: Sink>(
             return Ok(());
         }
         match reader.next(feeds) {
-            Ok(Some(line)) => match second.line(&line, object, listing, messages) {
+            Ok(true) => match second.line(reader.line(), object, listing, messages) {
                 Ok(()) => {}
                 Err(fault) => return Err(fault),
             },
-            Ok(None) => return Ok(()),
+            Ok(false) => return Ok(()),
             Err(fault) => return Err(AsmFault::from(fault)),
         }
     }

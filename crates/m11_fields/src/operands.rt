@@ -1,8 +1,8 @@
 //! The operand that stands at a place of a line. (MACRO-11 Language Reference Manual, "Addressing modes"; PDP-11/40 Processor Handbook,
 //! "Addressing modes".)
 
-ghost use Rattle.std.specs.Prelude.{◌≡◌, ◌<◌, ◌≤◌, length};
-ghost use Rattle.m11_arguments.specs.Expressions.{known_by, value_at};
+ghost use Rattle.std.specs.Prelude.{◌≡◌, ◌<◌, ◌≤◌, IfSome, length};
+ghost use Rattle.m11_arguments.specs.Expressions.{IsAlone, known_by, value_at};
 ghost use Rattle.m11_fields.specs.Reads.{opens_after, read_seen};
 ghost use Rattle.m11_placement.specs.declared.operands.Form.TheVariants.{Absent, AfterCounter};
 ghost use Rattle.m11_placement.specs.Operands as spec;
@@ -12,7 +12,7 @@ ghost use Rattle.m11_scan.specs.Letters.{letter_A};
 ghost use Rattle.m11_scan.specs.Views.{lexeme};
 ghost use Rattle.m11_values.specs.Kinds.{is_register};
 
-use m11_arguments::{place_in, value_at};
+use m11_arguments::{extent_at, place_in, value_by};
 use m11_base::Mode;
 use m11_placement::Form;
 use m11_scan::{Letters, Line, Sort, Token, expression_end, next_token, skipped_between};
@@ -160,27 +160,34 @@ fn expression<N: Names>(line: &Line, is_deferred: bool, start: usize, names: &N)
         line.now.text start }
     ensures within { result.end ≤ length line.now.text }
 {
-    let end = expression_end(line, start);
-    match next_token(line, end) {
+    let extent = extent_at(line, start);
+    match extent.next {
         Some(token) if is_open(token.sort) => closed(
             line,
             Form::Indexed(indexed(is_deferred), token.end, place_in(line, start)),
             token.end,
         ),
         _ => OperandRead {
-            form: plain(line, is_deferred, start, names),
-            end: place_in(line, end),
+            form: plain(line, is_deferred, start, extent.term, names),
+            end: extent.end,
             letters: Letters::none(),
         },
     }
 }
 
-// An expression without `(`: a register, or a place.
-fn plain<N: Names>(line: &Line, is_deferred: bool, start: usize, names: &N) -> Form
-    requires { start ≤ length line.now.text }
+// An expression without `(`: a register, or a place. Where it is one term, this is its token.
+fn plain<N: Names>(
+    line: &Line,
+    is_deferred: bool,
+    start: usize,
+    term: Option<Token>,
+    names: &N,
+) -> Form
+    requires within { start ≤ length line.now.text }
+    requires term { IfSome term (λ term. IsAlone line.now.text start term) }
     ensures { result ≡ spec.plain (known_by (N.base names.now) (N.stands_for names.now)) is_deferred line.now.text start }
 {
-    if is_register_at(line, start, names) {
+    if is_register_at(line, start, term, names) {
         Form::InRegister(direct(is_deferred), place_in(line, start))
     } else {
         Form::AfterCounter(indexed(is_deferred), place_in(line, start))
@@ -188,12 +195,13 @@ fn plain<N: Names>(line: &Line, is_deferred: bool, start: usize, names: &N) -> F
 }
 
 // Whether the expression at a place is a register.
-fn is_register_at<N: Names>(line: &Line, start: usize, names: &N) -> bool
-    requires { start ≤ length line.now.text }
+fn is_register_at<N: Names>(line: &Line, start: usize, term: Option<Token>, names: &N) -> bool
+    requires within { start ≤ length line.now.text }
+    requires term { IfSome term (λ term. IsAlone line.now.text start term) }
     ensures { result ≡ is_register
         (value_at (known_by (N.base names.now) (N.stands_for names.now)) line.now.text start).kind }
 {
-    value_at(line, start, names).kind.is_register()
+    value_by(line, start, term, names).kind.is_register()
 }
 
 // The register after `(`, and what stands after it.
@@ -202,12 +210,12 @@ fn bracketed(line: &Line, is_deferred: bool, register: u8) -> OperandRead
     ensures read { read_seen result ≡ spec.bracketed is_deferred line.now.text register }
     ensures within { result.end ≤ length line.now.text }
 {
-    let end = expression_end(line, usize::from(register));
-    match next_token(line, end) {
+    let extent = extent_at(line, usize::from(register));
+    match extent.next {
         Some(token) if is_close(token.sort) => stepped(line, is_deferred, register, token.end),
         _ => OperandRead {
             form: pointed(is_deferred, register),
-            end: place_in(line, end),
+            end: extent.end,
             letters: Letters::A,
         },
     }
@@ -240,8 +248,8 @@ fn closed(line: &Line, form: Form, register: u8) -> OperandRead
     ensures read { read_seen result ≡ spec.closed form line.now.text register }
     ensures within { result.end ≤ length line.now.text }
 {
-    let end = expression_end(line, usize::from(register));
-    match next_token(line, end) {
+    let extent = extent_at(line, usize::from(register));
+    match extent.next {
         Some(token) if is_close(token.sort) => OperandRead {
             form,
             end: token.end,
@@ -249,7 +257,7 @@ fn closed(line: &Line, form: Form, register: u8) -> OperandRead
         },
         _ => OperandRead {
             form,
-            end: place_in(line, end),
+            end: extent.end,
             letters: Letters::A,
         },
     }

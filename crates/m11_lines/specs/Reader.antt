@@ -1,20 +1,26 @@
 -- Reading of the lines of sources one after another: the next line, or the first fault in the order of the bytes.
 -- (That all sources have at most 4,194,304 bytes and 65,535 lines, and which faults there are, is this project's own.)
-use Rattle.std.specs.Prelude.{◌≡◌, ◌==◌, ℕ, ◌+◌, true, false, List, [], ◌∷◌, ◌++◌, length, map, drop, slice_index, slice_set, Option, Some, None, Result, Ok, Err}
+use Rattle.std.specs.Prelude.{◌≡◌, ◌==◌, ℕ, ◌+◌, Bool, true, false, List, [], ◌∷◌, ◌++◌, length, map, drop, slice_index, slice_set, Option, Some, None, Result, Ok, Err}
 use Rattle.m11_base.specs.Devices.{Bytes, Rises}
 use Rattle.m11_base.specs.Feed.{Text, GivesByte, GivesBytes, GivesEnd, GivesFailure}
 use Rattle.m11_lines.specs.declared.fault.LineFault.{LineFault}
 use Rattle.m11_lines.specs.declared.fault.LineFault.TheVariants.{Read, TooMuchSource, TooManyLines}
-use Rattle.m11_lines.specs.Line.{SourceLine, line_of}
-use Rattle.m11_lines.specs.Lines.{RawLine, cut, cleaned, is_line, line_text, size_of, bytes_in, lines_in}
+use Rattle.m11_lines.specs.Line.{SourceLine, line_of, no_line}
+use Rattle.m11_lines.specs.Lines.{RawLine, cut, cleaned, is_line, line_text, size_of, bytes_in, lines_in, most_bytes, most_lines}
 
--- a reader of lines between two calls: the sources that were read to their ends, what the limits leave, and the fault
--- that it returned
+-- a reader of lines between two calls: the sources that were read to their ends, what the limits leave, the line that was
+-- read last, and the fault that came
 pub record LineReading : Type 0 where
   pub source : ℕ
   pub bytes_left : ℕ
   pub lines_left : ℕ
+  pub line : SourceLine
   pub fault : Option LineFault
+
+-- at the start of the first source
+abbrev pub unread : LineReading
+unread =
+    record { source = 0; bytes_left = most_bytes; lines_left = most_lines; line = no_line; fault = None }
 
 -- sources between two calls: the texts of those that are not at their ends, and all counts of failures
 pub record Place : Type 0 where
@@ -100,6 +106,12 @@ FaultComes old new TooMuchSource = (byte : ℕ) × Gave old.texts new.texts (Som
     × (new.faults ≡ old.faults) × (old.bytes_left ≡ 0)
 FaultComes old new TooManyLines = (byte : ℕ) × Gave old.texts new.texts (Some byte ∷ [])
     × (new.faults ≡ old.faults) × ((byte == 0) ≡ false) × (old.lines_left ≡ 0) × (old.bytes_left ≡ 1 + new.bytes_left)
+
+-- what a call found: a line, which is the one that it read, or none; or a fault
+abbrev pub found : SourceLine → Result Bool LineFault → Result (Option SourceLine) LineFault
+found line (Ok true) = Ok (Some line)
+found line (Ok false) = Ok None
+found line (Err fault) = Err fault
 
 -- a call read the next line, found that there is none, or met a fault
 abbrev pub ReadsNext : Place → Place → Result (Option SourceLine) LineFault → Type 0

@@ -51,11 +51,19 @@ impl OpenLine {
         !self.has_return && self.kept.text().is_empty()
     }
 
-    /// The line, whose end came.
-    pub(crate) fn into_line(self) -> Line
-        ensures { result ≡ self.kept }
+    /// No character any more.
+    pub(crate) fn clear(&mut self)
+        ensures { self.new ≡ nothing_open }
     {
-        self.kept
+        self.kept.clear();
+        self.has_return = false;
+    }
+
+    /// The characters that are kept.
+    pub(crate) fn line(&self) -> &Line
+        ensures { result.now ≡ self.now.kept }
+    {
+        &self.kept
     }
 
     /// Makes the CR that came last a character of the line.

@@ -2,8 +2,7 @@
 
 ghost use Rattle.std.specs.Prelude.{◌≡◌, Some, None, Err};
 ghost use Rattle.std.specs.Result.{result_err};
-ghost use Rattle.m11_lines.specs.Lines.{most_bytes, most_lines};
-ghost use Rattle.m11_lines.specs.Reader.{place, ReadsNext};
+ghost use Rattle.m11_lines.specs.Reader.{ReadsNext, found, place, unread};
 
 use crate::fault::LineFault;
 use crate::line::Line;
@@ -18,12 +17,13 @@ const MOST_BYTES: u32 = 4_194_304;
 /// The most lines that all sources have together.
 const MOST_LINES: u32 = 65_535;
 
-/// Reads the lines of sources, in order, from their feeds. It takes no memory.
+/// Reads the lines of sources, in order, from their feeds. It holds one line, and takes no memory.
 #[derive(Drop)]
 pub struct LineReader {
     source: usize,
     bytes_left: u32,
     lines_left: u32,
+    line: OpenLine,
     fault: Latch<LineFault>,
 }
 
@@ -36,6 +36,7 @@ impl Model for LineReader {
       source = reader.source;
       bytes_left = reader.bytes_left;
       lines_left = reader.lines_left;
+      line = reader.line.kept;
       fault = reader.fault;
     } };
 }
@@ -43,59 +44,68 @@ impl Model for LineReader {
 impl LineReader {
     /// A reader at the start of the first source.
     pub fn new() -> LineReader
-        ensures { result ≡ record { source = 0; bytes_left = most_bytes; lines_left = most_lines; fault = None } }
+        ensures { result ≡ unread }
     {
         LineReader {
             source: 0,
             bytes_left: MOST_BYTES,
             lines_left: MOST_LINES,
+            line: OpenLine::new(),
             fault: Latch::new(),
         }
     }
 
-    /// The next line of the sources, or `None` after the end of the last. The feeds have to be those of the calls
-    /// before. A fault is the first one in the order of the bytes; after it each call returns the same and reads
-    /// nothing.
-    pub fn next<F: Feed>(&mut self, feeds: &mut [F]) -> Result<Option<Line>, LineFault>
-        ensures reads { self.old.fault ≡ None
-            → ReadsNext (place F.text F.faults feeds.old self.old) (place F.text F.faults feeds.new self.new) result }
+    /// Reads the next line of the sources. It returns whether there is one, which there isn't after the end of the last source. The
+    /// feeds have to be those of the calls before. A fault is the first one in the order of the bytes; after it each call returns the
+    /// same and reads nothing.
+    pub fn next<F: Feed>(&mut self, feeds: &mut [F]) -> Result<bool, LineFault>
+        ensures reads { self.old.fault ≡ None → ReadsNext (place F.text F.faults feeds.old self.old)
+            (place F.text F.faults feeds.new self.new) (found self.new.line result) }
         ensures failed { (fault : LineFault) → self.old.fault ≡ Some fault
             → (result ≡ Err fault) × (self.new ≡ self.old) × (feeds.new ≡ feeds.old) }
         ensures keeps { self.new.fault ≡ result_err result }
     {
         self.fault.check()?;
-        let line = self.read_line(feeds);
-        self.fault.keep(line)
+        let is_read = self.read_line(feeds);
+        self.fault.keep(is_read)
     }
 
-    fn read_line<F: Feed>(&mut self, feeds: &mut [F]) -> Result<Option<Line>, LineFault>
-        ensures reads { ReadsNext (place F.text F.faults feeds.old self.old) (place F.text F.faults feeds.new self.new) result }
+    /// The line that was read last.
+    pub fn line(&self) -> &Line
+        ensures { result.now ≡ self.now.line }
+    {
+        self.line.line()
+    }
+
+    fn read_line<F: Feed>(&mut self, feeds: &mut [F]) -> Result<bool, LineFault>
+        ensures reads { ReadsNext (place F.text F.faults feeds.old self.old)
+            (place F.text F.faults feeds.new self.new) (found self.new.line result) }
         ensures keeps { self.new.fault ≡ self.old.fault }
     {
-        let mut line = OpenLine::new();
+        self.line.clear();
         'sources: while self.source < feeds.len() {
             let may_begin = self.lines_left > 0;
             match read_source(
                 &mut feeds[self.source],
                 &mut self.bytes_left,
                 may_begin,
-                &mut line,
+                &mut self.line,
             ) {
                 Err(fault) => return Err(fault),
                 Ok(LineEnd::LineFeed) => {
                     self.lines_left -= 1;
-                    return Ok(Some(line.into_line()));
+                    return Ok(true);
                 }
                 Ok(LineEnd::SourceEnd) => {
                     self.source += 1;
-                    if !line.is_unbegun() {
+                    if !self.line.is_unbegun() {
                         self.lines_left -= 1;
-                        line.keep_return();
-                        return Ok(Some(line.into_line()));
+                        self.line.keep_return();
+                        return Ok(true);
                     }
                 }
             }
         }
-        Ok(None)
+        Ok(false)
     }
 }

@@ -1,8 +1,9 @@
 //! The symbols that a line defines or reads. (MACRO-11 Language Reference Manual, "Symbols", "Table of contents and symbol table" and
 //! ".GLOBL directive".)
 
-ghost use Rattle.std.specs.Prelude.{◌≡◌, ◌≤◌, ◌++◌, length, map};
+ghost use Rattle.std.specs.Prelude.{◌≡◌, ◌≤◌, ◌++◌, ◌∷◌, [], length, map};
 ghost use Rattle.std.specs.List.{flat_map};
+ghost use Rattle.m11_arguments.specs.Expressions.{symbols_at, symbols_in};
 ghost use Rattle.m11_directives.specs.Changes.{change_seen, names_among};
 ghost use Rattle.m11_fields.specs.Reads.{fields_seen};
 ghost use Rattle.m11_operators.specs.Reading.{operator_fields};
@@ -11,21 +12,22 @@ ghost use Rattle.m11_placement.specs.declared.meanings.Context.TheVariants.{Know
 ghost use Rattle.m11_placement.specs.Mentions as spec;
 ghost use Rattle.m11_placement.specs.Tables.{Table as LineTable};
 ghost use Rattle.m11_placing.specs.Deeds.{IsWithin, deed_fields, deed_seen};
-ghost use Rattle.m11_placing.specs.Mentioned.{Adds};
+ghost use Rattle.m11_placing.specs.Mentioned.{Adds, in_context};
+ghost use Rattle.m11_scan.specs.Views.{lexeme};
 
 use crate::changing::within;
 use crate::deeds::Deed;
 use crate::fault::PlacingFault;
 use crate::mentioned::Mentioned;
-use m11_arguments::{Notes, note_symbols};
+use m11_arguments::{Notes, lone_term, note_symbols};
 use m11_base::Name;
 use m11_directives::{Change, argument_count, character_count, listed_names};
 use m11_fields::{Fields, elements_at};
 use m11_placement::{Context, Directive, Field, Form, Operator};
-use m11_scan::{Line, read_name};
+use m11_scan::{Line, Token, read_name};
 use m11_statements::{Assignment, Label, LabelKind, Part, PartKind};
 use m11_strings::parts_at;
-use m11_values::Symbol;
+use m11_values::{Symbol, symbol_of};
 
 impl Mentioned {
     /// The labels of a line. Errors as those of `add_all`.
@@ -112,12 +114,32 @@ impl Mentioned {
         self.read(line, assignment.value, Context::Knows)
     }
 
-    // The symbols of the expression at a place.
+    // The symbols of the expression at a place. Most expressions are one term, of which no list need be made.
     fn read(&mut self, line: &Line, start: u8, context: Context) -> Result<(), PlacingFault>
         ensures { Adds (spec.read_at context line.now.text start) self.old self.new result }
     {
+        let place = within(line, start);
+        match lone_term(line, place) {
+            Some(term) => self.read_term(line, &term, context),
+            None => self.read_all(line, place, context),
+        }
+    }
+
+    fn read_term(&mut self, line: &Line, term: &Token, context: Context) -> Result<(), PlacingFault>
+        ensures { Adds (in_context context (symbols_in (lexeme line.now.text term.now ∷ []))) self.old self.new result }
+    {
+        match symbol_of(term, line) {
+            Some(symbol) => self.add(symbol, context),
+            None => Ok(()),
+        }
+    }
+
+    fn read_all(&mut self, line: &Line, place: usize, context: Context) -> Result<(), PlacingFault>
+        requires { place ≤ length line.now.text }
+        ensures { Adds (in_context context (symbols_at line.now.text place)) self.old self.new result }
+    {
         let mut notes = Notes::new(self.alloc);
-        note_symbols(line, within(line, start), &mut notes)?;
+        note_symbols(line, place, &mut notes)?;
         self.add_all(notes.symbols(), context)
     }
 }

@@ -1,4 +1,5 @@
 pub mod Folding
+mod KeptTexts
 mod NestedBrackets
 mod NextPieces
 mod OnlyCut

@@ -1,13 +1,12 @@
 -- Cutting a text one piece after the other.
-use Rattle.std.proofs.Common.{◌≡◌, ℕ, zero, suc, ◌+◌, ◌-◌, ◌<◌, ◌≤◌, true, false, List, [], ◌∷◌, ◌++◌, length, drop, take, map, refl, sym, ap, ◌∙◌, subst, arith}
+use Rattle.std.proofs.Common.{◌≡◌, ℕ, zero, suc, ◌+◌, ◌-◌, ◌<◌, ◌≤◌, true, false, List, [], ◌∷◌, ◌++◌, length, drop, take, refl, sym, ap, ◌∙◌, subst, arith}
 use Rattle.std.specs.Prelude.{◌||◌}
 use Rattle.std.specs.List.{list_any}
-use Rattle.std.proofs.lemmas.List.{drop-drop, drop_all, length-drop, append_assoc, map-append, take_rest}
+use Rattle.std.proofs.lemmas.List.{drop-drop, drop_all, length-drop, take_rest}
 use Rattle.m11_scan.specs.declared.sort.Sort.{Sort}
 use Rattle.m11_scan.specs.declared.sort.Form.{Form}
 use Rattle.m11_scan.specs.declared.sort.Form.TheVariants.{Cut, Blank, Comment, Skipped}
 use Rattle.m11_scan.specs.declared.pieces.Piece.{Piece}
-use Rattle.m11_scan.specs.declared.cutting.Token.{Token}
 use Rattle.m11_scan.specs.Pieces.{first_piece}
 use Rattle.m11_scan.specs.Cutting.{Lexeme, lexemes_at, lexemes_from, pieces_after, pieces_of, tokens_from}
 use Rattle.m11_scan.specs.Skipped.{has_skipped, is_skipped}
@@ -60,33 +59,6 @@ module _ (line : List ℕ) (start : ℕ) (piece : Piece) (inside : start < lengt
       ≡ lexemes_at line start (start + piece.length) piece.form
       ++ lexemes_from line (start + piece.length) (pieces_of (drop (start + piece.length) line))
   next_lexemes = ap (lexemes_from line start) next_pieces
-
-  module _ (tokens : List Token) (whole : List Lexeme)
-      (before : map (lexeme line) tokens ++ lexemes_from line start (pieces_of (drop start line)) ≡ whole) where
-    -- a token joins those before it
-    pub token_joins : (sort : Sort) (more : List Token) → piece.form ≡ Cut sort
-        → more ≡ tokens ++ record { sort = sort; start = start; end = start + piece.length } ∷ []
-        → map (lexeme line) more
-        ++ lexemes_from line (start + piece.length) (pieces_of (drop (start + piece.length) line)) ≡ whole
-    token_joins sort more form pushed =
-        let token : Token = record { sort = sort; start = start; end = start + piece.length } in
-        let rest : List Lexeme = lexemes_from line (start + piece.length) (pieces_of (drop (start + piece.length) line)) in
-        ap (λ ts. map (lexeme line) ts ++ rest) pushed
-        ∙ ap (λ ls. ls ++ rest) (map-append (lexeme line) tokens (token ∷ []))
-        ∙ append_assoc (map (lexeme line) tokens) (lexeme line token ∷ []) rest
-        ∙ ap (λ ls. map (lexeme line) tokens ++ ls)
-        (sym (next_lexemes ∙ ap (λ f. lexemes_at line start (start + piece.length) f ++ rest) form))
-        ∙ before
-
-    -- any other piece gives none
-    pub other_passes : ((sort : Sort) → piece.form ≡ Cut sort → ⊥)
-        → map (lexeme line) tokens
-        ++ lexemes_from line (start + piece.length) (pieces_of (drop (start + piece.length) line)) ≡ whole
-    other_passes other =
-        let rest : List Lexeme = lexemes_from line (start + piece.length) (pieces_of (drop (start + piece.length) line)) in
-        ap (λ ls. map (lexeme line) tokens ++ ls)
-        (sym (next_lexemes ∙ ap (λ ls. ls ++ rest) (no_lexeme line start (start + piece.length) piece.form other)))
-        ∙ before
 
   -- a token stands before those after it
   pub token_stands : (sort : Sort) → piece.form ≡ Cut sort

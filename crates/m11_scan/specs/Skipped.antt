@@ -1,8 +1,11 @@
 -- Characters that begin no token. (MACRO-11 Language Reference Manual, "Character set". That such a character is skipped wherever
 -- tokens are looked for is this project's own.)
-use Rattle.std.specs.Prelude.{ℕ, Bool, true, false}
+use Rattle.std.specs.Prelude.{ℕ, Bool, true, false, not, ◌||◌}
 use Rattle.std.specs.List.{list_any}
 use Rattle.m11_base.specs.Devices.{Bytes}
+use Rattle.m11_base.specs.Mnemonics.{is_name_character}
+use Rattle.m11_scan.specs.Characters.{is_blank}
+use Rattle.m11_scan.specs.Pieces.{mark_form}
 use Rattle.m11_scan.specs.declared.sort.Form.{Form}
 use Rattle.m11_scan.specs.declared.sort.Form.TheVariants.{Cut, Blank, Comment, Skipped}
 use Rattle.m11_scan.specs.declared.pieces.Piece.{Piece}
@@ -17,6 +20,14 @@ is_skipped Skipped = true
 -- some piece of a text is a character that begins no token
 abbrev pub has_skipped : Bytes → Bool
 has_skipped text = list_any (λ (piece : Piece). is_skipped piece.form) (pieces_of text)
+
+-- a character that is never skipped, where no piece before it takes it: but for `^`, each that begins a token, and blanks
+abbrev pub is_kept : ℕ → Bool
+is_kept byte = is_name_character byte || is_blank byte || not (is_skipped (mark_form byte))
+
+-- another one stands in a text
+abbrev pub has_unkept : Bytes → Bool
+has_unkept text = list_any (λ byte. not (is_kept byte)) text
 
 -- some piece between two places of a line is one
 abbrev pub skipped_between : Bytes → ℕ → ℕ → Bool

@@ -1,14 +1,13 @@
 //! The tokens of a line. (MACRO-11 Language Reference Manual, "Symbols and expressions".)
 
-ghost use Rattle.std.specs.Prelude.{◌≡◌, ◌<◌, ◌≤◌, List, [], ◌∷◌, None, length, map, IfSome, MatchOption};
-ghost use Rattle.m11_scan.specs.Cutting.{Lexeme, text_between, tokens_from, tokens_of};
+ghost use Rattle.std.specs.Prelude.{◌≡◌, ◌<◌, ◌≤◌, List, [], ◌∷◌, None, length, IfSome, MatchOption};
+ghost use Rattle.m11_scan.specs.Cutting.{Lexeme, text_between, tokens_from};
 ghost use Rattle.m11_lines.specs.Line.{line_limit};
 ghost use Rattle.m11_scan.specs.Views.{lexeme};
 
 use crate::pieces::first_piece;
 use crate::sort::{Form, Sort};
-use arrayvec::ArrayVec;
-use m11_lines::{LINE_LIMIT, Line};
+use m11_lines::Line;
 
 /// A token of a line.
 #[derive(Clone, Copy, PartialEq, Eq, Debug, Default)]
@@ -42,36 +41,6 @@ pub fn text_between(line: &Line, start: u8, end: u8) -> &[u8]
     } else {
         &[]
     }
-}
-
-/// The tokens of a line, in order.
-pub fn tokens(line: &Line) -> ArrayVec<Token, LINE_LIMIT>
-    ensures { map (lexeme line.now.text) result.items ≡ tokens_of line.now.text }
-{
-    tokens_from(line, 0)
-}
-
-/// The tokens that stand in a line from a place on, in order.
-pub fn tokens_from(line: &Line, place: usize) -> ArrayVec<Token, LINE_LIMIT>
-    requires { place ≤ length line.now.text }
-    ensures { map (lexeme line.now.text) result.items ≡ tokens_from line.now.text place }
-{
-    let text = line.text();
-    let mut tokens = ArrayVec::new();
-    let mut start = place;
-    'pieces: while start < text.len() {
-        let piece = first_piece(&text[start..]);
-        let end = start + piece.length;
-        if let Form::Cut(sort) = piece.form {
-            tokens.push(Token {
-                sort,
-                start: start as u8,
-                end: end as u8,
-            });
-        }
-        start = end;
-    }
-    tokens
 }
 
 /// The token that stands next in a line from a place on, if one does.

@@ -1,12 +1,14 @@
-//! Where an expression of a line ends. (MACRO-11 Language Reference Manual, "Expressions".)
+//! Where an expression of a line ends, and which tokens it has. (MACRO-11 Language Reference Manual, "Expressions".)
 
-ghost use Rattle.std.specs.Prelude.{◌≡◌, ◌≤◌, length};
-ghost use Rattle.m11_scan.specs.Ends.{expression_end};
+ghost use Rattle.std.specs.Prelude.{◌≡◌, ◌≤◌, length, map};
 ghost use Rattle.m11_lines.specs.Line.{line_limit};
+ghost use Rattle.m11_scan.specs.Ends.{expression_at, expression_end};
+ghost use Rattle.m11_scan.specs.Views.{lexeme};
 
-use crate::cutting::next_token;
+use crate::cutting::{Token, next_token};
 use crate::expressions::{Within, goes_on, role_of};
-use m11_lines::Line;
+use arrayvec::ArrayVec;
+use m11_lines::{LINE_LIMIT, Line};
 
 /// The place after the expression that begins at a place of a line, or that place where no token of an expression stands there.
 pub fn expression_end(line: &Line, place: usize) -> usize
@@ -29,4 +31,39 @@ pub fn expression_end(line: &Line, place: usize) -> usize
         end = usize::from(token.end);
     }
     end
+}
+
+/// The tokens of an expression.
+#[derive(Drop)]
+pub struct Expression {
+    /// The tokens, in order.
+    pub tokens: ArrayVec<Token, LINE_LIMIT>,
+    /// The place after them.
+    pub end: usize,
+}
+
+/// The expression that begins at a place of a line. Where no token of one stands there, it has none.
+pub fn expression_at(line: &Line, place: usize) -> Expression
+    requires { place ≤ length line.now.text }
+    ensures tokens { map (lexeme line.now.text) result.tokens.items ≡ expression_at line.now.text place }
+    ensures end { result.end ≡ expression_end line.now.text place }
+    ensures least { place ≤ result.end }
+    ensures most { result.end ≤ length line.now.text }
+    ensures limited { length line.now.text ≤ line_limit }
+{
+    let mut within = Within {
+        depth: 0,
+        is_due: true,
+    };
+    let mut tokens = ArrayVec::new();
+    let mut end = place;
+    'tokens: while let Some(token) = next_token(line, end) {
+        match goes_on(role_of(token.sort), within) {
+            Some(next) => within = next,
+            None => return Expression { tokens, end },
+        }
+        tokens.push(token);
+        end = usize::from(token.end);
+    }
+    Expression { tokens, end }
 }

@@ -1,9 +1,8 @@
 //! Where an expression ends. (MACRO-11 Language Reference Manual, "Terms" and "Expressions".)
 
-ghost use Rattle.std.specs.Prelude.{◌≡◌, ◌+◌, ◌<◌, ◌≤◌, length, map, IfSome};
-ghost use Rattle.m11_scan.specs.Expressions.{expression_length, goes_on, place_if, role_of, sort_of};
+ghost use Rattle.std.specs.Prelude.{◌≡◌, ◌+◌, ◌<◌, ◌≤◌, IfSome};
+ghost use Rattle.m11_scan.specs.Expressions.{goes_on, place_if, role_of};
 
-use crate::cutting::Token;
 use crate::sort::Sort;
 
 /// What a token can be in an expression.
@@ -32,29 +31,6 @@ pub struct Within {
     pub depth: usize,
     /// Whether a term is due.
     pub is_due: bool,
-}
-
-/// How many tokens the expression has that a list of tokens begins with. It is decided by their sorts alone. A term may be missing,
-/// and so may a `>`.
-pub fn expression_length(tokens: &[Token]) -> usize
-    ensures length { result ≡ expression_length (map sort_of tokens.now) }
-    ensures within { result ≤ length tokens.now }
-{
-    let mut place = Within {
-        depth: 0,
-        is_due: true,
-    };
-    let mut count = 0;
-    let mut rest = tokens;
-    'tokens: while let [token, others @ ..] = rest {
-        match goes_on(role_of(token.sort), place) {
-            Some(next) => place = next,
-            None => return count,
-        }
-        count += 1;
-        rest = others;
-    }
-    count
 }
 
 // The place after a token of a role, if an expression goes on with it.

@@ -20,9 +20,9 @@ mod texts;
 
 pub use characters::{digits_length, is_name_character, name_length};
 pub use conditions::{Condition, read_condition};
-pub use cutting::{Token, next_token, text_between, token_at, tokens, tokens_from};
-pub use ends::expression_end;
-pub use expressions::{Role, Within, expression_length, role_of};
+pub use cutting::{Token, next_token, text_between, token_at};
+pub use ends::{Expression, expression_at, expression_end};
+pub use expressions::{Role, Within, role_of};
 pub use laws::{
     nested_brackets_are_read_whole, there_is_one_cut, tokens_lie_in_order,
     written_expressions_are_taken_whole,

@@ -18,7 +18,25 @@ pub fn read_name(text: &[u8]) -> Option<Name>
     ensures name { result ≡ name_of (six_of text.now) }
     ensures some { has_name_characters_alone text.now ≡ true → is_some result ≡ true }
 {
-    Name::pack(&six_characters(text))
+    pack_first(text)
+}
+
+fn pack_first(text: &[u8]) -> Option<Name>
+    ensures { result ≡ name_of (six_of text.now) }
+{
+    // most names are short, and blanks after them need not be packed
+    if text.len() <= 3 {
+        Name::pack(&[
+            character_at(text, 0),
+            character_at(text, 1),
+            character_at(text, 2),
+            b' ',
+            b' ',
+            b' ',
+        ])
+    } else {
+        Name::pack(&six_characters(text))
+    }
 }
 
 /// The first six characters of a text in upper case, with blanks where there are fewer.

@@ -125,7 +125,7 @@ fn caret_piece(rest: &[u8]) -> Piece
 }
 
 // What a character is that is a piece by itself.
-fn mark_form(byte: u8) -> Form
+pub(crate) fn mark_form(byte: u8) -> Form
     ensures { result ≡ spec.mark_form byte }
 {
     match byte {

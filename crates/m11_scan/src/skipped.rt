@@ -1,9 +1,10 @@
 //! Characters that begin no token. (MACRO-11 Language Reference Manual, "Character set".)
 
 ghost use Rattle.std.specs.Prelude.{◌≡◌, ◌≤◌, length};
-ghost use Rattle.m11_scan.specs.Skipped.{has_skipped, is_skipped, skipped_between};
+ghost use Rattle.m11_scan.specs.Skipped.{has_skipped, has_unkept, is_kept, is_skipped, skipped_between};
 
-use crate::pieces::first_piece;
+use crate::characters::{is_blank, is_name_character};
+use crate::pieces::{first_piece, mark_form};
 use crate::sort::Form;
 use m11_lines::Line;
 
@@ -19,6 +20,27 @@ pub fn skipped_between(line: &Line, start: usize, end: usize) -> bool
 
 // Whether some piece of a text is a character that begins no token.
 fn has_skipped(text: &[u8]) -> bool
+    ensures { result ≡ has_skipped text.now }
+{
+    // few texts have a character that may be skipped, and the others need not be cut
+    has_unkept(text) && is_some_skipped(text)
+}
+
+// Whether a text has a character that may be skipped.
+fn has_unkept(text: &[u8]) -> bool
+    ensures { result ≡ has_unkept text.now }
+{
+    text.iter().any(|byte| !is_kept(*byte))
+}
+
+fn is_kept(byte: u8) -> bool
+    ensures { result ≡ is_kept byte }
+{
+    is_name_character(byte) || is_blank(byte) || !is_skipped(mark_form(byte))
+}
+
+// The same of any text, cut piece by piece.
+fn is_some_skipped(text: &[u8]) -> bool
     ensures { result ≡ has_skipped text.now }
 {
     let mut rest = text;

@@ -12,10 +12,16 @@ mod terms;
 mod texts;
 mod values;
 
+use m11_scan::{Line, Token, next_token};
 use std::fmt::{Debug, Display};
 use std::process::Abort;
 
 // What a row of a table yielded is what it should.
 pub(crate) fn same<T: PartialEq + Debug>(rt: &impl Abort, row: &impl Display, got: &T, wanted: &T) {
     assert_eq!(rt; got, wanted, "{row}");
+}
+
+// The token that stands next in a line from a place on, if one does.
+pub(crate) fn token_after(line: &Line, place: usize) -> Option<Token> {
+    next_token(line, place.min(line.text().len()))
 }

@@ -6,22 +6,22 @@ use Rattle.m11_scan.specs.Cutting.{Lexeme}
 use Rattle.m11_scan.specs.Skipped.{skipped_between}
 use Rattle.m11_scan.specs.declared.sort.Sort.{Sort}
 use Rattle.m11_scan.specs.declared.sort.Sort.TheVariants.{Equals, Name, TwoEquals}
-use Rattle.m11_statements.specs.Bodies.{assigned, assignment_to, counter_set, end_of, name_set, reach, set_by}
+use Rattle.m11_statements.specs.Bodies.{assigned, assignment_to, counter_set, end_of, name_set, set_by}
 use Rattle.m11_statements.specs.Labels.{is_counter}
 use Rattle.m11_statements.specs.declared.bodies.Body.{Body}
 
 abbrev IsWhole : ℕ → Option Body → Type 0
 IsWhole size None = Unit {0}
-IsWhole size (Some body) = (reach body size ≡ size) × (end_of body size ≡ size)
+IsWhole size (Some body) = end_of body size ≡ size
 
 module _ (size : ℕ) (target equals : Lexeme) where
   counter_whole : (sort : Sort) → IsWhole size (counter_set sort equals.end)
-  counter_whole Equals = (refl, refl)
+  counter_whole Equals = refl
   counter_whole _ = tt
 
   name_whole : (sort : Sort) → IsWhole size (name_set target.start target.end sort equals.end)
-  name_whole Equals = (refl, refl)
-  name_whole TwoEquals = (refl, refl)
+  name_whole Equals = refl
+  name_whole TwoEquals = refl
   name_whole _ = tt
 
   either_whole : (is_dot : Bool) → IsWhole size
@@ -42,6 +42,5 @@ module _ (size : ℕ) (line : Bytes) (target : Lexeme) where
   assignment_whole [] = tt
   assignment_whole (equals ∷ tokens) = assigned_whole size target equals (skipped_between line target.end equals.start)
 
-  pub is_whole : (tokens : List Lexeme) (body : Body) → assignment_to line target tokens ≡ Some body
-      → (reach body size ≡ size) × (end_of body size ≡ size)
+  pub is_whole : (tokens : List Lexeme) (body : Body) → assignment_to line target tokens ≡ Some body → end_of body size ≡ size
   is_whole tokens body is = subst (IsWhole size) is (assignment_whole tokens)

@@ -1,8 +1,8 @@
 -- Upper or lower case makes no difference to what a line says.
-use Rattle.std.proofs.Common.{◌≡◌, ℕ, Bool, List, [], ◌∷◌, length, map, take, Option, Some, None, refl, sym, ap, ◌∙◌, lit<}
+use Rattle.std.proofs.Common.{◌≡◌, ℕ, Bool, List, [], ◌∷◌, map, take, Option, Some, None, refl, sym, ap, ◌∙◌, lit<}
 use Rattle.std.specs.Prelude.{◌==◌, if◌then◌else◌}
 use Rattle.std.specs.List.{prefix_len}
-use Rattle.std.proofs.lemmas.List.{length-map, take-map}
+use Rattle.std.proofs.lemmas.List.{take-map}
 use Rattle.m11_base.specs.Mnemonics.{folded}
 use Rattle.m11_base.specs.Rad50.{name_of}
 use Rattle.m11_scan.specs.Characters.{is_digit}
@@ -10,15 +10,14 @@ use Rattle.m11_scan.specs.Cutting.{Lexeme, tokens_from, tokens_of}
 use Rattle.std.specs.Int.RustNames.{bit_or}
 use Rattle.m11_scan.specs.Letters.{letter_A, letter_I, letter_L}
 use Rattle.m11_scan.specs.Numbers.{number_of}
-use Rattle.m11_scan.specs.Skipped.{skipped_between}
 use Rattle.m11_scan.specs.declared.radix.Radix.TheVariants.{Decimal}
 use Rattle.m11_scan.specs.declared.sort.Sort.{Sort}
 use Rattle.m11_scan.specs.declared.sort.Sort.TheVariants.{Name, LocalSymbol, Colon, TwoColons}
 use Rattle.m11_scan.proofs.Folding.{digit-folded, digits-folded, folded_token, if_cong, mark-folded, run-folded, six_of-folded, skipped_between-folded, tokens_from-folded}
 use Rattle.m11_statements.specs.declared.labels.LabelKind.{LabelKind}
-use Rattle.m11_statements.specs.Bodies.{assignment_to, body_in, body_or, is_known_name, operates, operation, reach, set_by}
+use Rattle.m11_statements.specs.Bodies.{assignment_to, body_in, body_or, is_known_name, operates, operation, set_by}
 use Rattle.m11_statements.specs.Labels.{before_labels, end_of, is_counter, kind_of, label_of, labelled, labels_at, labels_end, labels_in, local_kind, local_of, numbered}
-use Rattle.m11_statements.specs.Statements.{body_letters, body_of, has_outside, letter_if, letters_of, label_letters}
+use Rattle.m11_statements.specs.Statements.{body_of, has_outside, letter_if, letters_of, label_letters}
 
 -- labels
 counter-folded : (text : List ℕ) → is_counter (map folded text) ≡ is_counter text
@@ -99,13 +98,6 @@ module _ (known : ℕ × ℕ → Bool) where
       ∙ ap (body_in known (map folded line)) (tokens_from-folded line (labels_end line))
       ∙ body_in-folded line (tokens_from line (labels_end line))
 
-  body_letters-folded : (line : List ℕ) → body_letters known (map folded line) ≡ body_letters known line
-  body_letters-folded line =
-      (λ i. letter_if (skipped_between (map folded line) (end_of 0 (labels_at-folded line i))
-      (reach (body_of-folded line i) (length-map line folded i))) letter_I)
-      ∙ ap (λ b. letter_if b letter_I)
-      (skipped_between-folded line (labels_end line) (reach (body_of known line) (length line)))
-
 -- lines that are the same but for case
 module _ (a b : List ℕ) (same : map folded a ≡ map folded b) where
   pub same_labels : labels_at a ≡ labels_at b
@@ -113,9 +105,6 @@ module _ (a b : List ℕ) (same : map folded a ≡ map folded b) where
 
   pub same_body : (known : ℕ × ℕ → Bool) → body_of known a ≡ body_of known b
   same_body known = sym (body_of-folded known a) ∙ ap (body_of known) same ∙ body_of-folded known b
-
-  pub same_letters : (known : ℕ × ℕ → Bool) → body_letters known a ≡ body_letters known b
-  same_letters known = sym (body_letters-folded known a) ∙ ap (body_letters known) same ∙ body_letters-folded known b
 
   label_letters-folded : (line : List ℕ) (is_over_long : Bool)
       → label_letters (record { text = map folded line; is_over_long = is_over_long })
@@ -134,4 +123,4 @@ module _ (a b : List ℕ) (same : map folded a ≡ map folded b) where
       ∙ ap (λ text. label_letters (record { text = text; is_over_long = is_over_long })) same
       ∙ label_letters-folded b is_over_long
 
-pub ruleset cases = (same_labels, same_body, same_letters, same_label_letters)
+pub ruleset cases = (same_labels, same_body, same_label_letters)

@@ -77,14 +77,6 @@ abbrev pub body_in : (Name → Bool) → Bytes → List Lexeme → Body
 body_in known line [] = Nothing
 body_in known line (first ∷ tokens) = begun_body known line first tokens
 
--- up to which place a line of a size is cut before its operator is known: what stands after a known operator is the operator's
-abbrev pub reach : Body → ℕ → ℕ
-reach Nothing size = size
-reach (Assigns assignment) size = size
-reach (SetsCounter value) size = size
-reach (Operates name) size = name.start
-reach (Words start) size = size
-
 -- the place after the known operator of a line of a size, or the line's end where none stands
 abbrev pub end_of : Body → ℕ → ℕ
 end_of Nothing size = size

@@ -1,5 +1,5 @@
 -- What a line says. (MACRO-11 Language Reference Manual, "Source program format".)
-use Rattle.std.specs.Prelude.{ℕ, Bool, true, false, if◌then◌else◌, List, length}
+use Rattle.std.specs.Prelude.{ℕ, Bool, true, false, if◌then◌else◌, List}
 use Rattle.std.specs.List.{list_any}
 use Rattle.std.specs.Int.RustNames.{bit_or}
 use Rattle.m11_base.specs.Devices.{Bytes}
@@ -8,7 +8,7 @@ use Rattle.m11_scan.specs.Cutting.{tokens_from}
 use Rattle.m11_scan.specs.Letters.{letter_A, letter_I, letter_L}
 use Rattle.m11_lines.specs.Line.{SourceLine}
 use Rattle.m11_scan.specs.Skipped.{skipped_between}
-use Rattle.m11_statements.specs.Bodies.{body_in, reach}
+use Rattle.m11_statements.specs.Bodies.{body_in}
 use Rattle.m11_statements.specs.Labels.{labels_at, labels_end}
 use Rattle.m11_statements.specs.declared.bodies.Body.{Body}
 use Rattle.m11_statements.specs.declared.labels.Label.{Label}
@@ -40,8 +40,3 @@ letters_of line labels end =
 -- the letters that a line has whatever stands after its labels
 abbrev pub label_letters : SourceLine → ℕ
 label_letters line = letters_of line (labels_at line.text) (labels_end line.text)
-
--- I for a skipped character after the labels, as far as the line is cut
-abbrev pub body_letters : (Name → Bool) → Bytes → ℕ
-body_letters known line =
-    letter_if (skipped_between line (labels_end line) (reach (body_of known line) (length line))) letter_I

@@ -57,12 +57,8 @@ pub(crate) fn body_at<O: Operators>(
     requires within { place ≤ length line.now.text }
     requires next { MatchOption next (tokens_from line.now.text place ≡ [])
         (λ token. tokens_from line.now.text place ≡ lexeme line.now.text token ∷ tokens_from line.now.text token.end) }
-    requires next_begins { IfSome next (λ token. place ≤ token.start) }
-    requires next_ordered { IfSome next (λ token. token.start < token.end) }
     requires next_within { IfSome next (λ token. token.end ≤ length line.now.text) }
     ensures body { result ≡ spec.body_in (O.known operators.now) line.now.text (tokens_from line.now.text place) }
-    ensures least { place ≤ spec.reach result (length line.now.text) }
-    ensures most { spec.reach result (length line.now.text) ≤ length line.now.text }
     ensures within { spec.end_of result (length line.now.text) ≤ length line.now.text }
 {
     match next {
@@ -73,12 +69,9 @@ pub(crate) fn body_at<O: Operators>(
 
 // What begins with a token.
 fn begun_body<O: Operators>(line: &Line, first: Token, operators: &O) -> Body
-    requires ordered { first.start ≤ first.end }
-    requires within { first.end ≤ length line.now.text }
+    requires { first.end ≤ length line.now.text }
     ensures body { result ≡ spec.begun_body (O.known operators.now) line.now.text (lexeme line.now.text first)
         (tokens_from line.now.text first.end) }
-    ensures least { first.start ≤ spec.reach result (length line.now.text) }
-    ensures most { spec.reach result (length line.now.text) ≤ length line.now.text }
     ensures within { spec.end_of result (length line.now.text) ≤ length line.now.text }
 {
     match assignment_to(line, first) {
@@ -171,15 +164,5 @@ fn is_known<O: Operators>(text: &[u8], operators: &O) -> bool
     match read_name(text) {
         Some(name) => operators.is_known(name),
         None => false,
-    }
-}
-
-// Up to which place a line is cut before its operator is known.
-pub(crate) fn reach(body: Body, size: usize) -> usize
-    ensures { result ≡ spec.reach body size }
-{
-    match body {
-        Body::Operates(name) => usize::from(name.start),
-        _ => size,
     }
 }

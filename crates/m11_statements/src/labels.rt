@@ -72,10 +72,9 @@ pub(crate) fn label_field(line: &Line) -> LabelField
     ensures outside { result.has_outside ≡ has_outside (spec.labels_at line.now.text) }
     ensures unlabelled { result.end ≡ 0 → spec.labels_at line.now.text ≡ [] }
     ensures within { result.end ≤ length line.now.text }
+    ensures limited { length line.now.text ≤ line_limit }
     ensures next { MatchOption result.next (tokens_from line.now.text result.end ≡ [])
         (λ token. tokens_from line.now.text result.end ≡ lexeme line.now.text token ∷ tokens_from line.now.text token.end) }
-    ensures next_begins { IfSome result.next (λ token. result.end ≤ token.start) }
-    ensures next_ordered { IfSome result.next (λ token. token.start < token.end) }
     ensures next_within { IfSome result.next (λ token. token.end ≤ length line.now.text) }
 {
     let mut end = 0;

@@ -6,7 +6,7 @@ ghost use Rattle.m11_base.specs.Mnemonics.{folded};
 ghost use Rattle.m11_base.specs.Rad50.{Name};
 ghost use Rattle.m11_statements.specs.Labels.{labels_at, labels_end};
 ghost use Rattle.m11_statements.specs.Order.{BodyStands, LabelsStand};
-ghost use Rattle.m11_statements.specs.Statements.{body_letters, body_of, label_letters};
+ghost use Rattle.m11_statements.specs.Statements.{body_of, label_letters};
 
 /// The labels of a line, and what stands after them, lie in the line in order and apart.
 #[tactic(auto, using(crate::proofs::InOrder::orders))]
@@ -25,6 +25,4 @@ pub fn case_makes_no_difference()
     ensures label_letters { (a b : Bytes) (is_over_long : Bool) → map folded a ≡ map folded b
         → label_letters (record { text = a; is_over_long = is_over_long })
         ≡ label_letters (record { text = b; is_over_long = is_over_long }) }
-    ensures body_letters { (known : Name → Bool) (a b : Bytes) → map folded a ≡ map folded b
-        → body_letters known a ≡ body_letters known b }
 {}

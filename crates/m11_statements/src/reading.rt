@@ -6,7 +6,7 @@ ghost use Rattle.m11_statements.specs.Bodies.{end_of};
 ghost use Rattle.m11_statements.specs.Labels.{labels_at, labels_end};
 ghost use Rattle.m11_statements.specs.Statements as spec;
 
-use crate::bodies::{Operators, body_at, reach};
+use crate::bodies::{Operators, body_at};
 use crate::labels::{LabelField, label_field};
 use crate::statements::Statement;
 use m11_scan::{Letters, Line, skipped_between};
@@ -18,16 +18,13 @@ pub fn statement<O: Operators>(line: &Line, operators: &O) -> Statement
     ensures body { result.body ≡ spec.body_of (O.known operators.now) line.now.text }
     ensures within { end_of result.body (length line.now.text) ≤ length line.now.text }
     ensures label_letters { bits_of result.label_letters ≡ spec.label_letters line.now }
-    ensures body_letters { bits_of result.body_letters ≡ spec.body_letters (O.known operators.now) line.now.text }
 {
     let labels = label_field(line);
     let body = body_at(line, labels.end, labels.next, operators);
-    let until = reach(body, line.text().len());
     Statement {
         labels_end: labels.end as u8,
         body,
         label_letters: label_letters(line, labels),
-        body_letters: Letters::I.when(skipped_between(line, labels.end, until)),
     }
 }
 

@@ -13,6 +13,4 @@ pub struct Statement {
     /// Letters that the line has whatever its body does: L where it is over-long; of its labels, A where a local symbol's number
     /// isn't 1 to 65535, and I where a character is skipped.
     pub label_letters: Letters,
-    /// I where a character is skipped after the labels: before a known operator, or else anywhere.
-    pub body_letters: Letters,
 }

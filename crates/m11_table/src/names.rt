@@ -173,12 +173,10 @@ fn defined_or(found: Option<Definition>, is_doubled: bool, other: Value) -> Valu
 fn meaning_of(map: &Map<'_>, other: Value, table: &Table, key: &Key) -> Value
     ensures { quantity result ≡ meaning_of map.now (quantity other) table.now key.now }
 {
-    let mapped = map.definition(key);
-    let is_doubled = map.is_doubled(key);
-    let in_map = defined_or(mapped, is_doubled, other);
-    let found = table.definition(key);
-    let is_doubled_here = table.is_doubled(key);
-    defined_or(found, is_doubled_here, in_map)
+    match table.definition(key) {
+        Some(definition) => value_of(definition.standing, table.is_doubled(key)),
+        None => defined_or(map.definition(key), map.is_doubled(key), other),
+    }
 }
 
 // A definition as far as it is firm.

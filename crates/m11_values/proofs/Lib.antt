@@ -5,6 +5,7 @@ mod Folds
 mod FurtherLetters
 mod Groups
 mod LastOperators
+mod LoneTerms
 pub mod Meanings
 mod OpenBrackets
 mod Parts

@@ -2,7 +2,7 @@
 -- none before another.) An expression is a list of tokens, each with its value as a term.
 use Rattle.std.specs.Prelude.{ℕ, zero, suc, nat_lt, List, [], ◌∷◌, length, map, take, drop, Option, Some, None}
 use Rattle.m11_base.specs.Devices.{Bytes}
-use Rattle.m11_scan.specs.Expressions.{begin, expression_length, sort_of}
+use Rattle.m11_scan.specs.Expressions.{begin}
 use Rattle.m11_scan.specs.Views.{lexeme}
 use Rattle.m11_scan.specs.declared.cutting.Token.{Token}
 use Rattle.m11_scan.specs.declared.radix.Radix.{Radix}
@@ -56,10 +56,6 @@ seen stands_for line token = item stands_for (lexeme line token)
 
 abbrev pub items_of : (Symbol → Quantity) → Bytes → List Token → List Item
 items_of stands_for line tokens = map (seen stands_for line) tokens
-
--- the expression that tokens begin with
-abbrev pub expression_tokens : List Token → List Token
-expression_tokens tokens = take (expression_length (map sort_of tokens)) tokens
 
 -- the value of tokens that are one term
 abbrev pub value_as_term : Radix → List Item → Quantity

@@ -1,11 +1,12 @@
 //! Values of expressions. (MACRO-11 Language Reference Manual, "Expressions".)
 
-ghost use Rattle.std.specs.Prelude.{◌≡◌, ◌<◌, drop, length, map};
+ghost use Rattle.std.specs.Prelude.{◌≡◌, ◌<◌, [], ◌∷◌, length, map};
 ghost use Rattle.std.specs.Option.{IfSome};
-ghost use Rattle.m11_scan.specs.Expressions.{begin, expression_length, role_of, sort_of};
+ghost use Rattle.m11_scan.specs.Expressions.{begin, role_of, sort_of};
+ghost use Rattle.m11_scan.specs.declared.expressions.Role.TheVariants.{Term};
 ghost use Rattle.m11_values.specs.Places.{after, first_operator, operator_at, operator_of};
 ghost use Rattle.m11_values.specs.Quantities.{quantity};
-ghost use Rattle.m11_values.specs.Values.{carried, expression_tokens, items_of, value_as_term, value_of};
+ghost use Rattle.m11_values.specs.Values.{carried, items_of, value_as_term, value_of};
 
 use crate::names::Names;
 use crate::operations::combined;
@@ -13,7 +14,7 @@ use crate::operators::Operator;
 use crate::prefixes::{applied, prefix_of, radix_under, reach};
 use crate::terms::atom;
 use crate::values::Value;
-use m11_scan::{Line, Radix, Role, Sort, Token, Within, expression_length, role_of};
+use m11_scan::{Line, Radix, Role, Sort, Token, Within, role_of};
 
 // An operator, and the place of its token.
 #[derive(Clone, Copy, PartialEq, Eq, Debug)]
@@ -22,16 +23,21 @@ pub struct Split {
     pub(crate) operator: Operator,
 }
 
-/// The value of the expression that tokens of a line begin with, and the tokens after it. A term may be missing, and so
-/// may a `>`; both are flagged. Tokens that are left over aren't.
-pub fn value<'a, N: Names>(tokens: &'a [Token], line: &Line, names: &N) -> (Value, &'a [Token])
-    ensures value { quantity result.0
-        ≡ value_of (N.base names.now) (items_of (N.stands_for names.now) line.now.text (expression_tokens tokens.now)) }
-    ensures rest { result.1.now ≡ drop (expression_length (map sort_of tokens.now)) tokens.now }
+/// The value of an expression that has all of some tokens of a line.
+pub fn expression_value<N: Names>(tokens: &[Token], line: &Line, names: &N) -> Value
+    ensures { quantity result
+        ≡ value_of (N.base names.now) (items_of (N.stands_for names.now) line.now.text tokens.now) }
 {
-    let length = expression_length(tokens);
-    let value = expression(&tokens[..length], names.radix(), line, names);
-    (value, &tokens[length..])
+    expression(tokens, names.radix(), line, names)
+}
+
+/// The value of an expression that is one token, which is a term.
+pub fn term_value<N: Names>(token: &Token, line: &Line, names: &N) -> Value
+    requires { role_of token.now.sort ≡ Term }
+    ensures { quantity result
+        ≡ value_of (N.base names.now) (items_of (N.stands_for names.now) line.now.text (token.now ∷ [])) }
+{
+    atom(token, names.radix(), line, names)
 }
 
 // What stands before a term: the value so far, and the operator that joins it.

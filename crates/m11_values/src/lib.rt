@@ -13,7 +13,7 @@ mod symbols;
 mod terms;
 mod values;
 
-pub use expressions::value;
+pub use expressions::{expression_value, term_value};
 pub use kinds::Kind;
 pub use laws::{
     an_operator_joins_its_sides, brackets_keep_the_value, case_makes_no_difference,
@@ -21,5 +21,5 @@ pub use laws::{
 };
 pub use m11_scan::Radix;
 pub use names::{Names, Symbol};
-pub use symbols::next_symbol;
+pub use symbols::{next_symbol, symbol_of};
 pub use values::Value;

@@ -1,7 +1,7 @@
 //! Tokens of lines, with their spans. (MACRO-11 Language Reference Manual, "Symbols and expressions".)
 
-use super::same;
-use m11_scan::{Line, Sort, tokens, tokens_from};
+use super::{same, token_after};
+use m11_scan::{Line, Sort};
 use std::process::Abort;
 
 // A line from a place on, and its tokens: what each is, where it begins, and the place after it.
@@ -189,11 +189,17 @@ fn check(rt: &impl Abort, rows: &[Row]) {
     for row in rows {
         let line = Line::from_bytes(row.line.as_bytes());
         if row.place <= line.text().len() {
-            let found = tokens_from(&line, row.place);
-            same(rt, &row.line, &found.len(), &row.tokens.len());
-            for (token, wanted) in found.iter().zip(row.tokens) {
-                same(rt, &row.line, &(token.sort, token.start, token.end), wanted);
+            let mut place = row.place;
+            for wanted in row.tokens {
+                match token_after(&line, place) {
+                    Some(token) => {
+                        same(rt, &row.line, &(token.sort, token.start, token.end), wanted);
+                        place = usize::from(token.end);
+                    }
+                    None => assert!(rt; false, "{}: too few tokens", row.line),
+                }
             }
+            same(rt, &row.line, &token_after(&line, place), &None);
         }
     }
 }
@@ -222,7 +228,14 @@ fn what_begins_no_token_is_skipped(rt: HostRuntime) {
 fn a_token_has_its_characters(rt: HostRuntime) {
     let line = Line::from_bytes(b"AB: .WORD ^Rab");
     let texts: [&[u8]; 4] = [b"AB", b":", b".WORD", b"^Rab"];
-    for (token, text) in tokens(&line).iter().zip(texts.iter()) {
-        same(&rt, &"a token", &token.text(&line), text);
+    let mut place = 0;
+    for text in texts {
+        match token_after(&line, place) {
+            Some(token) => {
+                same(&rt, &"a token", &token.text(&line), &text);
+                place = usize::from(token.end);
+            }
+            None => assert!(&rt; false, "too few tokens"),
+        }
     }
 }

@@ -1,7 +1,7 @@
 //! Where expressions end. (MACRO-11 Language Reference Manual, "Expressions".)
 
 use super::same;
-use m11_scan::{Line, expression_length, tokens};
+use m11_scan::{Line, expression_at};
 use std::process::Abort;
 
 // A text, and how many of its tokens are its first expression.
@@ -110,13 +110,8 @@ static MISSING: [Row; 8] = [
 fn check(rt: &impl Abort, rows: &[Row]) {
     for row in rows {
         let line = Line::from_bytes(row.text.as_bytes());
-        let found = tokens(&line);
-        same(
-            rt,
-            &row.text,
-            &expression_length(found.as_slice()),
-            &row.length,
-        );
+        let found = expression_at(&line, 0);
+        same(rt, &row.text, &found.tokens.len(), &row.length);
     }
 }
 

@@ -2,7 +2,7 @@
 
 use super::same;
 use bitflags::Flags;
-use m11_scan::{Letters, Line, tokens};
+use m11_scan::{Letters, Line, expression_at};
 
 #[test]
 fn a_line_has_132_characters(rt: HostRuntime) {
@@ -15,7 +15,7 @@ fn a_line_has_132_characters(rt: HostRuntime) {
         let line = Line::from_bytes(&[b'+'; 200][..count]);
         same(&rt, &count, &line.text().len(), &kept);
         same(&rt, &count, &line.is_over_long(), &is_over_long);
-        same(&rt, &count, &tokens(&line).len(), &kept);
+        same(&rt, &count, &expression_at(&line, 0).tokens.len(), &kept);
     }
 }
 

@@ -1,8 +1,8 @@
 //! Lines of awkward characters from a fixed sequence: what is read from them lies in them in order, and nothing is lost.
 
-use super::same;
 use super::statements::Known;
-use m11_scan::{Line, Token, blanks_length, skipped_between, tokens};
+use super::{same, token_after};
+use m11_scan::{Line, Token, blanks_length, skipped_between};
 use m11_statements::{
     Body, Statement, labels_of, next_actual, parts_from, separator_at, statement,
 };
@@ -47,8 +47,10 @@ fn is_no_token(line: &Line, start: usize, end: usize) -> bool {
 
 fn check_tokens(rt: &impl Abort, line: &Line) {
     let mut place = 0;
-    for token in tokens(line).iter() {
-        let Token { start, end, .. } = *token;
+    for _ in 0..=line.text().len() {
+        let Some(Token { start, end, .. }) = token_after(line, place) else {
+            break;
+        };
         same(
             rt,
             &"a gap",

@@ -15,11 +15,12 @@ fn expect_line<F: Feed>(
     is_over_long: bool,
 ) {
     match reader.next(feeds) {
-        Ok(Some(line)) => {
+        Ok(true) => {
+            let line = reader.line();
             same(rt, &"text", &line.text(), &text);
             same(rt, &"mark", &line.is_over_long(), &is_over_long);
         }
-        Ok(None) => assert!(rt; false, "the sources ended"),
+        Ok(false) => assert!(rt; false, "the sources ended"),
         Err(fault) => assert!(rt; false, "{fault}"),
     }
 }
@@ -27,7 +28,10 @@ fn expect_line<F: Feed>(
 // There is no line, now and at the next call.
 fn expect_end<F: Feed>(rt: &impl Abort, reader: &mut LineReader, feeds: &mut [F]) {
     for _ in 0..2 {
-        assert!(rt; matches!(reader.next(feeds), Ok(None)), "the sources go on");
+        assert!(rt;
+            matches!(reader.next(feeds), Ok(false)),
+            "the sources go on"
+        );
     }
 }
 
@@ -225,8 +229,10 @@ fn the_first_132_characters_count_and_no_return_before_a_line_feed(
         let mut source = vec![in rt.alloc(); b'+'; row.count]?;
         source.extend_from_slice(row.end.as_bytes())?;
         let mut feeds = [MemoryFeed::new(&source)];
-        match LineReader::new().next(&mut feeds) {
-            Ok(Some(line)) => {
+        let mut reader = LineReader::new();
+        match reader.next(&mut feeds) {
+            Ok(true) => {
+                let line = reader.line();
                 same(&rt, &row.end, &line.text().len(), &row.kept);
                 same(&rt, &row.end, &line.is_over_long(), &row.is_over_long);
             }

@@ -3,7 +3,7 @@
 use super::same;
 use m11_base::Name;
 use m11_scan::{Line, skipped_between};
-use m11_statements::{Body, Label, LabelKind, Operators, Statement, labels_of, statement};
+use m11_statements::{Body, Label, LabelKind, Operators, labels_of, statement};
 use std::process::Abort;
 
 /// Operators that are known by the first three characters of their names: MOV, NOP, RET, and .AS, .EN, .EV, .RA, .TI, .WO.
@@ -48,13 +48,12 @@ enum Shape {
 
 use Shape::{Assigns, AssignsGlobally, Nothing, Operates, SetsCounter, Words};
 
-// A line, its labels with the places of their names, what stands after them with its places, the letters of its labels and those of
-// the rest.
+// A line, its labels with the places of their names, what stands after them with its places, and the letters of its labels.
 struct Row {
     line: &'static str,
     labels: &'static [(LabelKind, u8, u8)],
     body: (Shape, u8, u8, u8),
-    letters: (&'static str, &'static str),
+    letters: &'static str,
 }
 
 // Labels, and what has none.
@@ -63,7 +62,7 @@ static LABELS: [Row; 16] = [
         line: "A: MOV R1,(SP)+ ;x",
         labels: &[(LabelKind::Ordinary, 0, 1)],
         body: (Operates, 3, 6, 0),
-        letters: ("", ""),
+        letters: "",
     },
     Row {
         line: "A: B:: 5$: 1$:: NOP",
@@ -74,91 +73,91 @@ static LABELS: [Row; 16] = [
             (LabelKind::Local(1), 11, 13),
         ],
         body: (Operates, 16, 19, 0),
-        letters: ("", ""),
+        letters: "",
     },
     Row {
         line: "A:B:",
         labels: &[(LabelKind::Ordinary, 0, 1), (LabelKind::Ordinary, 2, 3)],
         body: (Nothing, 0, 0, 0),
-        letters: ("", ""),
+        letters: "",
     },
     Row {
         line: "A : NOP",
         labels: &[],
         body: (Words, 0, 0, 0),
-        letters: ("", ""),
+        letters: "",
     },
     Row {
         line: ".: NOP",
         labels: &[],
         body: (Words, 0, 0, 0),
-        letters: ("", ""),
+        letters: "",
     },
     Row {
         line: "$.: NOP",
         labels: &[(LabelKind::Ordinary, 0, 2)],
         body: (Operates, 4, 7, 0),
-        letters: ("", ""),
+        letters: "",
     },
     Row {
         line: ".ENDM:",
         labels: &[(LabelKind::Ordinary, 0, 5)],
         body: (Nothing, 0, 0, 0),
-        letters: ("", ""),
+        letters: "",
     },
     Row {
         line: "X: .ENDM",
         labels: &[(LabelKind::Ordinary, 0, 1)],
         body: (Operates, 3, 8, 0),
-        letters: ("", ""),
+        letters: "",
     },
     Row {
         line: "L'A: .ENDM",
         labels: &[],
         body: (Words, 0, 0, 0),
-        letters: ("", ""),
+        letters: "",
     },
     Row {
         line: "5A: NOP",
         labels: &[],
         body: (Words, 0, 0, 0),
-        letters: ("", ""),
+        letters: "",
     },
     Row {
         line: "12.: NOP",
         labels: &[],
         body: (Words, 0, 0, 0),
-        letters: ("", ""),
+        letters: "",
     },
     Row {
         line: "65535$: NOP",
         labels: &[(LabelKind::Local(65535), 0, 6)],
         body: (Operates, 8, 11, 0),
-        letters: ("", ""),
+        letters: "",
     },
     Row {
         line: "007$: NOP",
         labels: &[(LabelKind::Local(7), 0, 4)],
         body: (Operates, 6, 9, 0),
-        letters: ("", ""),
+        letters: "",
     },
     Row {
         line: "0$: NOP",
         labels: &[(LabelKind::Outside, 0, 2)],
         body: (Operates, 4, 7, 0),
-        letters: ("A", ""),
+        letters: "A",
     },
     Row {
         line: "70000$: A:",
         labels: &[(LabelKind::Outside, 0, 6), (LabelKind::Ordinary, 8, 9)],
         body: (Nothing, 0, 0, 0),
-        letters: ("A", ""),
+        letters: "A",
     },
     Row {
         line: "65536$: 131073$:",
         labels: &[(LabelKind::Outside, 0, 6), (LabelKind::Outside, 8, 15)],
         body: (Nothing, 0, 0, 0),
-        letters: ("A", ""),
+        letters: "A",
     },
 ];
 
@@ -168,127 +167,127 @@ static BODIES: [Row; 21] = [
         line: "",
         labels: &[],
         body: (Nothing, 0, 0, 0),
-        letters: ("", ""),
+        letters: "",
     },
     Row {
         line: " \t;x",
         labels: &[],
         body: (Nothing, 0, 0, 0),
-        letters: ("", ""),
+        letters: "",
     },
     Row {
         line: "X=",
         labels: &[],
         body: (Assigns, 0, 1, 2),
-        letters: ("", ""),
+        letters: "",
     },
     Row {
         line: "A: X == 5",
         labels: &[(LabelKind::Ordinary, 0, 1)],
         body: (AssignsGlobally, 3, 4, 7),
-        letters: ("", ""),
+        letters: "",
     },
     Row {
         line: "A=:5",
         labels: &[],
         body: (Assigns, 0, 1, 2),
-        letters: ("", ""),
+        letters: "",
     },
     Row {
         line: ".ENDM=5",
         labels: &[],
         body: (Assigns, 0, 5, 6),
-        letters: ("", ""),
+        letters: "",
     },
     Row {
         line: ".ASCII =x=",
         labels: &[],
         body: (Assigns, 0, 6, 8),
-        letters: ("", ""),
+        letters: "",
     },
     Row {
         line: ".=.+4",
         labels: &[],
         body: (SetsCounter, 2, 0, 0),
-        letters: ("", ""),
+        letters: "",
     },
     Row {
         line: ". = 5",
         labels: &[],
         body: (SetsCounter, 3, 0, 0),
-        letters: ("", ""),
+        letters: "",
     },
     Row {
         line: ".==.+4",
         labels: &[],
         body: (Words, 0, 0, 0),
-        letters: ("", ""),
+        letters: "",
     },
     Row {
         line: "=5",
         labels: &[],
         body: (Words, 0, 0, 0),
-        letters: ("", ""),
+        letters: "",
     },
     Row {
         line: "5$=3",
         labels: &[],
         body: (Words, 0, 0, 0),
-        letters: ("", ""),
+        letters: "",
     },
     Row {
         line: " ,5",
         labels: &[],
         body: (Words, 1, 0, 0),
-        letters: ("", ""),
+        letters: "",
     },
     Row {
         line: ")",
         labels: &[],
         body: (Words, 0, 0, 0),
-        letters: ("", ""),
+        letters: "",
     },
     Row {
         line: "#5",
         labels: &[],
         body: (Words, 0, 0, 0),
-        letters: ("", ""),
+        letters: "",
     },
     Row {
         line: "A: 5,6",
         labels: &[(LabelKind::Ordinary, 0, 1)],
         body: (Words, 3, 0, 0),
-        letters: ("", ""),
+        letters: "",
     },
     Row {
         line: "FOO 5",
         labels: &[],
         body: (Words, 0, 0, 0),
-        letters: ("", ""),
+        letters: "",
     },
     Row {
         line: ".ASCII :xy:",
         labels: &[],
         body: (Operates, 0, 6, 0),
-        letters: ("", ""),
+        letters: "",
     },
     Row {
         line: "RETURNS",
         labels: &[],
         body: (Operates, 0, 7, 0),
-        letters: ("", ""),
+        letters: "",
     },
     Row {
         line: ".radixx 10",
         labels: &[],
         body: (Operates, 0, 7, 0),
-        letters: ("", ""),
+        letters: "",
     },
     Row {
         line: "a: mov r1,r2",
         labels: &[(LabelKind::Ordinary, 0, 1)],
         body: (Operates, 3, 6, 0),
-        letters: ("", ""),
+        letters: "",
     },
 ];
 
@@ -298,97 +297,97 @@ static SKIPPED: [Row; 16] = [
         line: "?",
         labels: &[],
         body: (Nothing, 0, 0, 0),
-        letters: ("", "I"),
+        letters: "",
     },
     Row {
         line: "A: ?",
         labels: &[(LabelKind::Ordinary, 0, 1)],
         body: (Nothing, 0, 0, 0),
-        letters: ("", "I"),
+        letters: "",
     },
     Row {
         line: "? A: NOP",
         labels: &[(LabelKind::Ordinary, 2, 3)],
         body: (Operates, 5, 8, 0),
-        letters: ("I", ""),
+        letters: "I",
     },
     Row {
         line: "A:? B: ? NOP",
         labels: &[(LabelKind::Ordinary, 0, 1), (LabelKind::Ordinary, 4, 5)],
         body: (Operates, 9, 12, 0),
-        letters: ("I", "I"),
+        letters: "I",
     },
     Row {
         line: "A?: NOP",
         labels: &[],
         body: (Words, 0, 0, 0),
-        letters: ("", "I"),
+        letters: "",
     },
     Row {
         line: "NOP ?",
         labels: &[],
         body: (Operates, 0, 3, 0),
-        letters: ("", ""),
+        letters: "",
     },
     Row {
         line: "? NOP ?",
         labels: &[],
         body: (Operates, 2, 5, 0),
-        letters: ("", "I"),
+        letters: "",
     },
     Row {
         line: ".TITLE X ?",
         labels: &[],
         body: (Operates, 0, 6, 0),
-        letters: ("", ""),
+        letters: "",
     },
     Row {
         line: ".ASCII /?/",
         labels: &[],
         body: (Operates, 0, 6, 0),
-        letters: ("", ""),
+        letters: "",
     },
     Row {
         line: "X=?5",
         labels: &[],
         body: (Assigns, 0, 1, 2),
-        letters: ("", "I"),
+        letters: "",
     },
     Row {
         line: "X ?= 5",
         labels: &[],
         body: (Words, 0, 0, 0),
-        letters: ("", "I"),
+        letters: "",
     },
     Row {
         line: "?X=5",
         labels: &[],
         body: (Assigns, 1, 2, 3),
-        letters: ("", "I"),
+        letters: "",
     },
     Row {
         line: ".=5\\",
         labels: &[],
         body: (SetsCounter, 2, 0, 0),
-        letters: ("", "I"),
+        letters: "",
     },
     Row {
         line: "5 ^F1",
         labels: &[],
         body: (Words, 0, 0, 0),
-        letters: ("", "I"),
+        letters: "",
     },
     Row {
         line: "'? \"\\?",
         labels: &[],
         body: (Words, 0, 0, 0),
-        letters: ("", ""),
+        letters: "",
     },
     Row {
         line: "5 ;?",
         labels: &[],
         body: (Words, 0, 0, 0),
-        letters: ("", ""),
+        letters: "",
     },
 ];
 
@@ -418,10 +417,6 @@ fn label_of(label: &Label) -> (LabelKind, u8, u8) {
     (label.kind, label.name.start, label.name.end)
 }
 
-fn letters_of(statement: &Statement) -> [m11_scan::Letters; 2] {
-    [statement.label_letters, statement.body_letters]
-}
-
 fn check(rt: &impl Abort, rows: &[Row]) {
     for row in rows {
         let line = Line::from_bytes(row.line.as_bytes());
@@ -432,19 +427,8 @@ fn check(rt: &impl Abort, rows: &[Row]) {
             same(rt, &row.line, &label_of(label), wanted);
         }
         same(rt, &row.line, &shape_of(found.body), &row.body);
-        let [labels, body] = letters_of(&found);
-        same(
-            rt,
-            &row.line,
-            &labels.text().as_slice(),
-            &row.letters.0.as_bytes(),
-        );
-        same(
-            rt,
-            &row.line,
-            &body.text().as_slice(),
-            &row.letters.1.as_bytes(),
-        );
+        let letters = found.label_letters.text();
+        same(rt, &row.line, &letters.as_slice(), &row.letters.as_bytes());
     }
 }
 
@@ -459,7 +443,7 @@ fn what_is_no_assignment_and_no_operator_is_words(rt: HostRuntime) {
 }
 
 #[test]
-fn skipped_characters_have_a_letter_as_far_as_the_line_is_cut(rt: HostRuntime) {
+fn a_skipped_character_among_labels_has_a_letter(rt: HostRuntime) {
     check(&rt, &SKIPPED);
 }
 

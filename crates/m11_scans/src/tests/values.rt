@@ -6,8 +6,8 @@ ghost use Rattle.m11_scans.specs.Known.{of_kind, of_name};
 
 use super::same;
 use m11_base::Name;
-use m11_scan::{Letters, Line, read_name, tokens};
-use m11_values::{Kind, Names, Radix, Symbol, Value, value};
+use m11_scan::{Letters, Line, expression_at, read_name};
+use m11_values::{Kind, Names, Radix, Symbol, Value, expression_value};
 use std::process::Abort;
 
 // A and B stand in section 1, C in section 2, R1 is a register, X another object's; other names are unknown.
@@ -178,8 +178,8 @@ fn check(rt: &impl Abort, rows: &[Row]) {
     };
     for (text, number, kind, letters) in rows {
         let line = Line::from_bytes(text.as_bytes());
-        let found = tokens(&line);
-        let (value, _) = value(found.as_slice(), &line, &names);
+        let found = expression_at(&line, 0);
+        let value = expression_value(found.tokens.as_slice(), &line, &names);
         same(rt, text, &value.number, number);
         same(rt, text, &value.kind, &kind_of(*kind));
         same(
@@ -214,25 +214,25 @@ fn brackets_group_and_terms_may_be_missing(rt: HostRuntime) {
 #[test]
 fn a_reference_keeps_its_name(rt: HostRuntime) {
     let line = Line::from_bytes(b"X+2");
-    let found = tokens(&line);
+    let found = expression_at(&line, 0);
     let names = Known {
         radix: Radix::Octal,
     };
-    let (value, rest) = value(found.as_slice(), &line, &names);
+    let value = expression_value(found.tokens.as_slice(), &line, &names);
     let kind = read_name(b"X").map(Kind::Reference);
     same(&rt, &"kind", &Some(value.kind), &kind);
     same(&rt, &"number", &value.number, &2);
-    same(&rt, &"rest", &rest.len(), &0);
+    same(&rt, &"end", &found.end, &3);
 }
 
 #[test]
 fn numbers_are_in_the_radix_of_the_names(rt: HostRuntime) {
     let line = Line::from_bytes(b"10+^O10,1");
-    let found = tokens(&line);
+    let found = expression_at(&line, 0);
     let names = Known {
         radix: Radix::Decimal,
     };
-    let (value, rest) = value(found.as_slice(), &line, &names);
+    let value = expression_value(found.tokens.as_slice(), &line, &names);
     same(&rt, &"number", &value.number, &18);
-    same(&rt, &"rest", &rest.len(), &2);
+    same(&rt, &"end", &found.end, &7);
 }

@@ -2,7 +2,6 @@ use Rattle.std.proofs.Common.{◌≡◌, List, map, ap, sym, ◌∙◌, subst, I
 use Rattle.m11_scan.specs.Views.{lexeme}
 use Rattle.m11_scan.specs.declared.cutting.Token.{Token}
 use Rattle.m11_values.specs.declared.names.Symbol.{Symbol}
-use Rattle.m11_values.specs.Symbols.{symbols_of}
 use Rattle.m11_arguments.specs.Expressions.{symbols_in}
 use Rattle.m11_arguments.specs.Notes.{with_symbols}
 use Rattle.m11_arguments.proofs.Tokens.{symbols_seen}
@@ -12,14 +11,13 @@ pub returns-in-Some : goal.returns-in-Some
 returns-in-Some c =
     let P : List Symbol → Type 0 =
     λ s. IfOk c.add_symbols.result (λ x. c.add_symbols.new.self ≡ with_symbols c.args.notes.now s) in
-    subst P (ap symbols_in (sym c.in-Some.ensures.alone)) c.add_symbols.ensures
+    subst P (ap symbols_in (sym c.in-Some.ensures.alone.1)) c.add_symbols.ensures
 
 pub returns-in-None : goal.returns-in-None
 returns-in-None c =
     let P : List Symbol → Type 0 =
     λ s. IfOk c.add_symbols-in-None.result (λ x. c.add_symbols-in-None.new.self ≡ with_symbols c.args.notes.now s) in
     subst P
-    (ap (λ (ts : List Token). symbols_of c.args.line.now.text ts) c.expression_of.ensures
-    ∙ symbols_seen c.args.line.now.text c.as_slice.result.now _
-    (ap (λ (ts : List Token). map (lexeme c.args.line.now.text) ts) c.as_slice.ensures.value ∙ c.tokens_from-tokens.ensures))
+    (symbols_seen c.args.line.now.text c.as_slice.result.now _
+    (ap (λ (ts : List Token). map (lexeme c.args.line.now.text) ts) c.as_slice.ensures.value ∙ c.expression_at.ensures.tokens))
     c.add_symbols-in-None.ensures

@@ -1,4 +1,4 @@
-use Rattle.std.proofs.Common.{◌∙◌, [], Option, Ok, ap, sym, subst}
+use Rattle.std.proofs.Common.{◌∙◌, [], Some, Ok, ap, sym, subst}
 use Rattle.m11_lines.specs.Line.{SourceLine}
 use Rattle.m11_lines.specs.Reader.{LineReading, ReadsNext, place}
 use Rattle.m11_asm.proofs.FirstLines.{first_ended, first_goes_on, first_read, first_refuses, first_stops}
@@ -22,34 +22,32 @@ returns-then-has_ended g c = λ stands.
 
 pub lines-preserved : goal.lines-preserved
 lines-preserved g c = record {
-  sound = c.in-Ok-Some.ensures.keeps;
+  sound = c.in-Ok-true.ensures.keeps;
   so_far = λ stands.
       let so = c.lines.invariant.so_far stands in
-      let P : Option SourceLine → Type 0 = λ o. ReadsNext (place g.F.Feed.text g.F.Feed.faults c.lines.feeds c.lines.reader)
-      (place g.F.Feed.text g.F.Feed.faults c.next.new.feeds c.next.new.self) (Ok o) in
+      let P : SourceLine → Type 0 = λ l. ReadsNext (place g.F.Feed.text g.F.Feed.faults c.lines.feeds c.lines.reader)
+      (place g.F.Feed.text g.F.Feed.faults c.next.new.feeds c.next.new.self) (Ok (Some l)) in
       first_goes_on g.F.Feed.text g.F.Feed.faults c.args.feeds.now c.lines.feeds c.lines.reader c.lines.first so
-      (sym c.has_ended.ensures ∙ c.if-has_ended.false) c.next.new.feeds c.next.new.self c.in-Ok-Some.line
-      (subst P c.in-Ok-Some.field-0-is (c.in-Ok-Some.ensures.reads c.lines.invariant.sound)) c.in-Ok-Some.ensures.keeps
-      c.line.new.self (c.in-Ok.ensures.takes so.source so.stands);
+      (sym c.has_ended.ensures ∙ c.if-has_ended.false) c.next.new.feeds c.next.new.self c.line.result.now
+      (subst P (sym c.line.ensures) (rw c.in-Ok-true.field-0-test at (c.in-Ok-true.ensures.reads c.lines.invariant.sound))) c.in-Ok-true.ensures.keeps
+      c.line-in-Ok-true.new.self (c.in-Ok.ensures.takes so.source so.stands);
 }
 
 pub returns-in-Err-line : goal.returns-in-Err-line
 returns-in-Err-line g c = λ stands.
     let so = c.lines.invariant.so_far stands in
-    let P : Option SourceLine → Type 0 = λ o. ReadsNext (place g.F.Feed.text g.F.Feed.faults c.lines.feeds c.lines.reader)
-    (place g.F.Feed.text g.F.Feed.faults c.next.new.feeds c.next.new.self) (Ok o) in
+    let P : SourceLine → Type 0 = λ l. ReadsNext (place g.F.Feed.text g.F.Feed.faults c.lines.feeds c.lines.reader)
+    (place g.F.Feed.text g.F.Feed.faults c.next.new.feeds c.next.new.self) (Ok (Some l)) in
     first_refuses g.F.Feed.text g.F.Feed.faults c.args.feeds.now c.lines.feeds c.lines.reader c.lines.first so
-    (sym c.has_ended.ensures ∙ c.if-has_ended.false) c.next.new.feeds c.next.new.self c.in-Ok-Some.line
-    (subst P c.in-Ok-Some.field-0-is (c.in-Ok-Some.ensures.reads c.lines.invariant.sound)) c.in-Ok-Some.ensures.keeps
-    c.line.new.self c.in-Err-line.fault c.of_pass.result c.of_pass.ensures (c.in-Err-line.ensures.takes so.source so.stands)
+    (sym c.has_ended.ensures ∙ c.if-has_ended.false) c.next.new.feeds c.next.new.self c.line.result.now
+    (subst P (sym c.line.ensures) (rw c.in-Ok-true.field-0-test at (c.in-Ok-true.ensures.reads c.lines.invariant.sound))) c.in-Ok-true.ensures.keeps
+    c.line-in-Ok-true.new.self c.in-Err-line.fault c.of_pass.result c.of_pass.ensures (c.in-Err-line.ensures.takes so.source so.stands)
 
-pub returns-in-Ok-None : goal.returns-in-Ok-None
-returns-in-Ok-None g c = λ stands.
-    let P : Option SourceLine → Type 0 = λ o. ReadsNext (place g.F.Feed.text g.F.Feed.faults c.lines.feeds c.lines.reader)
-    (place g.F.Feed.text g.F.Feed.faults c.next.new.feeds c.next.new.self) (Ok o) in
+pub returns-in-Ok-false : goal.returns-in-Ok-false
+returns-in-Ok-false g c = λ stands.
     first_read g.F.Feed.text g.F.Feed.faults c.args.feeds.now c.lines.feeds c.lines.reader c.lines.first
     (c.lines.invariant.so_far stands) (sym c.has_ended.ensures ∙ c.if-has_ended.false) c.next.new.feeds c.next.new.self
-    (subst P c.in-Ok-None.field-0-is (c.in-Ok-None.ensures.reads c.lines.invariant.sound))
+    (rw c.in-Ok-false.field-0-test at (c.in-Ok-false.ensures.reads c.lines.invariant.sound))
 
 pub returns-in-Err : goal.returns-in-Err
 returns-in-Err g c = λ stands.

@@ -1,4 +1,4 @@
-use Rattle.std.proofs.Common.{◌∙◌, [], Option, Ok, ap, sym, subst}
+use Rattle.std.proofs.Common.{◌∙◌, [], Some, Ok, ap, sym, subst}
 use Rattle.m11_lines.specs.Line.{SourceLine}
 use Rattle.m11_lines.specs.Reader.{LineReading, ReadsNext, place}
 use Rattle.m11_asm_outputs.specs.Outputs.{outputs_of}
@@ -24,39 +24,37 @@ returns-then-has_ended g c = λ program old stands.
 
 pub lines-preserved : goal.lines-preserved
 lines-preserved g c = record {
-  sound = c.in-Ok-Some.ensures.keeps;
+  sound = c.in-Ok-true.ensures.keeps;
   so_far = λ program old stands.
       let so = c.lines.invariant.so_far program old stands in
-      let P : Option SourceLine → Type 0 = λ o. ReadsNext (place g.F.Feed.text g.F.Feed.faults c.lines.feeds c.lines.reader)
-      (place g.F.Feed.text g.F.Feed.faults c.next.new.feeds c.next.new.self) (Ok o) in
+      let P : SourceLine → Type 0 = λ l. ReadsNext (place g.F.Feed.text g.F.Feed.faults c.lines.feeds c.lines.reader)
+      (place g.F.Feed.text g.F.Feed.faults c.next.new.feeds c.next.new.self) (Ok (Some l)) in
       second_goes_on g.F.Feed.text g.F.Feed.faults program old c.args.feeds.now c.lines.feeds c.lines.reader
       (outputs_of g.S.Sink g.T.Sink g.U.Sink c.lines.object c.lines.listing c.lines.messages) c.lines.second so
-      (sym c.has_ended.ensures ∙ c.if-has_ended.false) c.next.new.feeds c.next.new.self c.in-Ok-Some.line
-      (subst P c.in-Ok-Some.field-0-is (c.in-Ok-Some.ensures.reads c.lines.invariant.sound)) c.in-Ok-Some.ensures.keeps
-      (outputs_of g.S.Sink g.T.Sink g.U.Sink c.line.new.object c.line.new.listing c.line.new.messages)
-      c.line.new.self (c.in-Ok.ensures.takes program so.source old so.stands);
+      (sym c.has_ended.ensures ∙ c.if-has_ended.false) c.next.new.feeds c.next.new.self c.line.result.now
+      (subst P (sym c.line.ensures) (rw c.in-Ok-true.field-0-test at (c.in-Ok-true.ensures.reads c.lines.invariant.sound))) c.in-Ok-true.ensures.keeps
+      (outputs_of g.S.Sink g.T.Sink g.U.Sink c.line-in-Ok-true.new.object c.line-in-Ok-true.new.listing c.line-in-Ok-true.new.messages)
+      c.line-in-Ok-true.new.self (c.in-Ok.ensures.takes program so.source old so.stands);
 }
 
 pub returns-in-Err-line : goal.returns-in-Err-line
 returns-in-Err-line g c = λ program old stands.
     let so = c.lines.invariant.so_far program old stands in
-    let P : Option SourceLine → Type 0 = λ o. ReadsNext (place g.F.Feed.text g.F.Feed.faults c.lines.feeds c.lines.reader)
-    (place g.F.Feed.text g.F.Feed.faults c.next.new.feeds c.next.new.self) (Ok o) in
+    let P : SourceLine → Type 0 = λ l. ReadsNext (place g.F.Feed.text g.F.Feed.faults c.lines.feeds c.lines.reader)
+    (place g.F.Feed.text g.F.Feed.faults c.next.new.feeds c.next.new.self) (Ok (Some l)) in
     second_refuses g.F.Feed.text g.F.Feed.faults program old c.args.feeds.now c.lines.feeds c.lines.reader
     (outputs_of g.S.Sink g.T.Sink g.U.Sink c.lines.object c.lines.listing c.lines.messages) c.lines.second so
-    (sym c.has_ended.ensures ∙ c.if-has_ended.false) c.next.new.feeds c.next.new.self c.in-Ok-Some.line
-    (subst P c.in-Ok-Some.field-0-is (c.in-Ok-Some.ensures.reads c.lines.invariant.sound)) c.in-Ok-Some.ensures.keeps
-    (outputs_of g.S.Sink g.T.Sink g.U.Sink c.line.new.object c.line.new.listing c.line.new.messages)
-    c.line.new.self c.in-Err-line.fault (c.in-Err-line.ensures.takes program so.source old so.stands)
+    (sym c.has_ended.ensures ∙ c.if-has_ended.false) c.next.new.feeds c.next.new.self c.line.result.now
+    (subst P (sym c.line.ensures) (rw c.in-Ok-true.field-0-test at (c.in-Ok-true.ensures.reads c.lines.invariant.sound))) c.in-Ok-true.ensures.keeps
+    (outputs_of g.S.Sink g.T.Sink g.U.Sink c.line-in-Ok-true.new.object c.line-in-Ok-true.new.listing c.line-in-Ok-true.new.messages)
+    c.line-in-Ok-true.new.self c.in-Err-line.fault (c.in-Err-line.ensures.takes program so.source old so.stands)
 
-pub returns-in-Ok-None : goal.returns-in-Ok-None
-returns-in-Ok-None g c = λ program old stands.
-    let P : Option SourceLine → Type 0 = λ o. ReadsNext (place g.F.Feed.text g.F.Feed.faults c.lines.feeds c.lines.reader)
-    (place g.F.Feed.text g.F.Feed.faults c.next.new.feeds c.next.new.self) (Ok o) in
+pub returns-in-Ok-false : goal.returns-in-Ok-false
+returns-in-Ok-false g c = λ program old stands.
     second_read g.F.Feed.text g.F.Feed.faults program old c.args.feeds.now c.lines.feeds c.lines.reader
     (outputs_of g.S.Sink g.T.Sink g.U.Sink c.lines.object c.lines.listing c.lines.messages) c.lines.second
     (c.lines.invariant.so_far program old stands) (sym c.has_ended.ensures ∙ c.if-has_ended.false) c.next.new.feeds c.next.new.self
-    (subst P c.in-Ok-None.field-0-is (c.in-Ok-None.ensures.reads c.lines.invariant.sound))
+    (rw c.in-Ok-false.field-0-test at (c.in-Ok-false.ensures.reads c.lines.invariant.sound))
 
 pub returns-in-Err : goal.returns-in-Err
 returns-in-Err g c = λ program old stands.

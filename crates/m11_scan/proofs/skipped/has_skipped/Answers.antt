@@ -1,15 +1,7 @@
-use Rattle.std.proofs.Common.{sym, refl, ◌∙◌, rules}
-use Rattle.m11_scan.proofs.NextPieces.{skipped_here, skipped_later}
+use Rattle.std.proofs.Common.{sym, ◌∙◌}
+use Rattle.m11_scan.proofs.KeptTexts.{none_skipped}
 use Rattle.m11_scan.proofs.skipped.has_skipped.Goals as goal
 
-pub returns-then-is_skipped : goal.returns-then-is_skipped
-returns-then-is_skipped c =
-    skipped_here c.pieces.rest.now c.first_piece-piece.result (search rules) c.first_piece-piece.ensures.piece
-    c.first_piece-piece.ensures.begins (sym c.is_skipped.ensures ∙ c.if-is_skipped.true)
-    ∙ c.pieces.invariant
-
-pub pieces-preserved : goal.pieces-preserved
-pieces-preserved c =
-    skipped_later c.pieces.rest.now c.first_piece-piece.result (search rules) c.first_piece-piece.ensures.piece
-    c.first_piece-piece.ensures.begins _ (sym c.is_skipped.ensures ∙ c.if-is_skipped.false) refl
-    ∙ c.pieces.invariant
+pub returns-else-has_unkept : goal.returns-else-has_unkept
+returns-else-has_unkept c =
+    c.if-has_unkept.false ∙ sym (none_skipped c.args.text.now (sym c.has_unkept.ensures ∙ c.if-has_unkept.false))

@@ -7,7 +7,7 @@ abbrev pub invariant-sources : goal.invariant-sources
 invariant-sources g l = record {
   seeks : Seeks (place g.F.Feed.text g.F.Feed.faults l.fn.feeds l.fn.self)
       (place_at g.F.Feed.text g.F.Feed.faults l.feeds l.self-inside.source l.self-inside.bytes_left
-      l.self-inside.lines_left) l.line;
+      l.self-inside.lines_left) l.self-inside.line;
   kept : l.self-inside.fault ≡ l.fn.self.fault;
 }
 
