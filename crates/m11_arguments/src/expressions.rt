@@ -1,7 +1,6 @@
 //! Expressions that stand at a place of a line. (MACRO-11 Language Reference Manual, "Expressions".)
 
 ghost use Rattle.std.specs.Prelude.{◌≡◌, ◌≤◌, length, IfOk, IfSome};
-ghost use Rattle.m11_lines.specs.Line.{line_limit};
 ghost use Rattle.m11_scan.specs.Ends.{expression_end};
 ghost use Rattle.m11_scan.specs.Views.{bits_of};
 ghost use Rattle.m11_values.specs.Quantities.{quantity};
@@ -9,8 +8,8 @@ ghost use Rattle.m11_arguments.specs.Expressions as spec;
 ghost use Rattle.m11_arguments.specs.Expressions.{IsAlone, known_by};
 ghost use Rattle.m11_arguments.specs.Notes.{with_symbols};
 
-use crate::extents::lone_term;
-use crate::left_overs::skip_letters;
+use crate::extents::{extent_at, lone_term};
+use crate::left_overs::{place_in, skip_letters};
 use crate::notes::Notes;
 use m11_scan::{Letters, Line, Token, expression_at};
 use m11_values::{Names, Value, expression_value, term_value};
@@ -49,11 +48,11 @@ pub(crate) fn number_at<N: Names>(
     let letters = value
         .letters
         .with(value.kind.absence())
-        .with(skip_letters(line, place, read.end));
+        .with(skip_letters(line, place, usize::from(read.end)));
     Ok(Number {
         value: value.number,
         letters,
-        end: read.end as u8,
+        end: read.end,
     })
 }
 
@@ -61,10 +60,10 @@ pub(crate) fn number_at<N: Names>(
 #[derive(Clone, Copy)]
 pub(crate) struct Reading {
     pub(crate) value: Value,
-    pub(crate) end: usize,
+    pub(crate) end: u8,
 }
 
-// Reads the expression at a place, whose symbols are noted. Each token of it is cut once.
+// Reads the expression at a place, whose symbols are noted.
 fn read_expression<N: Names>(
     line: &Line,
     place: usize,
@@ -77,7 +76,35 @@ fn read_expression<N: Names>(
     ensures end { IfOk result (λ read. read.end ≡ expression_end line.now.text place) }
     ensures least { IfOk result (λ read. place ≤ read.end) }
     ensures most { IfOk result (λ read. read.end ≤ length line.now.text) }
-    ensures limited { length line.now.text ≤ line_limit }
+    ensures notes { IfOk result (λ _. notes.new ≡ with_symbols notes.old (spec.symbols_at line.now.text place)) }
+{
+    let extent = extent_at(line, place);
+    match extent.term {
+        Some(term) => {
+            notes.add_symbols(&[term], line)?;
+            Ok(Reading {
+                value: term_value(&term, line, names),
+                end: extent.end,
+            })
+        }
+        None => read_tokens(line, place, names, notes),
+    }
+}
+
+// Reads any expression, by a call: in the caller, room for its tokens would be cleared also where it is one term. Each token is cut once.
+#[inline(never)]
+fn read_tokens<N: Names>(
+    line: &Line,
+    place: usize,
+    names: &N,
+    notes: &mut Notes,
+) -> Result<Reading, AllocError>
+    requires { place ≤ length line.now.text }
+    ensures value { IfOk result (λ read. quantity read.value
+        ≡ spec.value_at (known_by (N.base names.now) (N.stands_for names.now)) line.now.text place) }
+    ensures end { IfOk result (λ read. read.end ≡ expression_end line.now.text place) }
+    ensures least { IfOk result (λ read. place ≤ read.end) }
+    ensures most { IfOk result (λ read. read.end ≤ length line.now.text) }
     ensures notes { IfOk result (λ _. notes.new ≡ with_symbols notes.old (spec.symbols_at line.now.text place)) }
 {
     let expression = expression_at(line, place);
@@ -85,7 +112,7 @@ fn read_expression<N: Names>(
     notes.add_symbols(tokens, line)?;
     Ok(Reading {
         value: expression_value(tokens, line, names),
-        end: expression.end,
+        end: place_in(line, expression.end),
     })
 }
 
@@ -107,8 +134,18 @@ pub fn value_by<N: Names>(line: &Line, place: usize, term: Option<Token>, names:
 {
     match term {
         Some(term) => term_value(&term, line, names),
-        None => expression_value(expression_at(line, place).tokens.as_slice(), line, names),
+        None => long_value(line, place, names),
     }
+}
+
+// That of any expression, by a call for the same reason.
+#[inline(never)]
+fn long_value<N: Names>(line: &Line, place: usize, names: &N) -> Value
+    requires { place ≤ length line.now.text }
+    ensures { quantity result
+        ≡ spec.value_at (known_by (N.base names.now) (N.stands_for names.now)) line.now.text place }
+{
+    expression_value(expression_at(line, place).tokens.as_slice(), line, names)
 }
 
 /// Notes the symbols that the expression at a place reads, in order. Error: memory may be refused.
@@ -118,6 +155,15 @@ pub fn note_symbols(line: &Line, place: usize, notes: &mut Notes) -> Result<(), 
 {
     match lone_term(line, place) {
         Some(term) => notes.add_symbols(&[term], line),
-        None => notes.add_symbols(expression_at(line, place).tokens.as_slice(), line),
+        None => note_all(line, place, notes),
     }
+}
+
+// Those of any expression, by a call for the same reason.
+#[inline(never)]
+fn note_all(line: &Line, place: usize, notes: &mut Notes) -> Result<(), AllocError>
+    requires { place ≤ length line.now.text }
+    ensures { IfOk result (λ _. notes.new ≡ with_symbols notes.old (spec.symbols_at line.now.text place)) }
+{
+    notes.add_symbols(expression_at(line, place).tokens.as_slice(), line)
 }

@@ -30,6 +30,7 @@ pub fn extent_at(line: &Line, place: usize) -> Extent
     ensures next { MatchOption result.next (tokens_from line.now.text result.end ≡ [])
         (λ token. tokens_from line.now.text result.end ≡ lexeme line.now.text token ∷ tokens_from line.now.text token.end) }
     ensures term { IfSome result.term (λ term. IsAlone line.now.text place term) }
+    ensures least { place ≤ result.end }
     ensures within { result.end ≤ length line.now.text }
     ensures next_within { IfSome result.next (λ token. token.end ≤ length line.now.text) }
 {
@@ -50,6 +51,7 @@ fn long_extent(line: &Line, place: usize) -> Extent
     ensures next { MatchOption result.next (tokens_from line.now.text result.end ≡ [])
         (λ token. tokens_from line.now.text result.end ≡ lexeme line.now.text token ∷ tokens_from line.now.text token.end) }
     ensures term { IfSome result.term (λ term. IsAlone line.now.text place term) }
+    ensures least { place ≤ result.end }
     ensures within { result.end ≤ length line.now.text }
     ensures next_within { IfSome result.next (λ token. token.end ≤ length line.now.text) }
 {
@@ -86,6 +88,7 @@ fn lone_at(line: &Line, place: usize) -> Option<LoneTerm>
     ensures end { IfSome result (λ lone. lone.term.end ≡ expression_end line.now.text place) }
     ensures next { IfSome result (λ lone. MatchOption lone.next (tokens_from line.now.text lone.term.end ≡ [])
         (λ token. tokens_from line.now.text lone.term.end ≡ lexeme line.now.text token ∷ tokens_from line.now.text token.end)) }
+    ensures least { IfSome result (λ lone. place ≤ lone.term.end) }
     ensures within { IfSome result (λ lone. lone.term.end ≤ length line.now.text) }
     ensures next_within { IfSome result (λ lone. IfSome lone.next (λ token. token.end ≤ length line.now.text)) }
 {

@@ -174,6 +174,28 @@ fn put_piece<S: Sink>(
     ensures opens { (before : List Piece) → IsOpenAfter before text.old
         → IsOpenAfter (before ++ piece.now ∷ []) text.new }
 {
+    // most pieces close no text
+    if text.take_within(piece) {
+        return Ok(());
+    }
+    put_closing(alloc, object, text, piece)
+}
+
+// The same of a piece that may close a text, by a call: in the caller, room for a text would be cleared for each piece.
+#[inline(never)]
+fn put_closing<S: Sink>(
+    alloc: Global,
+    object: &mut S,
+    text: &mut OpenText,
+    piece: &Piece,
+) -> Result<(), AsmFault>
+    ensures writes { (before : List Piece) → IsOpenAfter before text.old → (listing messages : Output) → Writes
+        (outputs (output_of S.Sink object.old) listing messages)
+        (outputs (output_of S.Sink object.new) listing messages)
+        (content_writes (records_closed_by before (piece.now ∷ []))) result }
+    ensures opens { (before : List Piece) → IsOpenAfter before text.old
+        → IsOpenAfter (before ++ piece.now ∷ []) text.new }
+{
     let closed = text.take(piece);
     put_if_closed(alloc, object, &closed)
 }

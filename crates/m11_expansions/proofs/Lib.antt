@@ -1,3 +1,4 @@
 mod Pieces
 pub mod Stacks
 pub mod Whole
+pub mod Nothing

@@ -1,5 +1,5 @@
 -- One open expansion: a place in a body, the rounds that are left, and its end. (This project's own.)
-use Rattle.std.specs.Prelude.{◌≡◌, ◌<◌, ◌⊎◌, ℕ, ◌+◌, List, [], ◌∷◌, ◌++◌, length, drop, Bool, true, false, Option, Some, None}
+use Rattle.std.specs.Prelude.{◌≡◌, ◌<◌, ◌⊎◌, ℕ, ◌+◌, List, [], ◌∷◌, ◌++◌, length, drop, Bool, true, false, not, ◌&&◌, Option, Some, None}
 use Rattle.std.specs.List.{flat_map}
 use Rattle.m11_base.specs.Devices.{Bytes}
 use Rattle.m11_base.specs.Rad50.{Name}
@@ -46,6 +46,10 @@ line_where true line = Some line
 abbrev pub is_there : Option SourceLine → Bool
 is_there None = false
 is_there (Some line) = true
+
+-- neither a line of the source nor a statement stands there, and no expansion is open
+abbrev pub is_none_of : Bool → Bool → Bool → Bool
+is_none_of has_fed has_statement has_frame = not has_fed && (not has_statement && not has_frame)
 
 -- a statement, expansions, the outermost first, and the line of the source
 abbrev pub remains : Option SourceLine → List Frame → Option SourceLine → Remains

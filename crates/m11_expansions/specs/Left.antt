@@ -14,6 +14,10 @@ pub data Left : Type 0 where
   Line : SourceLine → Left
   End : Mark → Left
 
+abbrev pub is_empty : List Left → Bool
+is_empty [] = true
+is_empty (next ∷ left) = false
+
 -- the ends that are left, the innermost expansion's first
 abbrev pub marks : List Left → List Mark
 marks [] = []

@@ -1,7 +1,7 @@
 //! What is left to take: lines, and the ends of open expansions. (MACRO-11 Language Reference Manual, "Macro directives" and
 //! "Repeat block".)
 
-ghost use Rattle.std.specs.Prelude.{◌≡◌, ◌<◌, ◌≤◌, ◌∷◌, ◌+◌, [], false, true, length, None, OnOk, OnErr};
+ghost use Rattle.std.specs.Prelude.{◌≡◌, ◌<◌, ◌≤◌, ◌∷◌, ◌+◌, [], false, true, length, None, Some, OnOk, OnErr};
 ghost use Rattle.m11_expansions.specs.Frames as stack;
 ghost use Rattle.m11_expansions.specs.Left as spec;
 
@@ -96,6 +96,31 @@ impl Remaining {
         } else {
             self.take_fed(line)
         }
+    }
+
+    /// Takes the line of the source, if nothing else is left, and returns whether it did. It is what `take` does then, and takes less time.
+    pub fn take_source_line(&mut self, line: &mut Line) -> bool
+        ensures taken { result ≡ true → spec.Takes self.old.left self.new.left line.new (Some (Taken.Line false)) }
+        ensures free { result ≡ true → self.new.has_statement ≡ false }
+        ensures unchanged { result ≡ false → self.new ≡ self.old }
+    {
+        if !self.has_fed || self.statement.is_some() || self.is_expanding() {
+            return false;
+        }
+        line.copy_from(&self.fed);
+        self.has_fed = false;
+        true
+    }
+
+    /// Whether nothing is left.
+    pub fn is_empty(&self) -> bool
+        ensures { result ≡ spec.is_empty self.now.left }
+    {
+        is_none_of(
+            self.has_fed,
+            self.statement.is_some(),
+            has_frame(self.frames.as_slice()),
+        )
     }
 
     // Takes the statement of an `.IIF`.
@@ -214,6 +239,12 @@ impl Remaining {
     {
         conditions_open(self.frames.as_slice())
     }
+}
+
+fn is_none_of(has_fed: bool, has_statement: bool, has_frame: bool) -> bool
+    ensures { result ≡ stack.is_none_of has_fed has_statement has_frame }
+{
+    !has_fed && !has_statement && !has_frame
 }
 
 fn has_frame(frames: &[Frame]) -> bool

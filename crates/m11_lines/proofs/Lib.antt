@@ -5,3 +5,4 @@ pub mod OpenLines
 pub mod Seeking
 pub mod SourceSteps
 pub mod Runs
+pub mod PlainFronts

@@ -84,10 +84,3 @@ kept_whole text bytes is_over_long fits =
     let within = le-ltb 132 (length (text ++ bytes)) (omega arith) in
     let kept = take_all 132 (text ++ bytes) (omega arith) in
     rw (within, or_false is_over_long, kept) refl
-
--- the characters of another line, after none
-pub copied : (line other : SourceLine) (bytes : List ℕ) → line ≡ no_line → bytes ≡ other.text → length bytes ≤ 132
-    → (with_bytes line bytes).text ≡ other.text
-copied line other bytes none same short =
-    let all = take_all 132 bytes short in
-    rw (none, all) same

@@ -1,9 +1,8 @@
 //! A line of a source. (MACRO-11 Language Reference Manual, "Source program format".)
 
-ghost use Rattle.std.specs.Prelude.{◌≡◌, ◌≤◌, length};
+ghost use Rattle.std.specs.Prelude.{◌≡◌, ◌≤◌, ◌+◌, ◌++◌, length};
 ghost use Rattle.m11_lines.specs.Line.{line_limit, line_of, no_line, with_bytes};
 
-use arrayvec::ArrayVec;
 use std::marker::Model;
 
 /// The most characters of a line that count.
@@ -12,19 +11,21 @@ pub const LINE_LIMIT: usize = 132;
 /// The first 132 characters of a line, and whether it has more.
 #[derive(Drop, Debug)]
 pub struct Line {
-    bytes: ArrayVec<u8, LINE_LIMIT>,
+    // Its characters come first. What stands after them says nothing, and need not be cleared.
+    bytes: [u8; LINE_LIMIT],
+    length: usize,
     is_over_long: bool,
 }
 
 impl Model for Line {
-    ghost use Rattle.std.specs.Prelude.{◌≤◌, length};
+    ghost use Rattle.std.specs.Prelude.{◌≤◌, take};
     ghost use Rattle.m11_lines.specs.Line.{SourceLine};
 
     ghost Value = { SourceLine };
 
-    ghost view = { λ line. record { text = line.bytes.items; is_over_long = line.is_over_long } };
+    ghost view = { λ line. record { text = take line.length line.bytes; is_over_long = line.is_over_long } };
 
-    ghost invariant = { λ line. length line.bytes.items ≤ 132 };
+    ghost invariant = { λ line. line.length ≤ 132 };
 }
 
 impl Line {
@@ -33,7 +34,8 @@ impl Line {
         ensures { result ≡ no_line }
     {
         Line {
-            bytes: ArrayVec::new(),
+            bytes: [0; LINE_LIMIT],
+            length: 0,
             is_over_long: false,
         }
     }
@@ -51,16 +53,16 @@ impl Line {
     pub fn clear(&mut self)
         ensures { self.new ≡ no_line }
     {
-        self.bytes.clear();
+        self.length = 0;
         self.is_over_long = false;
     }
 
-    /// The same as another line. Only its characters are copied.
+    /// The same as another line.
     pub fn copy_from(&mut self, other: &Line)
         ensures { self.new ≡ other.now }
     {
-        self.clear();
-        self.push_all(other.text());
+        self.bytes = other.bytes;
+        self.length = other.length;
         self.is_over_long = other.is_over_long;
     }
 
@@ -68,13 +70,23 @@ impl Line {
     pub fn push_all(&mut self, bytes: &[u8])
         ensures { self.new ≡ with_bytes self.old bytes.now }
     {
-        let room = LINE_LIMIT - self.bytes.len();
+        let room = LINE_LIMIT - self.text().len();
         if bytes.len() > room {
-            self.bytes.try_extend_from_slice(&bytes[..room]).unwrap();
+            self.push_within(&bytes[..room]);
             self.is_over_long = true;
         } else {
-            self.bytes.try_extend_from_slice(bytes).unwrap();
+            self.push_within(bytes);
         }
+    }
+
+    // More characters, for which there is room.
+    fn push_within(&mut self, bytes: &[u8])
+        requires { length self.old.text + length bytes.now ≤ line_limit }
+        ensures { self.new ≡ record { text = self.old.text ++ bytes.now; is_over_long = self.old.is_over_long } }
+    {
+        let end = self.length + bytes.len();
+        self.bytes[self.length..end].copy_from_slice(bytes);
+        self.length = end;
     }
 
     /// The characters that count, at most 132.
@@ -82,7 +94,7 @@ impl Line {
         ensures text { result.now ≡ self.now.text }
         ensures limited { length result.now ≤ line_limit }
     {
-        self.bytes.as_slice()
+        &self.bytes[..self.length]
     }
 
     /// Whether characters past the limit were dropped.

@@ -1,10 +1,10 @@
 //! A line whose end has not come yet.
 
 ghost use Rattle.std.specs.Prelude.{◌≡◌, ◌≤◌, false, length, take};
-ghost use Rattle.std.specs.List.{AllByRecursion};
+ghost use Rattle.std.specs.List.{AllByRecursion, prefix_len};
 ghost use Rattle.std.specs.Bool.{IsTrue};
 ghost use Rattle.m11_lines.specs.Lines.{as_read};
-ghost use Rattle.m11_lines.specs.OpenLine.{is_plain, is_unbegun, nothing_open, with_byte, with_plain, with_return};
+ghost use Rattle.m11_lines.specs.OpenLine.{are_plain, is_plain, is_unbegun, nothing_open, with_byte, with_plain, with_return};
 ghost use Rattle.m11_lines.specs.Sources.{TookOf};
 
 use crate::line::Line;
@@ -142,12 +142,48 @@ fn plain_length(bytes: &[u8]) -> usize
     ensures within { result ≤ length bytes.now }
     ensures plain { AllByRecursion (λ byte. IsTrue (is_plain byte)) (take result bytes.now) }
 {
-    'bytes: for (i, byte) in bytes.iter().enumerate() {
-        if !is_plain(*byte) {
-            return i;
+    plain_run(bytes)
+}
+
+// Most bytes are kept, so four are looked at in each turn.
+#[tactic(auto, using(crate::proofs::PlainFronts::four_plain))]
+fn plain_run(bytes: &[u8]) -> usize
+    ensures run { result ≡ prefix_len is_plain bytes.now }
+    ensures within { result ≤ length bytes.now }
+{
+    let mut count = 0;
+    let mut rest = bytes;
+    'fours: while let [first, second, third, fourth, tail @ ..] = rest {
+        if !are_plain(*first, *second, *third, *fourth) {
+            return count + short_run(rest);
         }
+        count += 4;
+        rest = tail;
     }
-    bytes.len()
+    count + short_run(rest)
+}
+
+fn are_plain(first: u8, second: u8, third: u8, fourth: u8) -> bool
+    ensures { result ≡ are_plain first second third fourth }
+{
+    is_plain(first) && is_plain(second) && is_plain(third) && is_plain(fourth)
+}
+
+// The same of any bytes, one by one.
+fn short_run(bytes: &[u8]) -> usize
+    ensures run { result ≡ prefix_len is_plain bytes.now }
+    ensures within { result ≤ length bytes.now }
+{
+    let mut count = 0;
+    let mut rest = bytes;
+    'bytes: while let [byte, tail @ ..] = rest {
+        if !is_plain(*byte) {
+            return count;
+        }
+        count += 1;
+        rest = tail;
+    }
+    count
 }
 
 // Most bytes are past those that aren't kept, and need one comparison.

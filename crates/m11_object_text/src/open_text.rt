@@ -1,6 +1,6 @@
 //! The text that is open while pieces come. (RT-11 Volume and File Formats Manual, "Object file format", TXT and RLD blocks.)
 
-ghost use Rattle.std.specs.Prelude.{◌≡◌, List, [], ◌∷◌, ◌++◌};
+ghost use Rattle.std.specs.Prelude.{◌≡◌, List, [], ◌∷◌, ◌++◌, None, true, false};
 ghost use Rattle.m11_obj.specs.Records.{Content};
 ghost use Rattle.m11_object_text.specs.declared.pieces.Piece.{Piece};
 ghost use Rattle.m11_object_text.specs.OpenText.{IsOpenText, records_in};
@@ -32,6 +32,23 @@ impl OpenText {
         ensures { IsOpenText [] [] result }
     {
         OpenText { text: None }
+    }
+
+    /// Takes a piece into the open text, if that can hold it too, and returns whether it did. It is what `take` does then, and takes less
+    /// time, since no text is handed out.
+    pub fn take_within(&mut self, piece: &Piece) -> bool
+        ensures takes { result ≡ true → (pieces : List Piece) (written : List Content) → IsOpenText pieces written self.old
+            → IsOpenText (pieces ++ piece.now ∷ []) (written ++ records_in None) self.new }
+        ensures unchanged { result ≡ false → self.new ≡ self.old }
+    {
+        let Some(text) = &mut self.text else {
+            return false;
+        };
+        if text.takes(piece) {
+            text.push(piece);
+            return true;
+        }
+        false
     }
 
     /// Takes a piece. Where the open text can't hold it too, that text is handed out and is to be written; the piece opens another

@@ -37,10 +37,33 @@ pub(crate) fn define_labels(
         → Fails (labels_fault mentioned.old.names before line.now.text) fault) }
     ensures fits { length (labels_at line.now.text) ≤ 66 }
 {
-    // most lines have none, and a list with room for as many as a line may have takes time to make
+    // most lines have none
     if labels_end == 0 {
-        return define_all(pass, mentioned, map, line, &[]);
+        define_all(pass, mentioned, map, line, &[])
+    } else {
+        define_listed(pass, mentioned, map, line)
     }
+}
+
+// Lists the labels of a line, and defines them, by a call: in the caller, room for as many as a line may have would be cleared for each
+// line.
+#[inline(never)]
+fn define_listed(
+    pass: &mut Pass,
+    mentioned: &mut Mentioned,
+    map: &Map<'_>,
+    line: &Line,
+) -> Result<LabelLetters, PassFault>
+    requires blocks { pass.old.table.settings.block + 66 < 2 ^ 64 }
+    requires few { IsFew pass.old mentioned.old }
+    ensures stand { IfOk result (λ letters. Labels map.now mentioned.old.names line.now.text pass.old pass.new letters) }
+    ensures mentions { IfOk result (λ _. mentioned.new ≡ with_all (mentions_of_labels line.now.text) mentioned.old) }
+    ensures tables { IfOk result (λ _. tables.Follows pass.old.table pass.new.table (λ before. labels_stand before line.now.text)) }
+    ensures few { IfOk result (λ _. IsFew pass.new mentioned.new) }
+    ensures refuses { IfErr result (λ fault. (before : LineTable) → Matches pass.old before
+        → Fails (labels_fault mentioned.old.names before line.now.text) fault) }
+    ensures fits { length (labels_at line.now.text) ≤ 66 }
+{
     let labels = labels_of(line);
     define_all(pass, mentioned, map, line, labels.as_slice())
 }

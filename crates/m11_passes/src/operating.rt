@@ -108,6 +108,41 @@ pub(crate) fn change_line(
     ensures refuses { IfErr result (λ fault. (before : LineTable) → Matches pass.old before → Refuses fault ⊥ (most_sections < length
         (changed map.now line.now.text (change_after pass.old.table line.now.text arguments (deed_seen deed.now)) before).sections)) }
 {
+    // most lines change nothing
+    match deed {
+        Deed::Rests => Ok(None),
+        _ => change_any(pass, map, line, arguments, deed, fields),
+    }
+}
+
+// What a line changes, whatever stands after its labels, by a call: in the caller, room for a change would be cleared for each line.
+#[inline(never)]
+fn change_any(
+    pass: &mut Pass,
+    map: &Map<'_>,
+    line: &Line,
+    arguments: Option<u16>,
+    deed: &Deed,
+    fields: &Fields,
+) -> Result<Option<Item>, PassFault>
+    requires within { IsWithin (length line.now.text) deed.now }
+    requires fields { fields_seen fields.now ≡ deed_fields pass.old.table line.now.text deed.now }
+    requires listed { pass.old.table.settings.listed + 1 < 2 ^ 64 }
+    requires unlisted { pass.old.table.settings.unlisted + 1 < 2 ^ 64 }
+    requires block { pass.old.table.settings.block + 1 < 2 ^ 64 }
+    requires section { pass.old.table.settings.section < 64 }
+    requires sections { length pass.old.table.sections ≤ most_sections }
+    ensures changes { IfOk result (λ _. Follows pass.old pass.new (λ before. changed map.now line.now.text
+        (change_after pass.old.table line.now.text arguments (deed_seen deed.now)) before)) }
+    ensures tables { IfOk result (λ _. tables.Follows pass.old.table pass.new.table (λ before. changed map.now line.now.text
+        (change_after pass.old.table line.now.text arguments (deed_seen deed.now)) before)) }
+    ensures sections { IfOk result (λ _. length pass.new.table.sections ≤ most_sections) }
+    ensures symbols { IfOk result (λ _. pass.new.local_symbols ≡ pass.old.local_symbols) }
+    ensures shows { IfOk result (λ item. option_to_list item ≡ deed_items map.now pass.old.table line.now.text
+        (change_after pass.old.table line.now.text arguments (deed_seen deed.now)) (deed_seen deed.now)) }
+    ensures refuses { IfErr result (λ fault. (before : LineTable) → Matches pass.old before → Refuses fault ⊥ (most_sections < length
+        (changed map.now line.now.text (change_after pass.old.table line.now.text arguments (deed_seen deed.now)) before).sections)) }
+{
     let change = deed_change(pass.table(), line, arguments, deed, fields);
     let assigned = assigned_item(map, pass.table(), line, &change, deed);
     pass.take(map, line, &change)?;

@@ -9,6 +9,7 @@ ghost use Rattle.m11_fields.specs.Reads.{fields_seen};
 ghost use Rattle.m11_operators.specs.Reading.{operator_fields};
 ghost use Rattle.m11_placement.specs.Assigning.{target};
 ghost use Rattle.m11_placement.specs.declared.meanings.Context.TheVariants.{Knows};
+ghost use Rattle.m11_placement.specs.Elements.{listed_names};
 ghost use Rattle.m11_placement.specs.Mentions as spec;
 ghost use Rattle.m11_placement.specs.Tables.{Table as LineTable};
 ghost use Rattle.m11_placing.specs.Deeds.{IsWithin, deed_fields, deed_seen};
@@ -198,23 +199,37 @@ impl Mentioned {
     {
         let place = usize::from(start);
         match directive {
-            Directive::Words | Directive::Bytewise => {
-                let elements = elements_at(line, place);
-                self.add_elements(line, elements.places.as_slice())
-            }
+            Directive::Words | Directive::Bytewise => self.add_list(line, place),
             Directive::Ascii | Directive::Asciz => self.add_text(line, place, Context::Refers),
             Directive::Rad50 => self.add_text(line, place, Context::Knows),
             Directive::ByteBlock | Directive::WordBlock | Directive::End => {
                 self.read(line, start, Context::Knows)
             }
-            Directive::Global | Directive::Weak => {
-                let names = listed_names(line, place);
-                self.add_names(names.as_slice())
-            }
+            Directive::Global | Directive::Weak => self.add_exports(line, place),
             Directive::ArgumentCount => self.add_number(&argument_count(arguments, line, place)),
             Directive::CharacterCount => self.add_number(&character_count(line, place)),
             _ => Ok(()),
         }
+    }
+
+    // The list at a place, by a call: in the caller, room for the elements of one would be cleared for each directive.
+    #[inline(never)]
+    fn add_list(&mut self, line: &Line, start: usize) -> Result<(), PlacingFault>
+        requires { start ≤ length line.now.text }
+        ensures { Adds (spec.element_mentions line.now.text start) self.old self.new result }
+    {
+        let elements = elements_at(line, start);
+        self.add_elements(line, elements.places.as_slice())
+    }
+
+    // The names that become global or weak, by a call for the same reason.
+    #[inline(never)]
+    fn add_exports(&mut self, line: &Line, start: usize) -> Result<(), PlacingFault>
+        requires { start ≤ length line.now.text }
+        ensures { Adds (map spec.named (listed_names line.now.text start)) self.old self.new result }
+    {
+        let names = listed_names(line, start);
+        self.add_names(names.as_slice())
     }
 
     // The elements of a list of words or bytes.
@@ -230,7 +245,8 @@ impl Mentioned {
         }
     }
 
-    // The expressions among the parts of a text.
+    // The expressions among the parts of a text, by a call for the same reason.
+    #[inline(never)]
     fn add_text(&mut self, line: &Line, start: usize, context: Context) -> Result<(), PlacingFault>
         requires { start ≤ length line.now.text }
         ensures { Adds (spec.part_mentions context line.now.text start) self.old self.new result }

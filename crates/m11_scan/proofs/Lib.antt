@@ -7,3 +7,4 @@ pub mod OrderedTokens
 mod Packed
 mod Spelling
 mod WrittenExpressions
+mod TableOfCodes

@@ -1,4 +1,5 @@
 pub mod Characters
+pub mod Codes
 pub mod Ends
 pub mod Expressions
 pub mod Grammar

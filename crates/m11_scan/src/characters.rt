@@ -5,6 +5,8 @@ ghost use Rattle.std.specs.List.{prefix_len};
 ghost use Rattle.m11_base.specs.Mnemonics.{is_name_character};
 ghost use Rattle.m11_scan.specs.Characters.{is_blank, is_digit};
 
+use crate::codes::is_name_character;
+
 // A blank or a tab.
 pub(crate) fn is_blank(byte: u8) -> bool
     ensures { result ≡ is_blank byte }
@@ -16,18 +18,6 @@ pub(crate) fn is_digit(byte: u8) -> bool
     ensures { result ≡ is_digit byte }
 {
     byte >= b'0' && byte <= b'9'
-}
-
-/// Whether a byte may stand in a name: a letter of either case, a digit, `$` or `.`.
-pub fn is_name_character(byte: u8) -> bool
-    ensures { result ≡ is_name_character byte }
-{
-    // most are letters, so these are asked for first
-    (byte >= b'A' && byte <= b'Z')
-        || (byte >= b'a' && byte <= b'z')
-        || is_digit(byte)
-        || byte == b'$'
-        || byte == b'.'
 }
 
 /// How many digits a text begins with.

@@ -4,6 +4,7 @@
 #![tactic(auto)]
 
 mod characters;
+mod codes;
 mod conditions;
 mod cutting;
 mod ends;
@@ -18,7 +19,8 @@ mod skipped;
 mod sort;
 mod texts;
 
-pub use characters::{digits_length, is_name_character, name_length};
+pub use characters::{digits_length, name_length};
+pub use codes::is_name_character;
 pub use conditions::{Condition, read_condition};
 pub use cutting::{Token, next_token, text_between, token_at};
 pub use ends::{Expression, expression_at, expression_end};

@@ -1,13 +1,15 @@
 //! Names, and the characters of `^R`. (MACRO-11 Language Reference Manual, "Symbols" and "Radix-50 operator".)
 
-ghost use Rattle.std.specs.Prelude.{◌≡◌, true};
+ghost use Rattle.std.specs.Prelude.{◌≡◌, ◌<◌, ◌+◌, ◌^◌, true, IfSome};
 ghost use Rattle.std.specs.Option.{is_some};
 ghost use Rattle.std.specs.Str.{bytes_eq};
 ghost use Rattle.m11_base.specs.Mnemonics.{character_at, six_of};
-ghost use Rattle.m11_base.specs.Rad50.{name_of};
+ghost use Rattle.m11_base.specs.Rad50.{code_of, name_of, name_of_words, packed_at, word_limit, word_of_codes};
+ghost use Rattle.m11_scan.specs.Codes.{code_or_no, code_or_none};
 ghost use Rattle.m11_scan.specs.Names.{has_name_characters_alone, packed_letters, packed_word, word_or_none};
 ghost use Rattle.m11_scan.specs.Views.{bits_of};
 
+use crate::codes::{NO_CODE, code_in_table};
 use crate::letters::Letters;
 use crate::numbers::Number;
 use m11_base::{Name, Rad50};
@@ -24,18 +26,67 @@ pub fn read_name(text: &[u8]) -> Option<Name>
 fn pack_first(text: &[u8]) -> Option<Name>
     ensures { result ≡ name_of (six_of text.now) }
 {
-    // most names are short, and blanks after them need not be packed
+    name_of_words(word_at(text, 0), last_word(text))
+}
+
+// The word of a name's last three characters. Most names are short, and blanks after them need not be packed.
+#[tactic(auto, using(crate::proofs::TableOfCodes::blank_word))]
+fn last_word(text: &[u8]) -> Option<u16>
+    ensures word { result ≡ packed_at (six_of text.now) 3 }
+    ensures below { IfSome result (λ word. word < word_limit) }
+{
     if text.len() <= 3 {
-        Name::pack(&[
-            character_at(text, 0),
-            character_at(text, 1),
-            character_at(text, 2),
-            b' ',
-            b' ',
-            b' ',
-        ])
+        Some(0)
     } else {
-        Name::pack(&six_characters(text))
+        word_at(text, 3)
+    }
+}
+
+// The name of two words, if there are two.
+fn name_of_words(first: Option<u16>, second: Option<u16>) -> Option<Name>
+    requires first { IfSome first (λ word. word < word_limit) }
+    requires second { IfSome second (λ word. word < word_limit) }
+    ensures { result ≡ name_of_words first second }
+{
+    match (first, second) {
+        (Some(first), Some(second)) => Name::from_words(first, second),
+        _ => None,
+    }
+}
+
+// The word of the three characters from a place of a text on, if each has a code.
+fn word_at(text: &[u8], place: usize) -> Option<u16>
+    requires { place + 2 < 2 ^ 64 }
+    ensures word { result ≡ word_of_codes (code_of (character_at text.now place)) (code_of (character_at text.now (place + 1)))
+        (code_of (character_at text.now (place + 2))) }
+    ensures below { IfSome result (λ word. word < word_limit) }
+{
+    word_of_codes(
+        code_at(text, place),
+        code_at(text, place + 1),
+        code_at(text, place + 2),
+    )
+}
+
+// The word of three codes, if there are three.
+fn word_of_codes(first: u8, second: u8, third: u8) -> Option<u16>
+    ensures word { result ≡ word_of_codes (code_or_no first) (code_or_no second) (code_or_no third) }
+    ensures below { IfSome result (λ word. word < word_limit) }
+{
+    if first >= NO_CODE || second >= NO_CODE || third >= NO_CODE {
+        return None;
+    }
+    Some(u16::from(first) * 1600 + u16::from(second) * 40 + u16::from(third))
+}
+
+// The code of a text's character at a place. After its end blanks stand.
+#[tactic(auto, using(crate::proofs::TableOfCodes::blank_code))]
+fn code_at(text: &[u8], place: usize) -> u8
+    ensures { result ≡ code_or_none (code_of (character_at text.now place)) }
+{
+    match text.get(place) {
+        Some(byte) => code_in_table(*byte),
+        None => 0,
     }
 }
 

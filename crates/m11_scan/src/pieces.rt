@@ -5,7 +5,8 @@ ghost use Rattle.std.specs.Prelude.{◌≡◌, ◌+◌, ◌<◌, ◌≤◌, fals
 ghost use Rattle.m11_scan.specs.Characters.{is_blank};
 ghost use Rattle.m11_scan.specs.Pieces as spec;
 
-use crate::characters::{digits_length, is_blank, is_digit, is_name_character, name_length};
+use crate::characters::{digits_length, is_blank, is_digit, name_length};
+use crate::codes::is_name_character;
 use crate::sort::{Form, Sort};
 
 /// A piece of a line: a token, a blank, the comment, or a character that begins no token.

@@ -3,22 +3,26 @@
 ghost use Rattle.std.specs.Prelude.{◌≡◌, ◌≤◌, length};
 ghost use Rattle.m11_scan.specs.Skipped.{has_skipped, has_unkept, is_kept, is_skipped, skipped_between};
 
-use crate::characters::{is_blank, is_name_character};
+use crate::characters::is_blank;
+use crate::codes::is_name_character;
 use crate::pieces::{first_piece, mark_form};
 use crate::sort::Form;
 use m11_lines::Line;
 
 /// Whether some character between two places of a line begins no token, and is part of none. Such a character is skipped, and
 /// its line has I.
+#[inline(always)]
 pub fn skipped_between(line: &Line, start: usize, end: usize) -> bool
     requires ordered { start ≤ end }
     requires within { end ≤ length line.now.text }
     ensures { result ≡ skipped_between line.now.text start end }
 {
-    has_skipped(&line.text()[start..end])
+    // often nothing stands between them, and then there is no call
+    start < end && has_skipped(&line.text()[start..end])
 }
 
-// Whether some piece of a text is a character that begins no token.
+// Whether some piece of a text is a character that begins no token. By a call, so that callers have the comparison above alone in place.
+#[inline(never)]
 fn has_skipped(text: &[u8]) -> bool
     ensures { result ≡ has_skipped text.now }
 {

@@ -1,6 +1,6 @@
 -- The fault of a line that is taken into a body.
-use Rattle.std.proofs.Common.{◌≡◌, ◌<◌, ◌+◌, ℕ, false, Option, Some, None, refl, ap, ◌∙◌, arith}
-use Rattle.std.specs.Prelude.{nat_le}
+use Rattle.std.proofs.Common.{◌≡◌, ◌<◌, ◌+◌, ℕ, false, true, Option, Some, None, refl, ap, ◌∙◌, arith}
+use Rattle.std.specs.Prelude.{is_some, nat_le}
 use Rattle.std.proofs.lemmas.Bool.Decides.{nat_tests}
 use Rattle.m11_expansions.specs.Bodies.{depth_after}
 use Rattle.m11_lines.specs.Line.{SourceLine}
@@ -26,3 +26,8 @@ module _ (stage : Stage) (line : SourceLine) (opening : Opening) (is : stage.ope
       let entered = ap (λ (o : Option Opening). taking_fault o (with_line line stage) line.text) is
       ∙ fault_alike opening.purpose inside in
       rw fits entered
+
+-- what there is can be named
+pub of_some : (found : Option Opening) → is_some found ≡ true → (P : Type 0) → ((opening : Opening) → found ≡ Some opening → P) → P
+of_some None there P named = absurd cc
+of_some (Some opening) there P named = named opening refl

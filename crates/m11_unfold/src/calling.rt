@@ -74,7 +74,8 @@ impl State {
         ensures { IfOk result (λ called. called
             ≡ spec.macro_of self.now.conditions self.now.macros.entries (name_of (six_of word.now))) }
     {
-        if self.conditions.is_skipping() {
+        // most sources define few macros or none, and then no name need be read
+        if self.macros.is_empty() || self.conditions.is_skipping() {
             return Ok(None);
         }
         match read_name(word) {

@@ -1,6 +1,6 @@
 //! What is taken next. (MACRO-11 Language Reference Manual, "Macro definition" and "Conditional assembly block directives".)
 
-ghost use Rattle.std.specs.Prelude.{◌≡◌, ◌+◌, ◌<◌, ◌≤◌, false, length, None, Some, Ok, IfOk};
+ghost use Rattle.std.specs.Prelude.{◌≡◌, ◌+◌, ◌<◌, ◌≤◌, false, true, length, None, Some, Ok, IfOk, is_some};
 ghost use Rattle.m11_expansions.specs.Bodies.{size_of};
 ghost use Rattle.m11_expansions.specs.Left.{bytes_held, depth, is_expanding, most_expansions};
 ghost use Rattle.m11_lines.specs.Line.{line_limit};
@@ -51,9 +51,25 @@ impl State {
         ensures moves { Moves (stage_of self.old) (stage_of self.new) line.new result }
         ensures free { IsFree self.new.left.has_statement result }
     {
-        if self.has_ended {
+        if self.has_ended || self.left.is_empty() {
             return Ok(Moved::Rests);
         }
+        // most lines are those of the source itself
+        if self.left.take_source_line(line) {
+            return self.take_line(alloc, line, false);
+        }
+        self.advance_within(alloc, line)
+    }
+
+    // Makes one move, where an expansion may be open or a statement stand before what is left. By a call: the end of an expansion holds
+    // conditions, and room for them would be cleared for each line.
+    #[inline(never)]
+    fn advance_within(&mut self, alloc: Global, line: &mut Line) -> Result<Moved, UnfoldFault>
+        requires kept { IsKept (stage_of self.old) }
+        requires goes_on { self.old.has_ended ≡ false }
+        ensures moves { Moves (stage_of self.old) (stage_of self.new) line.new result }
+        ensures free { IsFree self.new.left.has_statement result }
+    {
         match self.left.take(line) {
             Some(Taken::Line(is_expanded)) => self.take_line(alloc, line, is_expanded),
             Some(Taken::End(mark)) => {
@@ -84,13 +100,32 @@ impl State {
             return Err(UnfoldFault::TooManyLines);
         }
         self.taken += 1;
-        match self.opening.take() {
-            Some(opening) => match self.take_into(alloc, opening, line) {
+        if self.opening.is_some() {
+            return match self.take_body_line(alloc, line) {
                 Ok(()) => Ok(Moved::Passes),
                 Err(fault) => Err(fault),
-            },
-            None if skip(&mut self.conditions, line) => Ok(Moved::Passes),
-            None => Ok(Moved::Gives(is_expanded)),
+            };
+        }
+        if skip(&mut self.conditions, line) {
+            Ok(Moved::Passes)
+        } else {
+            Ok(Moved::Gives(is_expanded))
+        }
+    }
+
+    // One line is taken into the body that is open, by a call: room for a body would be cleared for each line.
+    #[inline(never)]
+    fn take_body_line(&mut self, alloc: Global, line: &Line) -> Result<(), UnfoldFault>
+        requires bytes { bytes_of (stage_of self.old) ≤ most_bytes }
+        requires open { is_some self.old.opening ≡ true }
+        requires free { self.old.left.has_statement ≡ false }
+        ensures takes { (opening : stages.Opening) → self.old.opening ≡ Some opening
+            → Enters (record (stage_of self.old) { opening = Some opening }) opening line.now.text (stage_of self.new) result }
+        ensures free { self.new.left.has_statement ≡ false }
+    {
+        match self.opening.take() {
+            Some(opening) => self.take_into(alloc, opening, line),
+            None => Ok(()),
         }
     }
 

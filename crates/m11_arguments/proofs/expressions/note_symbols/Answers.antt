@@ -1,10 +1,7 @@
-use Rattle.std.proofs.Common.{◌≡◌, List, map, ap, sym, ◌∙◌, subst, IfOk}
-use Rattle.m11_scan.specs.Views.{lexeme}
-use Rattle.m11_scan.specs.declared.cutting.Token.{Token}
+use Rattle.std.proofs.Common.{◌≡◌, List, ap, sym, subst, IfOk}
 use Rattle.m11_values.specs.declared.names.Symbol.{Symbol}
 use Rattle.m11_arguments.specs.Expressions.{symbols_in}
 use Rattle.m11_arguments.specs.Notes.{with_symbols}
-use Rattle.m11_arguments.proofs.Tokens.{symbols_seen}
 use Rattle.m11_arguments.proofs.expressions.note_symbols.Goals as goal
 
 pub returns-in-Some : goal.returns-in-Some
@@ -12,12 +9,3 @@ returns-in-Some c =
     let P : List Symbol → Type 0 =
     λ s. IfOk c.add_symbols.result (λ x. c.add_symbols.new.self ≡ with_symbols c.args.notes.now s) in
     subst P (ap symbols_in (sym c.in-Some.ensures.alone.1)) c.add_symbols.ensures
-
-pub returns-in-None : goal.returns-in-None
-returns-in-None c =
-    let P : List Symbol → Type 0 =
-    λ s. IfOk c.add_symbols-in-None.result (λ x. c.add_symbols-in-None.new.self ≡ with_symbols c.args.notes.now s) in
-    subst P
-    (symbols_seen c.args.line.now.text c.as_slice.result.now _
-    (ap (λ (ts : List Token). map (lexeme c.args.line.now.text) ts) c.as_slice.ensures.value ∙ c.expression_at.ensures.tokens))
-    c.add_symbols-in-None.ensures

@@ -4,7 +4,7 @@ use Rattle.m11_scan.specs.declared.cutting.Token.{Token}
 use Rattle.m11_values.specs.declared.names.Symbol.{Symbol}
 use Rattle.m11_arguments.specs.Notes.{with_symbols}
 use Rattle.m11_arguments.proofs.Tokens.{symbols_seen, value_seen}
-use Rattle.m11_arguments.proofs.expressions.read_expression.Goals as goal
+use Rattle.m11_arguments.proofs.expressions.read_tokens.Goals as goal
 
 pub returns-clause-value : goal.returns-clause-value
 returns-clause-value g c =

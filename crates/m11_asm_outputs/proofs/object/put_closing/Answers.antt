@@ -1,0 +1,17 @@
+use Rattle.m11_object_text.specs.OpenText.{records_in}
+use Rattle.m11_asm_outputs.specs.Object.{closed_records}
+use Rattle.m11_asm_outputs.proofs.Blocks.{contents_as}
+use Rattle.m11_asm_outputs.proofs.Closing.{closed_by_piece, open_after_piece}
+use Rattle.m11_asm_outputs.proofs.object.put_closing.Goals as goal
+
+pub returns-clause-writes : goal.returns-clause-writes
+returns-clause-writes g c = λ before h listing messages.
+    contents_as _ _ _ _ _
+    (closed_by_piece before c.args.piece.now (records_in c.take-closed.result) c.take-closed.new.self
+    (c.take-closed.ensures before (closed_records before) h))
+    (c.put_if_closed.ensures listing messages)
+
+pub returns-clause-opens : goal.returns-clause-opens
+returns-clause-opens g c = λ before h.
+    open_after_piece before c.args.piece.now (records_in c.take-closed.result) c.take-closed.new.self
+    (c.take-closed.ensures before (closed_records before) h)

@@ -1,0 +1,39 @@
+-- The table of codes has the code of each byte, and by its code a byte may stand in a name or not.
+use Rattle.std.proofs.Common.{◌≡◌, ℕ, ◌<◌, Bool, true, eqb, get_or, Option, Some, None, refl}
+use Rattle.std.proofs.lemmas.Bool.{agree_below_at, eqb-true, lt-ltb}
+use Rattle.m11_base.specs.Mnemonics.{folded, is_name_character}
+use Rattle.m11_base.specs.Rad50.{alphabet, code_of, word_of_codes}
+use Rattle.m11_base.proofs.Characters.{character_again}
+use Rattle.m11_scan.specs.Codes.{code_or_no, code_or_none, is_code_of_name}
+use Rattle.m11_scan.specs.declared.codes.TheConstants.{CODES}
+
+has_code : ℕ → Bool
+has_code byte = eqb (get_or CODES byte 0) (code_or_none (code_of (folded byte)))
+
+pub each_listed : (byte : ℕ) → byte < 256 → get_or CODES byte 0 ≡ code_or_none (code_of (folded byte))
+unfolding has_code code_of alphabet
+each_listed byte lt = eqb-true _ _ (agree_below_at has_code (λ _. true) 256 byte refl lt)
+
+named : ℕ → Bool
+named byte = is_code_of_name (code_or_none (code_of (folded byte)))
+
+pub named_by_code : (byte : ℕ) → byte < 256 → is_code_of_name (code_or_none (code_of (folded byte))) ≡ is_name_character byte
+unfolding named code_of alphabet
+named_by_code byte lt = agree_below_at named is_name_character 256 byte refl lt
+
+pub blank_code : code_or_none (code_of 32) ≡ 0
+unfolding code_of alphabet
+blank_code = refl
+
+-- numbers that stand for codes, and back
+code_again : (code : Option ℕ) → ((c : ℕ) → code ≡ Some c → c < 40) → code_or_no (code_or_none code) ≡ code
+code_again None below = refl
+code_again (Some c) below = let lt = below c refl in rw (lt-ltb c 40 lt) refl
+
+pub same_code : (character : ℕ) → code_or_no (code_or_none (code_of character)) ≡ code_of character
+same_code character = code_again (code_of character) (λ c e. (character_again character c e).0)
+
+-- blanks stand after the end of a text
+pub blank_word : word_of_codes (code_of 32) (code_of 32) (code_of 32) ≡ Some 0
+unfolding code_of alphabet
+blank_word = refl

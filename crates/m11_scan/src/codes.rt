@@ -1,0 +1,54 @@
+//! Codes of characters in RADIX-50, by a table. (MACRO-11 Language Reference Manual, appendix on the RADIX-50 character set.)
+
+ghost use Rattle.std.specs.Prelude.{◌≡◌};
+ghost use Rattle.m11_base.specs.Mnemonics.{folded, is_name_character};
+ghost use Rattle.m11_base.specs.Rad50.{code_of};
+ghost use Rattle.m11_scan.specs.Codes.{code_or_none, is_code_of_name};
+
+/// There are codes below this one, which stands for a character that has none.
+pub(crate) const NO_CODE: u8 = 40;
+
+// Of each byte, by rows of sixteen; small letters have the codes of capital ones. Names are read so often that a search would take a
+// tenth of an assembly.
+#[rattlefmt::skip]
+static CODES: [u8; 256] = [
+    40, 40, 40, 40, 40, 40, 40, 40, 40, 40, 40, 40, 40, 40, 40, 40,
+    40, 40, 40, 40, 40, 40, 40, 40, 40, 40, 40, 40, 40, 40, 40, 40,
+    0, 40, 40, 40, 27, 40, 40, 40, 40, 40, 40, 40, 40, 40, 28, 40,
+    30, 31, 32, 33, 34, 35, 36, 37, 38, 39, 40, 40, 40, 40, 40, 40,
+    40, 1, 2, 3, 4, 5, 6, 7, 8, 9, 10, 11, 12, 13, 14, 15,
+    16, 17, 18, 19, 20, 21, 22, 23, 24, 25, 26, 40, 40, 40, 40, 40,
+    40, 1, 2, 3, 4, 5, 6, 7, 8, 9, 10, 11, 12, 13, 14, 15,
+    16, 17, 18, 19, 20, 21, 22, 23, 24, 25, 26, 40, 40, 40, 40, 40,
+    40, 40, 40, 40, 40, 40, 40, 40, 40, 40, 40, 40, 40, 40, 40, 40,
+    40, 40, 40, 40, 40, 40, 40, 40, 40, 40, 40, 40, 40, 40, 40, 40,
+    40, 40, 40, 40, 40, 40, 40, 40, 40, 40, 40, 40, 40, 40, 40, 40,
+    40, 40, 40, 40, 40, 40, 40, 40, 40, 40, 40, 40, 40, 40, 40, 40,
+    40, 40, 40, 40, 40, 40, 40, 40, 40, 40, 40, 40, 40, 40, 40, 40,
+    40, 40, 40, 40, 40, 40, 40, 40, 40, 40, 40, 40, 40, 40, 40, 40,
+    40, 40, 40, 40, 40, 40, 40, 40, 40, 40, 40, 40, 40, 40, 40, 40,
+    40, 40, 40, 40, 40, 40, 40, 40, 40, 40, 40, 40, 40, 40, 40, 40,
+];
+
+/// The code of a character, a letter of either case among them.
+#[tactic(auto, using(crate::proofs::TableOfCodes::each_listed))]
+pub(crate) fn code_in_table(byte: u8) -> u8
+    ensures { result ≡ code_or_none (code_of (folded byte)) }
+{
+    CODES[usize::from(byte)]
+}
+
+/// Whether a byte may stand in a name: a letter of either case, a digit, `$` or `.`.
+#[tactic(auto, using(crate::proofs::TableOfCodes::named_by_code))]
+pub fn is_name_character(byte: u8) -> bool
+    ensures { result ≡ is_name_character byte }
+{
+    is_code_of_name(code_in_table(byte))
+}
+
+// A blank has code 0.
+fn is_code_of_name(code: u8) -> bool
+    ensures { result ≡ is_code_of_name code }
+{
+    code != 0 && code != NO_CODE
+}
