@@ -13,9 +13,9 @@ use Rattle.m11_passes.specs.declared.fault.PassFault.{PassFault}
 use Rattle.m11_passes.specs.declared.fault.PassFault.TheVariants as pass
 use Rattle.m11_placement.specs.Meanings.{empty_map}
 use Rattle.m11_readings.specs.Readings.{Reading}
-use Rattle.m11_second.specs.Faults.{of_pass}
-use Rattle.m11_second.specs.Written.{Ended}
-use Rattle.m11_asm.specs.First.{EndsWith, FirstTaken, GivesSymbols, IsTakenUp}
+use Rattle.m11_asm.specs.Faults.{of_pass}
+use Rattle.m11_asm.specs.Written.{Ended}
+use Rattle.m11_asm.specs.FirstReading.{EndsWith, FirstTaken, GivesSymbols, IsTakenUp}
 use Rattle.m11_asm.specs.Outcome as outcome
 use Rattle.m11_asm.specs.Outcome.{Ends, Refuses, Unended}
 use Rattle.m11_asm.specs.Passes.{Pass, ReadsFirst, pass_of}

@@ -6,10 +6,10 @@ use Rattle.m11_first.specs.First.{Symbols}
 use Rattle.m11_passes.specs.Lines.{Numbered, givens}
 use Rattle.m11_placement.specs.Limits.{most_sections}
 use Rattle.m11_readings.specs.Readings.{Reading}
-use Rattle.m11_second.specs.Program.{Program, program_in, program_of}
-use Rattle.m11_second.specs.Written.{program_writes}
-use Rattle.m11_second.specs.declared.done.AsmDone.{AsmDone}
-use Rattle.m11_asm.specs.First.{GivesSymbols}
+use Rattle.m11_asm.specs.Program.{Program, program_in, program_of}
+use Rattle.m11_asm.specs.Written.{program_writes}
+use Rattle.m11_asm.specs.declared.done.AsmDone.{AsmDone}
+use Rattle.m11_asm.specs.FirstReading.{GivesSymbols}
 use Rattle.m11_asm.specs.Outcome as outcome
 use Rattle.m11_asm.specs.Outcome.{Assembled, HasOutcome}
 use Rattle.m11_asm.specs.Passes.{Pass, Reads, ReadsFirst, ReadsSecond}

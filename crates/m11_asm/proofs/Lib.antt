@@ -1,6 +1,12 @@
+mod Finishing
 mod FirstLines
 mod Joined
+mod LineTaken
 mod LinesRead
-mod ProgramsAlike
+mod LinesWritten
+mod Passing
 mod ProgramsAgree
+mod ProgramsAlike
+mod Putting
+mod SameFacts
 mod SecondLines

@@ -8,11 +8,11 @@ use Rattle.m11_directory.specs.Rows.{directory_rows}
 use Rattle.m11_first.specs.Facts.{Facts}
 use Rattle.m11_first.specs.First.{FirstState, Taken, symbols_of}
 use Rattle.m11_lines.specs.Line.{SourceLine}
-use Rattle.m11_maps.proofs.MapsAlike.{maps_same}
+use Rattle.m11_pass_laws.proofs.MapsAlike.{maps_same}
 use Rattle.m11_passes.specs.Lines.{Numbered, givens}
 use Rattle.m11_placement.specs.Limits.{most_sections}
 use Rattle.m11_placing.specs.Mentioned.{Gathered}
-use Rattle.m11_second.specs.Program.{all_names, mentioned_in, program_in, program_kept, program_of, directory_facts_in, directory_facts_of}
+use Rattle.m11_asm.specs.Program.{all_names, mentioned_in, program_in, program_kept, program_of, directory_facts_in, directory_facts_of}
 use Rattle.m11_symbols.specs.Sections.{section_entries}
 use Rattle.m11_symbols.specs.Symbols.{symbol_entries}
 use Rattle.m11_asm.proofs.ProgramsAlike.{AlikePrograms}

@@ -14,9 +14,9 @@ use Rattle.m11_listing.specs.Listing.{listed_lines}
 use Rattle.m11_listing.specs.declared.items.Item.{Item}
 use Rattle.m11_listing.specs.declared.symbol_table.SectionEntry.{SectionEntry}
 use Rattle.m11_listing.specs.declared.symbol_table.SymbolEntry.{SymbolEntry}
-use Rattle.m11_maps.specs.Maps.{MapsAgree}
-use Rattle.m11_maps.proofs.LiveLines.{exceeds_same, pass_lines_same, table_at_same}
-use Rattle.m11_maps.proofs.MapsAlike.{after_line_same, all_letters_same, items_same, pieces_same}
+use Rattle.m11_pass_laws.specs.Maps.{MapsAgree}
+use Rattle.m11_pass_laws.proofs.LiveLines.{exceeds_same, pass_lines_same, table_at_same}
+use Rattle.m11_pass_laws.proofs.MapsAlike.{after_line_same, all_letters_same, items_same, pieces_same}
 use Rattle.m11_object_text.specs.declared.directory.DirectoryRow.{DirectoryRow}
 use Rattle.m11_object_text.specs.declared.pieces.Piece.{Piece}
 use Rattle.m11_passes.specs.Lines.{Numbered, PassLines, givens, table_at}
@@ -31,9 +31,9 @@ use Rattle.m11_placement.specs.Tables.{Table, first_table, place}
 use Rattle.m11_placing.specs.Mentioned.{Gathered}
 use Rattle.m11_readings.specs.Readings.{Reading}
 use Rattle.m11_scan.specs.Letters.{letters_text}
-use Rattle.m11_second.specs.Program.{Program}
-use Rattle.m11_second.specs.Written.{Ended, added_writes, closing_writes, flagged_count, flagged_in, head_before, is_flagged, last_place, last_writes, letters_after, letters_at, line_writes, message_writes, pieces_in, pieces_of, program_writes, written, written_after}
-use Rattle.m11_second.specs.declared.done.AsmDone.{AsmDone}
+use Rattle.m11_asm.specs.Program.{Program}
+use Rattle.m11_asm.specs.Written.{Ended, added_writes, closing_writes, flagged_count, flagged_in, head_before, is_flagged, last_place, last_writes, letters_after, letters_at, line_writes, message_writes, pieces_in, pieces_of, program_writes, written, written_after}
+use Rattle.m11_asm.specs.declared.done.AsmDone.{AsmDone}
 use Rattle.m11_unfolding.specs.Stages.{Stage}
 use Rattle.m11_unfolding.specs.Unfolding.{Given}
 use Rattle.m11_values.specs.Quantities.{Quantity}

@@ -12,18 +12,18 @@ use Rattle.m11_lines.specs.declared.fault.LineFault.{LineFault}
 use Rattle.m11_lines.specs.declared.fault.LineFault.TheVariants.{Read, TooMuchSource, TooManyLines}
 use Rattle.m11_passes.specs.Lines as lines
 use Rattle.m11_readings.specs.Readings.{Reading}
-use Rattle.m11_second.specs.Program.{Program}
-use Rattle.m11_second.specs.Second.{SecondEnds, SecondFails, SecondStands, SecondState, SecondTakes, StopsAmong, ended_with}
-use Rattle.m11_second.specs.Written.{Ended, flagged_count, program_writes, written}
-use Rattle.m11_second.specs.declared.done.AsmDone.{AsmDone}
+use Rattle.m11_asm.specs.Program.{Program}
+use Rattle.m11_asm.specs.Second.{SecondEnds, SecondFails, SecondStands, SecondState, SecondTakes, StopsAmong, ended_with}
+use Rattle.m11_asm.specs.Written.{Ended, flagged_count, program_writes, written}
+use Rattle.m11_asm.specs.declared.done.AsmDone.{AsmDone}
 use Rattle.m11_unfolding.specs.Stages.{start}
 use Rattle.m11_writes.proofs.Writing.{refused_between}
-use Rattle.m11_asm.specs.First.{IsTakenUp}
+use Rattle.m11_asm.specs.FirstReading.{IsTakenUp}
 use Rattle.m11_asm.specs.Outcome as outcome
 use Rattle.m11_asm.specs.Outcome.{Ends, Unended}
 use Rattle.m11_asm.specs.Passes as passes
 use Rattle.m11_asm.specs.Passes.{Pass, ReadsSecond, StopsAmongWrites, pass_of}
-use Rattle.m11_asm.specs.Second.{SecondTaken}
+use Rattle.m11_asm.specs.SecondReading.{SecondTaken}
 use Rattle.m11_asm.proofs.LinesRead.{Begun, SoFar, all_read, begun, failed, few_read, one_more, reader_begins, too_many, too_much}
 
 -- where `.END` isn't live, nothing is left of the lines

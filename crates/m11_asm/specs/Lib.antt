@@ -1,5 +1,10 @@
-pub mod First
+pub mod Faults
+pub mod FirstReading
 pub mod Outcome
 pub mod Passes
+pub mod Program
 pub mod Run
 pub mod Second
+pub mod SecondReading
+pub mod Writing
+pub mod Written

@@ -13,9 +13,9 @@ use Rattle.m11_passes.specs.Reaching.{Exceeds}
 use Rattle.m11_passes.specs.declared.fault.PassFault.{PassFault}
 use Rattle.m11_placement.specs.Meanings.{Map, empty_map}
 use Rattle.m11_readings.specs.Readings.{Reading}
-use Rattle.m11_second.specs.Faults.{of_pass}
-use Rattle.m11_second.specs.Program.{Program, program_of}
-use Rattle.m11_second.specs.Written.{Ended, flagged_count, program_writes, written}
+use Rattle.m11_asm.specs.Faults.{of_pass}
+use Rattle.m11_asm.specs.Program.{Program, program_of}
+use Rattle.m11_asm.specs.Written.{Ended, flagged_count, program_writes, written}
 use Rattle.m11_unfolding.specs.Stages.{Stage}
 
 -- ---- the live lines of a source, under a map and after names that were mentioned before

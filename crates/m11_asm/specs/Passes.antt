@@ -9,9 +9,9 @@ use Rattle.m11_passes.specs.Lines.{Numbered, PassLines}
 use Rattle.m11_placement.specs.Meanings.{empty_map}
 use Rattle.m11_readings.specs.Calls.{FailReading, HaveReading}
 use Rattle.m11_readings.specs.Readings.{Reading}
-use Rattle.m11_second.specs.Program.{Program}
-use Rattle.m11_second.specs.Written.{Ended, flagged_count, program_writes, written}
-use Rattle.m11_second.specs.declared.done.AsmDone.{AsmDone}
+use Rattle.m11_asm.specs.Program.{Program}
+use Rattle.m11_asm.specs.Written.{Ended, flagged_count, program_writes, written}
+use Rattle.m11_asm.specs.declared.done.AsmDone.{AsmDone}
 use Rattle.m11_unfolding.specs.Stages.{Stage}
 use Rattle.m11_asm.specs.Outcome.{Ends, Refuses, Unended}
 

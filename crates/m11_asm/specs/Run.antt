@@ -3,8 +3,8 @@ use Rattle.std.specs.Prelude.{◌≡◌, ◌⊎◌, List, Result, Ok, Err}
 use Rattle.m11_asm_outputs.specs.Outputs.{Outputs}
 use Rattle.m11_asm_outputs.specs.declared.fault.AsmFault.{AsmFault}
 use Rattle.m11_passes.specs.Lines.{Numbered, givens}
-use Rattle.m11_second.specs.Program.{program_of}
-use Rattle.m11_second.specs.declared.done.AsmDone.{AsmDone}
+use Rattle.m11_asm.specs.Program.{program_of}
+use Rattle.m11_asm.specs.declared.done.AsmDone.{AsmDone}
 use Rattle.m11_asm.specs.Passes.{Pass, ReadsFirst, ReadsSecond}
 
 -- the second pass under what the first one gives; or the fault of the first pass, and then the feeds of the second are as they were and

@@ -1,22 +1,130 @@
--- The second pass over feeds, call by call. (This project's own.)
-use Rattle.std.specs.Prelude.{List, Result, Ok, Err}
-use Rattle.m11_asm_outputs.specs.Outputs.{Outputs}
-use Rattle.m11_asm_outputs.specs.declared.fault.AsmFault.{AsmFault}
+-- The second pass of a source, call by call: what stands after its lines so far, what is written, and how it stops. (MACRO-11 Language
+-- Reference Manual, "Source program format" and ".END directive". That lines past the 65,535th are refused is this project's own.)
+use Rattle.std.specs.Prelude.{◌≡◌, ◌⊎◌, ℕ, ◌+◌, Bool, true, false, List, [], ◌∷◌, ◌++◌, length, Option, None, Result, Ok, Err, IfOk}
 use Rattle.m11_lines.specs.Line.{SourceLine}
-use Rattle.m11_readings.specs.Readings.{Reading}
-use Rattle.m11_second.specs.Program.{Program}
-use Rattle.m11_second.specs.Second.{SecondStands, SecondState}
-use Rattle.m11_asm.specs.First.{IsTakenUp}
-use Rattle.m11_asm.specs.Passes.{Pass, Reads, ReadsSecond}
+use Rattle.m11_lines.specs.Lines.{most_lines}
+use Rattle.m11_unfolding.specs.Stages.{Stage}
+use Rattle.m11_placement.specs.Meanings.{Map}
+use Rattle.m11_passes.specs.Lines.{Numbered, PassLines}
+use Rattle.m11_passes.specs.Reaching.{Exceeds}
+use Rattle.m11_passes.specs.States.{Going, PassState, PassStands}
+use Rattle.m11_passes.specs.declared.fault.PassFault.{PassFault}
+use Rattle.m11_asm_outputs.specs.Outputs.{Gains, Outputs, StopsBetween, StopsIn, Write, Writes}
+use Rattle.m11_asm_outputs.specs.declared.fault.AsmFault.{AsmFault}
+use Rattle.m11_asm_outputs.specs.declared.fault.AsmFault.TheVariants as fault
+use Rattle.m11_asm.specs.Faults.{of_pass}
+use Rattle.m11_asm.specs.Program.{Program}
+use Rattle.m11_asm.specs.Written.{Ended, flagged_count, program_writes, written}
+use Rattle.m11_asm.specs.Writing.{Writing, WritingStands}
+use Rattle.m11_asm.specs.declared.done.AsmDone.{AsmDone}
 
--- the pass stands after all lines that it takes of what the feeds give, and exactly what they write is written
-pub record SecondTaken {F : Type 0} (pass : Pass F) (program : Program) (old new : Outputs) (second : SecondState) : Type 0 where
-  pub reading : Reading
-  pub reads : Reads pass reading
-  pub source : List SourceLine
-  pub stands : SecondStands program source old new second
-  pub taken_up : IsTakenUp reading source second.has_ended
+-- the map, the pass, what is kept of what was written, how many lines were read, whether `.END` became live, and the fault that ended it
+pub record SecondState : Type 0 where
+  pub map : Map
+  pub going : Going
+  pub writing : Writing
+  pub read : ℕ
+  pub has_ended : Bool
+  pub fault : Option AsmFault
 
-abbrev pub PutsLines : {F : Type 0} → Pass F → Program → Outputs → Outputs → SecondState → Result (Unit {0}) AsmFault → Type 0
-PutsLines pass program old new second (Ok done) = SecondTaken pass program old new second
-PutsLines pass program old new second (Err stopped) = ReadsSecond pass program old new (Err stopped)
+-- the pass goes on where no fault came, and where `.END` didn't come nothing is left to take
+pub record GoesOn (fault : Option AsmFault) (has_ended : Bool) (pass : PassState) : Type 0 where
+  pub goes_on : fault ≡ None → pass.fault ≡ None
+  pub needs : fault ≡ None → has_ended ≡ false → pass.going.unfolder.stage.left ≡ []
+
+-- these are the live lines of a source, and exactly what they write was written, on outputs that were the first ones
+pub record Taken (program : Program) (source : List SourceLine) (lines : List Numbered) (first now : Outputs) (going : Going)
+    (writing : Writing) : Type 0 where
+  pub stands : PassStands program.map program.mentioned source lines going
+  pub keeps : WritingStands program lines writing
+  pub gains : Gains first now (written program lines)
+
+-- all that follows from lines of the source is done
+pub record SecondStands (program : Program) (source : List SourceLine) (first now : Outputs) (state : SecondState) : Type 0 where
+  pub lines : List Numbered
+  pub map_is : state.map ≡ program.map
+  pub taken : Taken program source lines first now state.going state.writing
+  pub read : state.read ≡ length source
+  pub ended : state.has_ended ≡ state.going.unfolder.stage.has_ended
+  pub needs : state.has_ended ≡ false → state.going.unfolder.stage.left ≡ []
+  pub goes_on : state.fault ≡ None
+
+-- ---- where it stops
+
+-- among the writes of live lines of the source
+pub record StopsAmong (Stop : List Write → Type 0) (program : Program) (source : List SourceLine) : Type 0 where
+  pub lines : List Numbered
+  pub stage : Stage
+  pub live : PassLines program.map program.mentioned.names source lines stage
+  pub stops : Stop (written program lines)
+
+-- the source passes a limit after these live lines, and exactly what they write was written
+pub record StopsAtLimit (program : Program) (source : List SourceLine) (first now : Outputs) (stopped : AsmFault) : Type 0 where
+  pub limit : PassFault
+  pub fault_is : stopped ≡ of_pass limit
+  pub lines : List Numbered
+  pub exceeds : Exceeds program.map program.mentioned.names source lines limit
+  pub gains : Gains first now (written program lines)
+
+-- the source has one line too many, and exactly what the lines before it write was written
+pub record StopsAtLine (program : Program) (source : List SourceLine) (first now : Outputs) : Type 0 where
+  pub too_many : length source ≡ most_lines + 1
+  pub among : StopsAmong (Gains first now) program source
+
+abbrev pub SecondFails : Program → List SourceLine → Outputs → Outputs → AsmFault → Type 0
+SecondFails program source first now fault.Read = ⊥
+SecondFails program source first now (fault.Write output) = StopsAmong (StopsIn output first now) program source
+SecondFails program source first now fault.NoMemory = StopsAmong (StopsBetween first now) program source
+SecondFails program source first now fault.TooMuchSource = StopsAtLine program source first now
+SecondFails program source first now stopped = StopsAtLimit program source first now stopped
+
+-- ---- one line
+
+-- where `.END` became live nothing is read or written
+pub record IsIdle (old new : SecondState) (before now : Outputs) : Type 0 where
+  pub ended : old.has_ended ≡ true
+  pub state : new ≡ old
+  pub outputs : now ≡ before
+
+-- what a call found, and what it left
+pub record LineCall : Type 0 where
+  pub before : Outputs
+  pub now : Outputs
+  pub old : SecondState
+  pub new : SecondState
+
+abbrev pub SecondTakes : Program → List SourceLine → SourceLine → Outputs → LineCall → Result (Unit {0}) AsmFault → Type 0
+SecondTakes program source line first call (Ok done) = IsIdle call.old call.new call.before call.now
+    ⊎ ((call.old.has_ended ≡ false) × SecondStands program (source ++ line ∷ []) first call.now call.new)
+SecondTakes program source line first call (Err stopped) =
+    (call.old.has_ended ≡ false) × SecondFails program (source ++ line ∷ []) first call.now stopped
+
+-- ---- between the live lines of one line of the source
+
+-- up to the end of what is left
+pub record TakesAll (program : Program) (source : List SourceLine) (first now : Outputs) (going : Going) (writing : Writing)
+    (has_ended : Bool) : Type 0 where
+  pub lines : List Numbered
+  pub taken : Taken program source lines first now going writing
+  pub ended : has_ended ≡ going.unfolder.stage.has_ended
+
+abbrev pub TakesLeft : Program → List SourceLine → Outputs → Outputs → Going → Writing → Result Bool AsmFault → Type 0
+TakesLeft program source first now going writing (Ok has_ended) = TakesAll program source first now going writing has_ended
+TakesLeft program source first now going writing (Err stopped) = SecondFails program source first now stopped
+
+-- ---- the end
+
+abbrev pub ended_with : SecondState → Ended
+ended_with state = record { read = state.read; has_end = state.has_ended }
+
+-- after all lines of a source, or after that in which `.END` became live: all is written, or it stops among that
+pub record SecondEnds (program : Program) (source : List SourceLine) (first now : Outputs) (state : SecondState)
+    (result : Result AsmDone AsmFault) : Type 0 where
+  pub lines : List Numbered
+  pub stage : Stage
+  pub live : PassLines program.map program.mentioned.names source lines stage
+  pub read : state.read ≡ length source
+  pub ended : state.has_ended ≡ stage.has_ended
+  pub needs : state.has_ended ≡ false → stage.left ≡ []
+  pub writes : Writes first now (program_writes program lines (ended_with state)) result
+  pub count : IfOk result (λ done. done.flagged ≡ flagged_count program lines state.has_ended)

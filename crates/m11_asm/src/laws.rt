@@ -6,7 +6,7 @@ ghost use Rattle.m11_asm.specs.Passes.{Pass, Reads};
 ghost use Rattle.m11_asm.specs.Run.{AsmRuns};
 ghost use Rattle.m11_asm_outputs.specs.Outputs.{Gains, Outputs, Write};
 ghost use Rattle.m11_readings.specs.Readings.{Reading};
-ghost use Rattle.m11_second.specs.declared.done.AsmDone.{AsmDone};
+ghost use Rattle.m11_asm.specs.declared.done.AsmDone.{AsmDone};
 
 /// A run that is Ok writes exactly what the outcome of its two readings says, and counts the flagged lines that it says.
 pub fn a_run_writes_the_outcome_of_its_sources<F>()

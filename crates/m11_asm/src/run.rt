@@ -5,12 +5,12 @@ ghost use Rattle.m11_asm.specs.Passes.{pass_of};
 ghost use Rattle.m11_asm.specs.Run.{AsmRuns, AsmRunsOr};
 ghost use Rattle.m11_asm_outputs.specs.Outputs.{outputs_of};
 
-use crate::first::read_first;
-use crate::second::read_second;
+use crate::done::AsmDone;
+use crate::first_reading::read_first;
+use crate::second_reading::read_second;
 use m11_asm_outputs::AsmFault;
 use m11_base::{Feed, Sink};
 use m11_directory::first_passes_that_agree_have_the_same_rows;
-use m11_second::AsmDone;
 use m11_symbols::{
     first_passes_that_agree_have_the_same_sections, first_passes_that_agree_have_the_same_symbols,
 };

@@ -1,68 +1,199 @@
-//! The second pass: what the lines of the sources write.
+//! The second pass of a source, line by line. (MACRO-11 Language Reference Manual, "Source program format", "Symbols" and ".END directive".)
 
-ghost use Rattle.std.specs.Prelude.{[]};
-ghost use Rattle.m11_asm.specs.Passes.{ReadsSecond, pass_of};
-ghost use Rattle.m11_asm.specs.Second.{PutsLines};
-ghost use Rattle.m11_asm_outputs.specs.Outputs.{Outputs, outputs_of};
-ghost use Rattle.m11_second.specs.Program.{Program, program_in};
-ghost use Rattle.m11_second.specs.Second.{SecondStands};
+ghost use Rattle.std.specs.Prelude.{◌≡◌, [], ◌+◌, List, Some, Err, IfOk, IfErr};
+ghost use Rattle.std.specs.Result.{result_err};
+ghost use Rattle.m11_asm_outputs.specs.Outputs.{Gains, Outputs, outputs_of};
+ghost use Rattle.m11_asm_outputs.specs.declared.fault.AsmFault.TheVariants as fault;
+ghost use Rattle.m11_lines.specs.Line.{SourceLine};
+ghost use Rattle.m11_lines.specs.Lines.{most_lines};
+ghost use Rattle.m11_asm.specs.Program.{Program, program_in};
+ghost use Rattle.m11_asm.specs.Second.{SecondEnds, SecondStands, SecondTakes};
 
+use crate::done::AsmDone;
+use crate::lines::take_left;
+use crate::writing::Writing;
 use m11_asm_outputs::AsmFault;
-use m11_base::{Feed, Sink};
+use m11_base::{Latch, Sink};
 use m11_first::Symbols;
-use m11_lines::LineReader;
-use m11_second::{AsmDone, Second};
-use std::alloc::Global;
+use m11_passes::{SourcePass, the_calls_place_the_lines_of_a_source};
+use m11_placing::Pass;
+use m11_scan::Line;
+use m11_table::Map;
+use std::alloc::{AllocError, Global};
+use std::marker::Model;
 
-/// Reads the sources again, up to the line in which `.END` becomes live or to the end of the last one, and writes what they give.
-pub fn read_second<F: Feed, S: Sink, T: Sink, U: Sink>(
-    alloc: Global,
-    feeds: &mut [F],
-    symbols: Symbols,
-    object: &mut S,
-    listing: &mut Option<T>,
-    messages: &mut U,
-) -> Result<AsmDone, AsmFault>
-    ensures { ReadsSecond (pass_of F.text F.faults feeds.old feeds.new) (program_in symbols)
-        (outputs_of S.Sink T.Sink U.Sink object.old listing.old messages.old)
-        (outputs_of S.Sink T.Sink U.Sink object.new listing.new messages.new) result }
-{
-    let mut second = Second::new(alloc, symbols)?;
-    match put_lines(feeds, &mut second, object, listing, messages) {
-        Ok(()) => second.end(object, listing, messages),
-        Err(fault) => {
-            // by a call, which is proved sooner
-            drop(second);
-            Err(fault)
+/// The most lines of all sources.
+const MOST_LINES: u16 = 65535;
+
+/// The second pass of a source, under what the first one gave: its lines go in one after the other, up to the one in which `.END` becomes
+/// live, and what each of them writes is written before the next one. Of the object only the text that is open is kept. After a fault each
+/// call returns it again and writes nothing.
+#[derive(Drop)]
+pub struct Second {
+    // The first pass, whose table is the map of this one.
+    first: Pass,
+    pass: SourcePass,
+    writing: Writing,
+    // How many lines were read.
+    read: u16,
+    has_ended: bool,
+    fault: Latch<AsmFault>,
+}
+
+impl Model for Second {
+    ghost use Rattle.m11_placement.specs.Meanings.{map_of};
+    ghost use Rattle.m11_asm.specs.Second.{GoesOn, SecondState};
+
+    ghost Value = { SecondState };
+
+    ghost view = { λ s. record {
+      map = map_of s.first.table;
+      going = s.pass.going;
+      writing = s.writing;
+      read = s.read;
+      has_ended = s.has_ended;
+      fault = s.fault;
+    } };
+
+    ghost invariant = { λ s. GoesOn s.fault s.has_ended s.pass };
+}
+
+impl Second {
+    /// Before the first line. Error: memory may be refused.
+    pub fn new(alloc: Global, symbols: Symbols) -> Result<Second, AllocError>
+        ensures { IfOk result (λ second. (first now : Outputs) → Gains first now []
+            → SecondStands (program_in symbols) [] first now second) }
+    {
+        let (first, mentioned, facts) = symbols.into_parts();
+        let begun = Writing::new(alloc, &first, &mentioned, &facts);
+        // what isn't kept goes by calls, which are proved far sooner
+        drop(facts);
+        match begun {
+            Ok(writing) => match SourcePass::new(alloc, mentioned) {
+                Ok(pass) => Ok(Second {
+                    first,
+                    pass,
+                    writing,
+                    read: 0,
+                    has_ended: false,
+                    fault: Latch::new(),
+                }),
+                Err(error) => {
+                    drop(first);
+                    drop(writing);
+                    Err(error)
+                }
+            },
+            Err(error) => {
+                drop(first);
+                drop(mentioned);
+                Err(error)
+            }
         }
+    }
+
+    /// The next line of the source, and what follows from it is written. After `.END` became live it is not read.
+    ///
+    /// Errors: `TooMuchSource` at a line past the 65,535th; `Unfold` where a limit of unfolding is passed, `TooManySymbols`,
+    /// `TooManySections`, the first one in the order of the lines, and within a line in that of labels, operator and arguments; `Write` of
+    /// an output, after which nothing more is written; and `NoMemory` between two writes.
+    pub fn line<S: Sink, T: Sink, U: Sink>(
+        &mut self,
+        line: &Line,
+        object: &mut S,
+        listing: &mut Option<T>,
+        messages: &mut U,
+    ) -> Result<(), AsmFault>
+        ensures takes { (program : Program) (source : List SourceLine) (first : Outputs) → SecondStands program source first
+            (outputs_of S.Sink T.Sink U.Sink object.old listing.old messages.old) self.old
+            → SecondTakes program source line.now first (record {
+              before = outputs_of S.Sink T.Sink U.Sink object.old listing.old messages.old;
+              now = outputs_of S.Sink T.Sink U.Sink object.new listing.new messages.new;
+              old = self.old;
+              new = self.new;
+            }) result }
+        ensures again { (fault : AsmFault) → self.old.fault ≡ Some fault → (result ≡ Err fault) × (self.new ≡ self.old)
+            × (object.new ≡ object.old) × (listing.new ≡ listing.old) × (messages.new ≡ messages.old) }
+        ensures fault { self.new.fault ≡ result_err result }
+    {
+        the_calls_place_the_lines_of_a_source();
+        self.fault.check()?;
+        if self.has_ended {
+            return Ok(());
+        }
+        let read = self.fault.keep(number_after(self.read))?;
+        self.read = read;
+        self.pass.feed(line);
+        let map = Map::of(self.first.table());
+        let taken = take_left(
+            &mut self.pass,
+            &map,
+            &mut self.writing,
+            read,
+            object,
+            listing,
+            messages,
+        );
+        self.has_ended = self.fault.keep(taken)?;
+        Ok(())
+    }
+
+    /// Whether `.END` became live.
+    pub fn has_ended(&self) -> bool
+        ensures { result ≡ self.now.has_ended }
+    {
+        self.has_ended
+    }
+
+    /// What is written after the last line.
+    ///
+    /// Errors: the fault that came, if one did; `Write` of an output, after which nothing more is written; and `NoMemory` between two
+    /// writes.
+    pub fn end<S: Sink, T: Sink, U: Sink>(
+        mut self,
+        object: &mut S,
+        listing: &mut Option<T>,
+        messages: &mut U,
+    ) -> Result<AsmDone, AsmFault>
+        ensures ends { (program : Program) (source : List SourceLine) (first : Outputs) → SecondStands program source first
+            (outputs_of S.Sink T.Sink U.Sink object.old listing.old messages.old) self
+            → SecondEnds program source first (outputs_of S.Sink T.Sink U.Sink object.new listing.new messages.new) self result }
+        ensures again { (fault : AsmFault) → self.fault ≡ Some fault → (result ≡ Err fault)
+            × (object.new ≡ object.old) × (listing.new ≡ listing.old) × (messages.new ≡ messages.old) }
+    {
+        let done = self.finish(object, listing, messages);
+        // by a call: where it is let go in place, this function alone takes minutes to prove
+        drop(self);
+        done
+    }
+
+    // What `end` does, by a borrow, so that `end` can let the pass go in one call, whatever comes.
+    fn finish<S: Sink, T: Sink, U: Sink>(
+        &mut self,
+        object: &mut S,
+        listing: &mut Option<T>,
+        messages: &mut U,
+    ) -> Result<AsmDone, AsmFault>
+        ensures ends { (program : Program) (source : List SourceLine) (first : Outputs) → SecondStands program source first
+            (outputs_of S.Sink T.Sink U.Sink object.old listing.old messages.old) self.old
+            → SecondEnds program source first (outputs_of S.Sink T.Sink U.Sink object.new listing.new messages.new) self.old result }
+        ensures again { (fault : AsmFault) → self.old.fault ≡ Some fault → (result ≡ Err fault)
+            × (object.new ≡ object.old) × (listing.new ≡ listing.old) × (messages.new ≡ messages.old) }
+    {
+        self.fault.check()?;
+        let place = self.pass.table().place();
+        self.writing.end(self.has_ended, self.read, place, object, listing, messages)
     }
 }
 
-// The lines of the sources, one after the other.
-fn put_lines<F: Feed, S: Sink, T: Sink, U: Sink>(
-    feeds: &mut [F],
-    second: &mut Second,
-    object: &mut S,
-    listing: &mut Option<T>,
-    messages: &mut U,
-) -> Result<(), AsmFault>
-    ensures { (program : Program) (old : Outputs)
-        → SecondStands program [] old (outputs_of S.Sink T.Sink U.Sink object.old listing.old messages.old) second.old
-        → PutsLines (pass_of F.text F.faults feeds.old feeds.new) program old
-        (outputs_of S.Sink T.Sink U.Sink object.new listing.new messages.new) second.new result }
+// The number of the line after that of a number.
+fn number_after(read: u16) -> Result<u16, AsmFault>
+    ensures counts { IfOk result (λ number. number ≡ read + 1) }
+    ensures refuses { IfErr result (λ stopped. (stopped ≡ fault.TooMuchSource) × (read ≡ most_lines)) }
 {
-    let mut reader = LineReader::new();
-    'lines: loop {
-        if second.has_ended() {
-            return Ok(());
-        }
-        match reader.next(feeds) {
-            Ok(true) => match second.line(reader.line(), object, listing, messages) {
-                Ok(()) => {}
-                Err(fault) => return Err(fault),
-            },
-            Ok(false) => return Ok(()),
-            Err(fault) => return Err(AsmFault::from(fault)),
-        }
+    if read < MOST_LINES {
+        Ok(read + 1)
+    } else {
+        Err(AsmFault::TooMuchSource)
     }
 }

@@ -9,8 +9,8 @@ use Rattle.m11_base.specs.Feed.{Text}
 use Rattle.m11_passes.specs.Lines.{Numbered, givens}
 use Rattle.m11_readings.specs.Calls.{FailReading, HaveReading}
 use Rattle.m11_readings.specs.Readings.{Reading}
-use Rattle.m11_second.specs.Program.{Program, program_of}
-use Rattle.m11_second.specs.declared.done.AsmDone.{AsmDone}
+use Rattle.m11_asm.specs.Program.{Program, program_of}
+use Rattle.m11_asm.specs.declared.done.AsmDone.{AsmDone}
 use Rattle.m11_cli.proofs.Sources.{give, none, one, seen}
 
 module _ {F : Type 0} (text : F → Option Text) (faults : F → ℕ) where

@@ -21,7 +21,7 @@ use Rattle.m11_layout.specs.declared.fault.LinkFault.TheVariants as link-fault
 use Rattle.m11_link.specs.SecondPass as linking
 use Rattle.m11_link.specs.Outputs.{Outputs, outputs_of}
 use Rattle.m11_link.specs.declared.emit.LinkDone.{LinkDone}
-use Rattle.m11_second.specs.declared.done.AsmDone.{AsmDone}
+use Rattle.m11_asm.specs.declared.done.AsmDone.{AsmDone}
 use Rattle.m11_cli.specs.FaultLines.{line_of, open_line}
 use Rattle.m11_files.specs.Opens.{Files, AreFiles, Holds, IsEmptied, IsEmptiedSome, creating, keeping, keeping_some}
 use Rattle.m11_tasks.specs.Opened.{CreatesSome, StopsAt, asm_inputs, asm_outputs, link_inputs, link_outputs, sim_inputs}

@@ -2,7 +2,7 @@
 //! directive", ".WEAK directive" and ".END directive".)
 
 ghost use Rattle.std.specs.Prelude.{◌≡◌, ◌≤◌, [], ◌∷◌, IfOk, length, min, option_map};
-ghost use Rattle.m11_directives.specs.Changes.{names_among};
+ghost use Rattle.m11_operators.specs.Changes.{names_among};
 ghost use Rattle.m11_first.specs.Facts.{each_once, no_facts, with_line};
 ghost use Rattle.m11_first.specs.Noted.{with_deed, with_directive, with_operator};
 ghost use Rattle.m11_passes.specs.Placed.{IsLive};
@@ -18,7 +18,7 @@ ghost use Rattle.m11_values.specs.Quantities.{quantity};
 
 use indexmap::IndexSet;
 use m11_base::Name;
-use m11_directives::{identification, listed_names, title, transfer};
+use m11_operators::{identification, listed_names, title, transfer};
 use m11_passes::LiveLine;
 use m11_placement::{Directive, Operator};
 use m11_placing::Deed;

@@ -1,1 +1,10 @@
+pub mod Attributes
+pub mod Changes
+pub mod Codes
+pub mod Gathering
+pub mod Numbers
+pub mod Packing
 pub mod Reading
+pub mod SectionNames
+pub mod Seen
+pub mod Settings

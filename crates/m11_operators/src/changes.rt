@@ -1,127 +1,40 @@
-//! What operators change for the lines after them. (MACRO-11 Language Reference Manual, "Current location counter" and "General assembler
-//! directives".)
+//! What a line's operator changes for the lines after it. (MACRO-11 Language Reference Manual, "Current location counter", "Program
+//! section directives", "Direct assignment statements", ".GLOBL directive", "Radix control" and "Listing control directives".)
 
-ghost use Rattle.std.specs.Prelude.{◌≡◌, ◌<◌, ◌≤◌, length};
-ghost use Rattle.m11_directives.specs.Changes.{change_seen};
-ghost use Rattle.m11_fields.specs.Reads.{fields_seen};
-ghost use Rattle.m11_operators.specs.Reading.{fields_at, operator_fields};
-ghost use Rattle.m11_placement.specs.Effects as spec;
-ghost use Rattle.m11_placement.specs.Tables.{firm_table};
+use m11_base::Name;
+use m11_placement::Settings;
 
-use crate::alignment::{gap, place_for, to_even, to_odd};
-use m11_contents::{LIMIT_SIZE, byte_block_size, byte_size, word_block_size, word_size};
-use m11_directives::{
-    Change, Move, absolute_section, argument_count, character_count, control_section, global, list,
-    program_section, radix, unlist,
-};
-use m11_fields::{Fields, instruction_size, is_even};
-use m11_placement::{Directive, Operator};
-use m11_scan::Line;
-use m11_strings::{ascii_size, asciz_size, rad50_size};
-use m11_table::Table;
-
-/// What an operator changes, whose name ends at a place of its line, and whose fields these are. It is asked of firm names alone.
-/// `arguments` is the number of actuals of the macro around the line.
-#[tactic(auto, using(crate::proofs::FirmEffects::change_firm))]
-pub fn operator_change(
-    table: &Table,
-    line: &Line,
-    start: usize,
-    arguments: Option<u16>,
-    operator: Operator,
-    fields: &Fields,
-) -> Change
-    requires within { start ≤ length line.now.text }
-    requires listed { table.now.settings.listed < u64.MAX }
-    requires unlisted { table.now.settings.unlisted < u64.MAX }
-    requires fields { fields_seen fields.now ≡ operator_fields table.now line.now.text start operator }
-    ensures { change_seen result ≡ spec.operator_change (firm_table table.now) line.now.text start arguments operator }
-{
-    let is_even = is_even(operator);
-    let passed = gap(is_even, table.place());
-    let here = place_for(is_even, table.place());
-    change_at(
-        table, passed, here, line, start, arguments, operator, fields,
-    )
+/// What a line does to the counter of its section.
+#[derive(Clone, Copy)]
+pub enum Move {
+    /// It goes on by some bytes.
+    Steps(u32),
+    /// It is set to a place.
+    Goes(u16),
 }
 
-// What an operator changes that stands at a place, after some bytes that are passed over.
-fn change_at(
-    table: &Table,
-    passed: u16,
-    here: u16,
-    line: &Line,
-    start: usize,
-    arguments: Option<u16>,
-    operator: Operator,
-    fields: &Fields,
-) -> Change
-    requires within { start ≤ length line.now.text }
-    requires listed { table.now.settings.listed < u64.MAX }
-    requires unlisted { table.now.settings.unlisted < u64.MAX }
-    requires fields { fields_seen fields.now ≡ fields_at table.now here line.now.text start operator }
-    ensures { change_seen result ≡ spec.change_by table.now passed here line.now.text start arguments operator }
-{
-    match operator {
-        Operator::Instruction(_) => {
-            steps(passed, u32::from(instruction_size(fields.list.as_slice())))
-        }
-        Operator::Directs(directive) => {
-            directive_change(table, passed, here, line, start, arguments, directive)
-        }
-    }
-}
-
-// The counter goes on by the bytes that are passed over, and by those of the operator.
-fn steps(passed: u16, size: u32) -> Change
-    requires { size ≤ 131070 }
-    ensures { change_seen result ≡ spec.steps passed size }
-{
-    Change::Counts(Move::Steps(u32::from(passed) + size))
-}
-
-// What a directive changes.
-fn directive_change(
-    table: &Table,
-    passed: u16,
-    here: u16,
-    line: &Line,
-    start: usize,
-    arguments: Option<u16>,
-    directive: Directive,
-) -> Change
-    requires within { start ≤ length line.now.text }
-    requires listed { table.now.settings.listed < u64.MAX }
-    requires unlisted { table.now.settings.unlisted < u64.MAX }
-    ensures { change_seen result ≡ spec.directive_change table.now passed here line.now.text start arguments directive }
-{
-    match directive {
-        Directive::Words => steps(passed, u32::from(word_size(line, start))),
-        Directive::Bytewise => steps(passed, u32::from(byte_size(line, start))),
-        Directive::Ascii => steps(passed, u32::from(ascii_size(line, start))),
-        Directive::Asciz => steps(passed, u32::from(asciz_size(line, start))),
-        Directive::Rad50 => steps(passed, u32::from(rad50_size(line, start))),
-        Directive::ByteBlock => steps(passed, byte_block_size(table, here, line, start)),
-        Directive::WordBlock => steps(passed, word_block_size(table, here, line, start)),
-        Directive::Even => steps(passed, u32::from(to_even(here))),
-        Directive::Odd => steps(passed, u32::from(to_odd(here))),
-        Directive::Limit => steps(passed, u32::from(LIMIT_SIZE)),
-        Directive::InRadix => radix(table.settings(), line, start),
-        Directive::AbsoluteSection => absolute_section(),
-        Directive::ControlSection => control_section(line, start),
-        Directive::ProgramSection => program_section(line, start),
-        Directive::Global => global(line, start),
-        Directive::Weak => global(line, start),
-        Directive::Lists => list(table.settings(), line, start),
-        Directive::Unlists => unlist(table.settings(), line, start),
-        Directive::ArgumentCount => argument_count(arguments, line, start),
-        Directive::CharacterCount => character_count(line, start),
-        Directive::Title => Change::Keeps,
-        Directive::Identification => Change::Keeps,
-        Directive::Subtitle => Change::Keeps,
-        Directive::Page => Change::Keeps,
-        Directive::Enable => Change::Keeps,
-        Directive::Disable => Change::Keeps,
-        Directive::End => Change::Keeps,
-    }
+/// What a line changes.
+#[derive(Clone, Copy)]
+pub enum Change {
+    /// Nothing.
+    Keeps,
+    /// The counter of the section goes on, or is set.
+    Counts(Move),
+    /// A section is selected. Where its name is new it has these bits of attributes.
+    Selects(Name, u8),
+    /// A name is assigned an expression.
+    Assigns {
+        /// The name.
+        name: Name,
+        /// Whether it is made global.
+        is_global: bool,
+        /// The place where the expression begins.
+        start: u8,
+    },
+    /// A name is assigned a number that no name decides.
+    Numbers(Name, u16),
+    /// The names of the list at a place become global.
+    Exports(u8),
+    /// The radix, or what is listed.
+    Sets(Settings),
 }

@@ -17,21 +17,28 @@ ghost use Rattle.m11_placement.specs.Storage as storage;
 ghost use Rattle.m11_scan.specs.Views.{bits_of};
 
 use crate::alignment::{gap_letters, place_for};
+use crate::ascii::{put_ascii, put_asciz};
+use crate::assigning::number_letters;
+use crate::counts::{argument_count, argument_letters, character_count, character_letters};
+use crate::endings::end_letters;
+use crate::exports::global_letters;
+use crate::identifications::identification_letters;
+use crate::instructions::put_instruction;
+use crate::listing::{
+    disable_letters, enable_letters, list_letters, page_letters, subtitle_letters,
+};
+use crate::puts::Put;
+use crate::radix_control::radix_letters;
+use crate::radix50::put_rad50;
+use crate::sections::{absolute_letters, control_letters, program_letters};
+use crate::settings::Setting;
+use crate::storage::{block_letters, put_bytes, put_limits, put_words};
+use crate::titles::title_letters;
 use m11_arguments::left_over;
 use m11_base::Op;
-use m11_contents::{
-    Put, Setting, block_letters, put_bytes, put_instruction, put_limits, put_words,
-};
-use m11_directives::{
-    absolute_letters, argument_count, argument_letters, character_count, character_letters,
-    control_letters, disable_letters, enable_letters, end_letters, global_letters,
-    identification_letters, list_letters, number_letters, page_letters, program_letters,
-    radix_letters, subtitle_letters, title_letters,
-};
 use m11_fields::{Fields, is_even};
 use m11_placement::{Directive, Operator};
 use m11_scan::{Letters, Line};
-use m11_strings::{put_ascii, put_asciz, put_rad50};
 use m11_table::{Map, Table};
 use std::alloc::AllocError;
 

@@ -13,9 +13,9 @@ use Rattle.m11_pass_laws.specs.Ends as ends
 use Rattle.m11_passes.specs.Lines.{Numbered, PassLines, givens}
 use Rattle.m11_placement.specs.Meanings.{Map, empty_map}
 use Rattle.m11_readings.specs.Readings.{Reading}
-use Rattle.m11_second.specs.Faults.{of_pass}
-use Rattle.m11_second.specs.Program.{Program, program_of}
-use Rattle.m11_second.specs.Written.{Ended, flagged_count, program_writes, written}
+use Rattle.m11_asm.specs.Faults.{of_pass}
+use Rattle.m11_asm.specs.Program.{Program, program_of}
+use Rattle.m11_asm.specs.Written.{Ended, flagged_count, program_writes, written}
 use Rattle.m11_unfolding.specs.Stages.{Stage}
 use Rattle.m11_outcome_laws.proofs.OnePass.{ended_at}
 

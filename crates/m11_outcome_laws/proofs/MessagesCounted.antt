@@ -14,8 +14,8 @@ use Rattle.m11_placement.specs.Lines.{after_line, pieces}
 use Rattle.m11_placement.specs.Meanings.{Map}
 use Rattle.m11_placement.specs.Tables.{Table}
 use Rattle.m11_scan.specs.Letters.{letters_text}
-use Rattle.m11_second.specs.Program.{Program}
-use Rattle.m11_second.specs.Written.{Ended, added_writes, closing_writes, flagged_count, flagged_in, head_before, is_flagged, last_place, last_writes, letter_E, letters_after, letters_at, line_writes, message_writes, pieces_in, program_writes, written, written_after}
+use Rattle.m11_asm.specs.Program.{Program}
+use Rattle.m11_asm.specs.Written.{Ended, added_writes, closing_writes, flagged_count, flagged_in, head_before, is_flagged, last_place, last_writes, letter_E, letters_after, letters_at, line_writes, message_writes, pieces_in, program_writes, written, written_after}
 use Rattle.m11_unfolding.specs.Unfolding.{Given}
 use Rattle.m11_outcome_laws.specs.Messages.{is_message, messages_in}
 

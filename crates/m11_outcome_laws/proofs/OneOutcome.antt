@@ -6,8 +6,8 @@ use Rattle.m11_asm_outputs.specs.declared.fault.AsmFault.{AsmFault}
 use Rattle.m11_passes.specs.Lines.{Numbered, givens}
 use Rattle.m11_placement.specs.Meanings.{empty_map}
 use Rattle.m11_readings.specs.Readings.{Reading}
-use Rattle.m11_second.specs.Program.{Program, program_of}
-use Rattle.m11_second.specs.Written.{Ended, flagged_count, program_writes, written}
+use Rattle.m11_asm.specs.Program.{Program, program_of}
+use Rattle.m11_asm.specs.Written.{Ended, flagged_count, program_writes, written}
 use Rattle.m11_outcome_laws.proofs.OnePass.{EndsOnce, EndsOrExceeds, ExceedsOnce, not_both, one_end, one_refusal}
 
 -- the same lines of the first pass say the second one the same

@@ -12,8 +12,8 @@ use Rattle.m11_passes.specs.Lines.{Numbered}
 use Rattle.m11_passes.specs.declared.fault.PassFault.{PassFault}
 use Rattle.m11_placement.specs.Meanings.{Map}
 use Rattle.m11_readings.specs.Readings.{Reading}
-use Rattle.m11_second.specs.Faults.{of_pass}
-use Rattle.m11_second.specs.Written.{Ended}
+use Rattle.m11_asm.specs.Faults.{of_pass}
+use Rattle.m11_asm.specs.Written.{Ended}
 use Rattle.m11_unfolding.specs.Stages.{Stage}
 
 -- ---- the end of a pass over a reading is that of one over its lines

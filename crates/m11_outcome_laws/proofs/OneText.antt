@@ -18,8 +18,8 @@ use Rattle.m11_placement.specs.Mentions.{mentions}
 use Rattle.m11_placement.specs.Tables.{Table, first_table}
 use Rattle.m11_placing.specs.Mentioned.{Gathered, none_gathered, with_all}
 use Rattle.m11_readings.specs.Readings.{Reading}
-use Rattle.m11_second.specs.Program.{Program, program_of}
-use Rattle.m11_second.specs.Written.{Ended, flagged_count, program_writes}
+use Rattle.m11_asm.specs.Program.{Program, program_of}
+use Rattle.m11_asm.specs.Written.{Ended, flagged_count, program_writes}
 use Rattle.m11_unfolding.specs.Stages.{Stage}
 use Rattle.m11_unfolding.specs.Unfolding.{Given}
 use Rattle.m11_outcome_laws.specs.OneText.{IsDecidedByFirst, Repeats, program_after}

@@ -10,8 +10,8 @@ use Rattle.m11_asm_outputs.specs.declared.fault.AsmFault.TheVariants as fault
 use Rattle.m11_passes.specs.Lines.{Numbered, givens}
 use Rattle.m11_placement.specs.Meanings.{empty_map}
 use Rattle.m11_readings.specs.Readings.{Reading}
-use Rattle.m11_second.specs.Program.{Program, program_of}
-use Rattle.m11_second.specs.Written.{written}
+use Rattle.m11_asm.specs.Program.{Program, program_of}
+use Rattle.m11_asm.specs.Written.{written}
 use Rattle.m11_writes.proofs.Writing.{gains_nothing}
 use Rattle.m11_outcome_laws.specs.Runs as runs
 use Rattle.m11_outcome_laws.specs.Runs.{IsOfSources, IsRefused}

@@ -6,8 +6,8 @@ use Rattle.m11_pass_laws.specs.Second.{moved_after}
 use Rattle.m11_passes.specs.Lines.{Numbered, givens}
 use Rattle.m11_placement.specs.Meanings.{empty_map}
 use Rattle.m11_readings.specs.Readings.{Reading}
-use Rattle.m11_second.specs.Program.{Program, program_of}
-use Rattle.m11_second.specs.Written.{Ended, flagged_count, program_writes}
+use Rattle.m11_asm.specs.Program.{Program, program_of}
+use Rattle.m11_asm.specs.Written.{Ended, flagged_count, program_writes}
 
 -- what the live lines of the first pass give the second one
 abbrev pub program_after : List Numbered → Program

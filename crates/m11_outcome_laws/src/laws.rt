@@ -15,8 +15,8 @@ ghost use Rattle.m11_outcome_laws.specs.Sources.{AssembleTo};
 ghost use Rattle.m11_passes.specs.Lines.{Numbered};
 ghost use Rattle.m11_placement.specs.Meanings.{empty_map};
 ghost use Rattle.m11_readings.specs.Readings.{Reading};
-ghost use Rattle.m11_second.specs.Program.{Program};
-ghost use Rattle.m11_second.specs.Written.{Ended, flagged_count, program_writes};
+ghost use Rattle.m11_asm.specs.Program.{Program};
+ghost use Rattle.m11_asm.specs.Written.{Ended, flagged_count, program_writes};
 
 use m11_pass_laws::{
     a_pass_has_one_end, a_second_pass_over_the_same_lines_passes_no_limit,

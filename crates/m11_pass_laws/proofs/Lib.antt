@@ -5,10 +5,12 @@ pub mod Falling
 pub mod Fitting
 pub mod Freely
 pub mod Growing
+pub mod KnownAlike
 pub mod Labelled
+pub mod LiveLines
+pub mod MapsAlike
 pub mod Named
 pub mod Onward
 pub mod Stepping
-pub mod KnownAlike
 pub mod Unmoved
 pub mod Within

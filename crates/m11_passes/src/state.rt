@@ -24,8 +24,8 @@ use crate::operating::{
 };
 use crate::placed::{LiveLine, PlacedLine};
 use crate::turns::Turn;
-use m11_contents::Put;
 use m11_listing::Item;
+use m11_operators::Put;
 use m11_placing::{Mentioned, Pass, line_letters};
 use m11_scan::{Letters, Line};
 use m11_table::Map;

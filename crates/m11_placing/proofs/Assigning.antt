@@ -4,7 +4,7 @@ use Rattle.std.proofs.lemmas.List.{append-nil, append_assoc, take_all}
 use Rattle.m11_arguments.specs.Expressions.{expression_in, symbols_in, value_in}
 use Rattle.m11_base.specs.Devices.{Bytes}
 use Rattle.m11_base.specs.Rad50.{Name}
-use Rattle.m11_directives.specs.Changes.{names_among}
+use Rattle.m11_operators.specs.Changes.{names_among}
 use Rattle.m11_placement.specs.Assignments.{all_firm, assigned, standing_of}
 use Rattle.m11_placement.specs.Changes.{numbered, with_globals, with_number, with_value}
 use Rattle.m11_placement.specs.Definitions.{is_labelled}

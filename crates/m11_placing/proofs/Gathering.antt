@@ -2,7 +2,7 @@
 use Rattle.std.proofs.Common.{◌≡◌, ◌∙◌, ◌<◌, ◌≤◌, ◌-◌, Bool, true, false, if◌then◌else◌, List, [], ◌∷◌, ◌++◌, drop, flat_map, get_or, length, map, take, Option, Some, None, Result, Ok, Err, IsErrAnd, refl, sym, ap, subst, arith}
 use Rattle.std.proofs.lemmas.List.{take_all}
 use Rattle.m11_base.specs.Rad50.{Name}
-use Rattle.m11_directives.specs.Changes.{names_among}
+use Rattle.m11_operators.specs.Changes.{names_among}
 use Rattle.m11_placement.specs.Limits.{is_counted, most_names, with_mentions, with_symbol}
 use Rattle.m11_placement.specs.Mentions.{Mention, defined, mention, named}
 use Rattle.m11_placement.specs.declared.meanings.Context.{Context}

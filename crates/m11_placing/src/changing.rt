@@ -4,7 +4,7 @@
 ghost use Rattle.std.specs.Prelude.{◌≡◌, ◌∷◌, [], ◌<◌, ◌≤◌, ◌+◌, ◌^◌, IfOk, IfErr, length};
 ghost use Rattle.m11_arguments.specs.Expressions.{symbols_at};
 ghost use Rattle.m11_scan.specs.Cutting.{tokens_from};
-ghost use Rattle.m11_directives.specs.Changes.{change_seen, names_among};
+ghost use Rattle.m11_operators.specs.Changes.{change_seen, names_among};
 ghost use Rattle.m11_placement.specs.Assignments as assignments;
 ghost use Rattle.m11_placement.specs.Changes.{changed, numbered, with_globals, with_number, with_value};
 ghost use Rattle.m11_placement.specs.Elements.{listed_names};
@@ -23,7 +23,7 @@ use crate::pass::Pass;
 use bitflags::Flags;
 use m11_arguments::{Notes, note_symbols};
 use m11_base::Name;
-use m11_directives::{Change, known_value, listed_names};
+use m11_operators::{Change, known_value, listed_names};
 use m11_placement::{Definition, Key, Standing};
 use m11_scan::{Letters, Line};
 use m11_table::{Map, Table};

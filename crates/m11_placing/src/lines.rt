@@ -1,7 +1,7 @@
 //! What a line changes and puts, and its letters, once its labels stand. (MACRO-11 Language Reference Manual, "Source program format".)
 
 ghost use Rattle.std.specs.Prelude.{◌≡◌, ◌<◌, ◌≤◌, IfOk, IsTrue, length};
-ghost use Rattle.m11_directives.specs.Changes.{change_seen};
+ghost use Rattle.m11_operators.specs.Changes.{change_seen};
 ghost use Rattle.m11_fields.specs.Reads.{fields_seen};
 ghost use Rattle.m11_placement.specs.Contents.{followed_by};
 ghost use Rattle.m11_placement.specs.Lines as spec;
@@ -13,10 +13,11 @@ ghost use Rattle.m11_scan.specs.Views.{bits_of};
 
 use crate::deeds::Deed;
 use m11_arguments::skip_letters;
-use m11_contents::Put;
-use m11_directives::{Change, assignment, assignment_letters, counter_change, counter_letters};
 use m11_fields::Fields;
-use m11_operators::{operator_change, put_operator};
+use m11_operators::{
+    Change, Put, assignment, assignment_letters, counter_change, counter_letters, operator_change,
+    put_operator,
+};
 use m11_scan::{Letters, Line};
 use m11_statements::{Assignment, Body};
 use m11_table::{Map, Table};

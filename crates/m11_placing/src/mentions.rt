@@ -4,7 +4,7 @@
 ghost use Rattle.std.specs.Prelude.{◌≡◌, ◌≤◌, ◌++◌, ◌∷◌, [], length, map};
 ghost use Rattle.std.specs.List.{flat_map};
 ghost use Rattle.m11_arguments.specs.Expressions.{symbols_at, symbols_in};
-ghost use Rattle.m11_directives.specs.Changes.{change_seen, names_among};
+ghost use Rattle.m11_operators.specs.Changes.{change_seen, names_among};
 ghost use Rattle.m11_fields.specs.Reads.{fields_seen};
 ghost use Rattle.m11_operators.specs.Reading.{operator_fields};
 ghost use Rattle.m11_placement.specs.Assigning.{target};
@@ -22,12 +22,11 @@ use crate::fault::PlacingFault;
 use crate::mentioned::Mentioned;
 use m11_arguments::{Notes, lone_term, note_symbols};
 use m11_base::Name;
-use m11_directives::{Change, argument_count, character_count, listed_names};
 use m11_fields::{Fields, elements_at};
+use m11_operators::{Change, argument_count, character_count, listed_names, parts_at};
 use m11_placement::{Context, Directive, Field, Form, Operator};
 use m11_scan::{Line, Token, read_name};
 use m11_statements::{Assignment, Label, LabelKind, Part, PartKind};
-use m11_strings::parts_at;
 use m11_values::{Symbol, symbol_of};
 
 impl Mentioned {

@@ -2,7 +2,7 @@
 //! section directives".)
 
 ghost use Rattle.std.specs.Prelude.{◌≡◌, ◌<◌, ◌≤◌, ◌+◌, ◌^◌, IfOk, IfErr, length};
-ghost use Rattle.m11_directives.specs.Changes.{move_seen};
+ghost use Rattle.m11_operators.specs.Changes.{move_seen};
 ghost use Rattle.m11_placement.specs.Changes.{with_move, with_section, with_settings};
 ghost use Rattle.m11_placement.specs.Labels.{new_block, with_block, with_definition, with_doubled, with_global};
 ghost use Rattle.m11_placement.specs.Limits.{local_count, most_local_symbols, most_sections};
@@ -15,7 +15,7 @@ ghost use Rattle.m11_placement.specs.declared.definitions.Key.TheVariants.{Named
 
 use crate::fault::PlacingFault;
 use m11_base::Name;
-use m11_directives::Move;
+use m11_operators::Move;
 use m11_placement::{Definition, Key, Settings};
 use m11_table::Table;
 use std::alloc::{AllocError, Global};

@@ -1,5 +1,5 @@
 use Rattle.std.proofs.Common.{◌≡◌, length}
-use Rattle.m11_directives.specs.Changes.{names_among}
+use Rattle.m11_operators.specs.Changes.{names_among}
 use Rattle.m11_first.specs.Facts.{each_once}
 use Rattle.m11_first.proofs.facts.insert_all.Given as goal
 

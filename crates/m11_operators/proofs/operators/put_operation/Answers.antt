@@ -1,5 +1,5 @@
 use Rattle.std.proofs.Common.{◌≡◌, ℕ, List, IfOk, subst, ap, ◌∙◌}
-use Rattle.m11_contents.specs.Settings.{fields_of, setting_of}
+use Rattle.m11_operators.specs.Settings.{fields_of, setting_of}
 use Rattle.m11_placement.specs.Contents.{Put, followed_by}
 use Rattle.m11_placement.specs.Fields.{Fields}
 use Rattle.m11_placement.specs.Instructions.{assembled}

@@ -1,6 +1,6 @@
 use Rattle.std.proofs.Common.{◌≡◌, ℕ, Bool, IfOk, subst, sym, ap, ◌∙◌}
-use Rattle.m11_contents.proofs.Joining.{lettered_by}
-use Rattle.m11_contents.specs.Settings.{Standpoint}
+use Rattle.m11_operators.proofs.Joining.{lettered_by}
+use Rattle.m11_operators.specs.Settings.{Standpoint}
 use Rattle.m11_placement.specs.Alignment.{gap_letters, place_for}
 use Rattle.m11_placement.specs.Contents.{Put}
 use Rattle.m11_placement.specs.Effects.{operator_put}

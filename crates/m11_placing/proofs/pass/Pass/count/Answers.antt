@@ -1,4 +1,4 @@
-use Rattle.m11_directives.specs.Changes.{move_seen}
+use Rattle.m11_operators.specs.Changes.{move_seen}
 use Rattle.m11_placing.proofs.Passes.{counter_moved, counter_told, section_stays, section_within}
 use Rattle.m11_placing.proofs.pass.Pass.count.Goals as goal
 

@@ -1,6 +1,6 @@
 use Rattle.std.proofs.Common.{IfOk, List, Option, subst, ◌∙◌}
 use Rattle.m11_base.specs.Rad50.{Name}
-use Rattle.m11_directives.specs.Changes.{names_among}
+use Rattle.m11_operators.specs.Changes.{names_among}
 use Rattle.m11_placement.specs.Changes.{with_globals}
 use Rattle.m11_placing.proofs.NameLists.{same_list}
 use Rattle.m11_placing.specs.Passes.{Follows}

@@ -1,5 +1,5 @@
 use Rattle.std.proofs.Common.{refl}
-use Rattle.m11_directives.specs.Changes.{move_seen}
+use Rattle.m11_operators.specs.Changes.{move_seen}
 use Rattle.m11_placement.specs.Changes.{with_globals, with_move, with_number, with_settings, with_value}
 use Rattle.m11_placement.specs.Elements.{listed_names}
 use Rattle.m11_placing.proofs.SectionCounts.{number_sections, sections_kept, sections_stay, value_sections}

@@ -1,0 +1,121 @@
+-- Where the second pass begins, and where it ends.
+use Rattle.std.proofs.Common.{◌≡◌, ◌∙◌, ◌≤◌, Bool, true, false, if◌then◌else◌, List, [], ◌∷◌, ◌++◌, length, Option, None, Result, IfOk, refl, sym, ap, subst, arith}
+use Rattle.std.proofs.lemmas.List.Sums.{count_by-le-length}
+use Rattle.m11_asm_outputs.specs.Outputs.{Gains, Outputs, Write, Writes, assembly}
+use Rattle.m11_asm_outputs.specs.declared.fault.AsmFault.{AsmFault}
+use Rattle.m11_first.specs.Facts.{Facts}
+use Rattle.m11_first.specs.First.{Symbols}
+use Rattle.m11_lines.specs.Line.{SourceLine}
+use Rattle.m11_passes.specs.Lines.{Numbered}
+use Rattle.m11_passes.specs.States.{Going, PassState, PassStands}
+use Rattle.m11_pass_laws.proofs.Counting.{at_most}
+use Rattle.m11_placement.specs.Meanings.{Map, map_of}
+use Rattle.m11_placement.specs.Places.{place_in}
+use Rattle.m11_placement.specs.Tables.{Table, place}
+use Rattle.m11_placement.specs.declared.settings.Settings.{Settings}
+use Rattle.m11_placing.specs.Mentioned.{Gathered}
+use Rattle.m11_placing.specs.Passes.{Kept}
+use Rattle.m11_table.specs.Alike.{Alike}
+use Rattle.m11_unfolding.specs.Limits.{most_lines}
+use Rattle.m11_unfolding.specs.Stages.{Stage, start}
+use Rattle.m11_writes.proofs.Writing.{writes_then}
+use Rattle.m11_asm.specs.Program.{Program, program_in, program_kept}
+use Rattle.m11_asm.specs.Second.{GoesOn, SecondEnds, SecondStands, SecondState, ended_with}
+use Rattle.m11_asm.specs.Writing.{Writing, WritingStands, most_counted}
+use Rattle.m11_asm.specs.Written.{flagged_count, flagged_in, is_flagged, last_place, last_writes, letters_after, written}
+use Rattle.m11_asm.specs.declared.done.AsmDone.{AsmDone}
+use Rattle.m11_asm.proofs.LinesWritten.{nothing_written}
+
+-- ---- before the first line
+
+pub begins_so : (pass : PassState) (fault : Option AsmFault) → pass.going.unfolder.stage ≡ start [] → pass.fault ≡ None
+    → GoesOn fault false pass
+begins_so pass fault first goes = record {
+  goes_on = λ none. goes;
+  needs = λ none is. ap (λ (s : Stage). s.left) first;
+}
+
+module _ (kept : Kept) (gathered : Gathered) (facts : Facts) (going : Going) (writing : Writing) (fault : Option AsmFault)
+    (stands : (map : Map) → PassStands map gathered [] [] going) (first_stage : going.unfolder.stage ≡ start [])
+    (keeps : WritingStands (program_kept kept gathered facts) [] writing) (goes : fault ≡ None) where
+  begun : (first now : Outputs) → Gains first now []
+      → SecondStands (program_in (record { kept = kept; gathered = gathered; facts = facts })) [] first now
+      (record { map = map_of kept.table; going = going; writing = writing; read = 0; has_ended = false; fault = fault })
+  unfolding program_kept
+  begun first now gains =
+      let program = program_in (record { kept = kept; gathered = gathered; facts = facts }) in
+      record {
+        lines = [];
+        map_is = refl;
+        taken = record {
+          stands = stands (map_of kept.table);
+          keeps = keeps;
+          gains = subst (λ (ws : List Write). Gains first now ws) (sym (nothing_written program)) gains;
+        };
+        read = refl;
+        ended = sym (ap (λ (s : Stage). s.has_ended) first_stage);
+        needs = λ is. ap (λ (s : Stage). s.left) first_stage;
+        goes_on = goes;
+      }
+
+  pub second_begins : (symbols : Symbols) → kept ≡ symbols.kept → gathered ≡ symbols.gathered → facts ≡ symbols.facts
+      → (first now : Outputs) → Gains first now []
+      → SecondStands (program_in symbols) [] first now
+      (record { map = map_of kept.table; going = going; writing = writing; read = 0; has_ended = false; fault = fault })
+  second_begins symbols kept_is gathered_is facts_are first now gains =
+      let symbols_are : record { kept = kept; gathered = gathered; facts = facts } ≡ symbols =
+      ap (λ (k : Kept). record { kept = k; gathered = gathered; facts = facts }) kept_is
+      ∙ ap (λ (g : Gathered). record { kept = symbols.kept; gathered = g; facts = facts }) gathered_is
+      ∙ ap (λ (f : Facts). record { kept = symbols.kept; gathered = symbols.gathered; facts = f }) facts_are in
+      let P : Symbols → Type 0 = λ s. SecondStands (program_in s) [] first now
+      (record { map = map_of kept.table; going = going; writing = writing; read = 0; has_ended = false; fault = fault }) in
+      subst P symbols_are (begun first now gains)
+
+-- ---- after the last line
+
+letters_counted : (program : Program) (before all : List Numbered) → length (letters_after program before all) ≡ length all
+letters_counted program before [] = refl
+letters_counted program before (line ∷ all) =
+    let rest = letters_counted program (before ++ line ∷ []) all in omega (arith, rest)
+
+flagged_few : (program : Program) (lines : List Numbered) → flagged_in program lines ≤ length lines
+unfolding flagged_in
+flagged_few program lines =
+    let few = count_by-le-length is_flagged (letters_after program [] lines) in omega (arith, few, letters_counted program [] lines)
+
+least_added : (has_end : Bool) → (if has_end then 0 else 1) ≤ 1
+least_added true = omega arith
+least_added false = omega arith
+
+pub count_few : (program : Program) (lines : List Numbered) (has_end : Bool) → length lines ≤ most_lines
+    → flagged_count program lines has_end ≤ most_counted
+count_few program lines has_end few = omega (arith, few, flagged_few program lines, least_added has_end)
+
+place_same : (one other : Table) → Alike one other → place one ≡ place other
+place_same one other alike =
+    alike.counters one.settings.section ∙ ap (λ (s : Settings). place_in s.section other.moves) alike.settings
+
+module _ (program : Program) (source : List SourceLine) (first now : Outputs) (state : SecondState)
+    (stands : SecondStands program source first now state) where
+  pub place_is : place state.going.kept.table ≡ last_place program stands.lines
+  place_is = place_same _ _ stands.taken.stands.matches.alike
+
+  pub few_flagged : flagged_count program stands.lines state.has_ended ≤ most_counted
+  few_flagged =
+      count_few program stands.lines state.has_ended
+      (at_most program.map program.mentioned.names source stands.lines state.going.unfolder.stage stands.taken.stands.lines_are)
+
+  pub second_finishes : (new : Outputs) (result : Result AsmDone AsmFault) → Writes now new (last_writes program stands.lines (ended_with state)) result
+      → IfOk result (λ done. done.flagged ≡ flagged_count program stands.lines state.has_ended)
+      → SecondEnds program source first new state result
+  second_finishes new result writes count = record {
+    lines = stands.lines;
+    stage = state.going.unfolder.stage;
+    live = stands.taken.stands.lines_are;
+    read = stands.read;
+    ended = stands.ended;
+    needs = stands.needs;
+    writes = writes_then assembly first now new (written program stands.lines) (last_writes program stands.lines (ended_with state)) result
+        stands.taken.gains writes;
+    count = count;
+  }

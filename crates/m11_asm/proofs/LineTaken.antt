@@ -1,0 +1,131 @@
+-- One line more of the source: it is read, and what follows from it is taken.
+use Rattle.std.proofs.Common.{◌≡◌, ◌∙◌, ℕ, ◌+◌, Bool, false, List, [], ◌∷◌, ◌++◌, length, Option, None, Result, Ok, Err, IfOk, IfErr, IsErrAnd, sym, ap, subst, inr, length-append}
+use Rattle.std.specs.Option.{option_or}
+use Rattle.std.specs.Result.{result_err}
+use Rattle.m11_asm_outputs.specs.Outputs.{Outputs}
+use Rattle.m11_asm_outputs.specs.declared.fault.AsmFault.{AsmFault}
+use Rattle.m11_asm_outputs.specs.declared.fault.AsmFault.TheVariants as fault
+use Rattle.m11_lines.specs.Line.{SourceLine}
+use Rattle.m11_lines.specs.Lines.{most_lines}
+use Rattle.m11_passes.specs.Lines as lines
+use Rattle.m11_passes.specs.Lines.{Numbered, with_line}
+use Rattle.m11_passes.specs.States.{Going, PassState, PassStands, fed}
+use Rattle.m11_placement.specs.Meanings.{Map}
+use Rattle.m11_placing.specs.Mentioned.{Gathered}
+use Rattle.m11_asm.specs.Program.{Program}
+use Rattle.m11_asm.specs.Second.{LineCall, SecondFails, SecondStands, SecondState, SecondTakes, Taken, TakesAll, TakesLeft}
+use Rattle.m11_asm.specs.Writing.{Writing}
+
+-- the law of the calls of a pass
+abbrev pub Feeds : Type 0
+Feeds = (map : Map) (before : Gathered) (source : List SourceLine) (lines : List Numbered) (line : SourceLine) (going : Going)
+    → PassStands map before source lines going → going.unfolder.stage.left ≡ [] → going.unfolder.stage.has_ended ≡ false
+    → PassStands map before (source ++ line ∷ []) lines (fed line going)
+
+one_longer : (source : List SourceLine) (line : SourceLine) → length (source ++ line ∷ []) ≡ length source + 1
+one_longer source line = length-append source (line ∷ [])
+
+abbrev pub state_of : Map → Going → Writing → ℕ → Bool → Option AsmFault → SecondState
+state_of map going writing read has_ended fault =
+    record { map = map; going = going; writing = writing; read = read; has_ended = has_ended; fault = fault }
+
+abbrev pub between : Outputs → Outputs → SecondState → SecondState → LineCall
+between before now old new = record { before = before; now = now; old = old; new = new }
+
+module _ (program : Program) (source : List SourceLine) (line : SourceLine) (first before : Outputs) (map_ : Map) (going : Going)
+    (writing : Writing) (read : ℕ) (has_ended : Bool) (stopped : Option AsmFault) (goes : has_ended ≡ false)
+    (stands : SecondStands program source first before (state_of map_ going writing read has_ended stopped)) where
+  live_more : lines.PassLines program.map program.mentioned.names (source ++ line ∷ []) stands.lines (with_line line going.unfolder.stage)
+  live_more =
+      lines.PassLines.Reading source stands.lines going.unfolder.stage line stands.taken.stands.lines_are (stands.needs goes)
+      (sym stands.ended ∙ goes)
+
+  too_long : read ≡ most_lines → SecondFails program (source ++ line ∷ []) first before fault.TooMuchSource
+  too_long full = record {
+    too_many = one_longer source line ∙ ap (λ (n : ℕ). n + 1) (sym stands.read ∙ full);
+    among = record {
+      lines = stands.lines;
+      stage = with_line line going.unfolder.stage;
+      live = live_more;
+      stops = stands.taken.gains;
+    };
+  }
+
+  -- there are too many lines
+  pub line_refused : (numbers : Result ℕ AsmFault) (came : AsmFault) (new : SecondState) (result : Result (Unit {0}) AsmFault)
+      → IfErr numbers (λ f. (f ≡ fault.TooMuchSource) × (read ≡ most_lines)) → Err came ≡ numbers → IsErrAnd result (λ f. f ≡ came)
+      → SecondTakes program source line first (between before before (state_of map_ going writing read has_ended stopped) new) result
+  line_refused numbers came new (Ok done) refuses same is = absurd is
+  line_refused numbers came new (Err other) refuses same is =
+      let R : Result ℕ AsmFault → Type 0 = λ r. IfErr r (λ f. (f ≡ fault.TooMuchSource) × (read ≡ most_lines)) in
+      let full : (came ≡ fault.TooMuchSource) × (read ≡ most_lines) = subst R (sym same) refuses in
+      let P : AsmFault → Type 0 = λ f. SecondFails program (source ++ line ∷ []) first before f in
+      (goes, subst P (sym (is ∙ full.0)) (too_long full.1))
+
+  module _ (feeds : Feeds) (pass fed_pass : PassState) (going_is : pass.going ≡ going)
+      (fed_is : fed_pass ≡ record { going = fed line pass.going; fault = pass.fault }) (numbers : Result ℕ AsmFault) (number : ℕ)
+      (counts : IfOk numbers (λ n. n ≡ read + 1)) (number_is : Ok number ≡ numbers) (map' : Map) (map_is : map' ≡ map_)
+      (now : Outputs) (outcome : Result Bool AsmFault) (new_going : Going) (new_writing : Writing)
+      (takes : (program : Program) (source : List SourceLine) (lines : List Numbered) (first : Outputs) → map' ≡ program.map
+      → number ≡ length source → Taken program source lines first before fed_pass.going writing
+      → TakesLeft program source first now new_going new_writing outcome) where
+    number_so : number ≡ read + 1
+    number_so =
+        let R : Result ℕ AsmFault → Type 0 = λ r. IfOk r (λ n. n ≡ read + 1) in subst R (sym number_is) counts
+
+    left : TakesLeft program (source ++ line ∷ []) first now new_going new_writing outcome
+    left =
+        let all : List SourceLine = source ++ line ∷ [] in
+        let G : Going → Type 0 = λ g. PassStands program.map program.mentioned all stands.lines g in
+        let fed_so : fed line going ≡ fed_pass.going =
+        ap (fed line) (sym going_is) ∙ sym (ap (λ (p : PassState). p.going) fed_is) in
+        takes program all stands.lines first (map_is ∙ stands.map_is)
+        (number_so ∙ ap (λ (n : ℕ). n + 1) stands.read ∙ sym (one_longer source line)) (record {
+          stands = subst G fed_so
+              (feeds program.map program.mentioned source stands.lines line going stands.taken.stands (stands.needs goes)
+              (sym stands.ended ∙ goes));
+          keeps = stands.taken.keeps;
+          gains = stands.taken.gains;
+        })
+
+    pub line_fails : (came : AsmFault) (new : SecondState) (result : Result (Unit {0}) AsmFault) → Err came ≡ outcome
+        → IsErrAnd result (λ f. f ≡ came)
+        → SecondTakes program source line first (between before now (state_of map_ going writing read has_ended stopped) new) result
+    line_fails came new (Ok done) same is = absurd is
+    line_fails came new (Err other) same is =
+        let P : Result Bool AsmFault → Type 0 =
+        λ r. TakesLeft program (source ++ line ∷ []) first now new_going new_writing r in
+        let here : TakesLeft program (source ++ line ∷ []) first now new_going new_writing (Err came) = subst P (sym same) left in
+        let Q : AsmFault → Type 0 = λ f. SecondFails program (source ++ line ∷ []) first now f in
+        (goes, subst Q (sym is) here)
+
+    pub line_takes : (ended : Bool) (kept : Option AsmFault) (before_fault : Option AsmFault) → Ok ended ≡ outcome
+        → IfOk outcome (λ e. e ≡ false → new_going.unfolder.stage.left ≡ [])
+        → kept ≡ option_or before_fault (result_err outcome) → before_fault ≡ None
+        → SecondTakes program source line first (between before now (state_of map_ going writing read has_ended stopped)
+        (state_of map_ new_going new_writing number ended kept)) (Ok tt)
+    line_takes ended kept before_fault same needs kept_is none =
+        let all : List SourceLine = source ++ line ∷ [] in
+        let P : Result Bool AsmFault → Type 0 = λ r. TakesLeft program all first now new_going new_writing r in
+        let N : Result Bool AsmFault → Type 0 = λ r. IfOk r (λ e. e ≡ false → new_going.unfolder.stage.left ≡ []) in
+        let here : TakesAll program all first now new_going new_writing ended = subst P (sym same) left in
+        inr (
+          goes,
+          record {
+            lines = here.lines;
+            map_is = stands.map_is;
+            taken = here.taken;
+            read = number_so ∙ ap (λ (n : ℕ). n + 1) stands.read ∙ sym (one_longer source line);
+            ended = here.ended;
+            needs = subst N (sym same) needs;
+            goes_on = kept_is ∙ ap (λ (f : Option AsmFault). option_or f (result_err outcome)) none
+                ∙ ap (λ (r : Result Bool AsmFault). result_err r) (sym same);
+          },
+        )
+
+-- a latch keeps no fault of a call that was Ok
+pub keeps_none : (kept old : Option AsmFault) (numbers : Result ℕ AsmFault) (number : ℕ) → kept ≡ option_or old (result_err numbers)
+    → old ≡ None → Ok number ≡ numbers → kept ≡ None
+keeps_none kept old numbers number kept_is none same =
+    kept_is ∙ ap (λ (f : Option AsmFault). option_or f (result_err numbers)) none
+    ∙ ap (λ (r : Result ℕ AsmFault). result_err r) (sym same)

@@ -1,0 +1,93 @@
+-- One more line: what it writes, its pieces, and the count of flagged lines.
+use Rattle.std.proofs.Common.{◌≡◌, ◌∙◌, ℕ, ◌+◌, List, [], ◌∷◌, ◌++◌, count_by, cond, if◌then◌else◌, refl, sym, ap, append-nil, append_assoc, arith}
+use Rattle.std.proofs.lemmas.List.{map-append}
+use Rattle.std.proofs.lemmas.List.Concat.{flat_map-append}
+use Rattle.std.proofs.lemmas.List.Sums.{sum_by-append, sum_by-cons}
+use Rattle.std.specs.List.{flat_map}
+use Rattle.m11_asm_outputs.specs.Outputs.{Write}
+use Rattle.m11_object_text.specs.declared.pieces.Piece.{Piece}
+use Rattle.m11_unfolding.specs.Unfolding.{Given}
+use Rattle.m11_placement.specs.Lines.{after_line, pieces}
+use Rattle.m11_placement.specs.Meanings.{Map}
+use Rattle.m11_placement.specs.Placements.{Placed, after_lines, placed, placed_from, placement}
+use Rattle.m11_placement.specs.Tables.{Table, first_table}
+use Rattle.m11_passes.specs.Lines as lines
+use Rattle.m11_passes.specs.Lines.{Numbered, givens, table_at}
+use Rattle.m11_asm.specs.Program.{Program}
+use Rattle.m11_asm.specs.Written.{flagged_in, head_before, is_flagged, letters_after, letters_at, line_writes, pieces_in, pieces_of, written, written_after}
+
+givens_more : (all : List Numbered) (one : Numbered) → givens (all ++ one ∷ []) ≡ givens all ++ one.given ∷ []
+givens_more all one = map-append lines.given_in all (one ∷ [])
+
+-- ---- pieces
+
+placed_more : (map : Map) (table : Table) (all : List Given) (one : Given)
+    → placed_from map table (all ++ one ∷ []) ≡ placed_from map table all ++ placed map (after_lines map table all) one ∷ []
+placed_more map table [] one = refl
+placed_more map table (given ∷ all) one =
+    ap (λ (l : List Placed). placed map table given ∷ l) (placed_more map (after_line map table given) all one)
+
+pub pieces_more : (map : Map) (all : List Numbered) (one : Numbered)
+    → pieces_in map (all ++ one ∷ []) ≡ pieces_in map all ++ pieces map (table_at map all) one.given
+unfolding pieces_in
+pieces_more map all one =
+    ap (λ (l : List Given). flat_map pieces_of (placement map l)) (givens_more all one)
+    ∙ ap (flat_map pieces_of) (placed_more map first_table (givens all) one.given)
+    ∙ flat_map-append pieces_of (placement map (givens all)) (placed map (table_at map all) one.given ∷ [])
+    ∙ ap (λ (l : List Piece). pieces_in map all ++ l) (append-nil (pieces map (table_at map all) one.given))
+
+-- ---- writes
+
+module _ (program : Program) where
+  -- what one more line writes
+  abbrev pub next_writes : List Numbered → Numbered → List Write
+  next_writes before one = head_before program before ++ line_writes program before one
+
+  more_after : (before all : List Numbered) (one : Numbered)
+      → written_after program before (all ++ one ∷ []) ≡ written_after program before all ++ next_writes (before ++ all) one
+  more_after before [] one =
+      append-nil (next_writes before one) ∙ ap (λ (l : List Numbered). next_writes l one) (sym (append-nil before))
+  more_after before (line ∷ all) one =
+      ap (λ (l : List Write). next_writes before line ++ l) (more_after (before ++ line ∷ []) all one)
+      ∙ sym (append_assoc (next_writes before line) (written_after program (before ++ line ∷ []) all)
+      (next_writes ((before ++ line ∷ []) ++ all) one))
+      ∙ ap (λ (l : List Numbered). written_after program before (line ∷ all) ++ next_writes l one)
+      (append_assoc before (line ∷ []) all)
+
+  pub written_more : (all : List Numbered) (one : Numbered)
+      → written program (all ++ one ∷ []) ≡ written program all ++ next_writes all one
+  unfolding written
+  written_more all one = more_after [] all one
+
+  pub nothing_written : written program [] ≡ []
+  unfolding written
+  nothing_written = refl
+
+  -- ---- flagged lines
+
+  letters_more : (before all : List Numbered) (one : Numbered)
+      → letters_after program before (all ++ one ∷ []) ≡ letters_after program before all ++ letters_at program (before ++ all) one ∷ []
+  letters_more before [] one = ap (λ (l : List Numbered). letters_at program l one ∷ []) (sym (append-nil before))
+  letters_more before (line ∷ all) one =
+      ap (λ (l : List ℕ). letters_at program before line ∷ l) (letters_more (before ++ line ∷ []) all one)
+      ∙ ap (λ (l : List Numbered). letters_after program before (line ∷ all) ++ letters_at program l one ∷ [])
+      (append_assoc before (line ∷ []) all)
+
+  abbrev one_if_flagged : ℕ → ℕ
+  one_if_flagged letters = cond (is_flagged letters) 1 0
+
+  flagged_with : (letters : List ℕ) (last : ℕ)
+      → count_by is_flagged (letters ++ last ∷ []) ≡ count_by is_flagged letters + (if is_flagged last then 1 else 0)
+  flagged_with letters last =
+      sum_by-append one_if_flagged letters (last ∷ []) ∙ ap (λ (n : ℕ). count_by is_flagged letters + n) (sum_by-cons one_if_flagged last [] ∙ omega arith)
+
+  pub flagged_more : (all : List Numbered) (one : Numbered) → flagged_in program (all ++ one ∷ [])
+      ≡ flagged_in program all + (if is_flagged (letters_at program all one) then 1 else 0)
+  unfolding flagged_in
+  flagged_more all one =
+      ap (count_by is_flagged) (letters_more [] all one)
+      ∙ flagged_with (letters_after program [] all) (letters_at program all one)
+
+  pub none_flagged : flagged_in program [] ≡ 0
+  unfolding flagged_in
+  none_flagged = refl

@@ -1,0 +1,161 @@
+-- What follows from a line of the source is placed and written, live line by live line.
+use Rattle.std.proofs.Common.{◌≡◌, ℕ, Bool, true, false, List, [], ◌∷◌, ◌++◌, length, Result, Ok, Err, IsErrAnd, refl, sym, subst, append-nil}
+use Rattle.m11_asm_outputs.specs.Outputs.{Gains, Outputs, Stops, StopsBetween, Write, assembly}
+use Rattle.m11_asm_outputs.specs.declared.fault.AsmFault.{AsmFault}
+use Rattle.m11_asm_outputs.specs.declared.fault.AsmFault.TheVariants as fault
+use Rattle.m11_lines.specs.Line.{SourceLine}
+use Rattle.m11_object_text.specs.declared.pieces.PieceContent.{PieceContent}
+use Rattle.m11_passes.specs.Lines.{Numbered, numbered, table_at}
+use Rattle.m11_passes.specs.Placed.{IsPlaced, live_in}
+use Rattle.m11_passes.specs.Reaching.{PlacesLine, Reaches, Refused}
+use Rattle.m11_passes.specs.Refusals.{given_by}
+use Rattle.m11_passes.specs.States.{Going, PassStands}
+use Rattle.m11_passes.specs.Turns.{SaysPlaced, Turns}
+use Rattle.m11_passes.specs.declared.fault.PassFault.{PassFault}
+use Rattle.m11_passes.specs.declared.fault.PassFault.TheVariants as pass
+use Rattle.m11_passes.specs.declared.placed.PlacedLine.{PlacedLine}
+use Rattle.m11_passes.specs.declared.turns.Turn.{Turn}
+use Rattle.m11_passes.specs.declared.turns.Turn.TheVariants.{NeedLine, End, Line}
+use Rattle.m11_placement.specs.Contents.{Put}
+use Rattle.m11_placement.specs.Meanings.{Map}
+use Rattle.m11_placing.specs.Mentioned.{Gathered}
+use Rattle.m11_writes.proofs.Writing.{gains_then, stops_after}
+use Rattle.m11_asm.specs.Faults.{of_pass}
+use Rattle.m11_asm.specs.Program.{Program}
+use Rattle.m11_asm.specs.Second.{SecondFails, Taken, TakesAll, TakesLeft}
+use Rattle.m11_asm.specs.Writing.{Writing, WritingStands}
+use Rattle.m11_asm.specs.Written.{head_before, line_writes, written}
+use Rattle.m11_asm.proofs.LinesWritten.{next_writes, written_more}
+
+-- the law of the calls of a pass
+abbrev pub TurnsSo : Type 0
+TurnsSo = (map : Map) (before : Gathered) (source : List SourceLine) (lines : List Numbered) (old new : Going)
+    (placed : PlacedLine) (result : Result Turn PassFault) → PassStands map before source lines old
+    → Turns map old new (live_in placed.live) (SaysPlaced map placed new.put) result
+    → Reaches map before source lines new (live_in placed.live) (SaysPlaced map placed new.put) result
+
+-- some lines were taken and written, whichever
+abbrev pub SomeTaken : Program → List SourceLine → Outputs → Outputs → Going → Writing → Type 0
+SomeTaken program source first now going writing = (lines : List Numbered) × Taken program source lines first now going writing
+
+module _ (turn : TurnsSo) (program : Program) (source : List SourceLine) (first now : Outputs) (old new : Going) (placed : PlacedLine)
+    (writing : Writing) (some : SomeTaken program source first now old writing) (map_ : Map) (same : map_ ≡ program.map) where
+  -- nothing is stopped among the writes of the lines so far: memory was refused before the next one
+  all_between : StopsBetween first now (written program some.0)
+  all_between = record {
+    done = written program some.0;
+    more = [];
+    split = sym (append-nil (written program some.0));
+    gains = some.1.gains;
+  }
+
+  module _ (came : Turn) (turned : Turns map_ old new (live_in placed.live) (SaysPlaced map_ placed new.put) (Ok came)) where
+    reached : Reaches program.map program.mentioned source some.0 new (live_in placed.live) (SaysPlaced program.map placed new.put) (Ok came)
+    reached =
+        let P : Map → Type 0 = λ m. Turns m old new (live_in placed.live) (SaysPlaced m placed new.put) (Ok came) in
+        turn program.map program.mentioned source some.0 old new placed (Ok came) some.1.stands (subst P same turned)
+
+    pub rests_all : came ≡ NeedLine → TakesAll program source first now new writing false
+    rests_all is =
+        let P : Turn → Type 0 = λ t. Reaches program.map program.mentioned source some.0 new (live_in placed.live) (SaysPlaced program.map placed new.put) (Ok t) in
+        let here : Reaches program.map program.mentioned source some.0 new (live_in placed.live) (SaysPlaced program.map placed new.put) (Ok NeedLine) = subst P is reached in
+        record {
+          lines = some.0;
+          taken = record { stands = here.0; keeps = some.1.keeps; gains = some.1.gains };
+          ended = sym here.2;
+        }
+
+    pub ends_all : came ≡ End → TakesAll program source first now new writing true
+    ends_all is =
+        let P : Turn → Type 0 = λ t. Reaches program.map program.mentioned source some.0 new (live_in placed.live) (SaysPlaced program.map placed new.put) (Ok t) in
+        let here : Reaches program.map program.mentioned source some.0 new (live_in placed.live) (SaysPlaced program.map placed new.put) (Ok End) = subst P is reached in
+        record {
+          lines = some.0;
+          taken = record { stands = here.0; keeps = some.1.keeps; gains = some.1.gains };
+          ended = sym here.1;
+        }
+
+    module _ (is : came ≡ Line) where
+      here : PlacesLine program.map program.mentioned source some.0 new (live_in placed.live) (SaysPlaced program.map placed new.put)
+      here = let P : Turn → Type 0 = λ t. Reaches program.map program.mentioned source some.0 new (live_in placed.live) (SaysPlaced program.map placed new.put) (Ok t) in subst P is reached
+
+      one : Numbered
+      one = numbered (length source) (given_by (table_at program.map some.0) (live_in placed.live) here.stage)
+
+      module _ (number : ℕ) (number_is : number ≡ length source) (contents : List PieceContent) (contents_are : contents ≡ new.put.contents)
+          (later : Outputs) (writing' : Writing) where
+        pub placed_more : ((one : Numbered) (put : Put)
+            → WritingStands program some.0 writing → IsPlaced program.map (table_at program.map some.0) one.given placed put
+            → put.contents ≡ contents → number ≡ one.number
+            → Gains now later (head_before program some.0 ++ line_writes program some.0 one))
+            → ((one : Numbered) (put : Put)
+            → WritingStands program some.0 writing → IsPlaced program.map (table_at program.map some.0) one.given placed put
+            → put.contents ≡ contents → number ≡ one.number → WritingStands program (some.0 ++ one ∷ []) writing')
+            → SomeTaken program source first later new writing'
+        unfolding here one
+        placed_more writes keeps = (
+          some.0 ++ one ∷ [],
+          record {
+            stands = here.stands;
+            keeps = keeps one new.put some.1.keeps here.is_said (sym contents_are) number_is;
+            gains = subst (λ (ws : List Write). Gains first later ws) (sym (written_more program some.0 one))
+                (gains_then assembly first now later (written program some.0) (next_writes program some.0 one) some.1.gains
+                (writes one new.put some.1.keeps here.is_said (sym contents_are) number_is));
+          },
+        )
+
+        -- a write of the line failed, or memory was refused
+        stops_more : (stopped : AsmFault) → Stops now later (next_writes program some.0 one) stopped
+            → Stops first later (written program (some.0 ++ one ∷ [])) stopped
+        stops_more stopped stops =
+            subst (λ (ws : List Write). Stops first later ws stopped) (sym (written_more program some.0 one))
+            (stops_after assembly first now later (written program some.0) (next_writes program some.0 one) stopped some.1.gains stops)
+
+        stops_so : (stopped : AsmFault) → Stops first later (written program (some.0 ++ one ∷ [])) stopped
+            → SecondFails program source first later stopped
+        unfolding here one
+        stops_so (fault.Write output) stops =
+            record { lines = some.0 ++ one ∷ []; stage = new.unfolder.stage; live = here.stands.lines_are; stops = stops }
+        stops_so fault.NoMemory stops =
+            record { lines = some.0 ++ one ∷ []; stage = new.unfolder.stage; live = here.stands.lines_are; stops = stops }
+        stops_so other stops = absurd stops
+
+        pub stops_there : (stopped : AsmFault) (result : Result Bool AsmFault)
+            → ((one : Numbered) (put : Put)
+            → WritingStands program some.0 writing → IsPlaced program.map (table_at program.map some.0) one.given placed put
+            → put.contents ≡ contents → number ≡ one.number
+            → Stops now later (head_before program some.0 ++ line_writes program some.0 one) stopped)
+            → IsErrAnd result (λ f. f ≡ stopped) → TakesLeft program source first later new writing' result
+        unfolding here one
+        stops_there stopped (Ok ended) writes is = absurd is
+        stops_there stopped (Err other) writes is =
+            let P : AsmFault → Type 0 = λ f. SecondFails program source first later f in
+            subst P (sym is)
+            (stops_so stopped (stops_more stopped (writes one new.put some.1.keeps here.is_said (sym contents_are) number_is)))
+
+  -- the pass passes a limit, or memory is refused
+  module _ (limit : PassFault) (turned : Turns map_ old new (live_in placed.live) (SaysPlaced map_ placed new.put) (Err limit)) where
+    refused : Refused program.map program.mentioned.names source some.0 limit
+    refused =
+        let P : Map → Type 0 = λ m. Turns m old new (live_in placed.live) (SaysPlaced m placed new.put) (Err limit) in
+        turn program.map program.mentioned source some.0 old new placed (Err limit) some.1.stands (subst P same turned)
+
+    fails_so : (limit : PassFault) → Refused program.map program.mentioned.names source some.0 limit
+        → SecondFails program source first now (of_pass limit)
+    fails_so pass.TooManySymbols r =
+        record { limit = pass.TooManySymbols; fault_is = refl; lines = some.0; exceeds = r; gains = some.1.gains }
+    fails_so pass.TooManySections r =
+        record { limit = pass.TooManySections; fault_is = refl; lines = some.0; exceeds = r; gains = some.1.gains }
+    fails_so (pass.Unfold inner) r =
+        record { limit = pass.Unfold inner; fault_is = refl; lines = some.0; exceeds = r; gains = some.1.gains }
+    fails_so pass.NoMemory r =
+        record { lines = some.0; stage = old.unfolder.stage; live = some.1.stands.lines_are; stops = all_between }
+
+    pub fails_all : SecondFails program source first now (of_pass limit)
+    fails_all = fails_so limit refused
+
+-- the same fault by another name
+pub fails_as : (program : Program) (source : List SourceLine) (first now : Outputs) (stopped other : AsmFault) → stopped ≡ other
+    → SecondFails program source first now other → SecondFails program source first now stopped
+fails_as program source first now stopped other is fails =
+    let P : AsmFault → Type 0 = λ f. SecondFails program source first now f in subst P (sym is) fails

@@ -1,0 +1,318 @@
+-- What a line writes, part by part, and what is kept after it.
+use Rattle.std.proofs.Common.{◌≡◌, ◌∙◌, ◌≤◌, ℕ, ◌+◌, min, Bool, true, false, not, if◌then◌else◌, List, [], ◌∷◌, ◌++◌, Option, Result, Ok, Err, IfOk, refl, sym, ap, subst, arith}
+use Rattle.std.specs.Prelude.{◌==◌}
+use Rattle.std.specs.Int.RustNames.{bit_or}
+use Rattle.std.proofs.Math.Nat.{min-eq_left}
+use Rattle.m11_asm_outputs.specs.Object.{IsOpenAfter, content_writes, head_contents, records_closed_by}
+use Rattle.m11_asm_outputs.specs.Outputs.{Gains, Outputs, Stops, Write, Writes, assembly, to_messages}
+use Rattle.m11_asm_outputs.specs.declared.fault.AsmFault.{AsmFault}
+use Rattle.m11_base.specs.Devices.{Bytes}
+use Rattle.m11_base.specs.Rad50.{Name}
+use Rattle.m11_directory.specs.Rows.{directory_rows}
+use Rattle.m11_first.specs.Facts.{Facts}
+use Rattle.m11_listed.specs.Listed.{all_to_listing, listing_writes}
+use Rattle.m11_listing.specs.Messages.{message_line}
+use Rattle.m11_listing.specs.SymbolTable.{last_lines}
+use Rattle.m11_listing.specs.declared.symbol_table.SectionEntry.{SectionEntry}
+use Rattle.m11_listing.specs.declared.symbol_table.SymbolEntry.{SymbolEntry}
+use Rattle.m11_object_text.specs.Texts.{TextParts}
+use Rattle.m11_object_text.specs.declared.directory.DirectoryRow.{DirectoryRow}
+use Rattle.m11_object_text.specs.declared.pieces.Piece.{Piece}
+use Rattle.m11_object_text.specs.declared.pieces.PieceContent.{PieceContent}
+use Rattle.m11_passes.specs.Lines.{Numbered, table_at}
+use Rattle.m11_passes.specs.Placed.{IsPlaced, all_letters}
+use Rattle.m11_passes.specs.declared.placed.PlacedLine.{PlacedLine}
+use Rattle.m11_placement.specs.Contents.{Put, pieces_from}
+use Rattle.m11_placement.specs.Exports.{transfer_letters}
+use Rattle.m11_placement.specs.Lines.{Deed, deed, pieces, put_place, section_name, stands}
+use Rattle.m11_placement.specs.Sources.{directed_in, end_in}
+use Rattle.m11_placement.specs.Tables.{Table}
+use Rattle.m11_placing.specs.Deeds.{deed_seen}
+use Rattle.m11_placing.specs.Mentioned.{Gathered}
+use Rattle.m11_placing.specs.Passes.{Kept}
+use Rattle.m11_scan.specs.Letters.{letters_text}
+use Rattle.m11_scan.specs.Views.{bits_of}
+use Rattle.m11_symbols.specs.Sections.{section_entries}
+use Rattle.m11_symbols.specs.Symbols.{symbol_entries}
+use Rattle.m11_unfolding.specs.Taking.{Live}
+use Rattle.m11_values.specs.Quantities.{Quantity}
+use Rattle.m11_writes.proofs.Writing.{gains_nothing, stops_after, stops_before, writes_then}
+use Rattle.m11_asm.specs.Program.{Program, all_names, program_kept, directory_facts_in}
+use Rattle.m11_asm.specs.Writing.{Writing, WritingStands, begun, counted, counted_last, is_some_line, most_counted, opened}
+use Rattle.m11_asm.specs.Written.{added_to_both, added_writes, closing_writes, flagged_count, flagged_in, head_before, is_flagged, letter_E, letters_at, line_writes, message_writes, pieces_in}
+use Rattle.m11_asm.proofs.LinesWritten.{flagged_more, none_flagged, pieces_more}
+
+-- ---- writes
+
+pub writes_nothing : (a : Outputs) (ws : List Write) → ws ≡ [] → Gains a a ws
+writes_nothing a ws none = let P : List Write → Type 0 = λ w. Gains a a w in subst P (sym none) (gains_nothing assembly a)
+
+pub writes_as : {A : Type 0} (a b : Outputs) (xs ys : List Write) (result : Result A AsmFault) → xs ≡ ys
+    → Writes a b xs result → Writes a b ys result
+writes_as a b xs ys result e h = let P : List Write → Type 0 = λ these. Writes a b these result in subst P e h
+
+pub gains_as : (a b : Outputs) (xs ys : List Write) → xs ≡ ys → Gains a b xs → Gains a b ys
+gains_as a b xs ys e h = let P : List Write → Type 0 = λ these. Gains a b these in subst P e h
+
+pub stops_as : (a b : Outputs) (xs ys : List Write) (stopped : AsmFault) → xs ≡ ys → Stops a b xs stopped → Stops a b ys stopped
+stops_as a b xs ys stopped e h = let P : List Write → Type 0 = λ these. Stops a b these stopped in subst P e h
+
+-- ---- the head
+
+true_false : {b : Bool} → b ≡ true → b ≡ false → ⊥
+true_false is other = no (sym is ∙ other)
+  where
+    no : true ≡ false → ⊥
+    no e = cc
+
+-- where some line was written, the head was
+head_stays_by : (program : Program) (lines : List Numbered) → is_some_line lines ≡ true → head_before program lines ≡ []
+head_stays_by program [] is = absurd (true_false is refl)
+head_stays_by program (line ∷ lines) is = refl
+
+head_is_by : (program : Program) (lines : List Numbered) → is_some_line lines ≡ false
+    → head_before program lines ≡ content_writes (head_contents program.rows)
+head_is_by program [] is = refl
+head_is_by program (line ∷ lines) is = absurd (true_false refl is)
+
+module _ (program : Program) (lines : List Numbered) (writing : Writing) (stands : WritingStands program lines writing) where
+  pub head_stays : writing.has_begun ≡ true → head_before program lines ≡ []
+  head_stays is = head_stays_by program lines (sym stands.begun ∙ is)
+
+  pub head_is : writing.has_begun ≡ false → content_writes (head_contents writing.rows) ≡ head_before program lines
+  head_is is =
+      ap (λ (rows : List DirectoryRow). content_writes (head_contents rows)) stands.rows
+      ∙ sym (head_is_by program lines (sym stands.begun ∙ is))
+
+-- ---- messages
+
+pub unflagged : (letters number : ℕ) (text : Bytes) → true ≡ (letters == 0) → message_writes letters number text ≡ []
+unflagged letters number text none =
+    ap (λ (b : Bool). if not b then to_messages (message_line (letters_text letters) number text) ∷ [] else []) (sym none)
+
+pub flagged : (letters number : ℕ) (text : Bytes) → false ≡ (letters == 0)
+    → to_messages (message_line (letters_text letters) number text) ∷ [] ≡ message_writes letters number text
+flagged letters number text some =
+    sym (ap (λ (b : Bool). if not b then to_messages (message_line (letters_text letters) number text) ∷ [] else []) (sym some))
+
+pub counts_none : (letters count : ℕ) → true ≡ (letters == 0) → count ≡ counted letters count
+counts_none letters count none = sym (ap (λ (b : Bool). if not b then min (count + 1) most_counted else count) (sym none))
+
+pub counts_one : (letters count : ℕ) → false ≡ (letters == 0) → min (count + 1) most_counted ≡ counted letters count
+counts_one letters count some = sym (ap (λ (b : Bool). if not b then min (count + 1) most_counted else count) (sym some))
+
+-- ---- counts
+
+least_by : (b : Bool) (count : ℕ) → (if b then min (min count most_counted + 1) most_counted else min count most_counted)
+    ≡ min (count + (if b then 1 else 0)) most_counted
+least_by true count = omega arith
+least_by false count = omega arith
+
+counted_least : (letters count : ℕ) → counted letters (min count most_counted)
+    ≡ min (count + (if is_flagged letters then 1 else 0)) most_counted
+counted_least letters count = least_by (is_flagged letters) count
+
+pub counted_exactly : (program : Program) (lines : List Numbered) (has_end : Bool) → flagged_count program lines has_end ≤ most_counted
+    → counted_last has_end (min (flagged_in program lines) most_counted) ≡ flagged_count program lines has_end
+counted_exactly program lines true few = counted_least 0 (flagged_in program lines) ∙ min-eq_left few
+counted_exactly program lines false few = counted_least 8 (flagged_in program lines) ∙ min-eq_left few
+
+-- ---- a placed line
+
+pub line_parts : (program : Program) (lines : List Numbered) (one : Numbered)
+    → content_writes (records_closed_by (pieces_in program.map lines) (pieces program.map (table_at program.map lines) one.given))
+    ++ (listing_writes program.map (table_at program.map lines) (letters_at program lines one) one.number one.given
+    ++ message_writes (letters_at program lines one) one.number one.given.live.line.text) ≡ line_writes program lines one
+unfolding line_writes
+line_parts program lines one = refl
+
+module _ (program : Program) (lines : List Numbered) (one : Numbered) (placed : PlacedLine) (put : Put) (contents : List PieceContent)
+    (is : IsPlaced program.map (table_at program.map lines) one.given placed put) (same : put.contents ≡ contents) where
+  pub pieces_so : pieces_from placed.section placed.place contents ≡ pieces program.map (table_at program.map lines) one.given
+  pieces_so =
+      let stood : Table = stands (table_at program.map lines) one.given in
+      let place : ℕ = put_place stood (deed one.given.is_own one.given.live.line.text) in
+      ap (λ (s : Name). pieces_from s placed.place contents) is.section_is
+      ∙ ap (λ (p : ℕ). pieces_from (section_name stood) p contents) is.place_is
+      ∙ ap (pieces_from (section_name stood) place) (sym same ∙ is.contents_are)
+
+  pub text_so : placed.live.line.text ≡ one.given.live.line.text
+  text_so = ap (λ (l : Live). l.line.text) is.is_live.live_is
+
+  pub letters_so : (transfer : Option Quantity) → transfer ≡ program.transfer
+      → bit_or (bits_of placed.letters) (end_in (transfer_letters transfer) (directed_in (deed_seen placed.live.deed)))
+      ≡ letters_at program lines one
+  letters_so transfer told =
+      let own : ℕ = all_letters program.map (table_at program.map lines) one.given in
+      ap (λ (l : ℕ). bit_or l (end_in (transfer_letters transfer) (directed_in (deed_seen placed.live.deed)))) is.letters_are
+      ∙ ap (λ (t : Option Quantity). bit_or own (end_in (transfer_letters t) (directed_in (deed_seen placed.live.deed)))) told
+      ∙ ap (λ (d : Deed). bit_or own (end_in (transfer_letters program.transfer) (directed_in d))) is.is_live.deed_is
+
+-- the lines of a line in the listing, with these letters and this number
+abbrev pub shown : Program → List Numbered → Numbered → ℕ → ℕ → List Write
+shown program lines one letters number = listing_writes program.map (table_at program.map lines) letters number one.given
+
+-- the writes of a line's parts, one after the other
+module _ (program : Program) (lines : List Numbered) (one : Numbered) (a b c : Outputs) where
+  abbrev pub texts : List Piece → List Write
+  texts ps = content_writes (records_closed_by (pieces_in program.map lines) ps)
+
+  abbrev pub rest : List Write
+  rest = shown program lines one (letters_at program lines one) one.number
+      ++ message_writes (letters_at program lines one) one.number one.given.live.line.text
+
+  abbrev pub here : List Piece
+  here = pieces program.map (table_at program.map lines) one.given
+
+  pub line_stops : (ps : List Piece) (stopped : AsmFault) → ps ≡ here → Gains a b (head_before program lines)
+      → Stops b c (texts ps) stopped
+      → Stops a c (head_before program lines ++ line_writes program lines one) stopped
+  line_stops ps stopped are head stops =
+      let P : List Write → Type 0 = λ ws. Stops a c (head_before program lines ++ ws) stopped in
+      let Q : List Piece → Type 0 = λ these. Stops b c (texts these) stopped in
+      subst P (line_parts program lines one)
+      (stops_after assembly a b c (head_before program lines) (texts here ++ rest) stopped head
+      (stops_before assembly b c (texts here) rest stopped (subst Q are stops)))
+
+  -- what comes after its texts
+  pub line_goes_on : {A : Type 0} (d : Outputs) (ps : List Piece) (letters number : ℕ) (text : Bytes) (result : Result A AsmFault) → ps ≡ here
+      → letters ≡ letters_at program lines one → number ≡ one.number → text ≡ one.given.live.line.text
+      → Gains a b (head_before program lines) → Gains b c (texts ps)
+      → Writes c d (shown program lines one letters number ++ message_writes letters number text) result
+      → Writes a d (head_before program lines ++ line_writes program lines one) result
+  line_goes_on d ps letters number text result are letters_are number_is text_is head put goes =
+      let P : List Write → Type 0 = λ ws. Writes a d (head_before program lines ++ ws) result in
+      let Q : List Piece → Type 0 = λ these. Gains b c (texts these) in
+      let own : ℕ = letters_at program lines one in
+      let of : ℕ → ℕ → Bytes → List Write = λ l n t. shown program lines one l n ++ message_writes l n t in
+      let same : of letters number text ≡ rest =
+      ap (λ (l : ℕ). of l number text) letters_are ∙ ap (λ (n : ℕ). of own n text) number_is ∙ ap (of own one.number) text_is in
+      subst P (line_parts program lines one)
+      (writes_then assembly a b d (head_before program lines) (texts here ++ rest) result head
+      (writes_then assembly b c d (texts here) rest result (subst Q are put) (writes_as c d _ _ result same goes)))
+
+-- what is kept after it
+module _ (program : Program) (lines : List Numbered) (one : Numbered) (old : Writing) (stands : WritingStands program lines old) where
+  some_more : (all : List Numbered) → true ≡ is_some_line (all ++ one ∷ [])
+  some_more [] = refl
+  some_more (line ∷ all) = refl
+
+  pub stands_more : (text : Option TextParts) (more : List Piece) (letters : ℕ)
+      → more ≡ pieces program.map (table_at program.map lines) one.given → letters ≡ letters_at program lines one
+      → IsOpenAfter (pieces_in program.map lines ++ more) text
+      → WritingStands program (lines ++ one ∷ [])
+      (record {
+        rows = old.rows;
+        transfer = old.transfer;
+        symbols = old.symbols;
+        sections = old.sections;
+        text = text;
+        has_begun = true;
+        flagged = counted letters old.flagged;
+      })
+  stands_more text more letters more_is letters_is opens = record {
+    rows = stands.rows;
+    transfer = stands.transfer;
+    symbols = stands.symbols;
+    sections = stands.sections;
+    text = subst (λ (ps : List Piece). IsOpenAfter ps text)
+        (ap (λ (ps : List Piece). pieces_in program.map lines ++ ps) more_is ∙ sym (pieces_more program.map lines one)) opens;
+    begun = some_more lines;
+    flagged = ap (counted letters) stands.flagged ∙ counted_least letters (flagged_in program lines)
+        ∙ ap (λ (l : ℕ). min (flagged_in program lines + (if is_flagged l then 1 else 0)) most_counted) letters_is
+        ∙ ap (λ (n : ℕ). min n most_counted) (sym (flagged_more program lines one));
+  }
+
+none_put : (program : Program) → pieces_in program.map [] ≡ []
+unfolding pieces_in
+none_put program = refl
+
+pub keeps_more : {E : Type 0} (program : Program) (lines : List Numbered) (one : Numbered) (old : Writing)
+    → WritingStands program lines old → (began put listed new : Writing) (more : List Piece) (letters : ℕ) (result : Result (Unit {0}) E)
+    → began ≡ begun old → put ≡ opened put.text began → listed ≡ put
+    → more ≡ pieces program.map (table_at program.map lines) one.given
+    → letters ≡ letters_at program lines one → IsOpenAfter (pieces_in program.map lines ++ more) put.text
+    → IfOk result (λ _. new ≡ record listed { flagged = counted letters listed.flagged })
+    → IfOk result (λ _. WritingStands program (lines ++ one ∷ []) new)
+keeps_more program lines one old stands began put listed new more letters (Err stopped) begins opens stays more_is letters_is open_after so = tt
+keeps_more program lines one old stands began put listed new more letters (Ok done) begins opens stays more_is letters_is open_after so =
+    let whole = so ∙ ap (λ (w : Writing). record w { flagged = counted letters w.flagged }) (stays ∙ opens ∙ ap (opened put.text) begins) in
+    subst (λ (w : Writing). WritingStands program (lines ++ one ∷ []) w) (sym whole)
+    (stands_more program lines one old stands put.text more letters more_is letters_is open_after)
+
+-- ---- the end
+
+-- the line that is added where there is no `.END`
+pub none_added : (read counter : ℕ) (has_end : Bool) → has_end ≡ true
+    → added_writes (record { read = read; has_end = has_end }) counter ≡ []
+none_added read counter has_end is = ap (λ (b : Bool). if b then [] else added_to_both letter_E read counter) is
+
+pub one_added : {A : Type 0} (a b : Outputs) (letters read counter : ℕ) (has_end : Bool) (result : Result A AsmFault) → has_end ≡ false
+    → letters ≡ letter_E → Writes a b (added_to_both letters read counter) result
+    → Writes a b (added_writes (record { read = read; has_end = has_end }) counter) result
+one_added a b letters read counter has_end result is are h =
+    writes_as a b (added_to_both letters read counter) (added_writes (record { read = read; has_end = has_end }) counter) result
+    (ap (λ n. added_to_both n read counter) are ∙ sym (ap (λ (b : Bool). if b then [] else added_to_both letter_E read counter) is)) h
+
+-- the symbol table by what is kept
+pub table_so : (writing : Writing) (symbols : List SymbolEntry) (sections : List SectionEntry) (count : ℕ)
+    → symbols ≡ writing.symbols → sections ≡ writing.sections → count ≡ writing.flagged
+    → all_to_listing (last_lines symbols sections count)
+    ≡ all_to_listing (last_lines writing.symbols writing.sections writing.flagged)
+table_so writing symbols sections count symbols_are sections_are counts =
+    ap (λ (y : List SymbolEntry). all_to_listing (last_lines y sections count)) symbols_are
+    ∙ ap (λ (s : List SectionEntry). all_to_listing (last_lines writing.symbols s count)) sections_are
+    ∙ ap (λ (n : ℕ). all_to_listing (last_lines writing.symbols writing.sections n)) counts
+
+-- the text that is open after all lines, and what closes all
+module _ (program : Program) (lines : List Numbered) (old begun_ new : Writing) (stands : WritingStands program lines old)
+    (has_end : Bool) (begins : begun_ ≡ begun old) (counts : new ≡ record begun_ { flagged = counted_last has_end begun_.flagged }) where
+  pub last_open : IsOpenAfter (pieces_in program.map lines) new.text
+  last_open =
+      subst (λ (t : Option TextParts). IsOpenAfter (pieces_in program.map lines) t)
+      (sym (ap (λ (w : Writing). w.text) counts ∙ ap (λ (w : Writing). w.text) begins)) stands.text
+
+  pub last_count : flagged_count program lines has_end ≤ most_counted → new.flagged ≡ flagged_count program lines has_end
+  last_count few =
+      ap (λ (w : Writing). w.flagged) counts ∙ ap (λ (w : Writing). counted_last has_end w.flagged) begins
+      ∙ ap (counted_last has_end) stands.flagged ∙ counted_exactly program lines has_end few
+
+  pub closes_so : flagged_count program lines has_end ≤ most_counted
+      → closing_writes (pieces_in program.map lines) new.symbols new.sections new.flagged
+      ≡ closing_writes (pieces_in program.map lines) program.symbols program.sections (flagged_count program lines has_end)
+  closes_so few =
+      let ps = pieces_in program.map lines in
+      ap (λ (y : List SymbolEntry). closing_writes ps y new.sections new.flagged)
+      (ap (λ (w : Writing). w.symbols) counts ∙ ap (λ (w : Writing). w.symbols) begins ∙ stands.symbols)
+      ∙ ap (λ (s : List SectionEntry). closing_writes ps program.symbols s new.flagged)
+      (ap (λ (w : Writing). w.sections) counts ∙ ap (λ (w : Writing). w.sections) begins ∙ stands.sections)
+      ∙ ap (λ (n : ℕ). closing_writes ps program.symbols program.sections n) (last_count few)
+
+-- ---- before the first line
+
+pub stands_first : (kept : Kept) (gathered : Gathered) (facts : Facts) (rows : List DirectoryRow) (transfer : Option Quantity)
+    (symbols : List SymbolEntry) (sections : List SectionEntry) (text : Option TextParts)
+    → rows ≡ directory_rows (directory_facts_in kept gathered facts) → transfer ≡ facts.transfer
+    → symbols ≡ symbol_entries (directory_facts_in kept gathered facts) (all_names gathered)
+    → sections ≡ section_entries (directory_facts_in kept gathered facts) → IsOpenAfter [] text
+    → WritingStands (program_kept kept gathered facts) [] (record {
+      rows = rows;
+      transfer = transfer;
+      symbols = symbols;
+      sections = sections;
+      text = text;
+      has_begun = false;
+      flagged = 0;
+    })
+unfolding program_kept
+stands_first kept gathered facts rows transfer symbols sections text rows_are told symbols_are sections_are opens =
+    let program = program_kept kept gathered facts in
+    record {
+      rows = rows_are;
+      transfer = told;
+      symbols = symbols_are;
+      sections = sections_are;
+      text = subst (λ (ps : List Piece). IsOpenAfter ps text) (sym (none_put program)) opens;
+      begun = refl;
+      flagged = sym (ap (λ (n : ℕ). min n most_counted) (none_flagged program));
+    }

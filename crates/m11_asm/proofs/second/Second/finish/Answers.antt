@@ -1,0 +1,18 @@
+use Rattle.std.proofs.Common.{◌∙◌, ap, subst}
+use Rattle.m11_asm_outputs.specs.Outputs.{Outputs, outputs_of}
+use Rattle.m11_placement.specs.Tables.{Table, place}
+use Rattle.m11_asm.specs.Second.{SecondEnds, SecondStands, SecondState}
+use Rattle.m11_asm.proofs.Finishing.{few_flagged, place_is, second_finishes}
+use Rattle.m11_asm.proofs.second.Second.finish.Goals as goal
+
+pub returns-clause-ends : goal.returns-clause-ends
+returns-clause-ends g c = λ program source first.
+    let before : Outputs = outputs_of g.S.Sink g.T.Sink g.U.Sink c.args.object.now c.args.listing.now c.args.messages.now in
+    let now : Outputs = outputs_of g.S.Sink g.T.Sink g.U.Sink c.end.new.object c.end.new.listing c.end.new.messages in
+    let P : SecondState → Type 0 = λ s. SecondStands program source first before s → SecondEnds program source first now s c.end.result in
+    subst P c.self.view_is (λ stands.
+    second_finishes program source first before _ stands now c.end.result
+    (c.end.ensures.writes program stands.lines stands.taken.keeps
+    (c.place-place.ensures ∙ ap (λ (t : Table). place t) c.table.ensures ∙ place_is program source first before _ stands)
+    (few_flagged program source first before _ stands))
+    (c.end.ensures.counts program stands.lines stands.taken.keeps (few_flagged program source first before _ stands)))

@@ -1,0 +1,24 @@
+use Rattle.std.proofs.Common.{◌∙◌, List, ◌++◌, ap}
+use Rattle.m11_base.specs.Rad50.{Name}
+use Rattle.m11_directory.specs.FirstPass.{DirectoryFacts, directory_facts}
+use Rattle.m11_directory.specs.Rows.{directory_rows}
+use Rattle.m11_symbols.specs.Sections.{section_entries}
+use Rattle.m11_symbols.specs.Symbols.{symbol_entries}
+use Rattle.m11_asm.specs.Program.{all_names}
+use Rattle.m11_asm.proofs.Putting.{stands_first}
+use Rattle.m11_asm.proofs.writing.Writing.new.Goals as goal
+
+pub returns : goal.returns
+returns c =
+    let kept = c.args.first.now in
+    let gathered = c.args.mentioned.now in
+    let facts = c.args.facts.now in
+    stands_first kept gathered facts _ _ _ _ _
+    (c.in_ok-directory_rows.ensures ∙ ap (λ (t : DirectoryFacts). directory_rows t) c.first_pass_of-first_pass.ensures.facts)
+    c.transfer.ensures
+    (c.in_ok-symbol_entries.ensures
+    ∙ ap (λ (names : List Name). symbol_entries (directory_facts c.first_pass_of-first_pass.result) (names ++ c.registers.result.now.keys)) c.names.ensures
+    ∙ ap (λ (names : List Name). symbol_entries (directory_facts c.first_pass_of-first_pass.result) (gathered.names ++ names)) c.registers.ensures
+    ∙ ap (λ (t : DirectoryFacts). symbol_entries t (all_names gathered)) c.first_pass_of-first_pass.ensures.facts)
+    (c.in_ok-section_entries.ensures ∙ ap (λ (t : DirectoryFacts). section_entries t) c.first_pass_of-first_pass.ensures.facts)
+    c.open_text.ensures

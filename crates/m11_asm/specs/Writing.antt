@@ -1,0 +1,53 @@
+-- What is kept of what was written. (This project's own.)
+use Rattle.std.specs.Prelude.{◌≡◌, ℕ, ◌+◌, min, Bool, true, false, if◌then◌else◌, List, [], ◌∷◌, Option}
+use Rattle.m11_listing.specs.declared.symbol_table.SectionEntry.{SectionEntry}
+use Rattle.m11_listing.specs.declared.symbol_table.SymbolEntry.{SymbolEntry}
+use Rattle.m11_object_text.specs.Texts.{TextParts}
+use Rattle.m11_object_text.specs.declared.directory.DirectoryRow.{DirectoryRow}
+use Rattle.m11_values.specs.Quantities.{Quantity}
+use Rattle.m11_asm_outputs.specs.Object.{IsOpenAfter}
+use Rattle.m11_passes.specs.Lines.{Numbered}
+use Rattle.m11_asm.specs.Program.{Program}
+use Rattle.m11_asm.specs.Written.{flagged_in, is_flagged, letter_E, pieces_in}
+
+-- the rows, the value and the entries of the symbol table that the first pass found, the text that is open, whether the head is written,
+-- and the count of flagged lines
+pub record Writing : Type 0 where
+  pub rows : List DirectoryRow
+  pub transfer : Option Quantity
+  pub symbols : List SymbolEntry
+  pub sections : List SectionEntry
+  pub text : Option TextParts
+  pub has_begun : Bool
+  pub flagged : ℕ
+
+abbrev pub begun : Writing → Writing
+begun writing = record writing { has_begun = true }
+
+abbrev pub opened : Option TextParts → Writing → Writing
+opened text writing = record writing { text = text }
+
+-- the count goes up to 4294967295
+abbrev pub most_counted : ℕ
+most_counted = 4294967295
+
+abbrev pub counted : ℕ → ℕ → ℕ
+counted letters count = if is_flagged letters then min (count + 1) most_counted else count
+
+-- the line that is added where there is no `.END` is flagged
+abbrev pub counted_last : Bool → ℕ → ℕ
+counted_last has_end count = if has_end then count else counted letter_E count
+
+abbrev pub is_some_line : List Numbered → Bool
+is_some_line [] = false
+is_some_line (line ∷ lines) = true
+
+-- it is what is kept after these lines
+pub record WritingStands (program : Program) (lines : List Numbered) (writing : Writing) : Type 0 where
+  pub rows : writing.rows ≡ program.rows
+  pub transfer : writing.transfer ≡ program.transfer
+  pub symbols : writing.symbols ≡ program.symbols
+  pub sections : writing.sections ≡ program.sections
+  pub text : IsOpenAfter (pieces_in program.map lines) writing.text
+  pub begun : writing.has_begun ≡ is_some_line lines
+  pub flagged : writing.flagged ≡ min (flagged_in program lines) most_counted

@@ -1,0 +1,132 @@
+-- What an assembly writes, line by line: the object's texts as far as they are closed, the lines of the listing, and the messages of
+-- flagged lines; and what it writes in the end. (RT-11 Volume and File Formats Manual, "Object file format"; MACRO-11 Language Reference
+-- Manual, "Listing control directives", "Table of contents and symbol table", "Diagnostic error message summary" and ".END directive". The
+-- order of the three outputs, and that a source without `.END` has an empty line added which is flagged E, are this project's own.)
+use Rattle.std.specs.Prelude.{ℕ, ◌+◌, ◌==◌, not, Bool, if◌then◌else◌, List, [], ◌∷◌, ◌++◌, count_by}
+use Rattle.std.specs.Int.RustNames.{bit_or}
+use Rattle.std.specs.List.{flat_map}
+use Rattle.m11_base.specs.Devices.{Bytes}
+use Rattle.m11_listed.specs.Listed.{added_lines, all_to_listing, listing_writes}
+use Rattle.m11_listing.specs.Messages.{count_line, message_line}
+use Rattle.m11_listing.specs.SymbolTable.{last_lines}
+use Rattle.m11_listing.specs.declared.symbol_table.SectionEntry.{SectionEntry}
+use Rattle.m11_listing.specs.declared.symbol_table.SymbolEntry.{SymbolEntry}
+use Rattle.m11_obj.specs.Records.{EndOfModule}
+use Rattle.m11_object_text.specs.declared.pieces.Piece.{Piece}
+use Rattle.m11_scan.specs.Letters.{letters_text}
+use Rattle.m11_unfolding.specs.Unfolding.{Given}
+use Rattle.m11_placement.specs.Exports.{transfer_letters}
+use Rattle.m11_placement.specs.Lines.{pieces}
+use Rattle.m11_placement.specs.Meanings.{Map}
+use Rattle.m11_placement.specs.Placements.{Placed, placement}
+use Rattle.m11_placement.specs.Sources.{directed, end_in}
+use Rattle.m11_placement.specs.Tables.{Table, place}
+use Rattle.m11_asm_outputs.specs.Object.{content_writes, head_contents, last_records, records_closed_by}
+use Rattle.m11_asm_outputs.specs.Outputs.{Write, to_messages}
+use Rattle.m11_passes.specs.Lines.{Numbered, givens, table_at}
+use Rattle.m11_passes.specs.Placed.{all_letters}
+use Rattle.m11_asm.specs.Program.{Program}
+
+-- ---- messages
+
+-- the letters that a line reports: its own, and at `.END` those of the expression as the first pass found it
+abbrev pub reported_letters : Program → Table → Given → ℕ
+reported_letters program table given =
+    bit_or (all_letters program.map table given) (end_in (transfer_letters program.transfer) (directed given))
+
+-- the set of the letter E
+abbrev pub letter_E : ℕ
+letter_E = 0o10
+
+abbrev pub is_flagged : ℕ → Bool
+is_flagged letters = not (letters == 0)
+
+-- a flagged line is reported
+abbrev pub message_writes : ℕ → ℕ → Bytes → List Write
+message_writes letters number text =
+    if is_flagged letters then to_messages (message_line (letters_text letters) number text) ∷ [] else []
+
+-- ---- pieces
+
+abbrev pub pieces_of : Placed → List Piece
+pieces_of line = line.pieces
+
+-- those of some lines, one after the other
+unfoldable pub pieces_in : Map → List Numbered → List Piece
+pieces_in map lines = flat_map pieces_of (placement map (givens lines))
+
+-- ---- a line, after those before it
+
+-- the head is written before what the first line writes, or else at the end
+abbrev pub head_before : Program → List Numbered → List Write
+head_before program [] = content_writes (head_contents program.rows)
+head_before program (line ∷ lines) = []
+
+-- the letters of a line
+abbrev pub letters_at : Program → List Numbered → Numbered → ℕ
+letters_at program before line = reported_letters program (table_at program.map before) line.given
+
+-- the texts that its pieces close, then its lines in the listing, and then its message
+unfoldable pub line_writes : Program → List Numbered → Numbered → List Write
+line_writes program before line =
+    content_writes (records_closed_by (pieces_in program.map before) (pieces program.map (table_at program.map before) line.given))
+    ++ (listing_writes program.map (table_at program.map before) (letters_at program before line) line.number line.given
+    ++ message_writes (letters_at program before line) line.number line.given.live.line.text)
+
+abbrev pub written_after : Program → List Numbered → List Numbered → List Write
+written_after program before [] = []
+written_after program before (line ∷ lines) =
+    (head_before program before ++ line_writes program before line) ++ written_after program (before ++ line ∷ []) lines
+
+-- what some lines write, from the first one on
+unfoldable pub written : Program → List Numbered → List Write
+written program lines = written_after program [] lines
+
+-- the letters of some lines
+abbrev pub letters_after : Program → List Numbered → List Numbered → List ℕ
+letters_after program before [] = []
+letters_after program before (line ∷ lines) = letters_at program before line ∷ letters_after program (before ++ line ∷ []) lines
+
+-- how many of them are flagged
+unfoldable pub flagged_in : Program → List Numbered → ℕ
+flagged_in program lines = count_by is_flagged (letters_after program [] lines)
+
+-- ---- the end
+
+-- after how many lines of the source were read, and whether `.END` became live
+pub record Ended : Type 0 where
+  pub read : ℕ
+  pub has_end : Bool
+
+-- how many lines are flagged, with the one that is added
+abbrev pub flagged_count : Program → List Numbered → Bool → ℕ
+flagged_count program lines has_end = flagged_in program lines + (if has_end then 0 else 1)
+
+-- an empty line with letters: a line of the listing, with the counter, and a message
+abbrev pub added_to_both : ℕ → ℕ → ℕ → List Write
+added_to_both letters read counter = all_to_listing (added_lines letters read counter) ++ message_writes letters read []
+
+-- where there is no `.END`, an empty line is added, which is flagged E
+abbrev pub added_writes : Ended → ℕ → List Write
+added_writes ended counter = if ended.has_end then [] else added_to_both letter_E ended.read counter
+
+-- the last text and the end of the module; the symbol table; the count of flagged lines
+abbrev pub closing_writes : List Piece → List SymbolEntry → List SectionEntry → ℕ → List Write
+closing_writes pieces symbols sections count =
+    content_writes (last_records pieces ++ EndOfModule ∷ [])
+    ++ (all_to_listing (last_lines symbols sections count) ++ to_messages (count_line count) ∷ [])
+
+-- where the location counter stands after some lines
+abbrev pub last_place : Program → List Numbered → ℕ
+last_place program lines = place (table_at program.map lines)
+
+-- the head, if no line became live; the line that is added, where the counter stands; and what closes all
+abbrev pub last_writes : Program → List Numbered → Ended → List Write
+last_writes program lines ended =
+    head_before program lines
+    ++ (added_writes ended (last_place program lines)
+    ++ closing_writes (pieces_in program.map lines) program.symbols program.sections (flagged_count program lines ended.has_end))
+
+-- all that the lines of a source write
+abbrev pub program_writes : Program → List Numbered → Ended → List Write
+program_writes program lines ended = written program lines ++ last_writes program lines ended

@@ -1,0 +1,57 @@
+//! The first pass: what the sources give their names.
+
+ghost use Rattle.std.specs.Prelude.{[]};
+ghost use Rattle.m11_asm.specs.FirstReading.{EndsWith, GivesSymbols, TakesLines};
+ghost use Rattle.m11_asm.specs.Passes.{pass_of};
+ghost use Rattle.m11_first.specs.First.{FirstStands};
+
+use crate::faults::of_pass;
+use m11_asm_outputs::AsmFault;
+use m11_base::Feed;
+use m11_first::{First, Symbols};
+use m11_lines::LineReader;
+use std::alloc::Global;
+
+/// Reads the sources up to the line in which `.END` becomes live, or to the end of the last one.
+pub fn read_first<F: Feed>(alloc: Global, feeds: &mut [F]) -> Result<Symbols, AsmFault>
+    ensures { GivesSymbols (pass_of F.text F.faults feeds.old feeds.new) result }
+{
+    let mut first = First::new(alloc)?;
+    match take_lines(feeds, &mut first) {
+        Ok(()) => end(first),
+        Err(fault) => {
+            // by a call, which is proved sooner
+            drop(first);
+            Err(fault)
+        }
+    }
+}
+
+fn end(first: First) -> Result<Symbols, AsmFault>
+    ensures { EndsWith first result }
+{
+    match first.end() {
+        Ok(symbols) => Ok(symbols),
+        Err(fault) => Err(of_pass(fault)),
+    }
+}
+
+// The lines of the sources, one after the other.
+fn take_lines<F: Feed>(feeds: &mut [F], first: &mut First) -> Result<(), AsmFault>
+    ensures { FirstStands [] first.old → TakesLines (pass_of F.text F.faults feeds.old feeds.new) first.new result }
+{
+    let mut reader = LineReader::new();
+    'lines: loop {
+        if first.has_ended() {
+            return Ok(());
+        }
+        match reader.next(feeds) {
+            Ok(true) => match first.line(reader.line()) {
+                Ok(()) => {}
+                Err(fault) => return Err(of_pass(fault)),
+            },
+            Ok(false) => return Ok(()),
+            Err(fault) => return Err(AsmFault::from(fault)),
+        }
+    }
+}

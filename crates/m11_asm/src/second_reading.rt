@@ -1,0 +1,69 @@
+//! The second pass: what the lines of the sources write.
+
+ghost use Rattle.std.specs.Prelude.{[]};
+ghost use Rattle.m11_asm.specs.Passes.{ReadsSecond, pass_of};
+ghost use Rattle.m11_asm.specs.SecondReading.{PutsLines};
+ghost use Rattle.m11_asm_outputs.specs.Outputs.{Outputs, outputs_of};
+ghost use Rattle.m11_asm.specs.Program.{Program, program_in};
+ghost use Rattle.m11_asm.specs.Second.{SecondStands};
+
+use crate::done::AsmDone;
+use crate::second::Second;
+use m11_asm_outputs::AsmFault;
+use m11_base::{Feed, Sink};
+use m11_first::Symbols;
+use m11_lines::LineReader;
+use std::alloc::Global;
+
+/// Reads the sources again, up to the line in which `.END` becomes live or to the end of the last one, and writes what they give.
+pub fn read_second<F: Feed, S: Sink, T: Sink, U: Sink>(
+    alloc: Global,
+    feeds: &mut [F],
+    symbols: Symbols,
+    object: &mut S,
+    listing: &mut Option<T>,
+    messages: &mut U,
+) -> Result<AsmDone, AsmFault>
+    ensures { ReadsSecond (pass_of F.text F.faults feeds.old feeds.new) (program_in symbols)
+        (outputs_of S.Sink T.Sink U.Sink object.old listing.old messages.old)
+        (outputs_of S.Sink T.Sink U.Sink object.new listing.new messages.new) result }
+{
+    let mut second = Second::new(alloc, symbols)?;
+    match put_lines(feeds, &mut second, object, listing, messages) {
+        Ok(()) => second.end(object, listing, messages),
+        Err(fault) => {
+            // by a call, which is proved sooner
+            drop(second);
+            Err(fault)
+        }
+    }
+}
+
+// The lines of the sources, one after the other.
+fn put_lines<F: Feed, S: Sink, T: Sink, U: Sink>(
+    feeds: &mut [F],
+    second: &mut Second,
+    object: &mut S,
+    listing: &mut Option<T>,
+    messages: &mut U,
+) -> Result<(), AsmFault>
+    ensures { (program : Program) (old : Outputs)
+        → SecondStands program [] old (outputs_of S.Sink T.Sink U.Sink object.old listing.old messages.old) second.old
+        → PutsLines (pass_of F.text F.faults feeds.old feeds.new) program old
+        (outputs_of S.Sink T.Sink U.Sink object.new listing.new messages.new) second.new result }
+{
+    let mut reader = LineReader::new();
+    'lines: loop {
+        if second.has_ended() {
+            return Ok(());
+        }
+        match reader.next(feeds) {
+            Ok(true) => match second.line(reader.line(), object, listing, messages) {
+                Ok(()) => {}
+                Err(fault) => return Err(fault),
+            },
+            Ok(false) => return Ok(()),
+            Err(fault) => return Err(AsmFault::from(fault)),
+        }
+    }
+}

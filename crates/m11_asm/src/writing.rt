@@ -1,0 +1,327 @@
+//! Writes what placed lines give, one after the other, and what stands after them. (RT-11 Volume and File Formats Manual, "Object file
+//! format"; MACRO-11 Language Reference Manual, "Listing control directives", "Table of contents and symbol table", "Diagnostic error
+//! message summary" and ".END directive".)
+
+ghost use Rattle.std.specs.Prelude.{◌≡◌, ◌≤◌, ◌++◌, ◌∷◌, [], List, IfOk, length, option_map};
+ghost use Rattle.m11_asm_outputs.specs.Object.{IsOpenAfter, content_writes, records_closed_by};
+ghost use Rattle.m11_asm_outputs.specs.Outputs.{Writes, outputs, outputs_of};
+ghost use Rattle.m11_directory.specs.FirstPass.{directory_facts};
+ghost use Rattle.m11_listed.specs.Listed.{listing_writes};
+ghost use Rattle.m11_object_text.specs.declared.pieces.Piece.{Piece};
+ghost use Rattle.m11_passes.specs.Lines.{Numbered, table_at};
+ghost use Rattle.m11_passes.specs.Placed.{IsPlaced};
+ghost use Rattle.m11_placement.specs.Contents.{Put, pieces_from};
+ghost use Rattle.m11_placement.specs.Exports as exports;
+ghost use Rattle.m11_placement.specs.Limits.{most_sections};
+ghost use Rattle.m11_placement.specs.Meanings.{Map};
+ghost use Rattle.m11_placement.specs.Sources.{directed_in, end_in};
+ghost use Rattle.m11_placement.specs.Tables.{Table};
+ghost use Rattle.m11_placing.specs.Deeds.{deed_seen};
+ghost use Rattle.m11_scan.specs.Views.{bits_of};
+ghost use Rattle.m11_asm.specs.Program.{Program, program_kept, directory_facts_in};
+ghost use Rattle.m11_asm.specs.Writing.{WritingStands, begun, counted, counted_last, most_counted, opened};
+ghost use Rattle.m11_asm.specs.Written.{added_writes, closing_writes, flagged_count, head_before, last_place, last_writes, line_writes, message_writes};
+ghost use Rattle.m11_unfolding.specs.Unfolding.{Given};
+ghost use Rattle.m11_values.specs.Quantities.{quantity};
+ghost use Rattle.m11_writes.specs.Outputs.{Output, optional_output, output_of};
+
+use crate::done::AsmDone;
+use bitflags::Flags;
+use m11_asm_outputs::{
+    AsmFault, open_text, put_count, put_flagged, put_head, put_last, put_pieces,
+};
+use m11_base::Sink;
+use m11_directory::{FirstPass, directory_rows};
+use m11_first::Facts;
+use m11_listed::{put_listed, put_placed, put_symbol_table};
+use m11_listing::{Item, SectionEntry, SymbolEntry};
+use m11_object_text::{DirectoryRow, OpenText, PieceContent};
+use m11_operators::transfer_letters;
+use m11_passes::PlacedLine;
+use m11_placement::{Directive, Operator};
+use m11_placing::{Deed, Mentioned, Pass};
+use m11_scan::Letters;
+use m11_symbols::{section_entries, symbol_entries};
+use m11_values::Value;
+use std::alloc::{AllocError, Global};
+use std::marker::Model;
+use std::mem;
+
+/// What is kept of what was written.
+#[derive(Drop)]
+pub struct Writing {
+    alloc: Global,
+    // What the first pass found: the rows of the directory, where the program begins, and the entries of the symbol table.
+    rows: Vec<DirectoryRow>,
+    transfer: Option<Value>,
+    symbols: Vec<SymbolEntry>,
+    sections: Vec<SectionEntry>,
+    // Room for what the listing shows of a line.
+    items: Vec<Item>,
+    // The text that is open.
+    text: OpenText,
+    // Whether the head of the object is written.
+    has_begun: bool,
+    // How many lines are flagged.
+    flagged: u32,
+}
+
+impl Model for Writing {
+    ghost use Rattle.std.specs.Prelude.{option_map};
+    ghost use Rattle.m11_asm.specs.Writing as spec;
+    ghost use Rattle.m11_values.specs.Quantities.{quantity};
+
+    ghost Value = { spec.Writing };
+
+    ghost view = { λ w. record {
+      rows = w.rows.items;
+      transfer = option_map quantity w.transfer;
+      symbols = w.symbols.items;
+      sections = w.sections.items;
+      text = w.text;
+      has_begun = w.has_begun;
+      flagged = w.flagged;
+    } };
+}
+
+impl Writing {
+    /// Before the first line, after what a first pass gives. Error: memory may be refused.
+    pub fn new(
+        alloc: Global,
+        first: &Pass,
+        mentioned: &Mentioned,
+        facts: &Facts,
+    ) -> Result<Writing, AllocError>
+        requires { length first.now.table.sections ≤ most_sections }
+        ensures { IfOk result (λ writing. WritingStands (program_kept first.now mentioned.now facts.now) [] writing) }
+    {
+        let first_pass = first_pass_of(first, mentioned, facts);
+        Ok(Writing {
+            alloc,
+            rows: directory_rows(alloc, &first_pass)?,
+            transfer: facts.transfer(),
+            symbols: symbol_entries(alloc, &first_pass, mentioned.names(), mentioned.registers())?,
+            sections: section_entries(alloc, &first_pass)?,
+            items: Vec::new(alloc),
+            text: open_text(),
+            has_begun: false,
+            flagged: 0,
+        })
+    }
+
+    /// What a placed line writes: the head of the object where it is the first, the texts that its pieces close, its lines in the listing,
+    /// and its message if it is flagged. The number is that of the source's line, and the contents are what the line puts.
+    ///
+    /// Errors: `Write` of an output, and `NoMemory` between two writes.
+    pub fn put_line<S: Sink, T: Sink, U: Sink>(
+        &mut self,
+        line: &PlacedLine,
+        number: u16,
+        contents: &[PieceContent],
+        object: &mut S,
+        listing: &mut Option<T>,
+        messages: &mut U,
+    ) -> Result<(), AsmFault>
+        ensures writes { (program : Program) (lines : List Numbered) (one : Numbered) (put : Put)
+            → WritingStands program lines self.old → IsPlaced program.map (table_at program.map lines) one.given line.now put
+            → put.contents ≡ contents.now → number ≡ one.number → Writes
+            (outputs_of S.Sink T.Sink U.Sink object.old listing.old messages.old)
+            (outputs_of S.Sink T.Sink U.Sink object.new listing.new messages.new)
+            (head_before program lines ++ line_writes program lines one) result }
+        ensures stands { (program : Program) (lines : List Numbered) (one : Numbered) (put : Put)
+            → WritingStands program lines self.old → IsPlaced program.map (table_at program.map lines) one.given line.now put
+            → put.contents ≡ contents.now → number ≡ one.number → IfOk result (λ _. WritingStands program (lines ++ one ∷ []) self.new) }
+    {
+        self.begin(object)?;
+        self.put_pieces(line, contents, object)?;
+        let letters = line
+            .letters
+            .with(end_letters(&line.live.deed, self.transfer));
+        self.list(line, letters, number, contents, listing)?;
+        self.report(letters, number, line.live.line.text(), messages)
+    }
+
+    // The head of the object, where it isn't written.
+    fn begin<S: Sink>(&mut self, object: &mut S) -> Result<(), AsmFault>
+        ensures writes { (program : Program) (lines : List Numbered) (listing messages : Output)
+            → WritingStands program lines self.old → Writes
+            (outputs (output_of S.Sink object.old) listing messages)
+            (outputs (output_of S.Sink object.new) listing messages) (head_before program lines) result }
+        ensures begins { IfOk result (λ _. self.new ≡ begun self.old) }
+    {
+        if self.has_begun {
+            return Ok(());
+        }
+        put_head(self.alloc, object, self.rows.as_slice())?;
+        self.has_begun = true;
+        Ok(())
+    }
+
+    // The texts that the pieces of a line close.
+    fn put_pieces<S: Sink>(
+        &mut self,
+        line: &PlacedLine,
+        contents: &[PieceContent],
+        object: &mut S,
+    ) -> Result<(), AsmFault>
+        ensures writes { (before : List Piece) → IsOpenAfter before self.old.text → (listing messages : Output) → Writes
+            (outputs (output_of S.Sink object.old) listing messages)
+            (outputs (output_of S.Sink object.new) listing messages)
+            (content_writes (records_closed_by before (pieces_from line.now.section line.now.place contents.now))) result }
+        ensures opens { IfOk result (λ _. self.new ≡ opened self.new.text self.old) }
+        ensures stands { (before : List Piece) → IsOpenAfter before self.old.text → IfOk result (λ _. IsOpenAfter
+            (before ++ pieces_from line.now.section line.now.place contents.now) self.new.text) }
+    {
+        put_pieces(
+            self.alloc,
+            object,
+            &mut self.text,
+            line.section,
+            line.place,
+            contents,
+        )
+    }
+
+    // The lines of a placed line in the listing.
+    fn list<T: Sink>(
+        &mut self,
+        line: &PlacedLine,
+        letters: Letters,
+        number: u16,
+        contents: &[PieceContent],
+        listing: &mut Option<T>,
+    ) -> Result<(), AsmFault>
+        ensures writes { (map : Map) (table : Table) (given : Given) (put : Put) (object messages : Output)
+            → IsPlaced map table given line.now put → put.contents ≡ contents.now → Writes
+            (outputs object (optional_output T.Sink listing.old) messages)
+            (outputs object (optional_output T.Sink listing.new) messages)
+            (listing_writes map table (bits_of letters) number given) result }
+        ensures keeps { self.new ≡ self.old }
+    {
+        put_placed(&mut self.items, line, letters, number, contents, listing)
+    }
+
+    // A flagged line is reported.
+    fn report<U: Sink>(
+        &mut self,
+        letters: Letters,
+        number: u16,
+        text: &[u8],
+        messages: &mut U,
+    ) -> Result<(), AsmFault>
+        requires { length text.now ≤ 132 }
+        ensures writes { (object listing : Output) → Writes
+            (outputs object listing (output_of U.Sink messages.old))
+            (outputs object listing (output_of U.Sink messages.new))
+            (message_writes (bits_of letters) number text.now) result }
+        ensures counts { IfOk result (λ _. self.new
+            ≡ record self.old { flagged = counted (bits_of letters) self.old.flagged }) }
+    {
+        if letters.is_empty() {
+            return Ok(());
+        }
+        put_flagged(messages, letters, number, text)?;
+        self.flagged = self.flagged.saturating_add(1);
+        Ok(())
+    }
+
+    /// What stands after all lines: the head, if there was none; where `.END` didn't become live a line that is added; the last text and the
+    /// end of the module, the symbol table, and the count of flagged lines. `read` is the number of lines that were read, and `place` that
+    /// of the location counter after them.
+    ///
+    /// Errors: `Write` of an output, and `NoMemory` between two writes.
+    pub fn end<S: Sink, T: Sink, U: Sink>(
+        &mut self,
+        has_ended: bool,
+        read: u16,
+        place: u16,
+        object: &mut S,
+        listing: &mut Option<T>,
+        messages: &mut U,
+    ) -> Result<AsmDone, AsmFault>
+        ensures writes { (program : Program) (lines : List Numbered) → WritingStands program lines self.old
+            → place ≡ last_place program lines → flagged_count program lines has_ended ≤ most_counted → Writes
+            (outputs_of S.Sink T.Sink U.Sink object.old listing.old messages.old)
+            (outputs_of S.Sink T.Sink U.Sink object.new listing.new messages.new)
+            (last_writes program lines (record { read = read; has_end = has_ended })) result }
+        ensures counts { (program : Program) (lines : List Numbered) → WritingStands program lines self.old
+            → flagged_count program lines has_ended ≤ most_counted
+            → IfOk result (λ done. done.flagged ≡ flagged_count program lines has_ended) }
+    {
+        self.begin(object)?;
+        self.add_line(has_ended, read, place, listing, messages)?;
+        self.close(object, listing, messages)
+    }
+
+    // The line that is added where `.END` didn't become live: an empty one, flagged E, in the listing and in the messages.
+    fn add_line<T: Sink, U: Sink>(
+        &mut self,
+        has_ended: bool,
+        read: u16,
+        place: u16,
+        listing: &mut Option<T>,
+        messages: &mut U,
+    ) -> Result<(), AsmFault>
+        ensures writes { (object : Output) → Writes
+            (outputs object (optional_output T.Sink listing.old) (output_of U.Sink messages.old))
+            (outputs object (optional_output T.Sink listing.new) (output_of U.Sink messages.new))
+            (added_writes (record { read = read; has_end = has_ended }) place) result }
+        ensures counts { IfOk result (λ _. self.new ≡ record self.old { flagged = counted_last has_ended self.old.flagged }) }
+    {
+        if has_ended {
+            return Ok(());
+        }
+        put_listed(listing, Letters::E, read, place, place, &[], &[])?;
+        self.report(Letters::E, read, &[], messages)
+    }
+
+    // The last text and the end of the module, the symbol table, and the count.
+    fn close<S: Sink, T: Sink, U: Sink>(
+        &mut self,
+        object: &mut S,
+        listing: &mut Option<T>,
+        messages: &mut U,
+    ) -> Result<AsmDone, AsmFault>
+        ensures writes { (pieces : List Piece) → IsOpenAfter pieces self.old.text → Writes
+            (outputs_of S.Sink T.Sink U.Sink object.old listing.old messages.old)
+            (outputs_of S.Sink T.Sink U.Sink object.new listing.new messages.new)
+            (closing_writes pieces self.old.symbols self.old.sections self.old.flagged) result }
+        ensures counts { IfOk result (λ done. done.flagged ≡ self.old.flagged) }
+    {
+        let text = mem::replace(&mut self.text, open_text());
+        put_last(self.alloc, object, text)?;
+        let symbols = self.symbols.as_slice();
+        put_symbol_table(listing, symbols, self.sections.as_slice(), self.flagged)?;
+        put_count(messages, self.flagged)?;
+        Ok(AsmDone {
+            flagged: self.flagged,
+        })
+    }
+}
+
+// What a first pass found of the directory and of the symbol table.
+fn first_pass_of<'a>(first: &'a Pass, mentioned: &'a Mentioned, facts: &'a Facts) -> FirstPass<'a>
+    ensures table { result.table.now ≡ first.now.table }
+    ensures facts { directory_facts result ≡ directory_facts_in first.now mentioned.now facts.now }
+{
+    FirstPass {
+        table: first.table(),
+        sizes: first.sizes(),
+        referred: mentioned.referred(),
+        weak: facts.weak(),
+        title: facts.title(),
+        identification: facts.identification(),
+        transfer: facts.transfer(),
+    }
+}
+
+// At a `.END` the letters of its expression, as the first pass found it.
+fn end_letters(deed: &Deed, transfer: Option<Value>) -> Letters
+    ensures { bits_of result
+        ≡ end_in (exports.transfer_letters (option_map quantity transfer)) (directed_in (deed_seen deed.now)) }
+{
+    match *deed {
+        Deed::Operates(Operator::Directs(Directive::End), _) => transfer_letters(transfer),
+        _ => Letters::none(),
+    }
+}

@@ -1,8 +1,0 @@
-use Rattle.m11_contents.proofs.Stepping.{byte_on}
-use Rattle.m11_contents.proofs.storage.put_element_byte.Goals as goal
-
-pub returns : goal.returns
-returns c =
-    byte_on c.args.setting.now.map c.args.setting.now.table c.args.setting.now.line c.args.put.now
-    c.put_byte.new.put c.args.place c.further.result c.args.start _ c.element_value-value.ensures
-    c.in_ok-put_byte.ensures c.further.ensures

@@ -1,6 +1,0 @@
-mod Among
-mod Asking
-mod Coding
-mod Differing
-mod Named
-mod Rows

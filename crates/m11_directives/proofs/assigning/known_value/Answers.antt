@@ -1,8 +1,0 @@
-use Rattle.m11_placement.specs.declared.meanings.Context.TheVariants.{Knows}
-use Rattle.m11_directives.proofs.Asking.{known}
-use Rattle.m11_directives.proofs.assigning.known_value.Goals as goal
-
-pub returns : goal.returns
-returns c =
-    known c.new-names.result c.args.map.now Knows c.args.table.now _ c.args.line.now.text c.args.start _ c.value_at.ensures
-    c.new-names.ensures c.place.ensures

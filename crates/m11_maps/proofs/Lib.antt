@@ -1,2 +1,0 @@
-pub mod LiveLines
-pub mod MapsAlike

@@ -1,0 +1,21 @@
+use Rattle.std.proofs.Common.{◌≡◌, IfOk, subst, sym, ap, ◌∙◌}
+use Rattle.m11_arguments.specs.Expressions.{value_at}
+use Rattle.m11_operators.specs.Settings.{Standpoint, setting_of}
+use Rattle.m11_placement.specs.Contents.{Put, byte, followed_by}
+use Rattle.m11_placement.specs.Strings.{part_bytes}
+use Rattle.m11_statements.specs.declared.parts.PartKind.{PartKind}
+use Rattle.m11_values.specs.Quantities.{Quantity}
+use Rattle.m11_operators.proofs.ascii.put_part_bytes.Goals as goal
+
+pub returns-in-Expression : goal.returns-in-Expression
+returns-in-Expression c =
+    let here = c.args.setting.now in
+    let done = c.args.put.now in
+    let P : Put → Type 0 = λ p. IfOk c.put_byte.result (λ x. c.put_byte.new.put ≡ p) in
+    subst P
+    (ap (λ (q : Quantity). followed_by done (byte here.map.sections here.table c.args.place q))
+    (c.reference-value.ensures
+    ∙ ap (λ (s : Standpoint). value_at (setting_of s).refers s.line c.args.part.inside.start) c.at.ensures)
+    ∙ ap (λ (k : PartKind). followed_by done (part_bytes here.map here.table c.args.place here.line c.args.part k))
+    (sym c.in-Expression.is))
+    c.put_byte.ensures

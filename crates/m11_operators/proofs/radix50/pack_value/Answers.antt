@@ -1,0 +1,10 @@
+use Rattle.std.proofs.Common.{◌%◌, [], ◌∷◌}
+use Rattle.m11_placement.specs.Strings.{value_codes}
+use Rattle.m11_operators.proofs.Packs.{codes_after}
+use Rattle.m11_values.specs.Quantities.{quantity}
+use Rattle.m11_operators.proofs.radix50.pack_value.Goals as goal
+
+pub returns : goal.returns
+returns c =
+    codes_after c.with.result c.args.put.now c.add_letters.new.self c.with.new.put c.args.waiting (c.args.value.number % 64 ∷ [])
+    (value_codes (quantity c.args.value)).letters _ c.value_letters.ensures c.add_letters.ensures c.with.ensures

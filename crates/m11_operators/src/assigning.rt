@@ -1,0 +1,182 @@
+//! `name=e`, `name==e` and `.=e`. (MACRO-11 Language Reference Manual, "Direct assignment statements" and "Current location counter".)
+
+ghost use Rattle.std.specs.Prelude.{◌≡◌, ◌≤◌, length};
+ghost use Rattle.m11_arguments.specs.Expressions.{value_at};
+ghost use Rattle.m11_scan.specs.Views.{bits_of};
+ghost use Rattle.m11_values.specs.Quantities.{quantity};
+ghost use Rattle.m11_placement.specs.Assigning as spec;
+ghost use Rattle.m11_placement.specs.Meanings.{known_at};
+ghost use Rattle.m11_placement.specs.Tables.{place};
+ghost use Rattle.m11_placement.specs.declared.meanings.Context.TheVariants.{Knows};
+ghost use Rattle.m11_operators.specs.Changes.{change_seen};
+
+use crate::changes::{Change, Move};
+use m11_arguments::{has_token, value_at};
+use m11_base::Name;
+use m11_placement::{Context, Definition, Key, Standing};
+use m11_scan::{Letters, Line, expression_end, read_name};
+use m11_statements::Span;
+use m11_table::{FirmNames, Map, NamesAt, Table, register_letters};
+use m11_values::Value;
+
+/// What an assignment changes: its name, if it is one, is assigned the expression at a place.
+pub fn assignment(line: &Line, name: Span, is_global: bool, start: u8) -> Change
+    ensures { change_seen result ≡ spec.assignment line.now.text name is_global start }
+{
+    match target(line, name) {
+        Some(name) => Change::Assigns {
+            name,
+            is_global,
+            start,
+        },
+        None => Change::Keeps,
+    }
+}
+
+fn target(line: &Line, name: Span) -> Option<Name>
+    ensures { result ≡ spec.target line.now.text name }
+{
+    read_name(name.text(line))
+}
+
+/// The letters of an assignment: M for a label's name, U for a global one whose value is never known, those of the value, and Q for what
+/// stands after it.
+pub fn assignment_letters(
+    map: &Map<'_>,
+    table: &Table,
+    line: &Line,
+    name: Span,
+    start: usize,
+) -> Letters
+    requires { start ≤ length line.now.text }
+    ensures { bits_of result ≡ spec.assignment_letters map.now table.now line.now.text name start }
+{
+    let value = known_value(map, table, line, start);
+    let letters = value.letters.with(after_expression(line, start));
+    target_letters(map, table, target(line, name)).with(letters)
+}
+
+/// The value of the expression at a place, where a name that no line defines is unknown.
+pub fn known_value(map: &Map<'_>, table: &Table, line: &Line, start: usize) -> Value
+    requires { start ≤ length line.now.text }
+    ensures { quantity result ≡ value_at (known_at map.now Knows table.now (place table.now)) line.now.text start }
+{
+    let names = NamesAt::new(map, Context::Knows, table, table.place());
+    value_at(line, start, &names)
+}
+
+// Q for what stands after the expression at a place.
+fn after_expression(line: &Line, start: usize) -> Letters
+    requires { start ≤ length line.now.text }
+    ensures { bits_of result ≡ spec.after_expression line.now.text start }
+{
+    Letters::Q.when(has_token(line, expression_end(line, start)))
+}
+
+fn target_letters(map: &Map<'_>, table: &Table, name: Option<Name>) -> Letters
+    ensures { bits_of result ≡ spec.target_letters map.now table.now name }
+{
+    match name {
+        Some(name) => definition_letters(map, table, name),
+        None => Letters::none(),
+    }
+}
+
+/// The letters of a change that assigns a number.
+pub fn number_letters(map: &Map<'_>, table: &Table, change: &Change) -> Letters
+    ensures { bits_of result ≡ spec.number_letters map.now table.now (change_seen change.now) }
+{
+    match change {
+        Change::Numbers(name, _) => definition_letters(map, table, *name),
+        _ => Letters::none(),
+    }
+}
+
+// The letters of any definition of a name that isn't a label's.
+fn definition_letters(map: &Map<'_>, table: &Table, name: Name) -> Letters
+    ensures { bits_of result ≡ spec.definition_letters map.now table.now name }
+{
+    label_letters(table, name).with(global_letters(map, name))
+}
+
+// M for a label's name.
+fn label_letters(table: &Table, name: Name) -> Letters
+    ensures { bits_of result ≡ spec.label_letters table.now name }
+{
+    Letters::M.when(table.is_labelled(&Key::Named(name)))
+}
+
+// U for a name that is global, and whose value isn't known when the whole source was read.
+fn global_letters(map: &Map<'_>, name: Name) -> Letters
+    ensures { bits_of result ≡ spec.global_letters map.now name }
+{
+    let is_unknown = is_unknown(map.definition(&Key::Named(name)));
+    Letters::U.when(map.is_exported(name) && is_unknown)
+}
+
+fn is_unknown(definition: Option<Definition>) -> bool
+    ensures { result ≡ spec.is_unknown definition }
+{
+    match definition {
+        Some(definition) => is_unknown_as(definition.standing),
+        None => false,
+    }
+}
+
+fn is_unknown_as(standing: Standing) -> bool
+    ensures { result ≡ spec.is_unknown_as standing }
+{
+    match standing {
+        Standing::Known(_, _) => false,
+        Standing::Unknown => true,
+    }
+}
+
+/// What `.=` changes: the counter is set to a place of its section, and to no other.
+pub fn counter_change(table: &Table, line: &Line, start: usize) -> Change
+    requires { start ≤ length line.now.text }
+    ensures { change_seen result ≡ spec.counter_change table.now line.now.text start }
+{
+    let value = counter_value(table, line, start);
+    if table.is_here(value.kind) {
+        Change::Counts(Move::Goes(value.number))
+    } else {
+        Change::Keeps
+    }
+}
+
+/// The letters of `.=`: those of its value, R for a register, A for a place outside the section, and Q for what stands after it.
+pub fn counter_letters(table: &Table, line: &Line, start: usize) -> Letters
+    requires { start ≤ length line.now.text }
+    ensures { bits_of result ≡ spec.counter_letters table.now line.now.text start }
+{
+    let value = counter_value(table, line, start);
+    counter_letters_of(table, value).with(after_expression(line, start))
+}
+
+fn counter_letters_of(table: &Table, value: Value) -> Letters
+    ensures { bits_of result ≡ spec.counter_letters_of table.now (quantity value) }
+{
+    let letters = value.letters;
+    let register = register_letters(value.kind);
+    letters.with(register.with(outside_letters(table, value)))
+}
+
+fn outside_letters(table: &Table, value: Value) -> Letters
+    ensures { bits_of result ≡ spec.outside_letters table.now (quantity value) }
+{
+    if table.is_here(value.kind) {
+        Letters::none()
+    } else {
+        Letters::A
+    }
+}
+
+// The value of a place, asked of firm names.
+fn counter_value(table: &Table, line: &Line, start: usize) -> Value
+    requires { start ≤ length line.now.text }
+    ensures { quantity result ≡ spec.counter_value table.now line.now.text start }
+{
+    let names = FirmNames::new(table, table.place());
+    value_at(line, start, &names)
+}

@@ -1,0 +1,58 @@
+//! Laws of maps that agree. Each is the contract of a function that does nothing.
+
+ghost use Rattle.std.specs.Prelude.{◌≡◌, List};
+ghost use Rattle.m11_base.specs.Devices.{Bytes};
+ghost use Rattle.m11_base.specs.Rad50.{Name};
+ghost use Rattle.m11_lines.specs.Line.{SourceLine};
+ghost use Rattle.m11_statements.specs.declared.labels.Label.{Label};
+ghost use Rattle.m11_unfolding.specs.Stages.{Stage};
+ghost use Rattle.m11_unfolding.specs.Taking.{Live};
+ghost use Rattle.m11_unfolding.specs.Unfolding.{Given};
+ghost use Rattle.m11_placement.specs.Lines.{after_line, letters, line_put, pieces};
+ghost use Rattle.m11_placement.specs.Meanings.{Map, map_of};
+ghost use Rattle.m11_placement.specs.Tables.{Table};
+ghost use Rattle.m11_table.specs.Alike.{Alike};
+ghost use Rattle.m11_placing.specs.Moved.{moved_letters};
+ghost use Rattle.m11_passes.specs.Lines.{Numbered, PassLines, names_at, table_at};
+ghost use Rattle.m11_passes.specs.Placed.{all_letters};
+ghost use Rattle.m11_passes.specs.Reaching.{Exceeds};
+ghost use Rattle.m11_passes.specs.Refusals.{line_fault};
+ghost use Rattle.m11_passes.specs.declared.fault.PassFault.{PassFault};
+ghost use Rattle.m11_pass_laws.specs.Maps.{MapsAgree};
+
+/// Where one table keeps all definitions of a source and another the last of each key, their maps agree.
+pub fn tables_alike_give_maps_that_agree()
+    ensures { (one other : Table) → Alike one other → MapsAgree (map_of one) (map_of other) }
+{}
+
+/// Under maps that agree each line puts and changes the same after any table, and has the same pieces, the same letters and the
+/// same fault; after any lines the table is the same, and the names that are mentioned are.
+pub fn maps_that_agree_place_lines_alike()
+    ensures puts { (one other : Map) → MapsAgree one other → (table : Table) (given : Given)
+        → line_put one table given ≡ line_put other table given }
+    ensures changes { (one other : Map) → MapsAgree one other → (table : Table) (given : Given)
+        → after_line one table given ≡ after_line other table given }
+    ensures pieces { (one other : Map) → MapsAgree one other → (table : Table) (given : Given)
+        → pieces one table given ≡ pieces other table given }
+    ensures letters { (one other : Map) → MapsAgree one other → (table : Table) (given : Given)
+        → letters one table given ≡ letters other table given }
+    ensures moves { (one other : Map) → MapsAgree one other → (line : Bytes) (table : Table) (labels : List Label)
+        → moved_letters one line table labels ≡ moved_letters other line table labels }
+    ensures all_letters { (one other : Map) → MapsAgree one other → (table : Table) (given : Given)
+        → all_letters one table given ≡ all_letters other table given }
+    ensures tables { (one other : Map) → MapsAgree one other → (lines : List Numbered) → table_at one lines ≡ table_at other lines }
+    ensures names { (one other : Map) → MapsAgree one other → (names : List Name) (lines : List Numbered)
+        → names_at one names lines ≡ names_at other names lines }
+    ensures faults { (one other : Map) → MapsAgree one other → (table : Table) (names : List Name) (live : Live) (stage : Stage)
+        → line_fault one table names live stage ≡ line_fault other table names live stage }
+{}
+
+/// Under maps that agree a source has the same live lines, and passes the same limits.
+pub fn maps_that_agree_have_the_same_live_lines()
+    ensures lines { (one other : Map) → MapsAgree one other
+        → (names : List Name) (source : List SourceLine) (lines : List Numbered) (stage : Stage)
+        → PassLines one names source lines stage → PassLines other names source lines stage }
+    ensures limits { (one other : Map) → MapsAgree one other
+        → (names : List Name) (source : List SourceLine) (lines : List Numbered) (fault : PassFault)
+        → Exceeds one names source lines fault → Exceeds other names source lines fault }
+{}

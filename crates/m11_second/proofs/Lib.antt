@@ -1,6 +1,0 @@
-mod Finishing
-mod LineTaken
-mod LinesWritten
-mod Passing
-mod Putting
-mod SameFacts

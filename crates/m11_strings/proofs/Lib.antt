@@ -1,3 +1,0 @@
-pub mod NextParts
-pub mod Packs
-pub mod TextSteps
