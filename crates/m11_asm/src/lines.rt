@@ -11,16 +11,18 @@ use crate::faults::of_pass;
 use crate::writing::Writing;
 use m11_asm_outputs::AsmFault;
 use m11_base::Sink;
-use m11_passes::{SourcePass, Turn, the_calls_place_the_lines_of_a_source};
+use m11_passes::{PlacedLine, SourcePass, Turn, the_calls_place_the_lines_of_a_source};
 use m11_table::Map;
 
-/// Places what is left to take, and writes it: whether `.END` became live. The number is that of the last line that was read.
+/// Places what is left to take, and writes it: whether `.END` became live. The number is that of the last line that was read. Lines are
+/// placed in `placed`, one after the other.
 ///
 /// Errors: those of the pass, `Write` of an output, and `NoMemory` between two writes.
 pub fn take_left<S: Sink, T: Sink, U: Sink>(
     pass: &mut SourcePass,
     map: &Map<'_>,
     writing: &mut Writing,
+    placed: &mut PlacedLine,
     number: u16,
     object: &mut S,
     listing: &mut Option<T>,
@@ -37,15 +39,18 @@ pub fn take_left<S: Sink, T: Sink, U: Sink>(
     ensures needs { IfOk result (λ has_ended. has_ended ≡ false → pass.new.going.unfolder.stage.left ≡ []) }
 {
     the_calls_place_the_lines_of_a_source();
-    let mut line = pass.room_for_line();
     'lines: loop {
-        match pass.next(map, &mut line) {
+        match pass.next(map, placed) {
             Ok(Turn::NeedLine) => return Ok(false),
             Ok(Turn::End) => return Ok(true),
             Ok(Turn::Line) => {
-                writing.put_line(&line, number, pass.contents(), object, listing, messages)?
+                writing.put_line(placed, number, pass.contents(), object, listing, messages)?
             }
             Err(fault) => return Err(of_pass(fault)),
+        }
+        // most lines of a source are one live line
+        if pass.needs_line() {
+            return Ok(false);
         }
     }
 }

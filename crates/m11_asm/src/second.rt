@@ -15,7 +15,7 @@ use crate::writing::Writing;
 use m11_asm_outputs::AsmFault;
 use m11_base::{Latch, Sink};
 use m11_first::Symbols;
-use m11_passes::{SourcePass, the_calls_place_the_lines_of_a_source};
+use m11_passes::{PlacedLine, SourcePass, the_calls_place_the_lines_of_a_source};
 use m11_placing::Pass;
 use m11_scan::Line;
 use m11_table::Map;
@@ -38,6 +38,8 @@ pub struct Second {
     read: u16,
     has_ended: bool,
     fault: Latch<AsmFault>,
+    // Where lines are placed, one after the other.
+    placed: PlacedLine,
 }
 
 impl Model for Second {
@@ -72,6 +74,7 @@ impl Second {
             Ok(writing) => match SourcePass::new(alloc, mentioned) {
                 Ok(pass) => Ok(Second {
                     first,
+                    placed: pass.room_for_line(),
                     pass,
                     writing,
                     read: 0,
@@ -129,6 +132,7 @@ impl Second {
             &mut self.pass,
             &map,
             &mut self.writing,
+            &mut self.placed,
             read,
             object,
             listing,

@@ -25,6 +25,8 @@ pub struct First {
     facts: Facts,
     has_ended: bool,
     fault: Latch<PassFault>,
+    // Where live lines are put, one after the other.
+    live: LiveLine,
 }
 
 impl Model for First {
@@ -47,6 +49,7 @@ impl First {
             facts: Facts::new(alloc),
             has_ended: false,
             fault: Latch::new(),
+            live: LiveLine::new(),
         })
     }
 
@@ -65,7 +68,7 @@ impl First {
             return Ok(());
         }
         self.pass.feed(line);
-        let taken = take_left(&mut self.pass, &mut self.facts);
+        let taken = take_left(&mut self.pass, &mut self.facts, &mut self.live);
         self.has_ended = self.fault.keep(taken)?;
         Ok(())
     }
@@ -99,8 +102,12 @@ impl First {
     }
 }
 
-// Defines what is left to take, and notes what it says: whether `.END` became live.
-fn take_left(pass: &mut SourcePass, facts: &mut Facts) -> Result<bool, PassFault>
+// Defines what is left to take, and notes what it says: whether `.END` became live. Its lines are put into `live`.
+fn take_left(
+    pass: &mut SourcePass,
+    facts: &mut Facts,
+    live: &mut LiveLine,
+) -> Result<bool, PassFault>
     requires { pass.old.fault ≡ None }
     ensures takes { (source : List SourceLine) (lines : List Numbered) → Taken source lines pass.old.going facts.old
         → TakesLeft source pass.new.going facts.new result }
@@ -108,12 +115,15 @@ fn take_left(pass: &mut SourcePass, facts: &mut Facts) -> Result<bool, PassFault
     ensures needs { IfOk result (λ has_ended. has_ended ≡ false → pass.new.going.unfolder.stage.left ≡ []) }
 {
     the_calls_place_the_lines_of_a_source();
-    let mut live = LiveLine::new();
     'lines: loop {
-        match pass.define(&mut live)? {
+        match pass.define(live)? {
             Turn::NeedLine => return Ok(false),
             Turn::End => return Ok(true),
-            Turn::Line => facts.note(&live, pass.table())?,
+            Turn::Line => facts.note(live, pass.table())?,
+        }
+        // most lines of a source are one live line
+        if pass.needs_line() {
+            return Ok(false);
         }
     }
 }

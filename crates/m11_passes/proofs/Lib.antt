@@ -1,6 +1,7 @@
 mod Assembling
 pub mod Counting
 mod Placing
+pub mod Resting
 mod Settling
 mod Standing
 mod Turning

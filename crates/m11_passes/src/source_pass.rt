@@ -5,6 +5,7 @@ ghost use Rattle.std.specs.Result.{result_err};
 ghost use Rattle.m11_lines.specs.Line.{no_line};
 ghost use Rattle.m11_placement.specs.Limits.{most_names, most_sections};
 ghost use Rattle.m11_placing.specs.Passes.{size_at};
+ghost use Rattle.m11_unfold.specs.Unfolder.{needs_line};
 ghost use Rattle.m11_unfolding.specs.Stages.{start};
 ghost use Rattle.m11_passes.specs.Placed.{live_in};
 ghost use Rattle.m11_passes.specs.States.{PassStands, fed};
@@ -104,6 +105,13 @@ impl SourcePass {
         self.fault.check()?;
         let turn = self.state.define_next(live);
         self.fault.keep(turn)
+    }
+
+    /// Whether nothing is left to take and `.END` isn't live, so that `next` and `define` would say `NeedLine`.
+    pub fn needs_line(&self) -> bool
+        ensures { result ≡ needs_line self.now.going.unfolder.stage }
+    {
+        self.state.unfolder.needs_line()
     }
 
     /// What the lines so far leave for the next one.

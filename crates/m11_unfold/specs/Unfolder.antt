@@ -1,9 +1,9 @@
 -- What an unfolder's calls give, by the stages before and after them. (MACRO-11 Language Reference Manual, "Macro directives" and
 -- "Conditional assembly directives". The limits are this project's own.)
-use Rattle.std.specs.Prelude.{◌≡◌, Bool, true, false, [], Option, Some, None, Result, Ok, Err}
+use Rattle.std.specs.Prelude.{◌≡◌, Bool, true, false, [], Option, Some, None, Result, Ok, Err, not, ◌&&◌}
 use Rattle.m11_arguments.specs.Expressions.{Known}
 use Rattle.m11_base.specs.Devices.{Bytes}
-use Rattle.m11_expansions.specs.Left.{argument_count}
+use Rattle.m11_expansions.specs.Left.{argument_count, is_empty}
 use Rattle.m11_lines.specs.Line.{SourceLine}
 use Rattle.m11_unfolding.specs.Acting.{act, act_fault}
 use Rattle.m11_unfolding.specs.Limits.{next_fault}
@@ -70,6 +70,10 @@ IsEmpty after (Ok NeedLine) = after.left ≡ []
 IsEmpty after (Ok End) = Unit {0}
 IsEmpty after (Ok (Line is_expanded)) = Unit {0}
 IsEmpty after (Err fault) = Unit {0}
+
+-- nothing is left to take, and no step ended the source
+abbrev pub needs_line : Stage → Bool
+needs_line stage = not stage.has_ended && is_empty stage.left
 
 -- what comes where nothing is taken any more
 abbrev pub rested : Bool → Step

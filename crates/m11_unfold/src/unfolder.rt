@@ -89,6 +89,13 @@ impl Unfolder {
         self.fault.keep(step)
     }
 
+    /// Whether nothing is left to take and `.END` isn't live, so that `next` would say `NeedLine`.
+    pub fn needs_line(&self) -> bool
+        ensures { result ≡ spec.needs_line self.now.stage }
+    {
+        !self.state.has_ended && self.state.left.is_empty()
+    }
+
     /// Does the operator of the line that became live last, by the step before, under what is known of names once its labels are defined.
     /// The operator is where `operator` finds it in the line.
     ///

@@ -1,3 +1,8 @@
+use Rattle.std.proofs.Common.{◌∙◌, refl, sym}
+use Rattle.m11_passes.proofs.Resting.{turns_nowhere}
+use Rattle.m11_passes.specs.Placed.{live_in}
+use Rattle.m11_passes.specs.Turns.{SaysPlaced}
+use Rattle.m11_passes.specs.declared.turns.Turn.TheVariants.{NeedLine}
 use Rattle.m11_asm.proofs.Passing.{ends_all, fails_all, fails_as, placed_more, rests_all, stops_there}
 use Rattle.m11_asm.proofs.lines.take_left.Goals as goal
 
@@ -40,3 +45,19 @@ returns-in-Err-clause-takes g c = λ program source lines first same number take
     (fails_all c.the_calls_place_the_lines_of_a_source.ensures.turns program source first _ c.lines.pass.going c.next.new.self.going c.next.new.placed
     c.lines.writing (c.lines.invariant.takes program source lines first same number taken) c.args.map.now same
     c.in-Err.fault (c.in-Err.ensures.turns c.lines.invariant.goes_on))
+
+-- nothing is left after the line, as if a further call said so
+pub returns-then-needs_line-clause-takes : goal.returns-then-needs_line-clause-takes
+returns-then-needs_line-clause-takes g c = λ program source lines first same number taken.
+    let some = c.lines.invariant.takes program source lines first same number taken in
+    let more = placed_more c.the_calls_place_the_lines_of_a_source.ensures.turns program source first _ c.lines.pass.going
+    c.next.new.self.going c.next.new.placed
+    c.lines.writing some c.args.map.now same c.in-Ok-Line.field-0 (c.in-Ok-Line.ensures.turns c.lines.invariant.goes_on)
+    c.in-Ok-Line.field-0-is c.args.number number c.contents.result.now c.contents.ensures _ c.put_line.new.self
+    (λ one put stands is same number. c.in_ok-put_line-in-Ok-Line.ensures.writes program some.0 one put stands is same number)
+    (λ one put stands is same number. c.in_ok-put_line-in-Ok-Line.ensures.stands program some.0 one put stands is same number) in
+    rests_all c.the_calls_place_the_lines_of_a_source.ensures.turns program source first _ c.next.new.self.going
+    c.next.new.self.going c.next.new.placed
+    c.put_line.new.self more c.args.map.now same NeedLine
+    (turns_nowhere c.args.map.now c.next.new.self.going (live_in c.next.new.placed.live)
+    (SaysPlaced c.args.map.now c.next.new.placed c.next.new.self.going.put) (sym c.needs_line.ensures ∙ c.if-needs_line.true)) refl
