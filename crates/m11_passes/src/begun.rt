@@ -69,6 +69,7 @@ impl State {
             map,
             line,
             statement.labels_end,
+            statement.lone_label,
         )?;
         let operator = operator_in(statement.body);
         let act = act_on(&mut self.unfolder, line, operator, &self.pass)?;

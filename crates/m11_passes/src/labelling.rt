@@ -1,6 +1,6 @@
 //! The labels of a live line. (MACRO-11 Language Reference Manual, "Label field" and "Local symbols".)
 
-ghost use Rattle.std.specs.Prelude.{◌≡◌, ◌<◌, ◌≤◌, ◌+◌, ◌^◌, [], IfOk, IfErr, length};
+ghost use Rattle.std.specs.Prelude.{◌≡◌, ◌<◌, ◌≤◌, ◌+◌, ◌^◌, ◌∷◌, [], IfOk, IfErr, IfSome, length};
 ghost use Rattle.m11_placement.specs.Labels.{labels_stand};
 ghost use Rattle.m11_placement.specs.Tables.{Table as LineTable};
 ghost use Rattle.m11_placing.specs.Mentioned.{with_all};
@@ -25,8 +25,10 @@ pub(crate) fn define_labels(
     map: &Map<'_>,
     line: &Line,
     labels_end: u8,
+    lone_label: Option<Label>,
 ) -> Result<LabelLetters, PassFault>
     requires unlabelled { labels_end ≡ 0 → labels_at line.now.text ≡ [] }
+    requires lone { IfSome lone_label (λ label. labels_at line.now.text ≡ label ∷ []) }
     requires blocks { pass.old.table.settings.block + 66 < 2 ^ 64 }
     requires few { IsFew pass.old mentioned.old }
     ensures stand { IfOk result (λ letters. Labels map.now mentioned.old.names line.now.text pass.old pass.new letters) }
@@ -37,11 +39,13 @@ pub(crate) fn define_labels(
         → Fails (labels_fault mentioned.old.names before line.now.text) fault) }
     ensures fits { length (labels_at line.now.text) ≤ 66 }
 {
-    // most lines have none
+    // most lines have none, and most others one
     if labels_end == 0 {
-        define_all(pass, mentioned, map, line, &[])
-    } else {
-        define_listed(pass, mentioned, map, line)
+        return define_all(pass, mentioned, map, line, &[]);
+    }
+    match lone_label {
+        Some(label) => define_all(pass, mentioned, map, line, &[label]),
+        None => define_listed(pass, mentioned, map, line),
     }
 }
 

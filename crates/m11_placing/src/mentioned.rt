@@ -150,7 +150,8 @@ impl Mentioned {
         ensures refuses { IfErr result (λ fault. Refuses fault
             (most_names < length (spec.with_name name self.old.names)) ⊥) }
     {
-        if !self.names.contains(&name) && self.names.len() >= MOST_NAMES {
+        // most sources have far fewer, and then it is looked for once, as it is put in
+        if self.names.len() >= MOST_NAMES && !self.names.contains(&name) {
             return Err(PlacingFault::TooManySymbols);
         }
         self.names.insert(name)?;

@@ -1,6 +1,6 @@
 //! Reading what a line says. (MACRO-11 Language Reference Manual, "Source program format".)
 
-ghost use Rattle.std.specs.Prelude.{◌≡◌, ◌≤◌, [], length};
+ghost use Rattle.std.specs.Prelude.{◌≡◌, ◌≤◌, ◌∷◌, [], length, IfSome};
 ghost use Rattle.m11_scan.specs.Views.{bits_of};
 ghost use Rattle.m11_statements.specs.Bodies.{end_of};
 ghost use Rattle.m11_statements.specs.Labels.{labels_at, labels_end};
@@ -14,6 +14,7 @@ use m11_scan::{Letters, Line, skipped_between};
 /// What a line says, where some operators are known.
 pub fn statement<O: Operators>(line: &Line, operators: &O) -> Statement
     ensures unlabelled { result.labels_end ≡ 0 → labels_at line.now.text ≡ [] }
+    ensures lone_label { IfSome result.lone_label (λ label. labels_at line.now.text ≡ label ∷ []) }
     ensures labels_end { result.labels_end ≡ labels_end line.now.text }
     ensures body { result.body ≡ spec.body_of (O.known operators.now) line.now.text }
     ensures within { end_of result.body (length line.now.text) ≤ length line.now.text }
@@ -23,6 +24,7 @@ pub fn statement<O: Operators>(line: &Line, operators: &O) -> Statement
     let body = body_at(line, labels.end, labels.next, operators);
     Statement {
         labels_end: labels.end as u8,
+        lone_label: labels.lone,
         body,
         label_letters: label_letters(line, labels),
     }

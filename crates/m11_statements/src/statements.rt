@@ -1,6 +1,7 @@
 //! What a line says. (MACRO-11 Language Reference Manual, "Source program format".)
 
 use crate::bodies::Body;
+use crate::labels::Label;
 use m11_scan::Letters;
 
 /// What a line says beside what its labels are. It names places of the line that it was read from.
@@ -8,6 +9,8 @@ use m11_scan::Letters;
 pub struct Statement {
     /// The place after the last label: 0 where the line has none.
     pub labels_end: u8,
+    /// Its label, where it has one alone.
+    pub lone_label: Option<Label>,
     /// What stands after the labels.
     pub body: Body,
     /// Letters that the line has whatever its body does: L where it is over-long; of its labels, A where a local symbol's number

@@ -11,7 +11,7 @@ use Rattle.m11_placement.specs.declared.definitions.Key.{Key}
 use Rattle.m11_placement.specs.declared.definitions.Key.TheVariants.{Named, Numbered}
 use Rattle.m11_placement.specs.Definitions.{is_same, last_definition, later_or}
 use Rattle.m11_table.specs.declared.entries.Entry.{Entry}
-use Rattle.m11_table.specs.Entries.{definition, definitions_by, is_same_symbol, symbol_key}
+use Rattle.m11_table.specs.Entries.{defined_as, definition, definitions_by, is_same_symbol, symbol_key}
 
 -- ---- lists of definitions
 
@@ -45,20 +45,16 @@ last_more key before found =
 
 -- ---- definitions by entries
 
-abbrev pub found_as : Key → Option Entry → Option Definition
-found_as key (Some entry) = Some (definition key entry)
-found_as key None = None
-
 one_found : (key own : Key) (entry : Entry) (is_this : Bool) (later : Option Entry) (more : Option Definition)
-    → (is_this ≡ true → own ≡ key) → more ≡ found_as key later
-    → (if is_this then Some (definition own entry) else more) ≡ found_as key (cond is_this (Some entry) later)
+    → (is_this ≡ true → own ≡ key) → more ≡ defined_as key later
+    → (if is_this then Some (definition own entry) else more) ≡ defined_as key (cond is_this (Some entry) later)
 one_found key own entry true later more is_key e = ap (λ (k : Key). Some (definition k entry)) (is_key refl)
 one_found key own entry false later more is_key e = e
 
 pub entry_found : {A : Type 0} (key_of : A → Key) (key : Key) (test : A → Bool)
     → ((item : A) → is_same (key_of item) key ≡ test item) → ((item : A) → test item ≡ true → key_of item ≡ key)
     → (entries : List (A × Entry))
-    → last_definition key (definitions_by key_of entries) ≡ found_as key (lookup test entries)
+    → last_definition key (definitions_by key_of entries) ≡ defined_as key (lookup test entries)
 entry_found key_of key test agrees sound [] = refl
 entry_found key_of key test agrees sound (entry ∷ entries) =
     last_more key (definitions_by key_of entries) (definition (key_of entry.0) entry.1)
@@ -109,7 +105,7 @@ symbol_is block number other e =
 
 pub name_found : (name : Name) (names : List (Name × Entry)) (symbols : List ((ℕ × ℕ) × Entry))
     → last_definition (Named name) (definitions_by Named names ++ definitions_by symbol_key symbols)
-    ≡ found_as (Named name) (lookup (is_same_name name) names)
+    ≡ defined_as (Named name) (lookup (is_same_name name) names)
 name_found name names symbols =
     last_after (Named name) (definitions_by Named names) (definitions_by symbol_key symbols)
     ∙ ap (λ (o : Option Definition). option_or o (last_definition (Named name) (definitions_by Named names)))
@@ -118,7 +114,7 @@ name_found name names symbols =
 
 pub symbol_found : (block number : ℕ) (names : List (Name × Entry)) (symbols : List ((ℕ × ℕ) × Entry))
     → last_definition (Numbered block number) (definitions_by Named names ++ definitions_by symbol_key symbols)
-    ≡ found_as (Numbered block number) (lookup (is_same_symbol (block, number)) symbols)
+    ≡ defined_as (Numbered block number) (lookup (is_same_symbol (block, number)) symbols)
 symbol_found block number names symbols =
     last_after (Numbered block number) (definitions_by Named names) (definitions_by symbol_key symbols)
     ∙ ap (λ (o : Option Definition). option_or (last_definition (Numbered block number) (definitions_by symbol_key symbols)) o)

@@ -4,11 +4,11 @@ use Rattle.std.specs.Prelude.{ℕ, Bool, Option, Some, None}
 use Rattle.m11_statements.specs.Statements.{letter_if}
 use Rattle.m11_values.specs.declared.kinds.Kind.{Kind}
 use Rattle.m11_values.specs.Quantities.{Quantity}
-use Rattle.m11_placement.specs.declared.definitions.Definition.{Definition}
 use Rattle.m11_placement.specs.declared.meanings.Context.{Context}
-use Rattle.m11_placement.specs.Definitions.{firm_part}
+use Rattle.m11_placement.specs.Definitions.{firm_standing}
 use Rattle.m11_placement.specs.Meanings.{Map, letter_D, quantity_of}
 use Rattle.m11_placement.specs.Tables.{Table}
+use Rattle.m11_table.specs.declared.entries.Entry.{Entry}
 
 -- the map and the table, where the symbol stands, and the place that `.` is
 pub record Asked : Type 0 where
@@ -32,12 +32,12 @@ firm_asked table place = record { table = table; place = place }
 abbrev pub counted : ℕ → Kind → Quantity
 counted place kind = record { number = place; kind = kind; letters = 0 }
 
--- what a definition gives, with D where its key is doubled; without one there is something else
-abbrev pub defined_by : Bool → Quantity → Option Definition → Quantity
-defined_by is_doubled other (Some definition) = quantity_of (letter_if is_doubled letter_D) definition.standing
-defined_by is_doubled other None = other
+-- what is kept of a key gives a value, with D where the key is doubled; where nothing is kept there is something else
+abbrev pub given_by : Bool → Quantity → Option Entry → Quantity
+given_by is_doubled other (Some entry) = quantity_of (letter_if is_doubled letter_D) entry.standing
+given_by is_doubled other None = other
 
--- a definition as far as it is firm
-abbrev pub firm_found : Option Definition → Option Definition
-firm_found (Some definition) = Some (firm_part definition)
-firm_found None = None
+-- what is kept, as far as it is firm
+abbrev pub firm_entry : Option Entry → Option Entry
+firm_entry (Some entry) = Some (record entry { standing = firm_standing entry.is_firm entry.standing })
+firm_entry None = None

@@ -30,6 +30,11 @@ definition key entry = record {
   is_label = entry.is_label;
 }
 
+-- the definition of a key of which something is kept
+abbrev pub defined_as : Key → Option Entry → Option Definition
+defined_as key (Some entry) = Some (definition key entry)
+defined_as key None = None
+
 abbrev pub definitions_by : {A : Type 0} → (A → Key) → List (A × Entry) → List Definition
 definitions_by key_of [] = []
 definitions_by key_of (entry ∷ entries) = definitions_by key_of entries ++ definition (key_of entry.0) entry.1 ∷ []

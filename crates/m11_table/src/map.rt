@@ -5,7 +5,9 @@ ghost use Rattle.m11_placement.specs.Assigning.{is_exported};
 ghost use Rattle.m11_placement.specs.Definitions.{has_key, last_definition};
 ghost use Rattle.m11_placement.specs.Meanings.{empty_map, map_of};
 ghost use Rattle.m11_placement.specs.Sections.{numbered};
+ghost use Rattle.m11_table.specs.Entries.{defined_as};
 
+use crate::entries::Entry;
 use crate::table::{Table, blank_section};
 use m11_base::Name;
 use m11_placement::{Definition, Key, Section};
@@ -47,6 +49,13 @@ impl<'a> Map<'a> {
         ensures { result ≡ last_definition key.now self.now.definitions }
     {
         self.table?.definition(key)
+    }
+
+    // What is kept of it.
+    pub(crate) fn entry(&self, key: &Key) -> Option<Entry>
+        ensures { defined_as key.now result ≡ last_definition key.now self.now.definitions }
+    {
+        self.table?.entry(key)
     }
 
     /// Whether a key is doubled.

@@ -8,12 +8,13 @@ ghost use Rattle.m11_placement.specs.Contents.{register_letters};
 ghost use Rattle.m11_placement.specs.Meanings.{empty_map, letter_D, meaning_of, quantity_of, stands_for, undefined};
 ghost use Rattle.m11_placement.specs.declared.meanings.Context.TheVariants.{Knows};
 ghost use Rattle.m11_placement.specs.Tables.{firm_table, kind_here};
-ghost use Rattle.m11_table.specs.Asking.{asked, counted, defined_by, firm_asked, firm_found};
+ghost use Rattle.m11_table.specs.Asking.{asked, counted, firm_asked, firm_entry, given_by};
 ghost use Rattle.m11_arguments.specs.Definedness.{letter_U};
 
+use crate::entries::Entry;
 use crate::map::Map;
 use crate::table::Table;
-use m11_placement::{Context, Definition, Key, Standing};
+use m11_placement::{Context, Key, Standing};
 use m11_scan::{Letters, Radix};
 use m11_values::{Kind, Names, Symbol, Value};
 use std::marker::Model;
@@ -159,12 +160,12 @@ fn undefined(context: Context, symbol: Symbol) -> Value
     }
 }
 
-// What a key stands for by a definition, or else something other.
-fn defined_or(found: Option<Definition>, is_doubled: bool, other: Value) -> Value
-    ensures { quantity result ≡ defined_by is_doubled (quantity other) found }
+// What a key stands for by what is kept of it, or else something other.
+fn given_or(found: Option<Entry>, is_doubled: bool, other: Value) -> Value
+    ensures { quantity result ≡ given_by is_doubled (quantity other) found }
 {
     match found {
-        Some(definition) => value_of(definition.standing, is_doubled),
+        Some(entry) => value_of(entry.standing, is_doubled),
         None => other,
     }
 }
@@ -173,21 +174,21 @@ fn defined_or(found: Option<Definition>, is_doubled: bool, other: Value) -> Valu
 fn meaning_of(map: &Map<'_>, other: Value, table: &Table, key: &Key) -> Value
     ensures { quantity result ≡ meaning_of map.now (quantity other) table.now key.now }
 {
-    match table.definition(key) {
-        Some(definition) => value_of(definition.standing, table.is_doubled(key)),
-        None => defined_or(map.definition(key), map.is_doubled(key), other),
+    match table.entry(key) {
+        Some(entry) => value_of(entry.standing, table.is_doubled(key)),
+        None => given_or(map.entry(key), map.is_doubled(key), other),
     }
 }
 
-// A definition as far as it is firm.
-fn firm_found(found: Option<Definition>) -> Option<Definition>
-    ensures { result ≡ firm_found found }
+// What is kept of a definition, as far as it is firm.
+fn firm_entry(found: Option<Entry>) -> Option<Entry>
+    ensures { result ≡ firm_entry found }
 {
     match found {
-        Some(definition) if definition.is_firm => Some(definition),
-        Some(definition) => Some(Definition {
+        Some(entry) if entry.is_firm => Some(entry),
+        Some(entry) => Some(Entry {
             standing: Standing::Unknown,
-            ..definition
+            ..entry
         }),
         None => None,
     }
@@ -197,9 +198,9 @@ fn firm_found(found: Option<Definition>) -> Option<Definition>
 fn firm_meaning_of(table: &Table, key: &Key) -> Value
     ensures { quantity result ≡ meaning_of empty_map (absolute 0 letter_U) (firm_table table.now) key.now }
 {
-    let found = firm_found(table.definition(key));
+    let found = firm_entry(table.entry(key));
     let is_doubled = table.is_doubled(key);
-    defined_or(found, is_doubled, Value::absolute(0, Letters::U))
+    given_or(found, is_doubled, Value::absolute(0, Letters::U))
 }
 
 /// R for a register where none may be.

@@ -17,7 +17,7 @@ ghost use Rattle.m11_placement.specs.Tables.{first_table, kind_here, place};
 ghost use Rattle.m11_placement.specs.declared.definitions.Key.TheVariants.{Named, Numbered};
 ghost use Rattle.m11_table.specs.Alike.{Alike, Follows};
 ghost use Rattle.m11_table.specs.Entries as entries;
-ghost use Rattle.m11_table.specs.Entries.{counter_or, empty_table, with_new_section, with_registers};
+ghost use Rattle.m11_table.specs.Entries.{counter_or, defined_as, empty_table, with_new_section, with_registers};
 
 use crate::entries::Entry;
 use indexmap::{IndexMap, IndexSet};
@@ -239,26 +239,36 @@ impl Table {
     pub fn definition(&self, key: &Key) -> Option<Definition>
         ensures { result ≡ last_definition key.now self.now.definitions }
     {
-        match key {
-            Key::Named(name) => self.name_definition(*name),
-            Key::Numbered(block, number) => self.symbol_definition(*block, *number),
-        }
-    }
-
-    fn name_definition(&self, name: Name) -> Option<Definition>
-        ensures { result ≡ last_definition (Named name) self.now.definitions }
-    {
-        match self.names.get(&name) {
-            Some(entry) => Some(definition(Key::Named(name), *entry)),
+        match self.entry(key) {
+            Some(entry) => Some(definition(*key, entry)),
             None => None,
         }
     }
 
-    fn symbol_definition(&self, block: u64, number: u16) -> Option<Definition>
-        ensures { result ≡ last_definition (Numbered block number) self.now.definitions }
+    // What is kept of the last definition of a key. Each symbol of an expression asks for it, and it is a third as large.
+    pub(crate) fn entry(&self, key: &Key) -> Option<Entry>
+        ensures { defined_as key.now result ≡ last_definition key.now self.now.definitions }
+    {
+        match key {
+            Key::Named(name) => self.name_entry(*name),
+            Key::Numbered(block, number) => self.symbol_entry(*block, *number),
+        }
+    }
+
+    fn name_entry(&self, name: Name) -> Option<Entry>
+        ensures { defined_as (Named name) result ≡ last_definition (Named name) self.now.definitions }
+    {
+        match self.names.get(&name) {
+            Some(entry) => Some(*entry),
+            None => None,
+        }
+    }
+
+    fn symbol_entry(&self, block: u64, number: u16) -> Option<Entry>
+        ensures { defined_as (Numbered block number) result ≡ last_definition (Numbered block number) self.now.definitions }
     {
         match self.local_symbols.get(&(block, number)) {
-            Some(entry) => Some(definition(Key::Numbered(block, number), *entry)),
+            Some(entry) => Some(*entry),
             None => None,
         }
     }

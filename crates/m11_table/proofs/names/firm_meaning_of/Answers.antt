@@ -5,6 +5,6 @@ use Rattle.m11_table.proofs.names.firm_meaning_of.Goals as goal
 
 pub returns : goal.returns
 returns c =
-    c.defined_or.ensures
-    ∙ firm_meant c.args.table.now c.args.key.now c.is_doubled-is_doubled.result (quantity c.absolute.result) c.definition.result
-    c.firm_found-found.result c.definition.ensures c.firm_found-found.ensures c.is_doubled-is_doubled.ensures c.absolute.ensures
+    c.given_or.ensures
+    ∙ firm_meant c.args.table.now c.args.key.now c.is_doubled-is_doubled.result (quantity c.absolute.result) c.entry.result
+    c.firm_entry-found.result c.entry.ensures c.firm_entry-found.ensures c.is_doubled-is_doubled.ensures c.absolute.ensures

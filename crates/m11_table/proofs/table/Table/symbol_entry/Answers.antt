@@ -1,20 +1,19 @@
-use Rattle.std.proofs.Common.{◌∙◌, Some, sym, ap}
-use Rattle.m11_placement.specs.declared.definitions.Definition.{Definition}
+use Rattle.std.proofs.Common.{◌∙◌, sym, ap}
 use Rattle.m11_placement.specs.declared.definitions.Key.TheVariants.{Numbered}
 use Rattle.m11_placement.specs.Definitions.{last_definition}
 use Rattle.m11_placement.specs.Tables.{Table}
-use Rattle.m11_table.proofs.Found.{found_as, symbol_found}
-use Rattle.m11_table.proofs.table.Table.symbol_definition.Goals as goal
+use Rattle.m11_table.proofs.Found.{symbol_found}
+use Rattle.m11_table.specs.Entries.{defined_as}
+use Rattle.m11_table.proofs.table.Table.symbol_entry.Goals as goal
 
 pub returns-in-Some : goal.returns-in-Some
 returns-in-Some c =
-    ap (λ (d : Definition). Some d) c.definition.ensures
-    ∙ ap (found_as (Numbered c.args.block c.args.number)) c.in-Some.ensures.value
+    ap (defined_as (Numbered c.args.block c.args.number)) c.in-Some.ensures.value
     ∙ sym (symbol_found c.args.block c.args.number c.self.inside.names.entries c.self.inside.local_symbols.entries)
     ∙ ap (λ (t : Table). last_definition (Numbered c.args.block c.args.number) t.definitions) c.self.view_is
 
 pub returns-in-None : goal.returns-in-None
 returns-in-None c =
-    ap (found_as (Numbered c.args.block c.args.number)) c.in-None.ensures.value
+    ap (defined_as (Numbered c.args.block c.args.number)) c.in-None.ensures.value
     ∙ sym (symbol_found c.args.block c.args.number c.self.inside.names.entries c.self.inside.local_symbols.entries)
     ∙ ap (λ (t : Table). last_definition (Numbered c.args.block c.args.number) t.definitions) c.self.view_is
