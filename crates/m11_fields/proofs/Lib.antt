@@ -3,3 +3,4 @@ mod Beginning
 mod Listing
 mod NamedOperations
 mod Naming
+mod OneRow

@@ -1,3 +1,4 @@
 pub mod Directives
+pub mod Hashes
 pub mod ListedOperations
 pub mod Reads

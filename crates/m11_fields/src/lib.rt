@@ -5,6 +5,7 @@
 mod elements;
 mod fields;
 mod operands;
+mod operations;
 mod operators;
 
 pub use elements::{Elements, ListedNames, elements_at, has_expression, names_at};

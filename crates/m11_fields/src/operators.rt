@@ -8,7 +8,7 @@ ghost use Rattle.m11_fields.specs.Directives.{directive_named};
 ghost use Rattle.m11_fields.specs.ListedOperations.{has_listed_operation};
 ghost use Rattle.m11_placement.specs.Operators as spec;
 
-use m11_base::{Op, Row, other_names, rows};
+use crate::operations::operation_of;
 use m11_placement::{Directive, DirectiveRow, Operator};
 use m11_scan::is_same_six;
 
@@ -91,27 +91,6 @@ fn instruction_of(name: &[u8; 6]) -> Option<Operator>
 {
     match operation_of(name) {
         Some(operation) => Some(Operator::Instruction(operation)),
-        None => None,
-    }
-}
-
-// The operation of a name: that of the list, or else that of the further names.
-fn operation_of(name: &[u8; 6]) -> Option<Op>
-    ensures { result ≡ or_else (named_in rows name.now) (named_in other_names name.now) }
-{
-    match operation_in(rows(), name) {
-        Some(operation) => Some(operation),
-        None => operation_in(other_names(), name),
-    }
-}
-
-// The operation of a row with a name.
-fn operation_in(list: &[Row], name: &[u8; 6]) -> Option<Op>
-    ensures { result ≡ named_in list.now name.now }
-{
-    let found = list.iter().find(|row| is_same_six(&row.name, name));
-    match found {
-        Some(row) => Some(row.operation),
         None => None,
     }
 }
