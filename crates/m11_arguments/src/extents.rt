@@ -81,6 +81,8 @@ pub struct LoneTerm {
     pub(crate) next: Option<Token>,
 }
 
+// Inline: a call would hand two tokens on by memory.
+#[inline(always)]
 fn lone_at(line: &Line, place: usize) -> Option<LoneTerm>
     requires { place ≤ length line.now.text }
     ensures alone { IfSome result (λ lone. IsAlone line.now.text place lone.term) }

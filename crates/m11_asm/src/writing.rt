@@ -142,6 +142,8 @@ impl Writing {
     }
 
     // The head of the object, where it isn't written.
+    // Inline: each placed line comes here, and only the first one finds no head.
+    #[inline(always)]
     fn begin<S: Sink>(&mut self, object: &mut S) -> Result<(), AsmFault>
         ensures writes { (program : Program) (lines : List Numbered) (listing messages : Output)
             → WritingStands program lines self.old → Writes
@@ -202,6 +204,8 @@ impl Writing {
     }
 
     // A flagged line is reported.
+    // Inline: each placed line comes here, and few are flagged.
+    #[inline(always)]
     fn report<U: Sink>(
         &mut self,
         letters: Letters,

@@ -59,6 +59,8 @@ impl<'a> Names for NamesAt<'a> {
         self.table.settings().radix
     }
 
+    // Inline: each symbol of an expression comes here, and a call would hand its result on by memory.
+    #[inline(always)]
     fn meaning(&self, symbol: Symbol) -> Value {
         match symbol {
             Symbol::Ordinary(name) => {
@@ -108,6 +110,8 @@ impl<'a> Names for FirmNames<'a> {
         self.table.settings().radix
     }
 
+    // Inline: each symbol of an expression comes here, and a call would hand its result on by memory.
+    #[inline(always)]
     fn meaning(&self, symbol: Symbol) -> Value {
         match symbol {
             Symbol::Ordinary(name) => firm_meaning_of(self.table, &Key::Named(name)),
@@ -171,6 +175,8 @@ fn given_or(found: Option<Entry>, is_doubled: bool, other: Value) -> Value
 }
 
 // The last definition before the line, or else that of the map.
+// Inline: each symbol of an expression comes here, and a call would hand its result on by memory.
+#[inline(always)]
 fn meaning_of(map: &Map<'_>, other: Value, table: &Table, key: &Key) -> Value
     ensures { quantity result ≡ meaning_of map.now (quantity other) table.now key.now }
 {
@@ -195,6 +201,8 @@ fn firm_entry(found: Option<Entry>) -> Option<Entry>
 }
 
 // The last definition before the line, as far as it is firm.
+// Inline: each symbol of an expression comes here, and a call would hand its result on by memory.
+#[inline(always)]
 fn firm_meaning_of(table: &Table, key: &Key) -> Value
     ensures { quantity result ≡ meaning_of empty_map (absolute 0 letter_U) (firm_table table.now) key.now }
 {

@@ -292,6 +292,8 @@ impl Table {
     }
 
     /// Whether a key is doubled.
+    // Inline: each symbol of an expression comes here, and a call would hand its result on by memory.
+    #[inline(always)]
     pub fn is_doubled(&self, key: &Key) -> bool
         ensures { result ≡ has_key key.now self.now.doubled }
     {

@@ -82,6 +82,8 @@ impl State {
     }
 
     // One line is taken, which stood before what is left.
+    // Inline: each line of a source comes here.
+    #[inline(always)]
     fn take_line(
         &mut self,
         alloc: Global,

@@ -39,6 +39,8 @@ fn of_number(number: Number) -> Value
     Value::absolute(number.value, number.letters)
 }
 
+// Inline: each symbol of an expression comes here, and a call would hand its result on by memory.
+#[inline(always)]
 fn meaning_or<N: Names>(names: &N, symbol: Option<Symbol>, other: Value) -> Value
     ensures { quantity result ≡ spec.meaning_or (N.stands_for names.now) (quantity other) symbol }
 {
@@ -49,6 +51,8 @@ fn meaning_or<N: Names>(names: &N, symbol: Option<Symbol>, other: Value) -> Valu
 }
 
 // The symbol that a token of a sort and a text reads, if it reads one.
+// Inline: each symbol of an expression comes here, and a call would hand its result on by memory.
+#[inline(always)]
 pub(crate) fn symbol_in(sort: Sort, text: &[u8]) -> Option<Symbol>
     ensures { result ≡ symbol_in sort text.now }
 {
@@ -59,6 +63,8 @@ pub(crate) fn symbol_in(sort: Sort, text: &[u8]) -> Option<Symbol>
     }
 }
 
+// Inline: each symbol of an expression comes here, and a call would hand its result on by memory.
+#[inline(always)]
 fn name_symbol(text: &[u8]) -> Option<Symbol>
     ensures { result ≡ name_symbol text.now }
 {
