@@ -98,7 +98,7 @@ acts_told names table at text before after result is there acts =
 
 -- ---- what is told of tables that are alike
 
-section_alike : (one other : Table) → Alike one other → section_name one ≡ section_name other
+pub section_alike : (one other : Table) → Alike one other → section_name one ≡ section_name other
 section_alike one other alike =
     ap (λ (s : Settings). (numbered s.section one.sections).name) alike.settings
     ∙ ap (λ (l : List Section). (numbered other.settings.section l).name) alike.sections

@@ -1,4 +1,5 @@
 mod Assembling
+mod Blanks
 pub mod Counting
 mod Placing
 pub mod Resting

@@ -51,13 +51,13 @@ told_alike one other alike =
 
 -- ---- limits
 
-within : (most some : ℕ) → some ≤ most → nat_lt most some ≡ false
+pub within : (most some : ℕ) → some ≤ most → nat_lt most some ≡ false
 within most some few = grind (arith, nat_tests, few)
 
 past : (most some : ℕ) → most < some → nat_lt most some ≡ true
 past most some many = grind (arith, nat_tests, many)
 
-fits_limits : (names : List Name) (table : Table) → length names ≤ most_names → local_count table ≤ most_local_symbols
+pub fits_limits : (names : List Name) (table : Table) → length names ≤ most_names → local_count table ≤ most_local_symbols
     → length table.sections ≤ most_sections → limit_fault names table ≡ None
 fits_limits names table few symbols sections =
     rw (

@@ -1,4 +1,5 @@
 pub mod Begun
+pub mod Blank
 pub mod Bounds
 pub mod Faults
 pub mod Labelled

@@ -7,9 +7,10 @@ ghost use Rattle.m11_placement.specs.Tables.{Table as LineTable};
 ghost use Rattle.m11_placement.specs.Unfolded.{known_after_labels};
 ghost use Rattle.m11_placing.specs.Deeds.{IsWithin, is_listed};
 ghost use Rattle.m11_placing.specs.Passes.{Matches};
+ghost use Rattle.m11_statements.specs.Labels.{labels_at};
 ghost use Rattle.m11_unfold.specs.Kept.{IsKept};
 ghost use Rattle.m11_unfold.specs.Unfolder as steps;
-ghost use Rattle.m11_passes.specs.Begun.{Begins};
+ghost use Rattle.m11_passes.specs.Begun.{Begins, States};
 ghost use Rattle.m11_passes.specs.Bounds.{HasRoom, IsFew};
 ghost use Rattle.m11_passes.specs.Faults.{Fails};
 ghost use Rattle.m11_passes.specs.Placed.{live_in};
@@ -20,11 +21,11 @@ use crate::fault::PassFault;
 use crate::labelling::define_labels;
 use crate::placed::LiveLine;
 use crate::state::State;
-use m11_arguments::{EveryName, operator_in};
+use m11_arguments::operator_in;
 use m11_fields::Fields;
 use m11_placing::{LabelLetters, Pass, deed_after_labels, deed_fields};
 use m11_scan::Line;
-use m11_statements::{Span, Statement, statement};
+use m11_statements::{Span, Statement};
 use m11_table::{FirmNames, Map, Table};
 use m11_unfold::{Act, Unfolder};
 use m11_unfolding::UnfoldFault;
@@ -42,7 +43,14 @@ pub struct Begun {
 
 impl State {
     // Defines the labels of a line, lets unfolding do its operator, and finds what it does after its labels.
-    pub(crate) fn begin(&mut self, map: &Map<'_>, live: &mut LiveLine) -> Result<Begun, PassFault>
+    pub(crate) fn begin(
+        &mut self,
+        map: &Map<'_>,
+        live: &mut LiveLine,
+        statement: Statement,
+    ) -> Result<Begun, PassFault>
+        requires unlabelled { statement.labels_end ≡ 0 → labels_at live.old.line.text ≡ [] }
+        requires states { States (live_in live.old) statement }
         requires goes_on { self.old.unfolder.fault ≡ None }
         requires kept { IsKept self.old.unfolder.stage }
         requires free { self.old.unfolder.has_statement ≡ false }
@@ -62,7 +70,6 @@ impl State {
         ensures goes_on { IfOk result (λ _. self.new.unfolder.fault ≡ None) }
     {
         let line = &live.line;
-        let statement = statement(line, &EveryName);
         let found = define_labels(
             &mut self.pass,
             &mut self.mentioned,

@@ -4,6 +4,7 @@
 #![tactic(auto)]
 
 mod begun;
+mod blank;
 mod fault;
 mod labelling;
 mod laws;

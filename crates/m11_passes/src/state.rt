@@ -18,16 +18,19 @@ ghost use Rattle.m11_passes.specs.States.{Going, going_of};
 ghost use Rattle.m11_passes.specs.Turns.{IsEmpty, IsNext, Places, SaysLive, SaysPlaced, Turns};
 
 use crate::begun::Begun;
+use crate::blank::{is_blank, place_blank};
 use crate::fault::PassFault;
 use crate::operating::{
     change_line, counter, is_shown, mention_line, put_line, put_place, section_name,
 };
 use crate::placed::{LiveLine, PlacedLine};
 use crate::turns::Turn;
+use m11_arguments::EveryName;
 use m11_listing::Item;
 use m11_operators::Put;
-use m11_placing::{Mentioned, Pass, line_letters};
+use m11_placing::{Deed, Mentioned, Pass, line_letters};
 use m11_scan::{Letters, Line};
+use m11_statements::statement;
 use m11_table::Map;
 use m11_unfold::{Step, Unfolder};
 use std::alloc::{AllocError, Global};
@@ -122,7 +125,12 @@ impl State {
         ensures goes_on { IfOk result (λ _. self.new.unfolder.fault ≡ None) }
         ensures sound { IfOk result (λ _. IsSound self.new.unfolder.stage.taken self.new.pass self.new.mentioned) }
     {
-        let begun = self.begin(map, &mut placed.live)?;
+        let statement = statement(&placed.live.line, &EveryName);
+        if is_blank(&statement) {
+            place_blank(&self.pass, &mut self.put, &statement, placed);
+            return Ok(());
+        }
+        let begun = self.begin(map, &mut placed.live, statement)?;
         placed.section = section_name(&self.pass);
         placed.place = put_place(&self.pass, &placed.live.deed);
         placed.counter = counter(&self.pass);
@@ -156,8 +164,13 @@ impl State {
         ensures goes_on { IfOk result (λ _. self.new.unfolder.fault ≡ None) }
         ensures sound { IfOk result (λ _. IsSound self.new.unfolder.stage.taken self.new.pass self.new.mentioned) }
     {
+        let statement = statement(&live.line, &EveryName);
+        if is_blank(&statement) {
+            live.deed = Deed::Rests;
+            return Ok(());
+        }
         let map = Map::none();
-        let begun = self.begin(&map, live)?;
+        let begun = self.begin(&map, live, statement)?;
         self.finish(&map, live, &begun)?;
         Ok(())
     }

@@ -1,11 +1,27 @@
-use Rattle.std.proofs.Common.{Ok, refl, subst}
+use Rattle.std.proofs.Common.{◌∙◌, Ok, refl, sym, subst}
 use Rattle.m11_unfolding.specs.Taking.{Live}
-use Rattle.m11_placement.specs.Meanings.{Map}
+use Rattle.m11_placement.specs.Meanings.{Map, empty_map}
+use Rattle.m11_placing.specs.declared.deeds.Deed.TheVariants as code
 use Rattle.m11_passes.proofs.Assembling.{defined_so, places_fails}
+use Rattle.m11_passes.proofs.Blanks.{blank_places, live_so}
+use Rattle.m11_passes.specs.Blank.{IsBlank}
 use Rattle.m11_passes.specs.Placed.{live_in}
 use Rattle.m11_passes.specs.States.{going_of}
 use Rattle.m11_passes.specs.Turns.{Places, SaysLive}
+use Rattle.m11_passes.specs.declared.placed.LiveLine.{LiveLine}
 use Rattle.m11_passes.proofs.state.State.define.Goals as goal
+
+pub returns-then-is_blank-clause-places : goal.returns-then-is_blank-clause-places
+returns-then-is_blank-clause-places c =
+    let old = going_of c.args.self.now in
+    let live : LiveLine =
+    record { line = c.args.live.now.line; is_expanded = c.args.live.now.is_expanded; deed = code.Rests } in
+    let blank : IsBlank live.line.text = record {
+      unlabelled = c.statement-statement.ensures.unlabelled (c.is_blank.ensures.unlabelled c.if-is_blank.true);
+      bodiless = sym c.statement-statement.ensures.body ∙ c.is_blank.ensures.bodiless c.if-is_blank.true;
+    } in
+    blank_places (live_in live) old blank c.requires.few c.requires.room.sections empty_map old.put (SaysLive live)
+    (λ table matches. live_so (live_in live) old.unfolder.stage blank table live refl refl)
 
 pub returns-in_err-finish-clause-places : goal.returns-in_err-finish-clause-places
 returns-in_err-finish-clause-places c =

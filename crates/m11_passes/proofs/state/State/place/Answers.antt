@@ -9,11 +9,26 @@ use Rattle.m11_placing.specs.Passes.{Matches}
 use Rattle.m11_passes.specs.Faults.{Fails}
 use Rattle.m11_passes.specs.Refusals.{line_fault}
 use Rattle.m11_passes.proofs.Assembling.{begins_still, placed_so, places_fails}
+use Rattle.m11_passes.proofs.Blanks.{blank_places}
+use Rattle.m11_passes.specs.Blank.{IsBlank}
 use Rattle.m11_passes.specs.Placed.{live_in}
 use Rattle.m11_passes.specs.States.{going_of}
 use Rattle.m11_passes.specs.Turns.{Places, SaysPlaced}
 use Rattle.m11_passes.specs.declared.placed.PlacedLine.{PlacedLine}
 use Rattle.m11_passes.proofs.state.State.place.Goals as goal
+
+pub returns-then-is_blank-clause-places : goal.returns-then-is_blank-clause-places
+returns-then-is_blank-clause-places c =
+    let map = c.args.map.now in
+    let old = going_of c.args.self.now in
+    let put = c.place_blank.new.put in
+    let blank : IsBlank c.args.placed.now.live.line.text = record {
+      unlabelled = c.statement-statement.ensures.unlabelled (c.is_blank.ensures.unlabelled c.if-is_blank.true);
+      bodiless = sym c.statement-statement.ensures.body ∙ c.is_blank.ensures.bodiless c.if-is_blank.true;
+    } in
+    blank_places (live_in c.args.placed.now.live) old blank c.requires.few c.requires.room.sections map put
+    (SaysPlaced map c.place_blank.new.placed put)
+    (λ table matches. c.place_blank.ensures.placed map table old.unfolder.stage matches)
 
 pub returns-in_err-placed-clause-places : goal.returns-in_err-placed-clause-places
 returns-in_err-placed-clause-places c =

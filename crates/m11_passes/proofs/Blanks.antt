@@ -1,0 +1,189 @@
+-- A line that says nothing changes nothing, and passes no limit.
+use Rattle.std.proofs.Common.{◌≡◌, ◌∙◌, ◌≤◌, ℕ, ◌||◌, if◌then◌else◌, List, [], ◌++◌, length, map, Option, Some, None, Ok, refl, sym, ap, subst}
+use Rattle.std.specs.Prelude.{nat_lt}
+use Rattle.std.specs.Int.Bits.{or_zero_r}
+use Rattle.std.specs.Int.RustNames.{bit_or}
+use Rattle.std.specs.List.{flat_map}
+use Rattle.std.specs.Option.{option_to_list}
+use Rattle.m11_arguments.specs.Directives.{every_name, operator_in}
+use Rattle.m11_arguments.specs.LeftOvers.{rest_letters, skip_letters}
+use Rattle.m11_base.specs.Devices.{Bytes}
+use Rattle.m11_base.specs.Rad50.{Name}
+use Rattle.m11_listing.specs.declared.items.Item.{Item}
+use Rattle.m11_scan.specs.Views.{bits_of}
+use Rattle.m11_statements.specs.Labels.{end_of, labels_at, labels_end}
+use Rattle.m11_statements.specs.Statements.{body_of, label_letters}
+use Rattle.m11_statements.specs.declared.bodies.Body.{Body}
+use Rattle.m11_statements.specs.declared.labels.Label.{Label}
+use Rattle.m11_unfolding.specs.Acting.{Acted, Foreign, act, act_fault, acted_by, fault_by, foreign, operation, operation_in}
+use Rattle.m11_unfolding.specs.Stages.{Stage}
+use Rattle.m11_unfolding.specs.Taking.{Live}
+use Rattle.m11_unfolding.specs.Unfolding.{Given}
+use Rattle.m11_placement.specs.Changes.{Change, Keeps, changed}
+use Rattle.m11_placement.specs.Contents.{Put, nothing}
+use Rattle.m11_placement.specs.Items.{deed_items, is_shown}
+use Rattle.m11_placement.specs.Labels.{labels_letters, with_labels}
+use Rattle.m11_placement.specs.Limits.{limit_fault, local_count, most_local_symbols, most_names, most_sections, with_mentions}
+use Rattle.m11_placement.specs.Lines.{Rests, after_line, change_of, deed, deed_of, known_end, line_change, line_put, put_by, put_place, section_name, stands}
+use Rattle.m11_placement.specs.Meanings.{Map}
+use Rattle.m11_placement.specs.declared.meanings.Context.TheVariants.{Knows}
+use Rattle.m11_placement.specs.Mentions.{Mention, deed_mentions, label_mentions, mention, mentions}
+use Rattle.m11_placement.specs.Tables.{Table, firm_table, place}
+use Rattle.m11_placement.specs.declared.sections.Section.{Section}
+use Rattle.m11_placement.specs.declared.settings.Settings.{Settings}
+use Rattle.m11_placing.proofs.Alike.{alike_place}
+use Rattle.m11_placing.specs.Deeds.{deed_seen}
+use Rattle.m11_placing.specs.Mentioned.{Gathered, with_all}
+use Rattle.m11_placing.specs.Moved.{moved_letters}
+use Rattle.m11_placing.specs.Passes.{Kept, Matches}
+use Rattle.m11_placing.specs.declared.deeds.Deed.TheVariants as code
+use Rattle.m11_passes.proofs.Assembling.{section_alike}
+use Rattle.m11_passes.proofs.Placing.{fits_limits, within}
+use Rattle.m11_passes.specs.Blank.{IsBlank}
+use Rattle.m11_passes.specs.Bounds.{IsFew}
+use Rattle.m11_passes.specs.Lines.{acted}
+use Rattle.m11_passes.specs.Placed.{IsLive, IsPlaced, all_letters, live_in}
+use Rattle.m11_passes.specs.Refusals.{given_by, labels_fault, line_fault, of_limit}
+use Rattle.m11_passes.specs.States.{Going}
+use Rattle.m11_passes.specs.Turns.{LeavesAfter, Places, Said}
+use Rattle.m11_passes.specs.declared.fault.PassFault.TheVariants.{TooManySymbols}
+use Rattle.m11_passes.specs.declared.placed.LiveLine.{LiveLine}
+use Rattle.m11_passes.specs.declared.placed.PlacedLine.{PlacedLine}
+
+module _ (live : Live) (stage : Stage) (blank : IsBlank live.line.text) (table : Table) where
+  abbrev text : Bytes
+  text = live.line.text
+
+  abbrev line : Given
+  line = given_by table live stage
+
+  -- ---- what it does
+
+  stands_so : stands table line ≡ table
+  stands_so = ap (with_labels text table) blank.unlabelled
+
+  foreign_so : operation stage.conditions stage.macros text ≡ Foreign
+  foreign_so = ap (λ (b : Body). operation_in stage.conditions stage.macros text (operator_in b)) blank.bodiless
+
+  acts_so : act line.known stage text ≡ foreign stage
+  acts_so = ap (acted_by line.known text stage) foreign_so
+
+  stage_so : stage ≡ acted table live stage
+  stage_so = sym (ap (λ (a : Acted). a.after) acts_so)
+
+  pub deed_so : deed line.is_own text ≡ Rests
+  deed_so = ap (λ (a : Acted). deed a.is_own text) acts_so ∙ ap (deed_of text) blank.bodiless
+
+  change_so : line_change (firm_table (stands table line)) line ≡ Keeps
+  unfolding line_change
+  change_so = ap (change_of (firm_table (stands table line)) text line.arguments) deed_so
+
+  after_so : (map_ : Map) → after_line map_ table line ≡ table
+  after_so map_ = ap (λ (c : Change). changed map_ text c (stands table line)) change_so ∙ stands_so
+
+  put_so : (map_ : Map) → line_put map_ (stands table line) line ≡ nothing 0
+  unfolding line_put
+  put_so map_ = ap (put_by map_ (stands table line) text line.arguments) deed_so
+
+  mentions_so : mentions table line ≡ []
+  mentions_so =
+      ap (λ (ls : List Label). flat_map (label_mentions text) ls
+      ++ map (mention Knows) line.notes.symbols ++ deed_mentions (stands table line) text line.arguments (deed line.is_own text))
+      blank.unlabelled
+      ∙ ap (λ (a : Acted). map (mention Knows) a.notes.symbols
+      ++ deed_mentions (stands table line) text line.arguments (deed line.is_own text)) acts_so
+      ∙ ap (deed_mentions (stands table line) text line.arguments) deed_so
+
+  gathered_so : (gathered : Gathered) → gathered ≡ with_all (mentions table line) gathered
+  gathered_so gathered = sym (ap (λ (ms : List Mention). with_all ms gathered) mentions_so)
+
+  -- ---- limits
+
+  labels_fit : (names : List Name) → length names ≤ most_names → local_count table ≤ most_local_symbols
+      → labels_fault names table text ≡ None
+  labels_fit names few symbols =
+      ap (λ (ls : List Label). if nat_lt most_names (length (with_mentions (flat_map (label_mentions text) ls) names))
+      || nat_lt most_local_symbols (local_count (with_labels text table ls)) then Some TooManySymbols else None) blank.unlabelled
+      ∙ rw (within most_names (length names) few, within most_local_symbols (local_count table) symbols) refl
+
+  act_fits : act_fault stage text ≡ None
+  act_fits = ap (fault_by stage) foreign_so
+
+  line_fits : (map_ : Map) (names : List Name) → length names ≤ most_names → local_count table ≤ most_local_symbols
+      → length table.sections ≤ most_sections → line_fault map_ table names live stage ≡ None
+  line_fits map_ names few symbols sections =
+      rw (labels_fit names few symbols, act_fits)
+      (ap (λ (ms : List Mention). of_limit (limit_fault (with_mentions ms names) (after_line map_ table line))) mentions_so
+      ∙ ap (λ (t : Table). of_limit (limit_fault names t)) (after_so map_)
+      ∙ ap of_limit (fits_limits names table few symbols sections))
+
+  -- ---- letters
+
+  letters_so : (map_ : Map) → all_letters map_ table line ≡ bit_or (label_letters live.line) (rest_letters text 0)
+  letters_so map_ =
+      ap (λ (p : Put). bit_or (bit_or (bit_or (label_letters live.line) (labels_letters text table (labels_at text)))
+      (bit_or (skip_letters text (labels_end text) (known_end text (body_of every_name text)))
+      (bit_or p.letters line.notes.letters))) (moved_letters map_ text table (labels_at text))) (put_so map_)
+      ∙ ap (λ (a : Acted). bit_or (bit_or (bit_or (label_letters live.line) (labels_letters text table (labels_at text)))
+      (bit_or (skip_letters text (labels_end text) (known_end text (body_of every_name text)))
+      (bit_or 0 a.notes.letters))) (moved_letters map_ text table (labels_at text))) acts_so
+      ∙ ap (λ (b : Body). bit_or (bit_or (bit_or (label_letters live.line) (labels_letters text table (labels_at text)))
+      (bit_or (skip_letters text (labels_end text) (known_end text b))
+      (bit_or 0 0))) (moved_letters map_ text table (labels_at text))) blank.bodiless
+      ∙ ap (λ (ls : List Label). bit_or (bit_or (bit_or (label_letters live.line) (labels_letters text table ls))
+      (bit_or (skip_letters text (end_of 0 ls) (length text)) (bit_or 0 0))) (moved_letters map_ text table ls)) blank.unlabelled
+      ∙ or_zero_r (bit_or (bit_or (label_letters live.line) 0) (bit_or (rest_letters text 0) (bit_or 0 0)))
+      ∙ ap (λ (n : ℕ). bit_or n (bit_or (rest_letters text 0) (bit_or 0 0))) (or_zero_r (label_letters live.line))
+      ∙ ap (λ (n : ℕ). bit_or (label_letters live.line) (bit_or (rest_letters text 0) n)) (or_zero_r 0)
+      ∙ ap (bit_or (label_letters live.line)) (or_zero_r (rest_letters text 0))
+
+  -- ---- the line is placed
+
+  pub live_so : (here : LiveLine) → live_in here ≡ live → here.deed ≡ code.Rests → IsLive line here
+  live_so here same rests = record { live_is = same; deed_is = ap deed_seen rests ∙ sym deed_so }
+
+  pub placed_so : (map_ : Map) (pass : Kept) (placed : PlacedLine) (put : Put) → Matches pass table → live_in placed.live ≡ live
+      → placed.live.deed ≡ code.Rests → put ≡ nothing 0
+      → bits_of placed.letters ≡ bit_or (label_letters live.line) (rest_letters text 0)
+      → placed.section ≡ section_name pass.table → placed.place ≡ place pass.table → placed.counter ≡ place pass.table
+      → placed.assigned ≡ None → placed.is_shown ≡ is_shown pass.table.settings live.is_expanded
+      → IsPlaced map_ table line placed put
+  placed_so map_ pass placed put matches same rests put_is letters_are section_is place_is counter_is assigned_is shown_is =
+      let there : place pass.table ≡ place (stands table line)
+      = alike_place pass.table table matches.alike ∙ ap place (sym stands_so) in
+      record {
+        is_live = live_so placed.live same rests;
+        letters_are = letters_are ∙ sym (letters_so map_);
+        section_is = section_is ∙ section_alike pass.table table matches.alike ∙ ap section_name (sym stands_so);
+        place_is = place_is ∙ there ∙ ap (put_place (stands table line)) (sym deed_so);
+        contents_are = ap (λ (p : Put). p.contents) (put_is ∙ sym (put_so map_));
+        counter_is = counter_is ∙ there;
+        assigned_is = ap (λ (item : Option Item). option_to_list item) assigned_is
+            ∙ sym (ap (deed_items map_ (stands table line) text (line_change (firm_table (stands table line)) line)) deed_so);
+        shown_is = shown_is ∙ ap (λ (s : Settings). is_shown s live.is_expanded) matches.alike.settings
+            ∙ ap (λ (t : Table). is_shown t.settings live.is_expanded) (sym (after_so map_));
+      }
+
+-- ---- the pass after it
+
+module _ (live : Live) (old : Going) (blank : IsBlank live.line.text) (few : IsFew old.kept old.gathered)
+    (sections : length old.kept.table.sections ≤ most_sections) where
+  leaves : (map_ : Map) (table : Table) (put : Put) → Matches old.kept table
+      → LeavesAfter map_ table live old.unfolder.stage old (record old { put = put })
+  leaves map_ table put matches =
+      let N : ℕ → Type 0 = λ n. n ≤ most_local_symbols in
+      let S : List Section → Type 0 = λ l. length l ≤ most_sections in
+      let T : Table → Type 0 = λ t. Matches old.kept t in
+      record {
+        fits = line_fits live old.unfolder.stage blank table map_ old.gathered.names few.names (subst N matches.local_symbols few.symbols)
+            (subst S matches.alike.sections sections);
+        stage_is = stage_so live old.unfolder.stage blank table;
+        matches = subst T (sym (after_so live old.unfolder.stage blank table map_)) matches;
+        gathered = gathered_so live old.unfolder.stage blank table old.gathered;
+      }
+
+  pub blank_places : (map_ : Map) (put : Put) (said : Said)
+      → ((table : Table) → Matches old.kept table → said table (given_by table live old.unfolder.stage))
+      → Places map_ live old.unfolder.stage old (record old { put = put }) said (Ok tt)
+  blank_places map_ put said says table matches =
+      record { leaves = leaves map_ table put matches; is_said = says table matches }

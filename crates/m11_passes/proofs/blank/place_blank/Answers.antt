@@ -1,0 +1,28 @@
+use Rattle.std.proofs.Common.{◌∙◌, ℕ, None, refl, ap}
+use Rattle.std.specs.Int.RustNames.{bit_or}
+use Rattle.m11_scan.specs.Views.{bits_of}
+use Rattle.m11_statements.specs.Statements.{label_letters}
+use Rattle.m11_placing.specs.declared.deeds.Deed.TheVariants as code
+use Rattle.m11_passes.proofs.Blanks.{placed_so}
+use Rattle.m11_passes.specs.Placed.{live_in}
+use Rattle.m11_passes.specs.declared.placed.PlacedLine.{PlacedLine}
+use Rattle.m11_passes.proofs.blank.place_blank.Goals as goal
+
+pub returns-clause-placed : goal.returns-clause-placed
+returns-clause-placed c = λ whole table stage matches.
+    let line = c.args.placed.now.live.line in
+    let placed : PlacedLine = record {
+      live = record { line = line; is_expanded = c.args.placed.now.live.is_expanded; deed = code.Rests };
+      letters = c.with-placed.result;
+      section = c.section_name-placed.result;
+      place = c.counter-placed.result;
+      counter = c.counter-placed.result;
+      assigned = None;
+      is_shown = c.is_shown-placed.result;
+    } in
+    placed_so (live_in c.args.placed.now.live) stage c.requires.blank table whole c.args.pass.now placed c.clear.new.self matches refl refl
+    c.clear.ensures
+    (c.with-placed.ensures
+    ∙ ap (λ (n : ℕ). bit_or n (bits_of c.rest_letters.result)) c.requires.states.letters_are
+    ∙ ap (bit_or (label_letters line)) c.rest_letters.ensures)
+    c.section_name-placed.ensures c.counter-placed.ensures c.counter-placed.ensures refl c.is_shown-placed.ensures
