@@ -6,6 +6,7 @@ mod Insides
 pub mod Joining
 mod Numerals
 mod Repetitions
+mod SameSecond
 mod Tests
 mod Texts
 mod Tokens

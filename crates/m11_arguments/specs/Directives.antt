@@ -1,6 +1,6 @@
 -- The directives of conditions, repeats and macros, and `.END`, by their names. (MACRO-11 Language Reference Manual, "Conditional
 -- assembly block directives", "Macro definition", "Indefinite repeat block directives" and ".END directive".)
-use Rattle.std.specs.Prelude.{Bool, true, List, [], ◌∷◌, codes, find, Option, Some, None}
+use Rattle.std.specs.Prelude.{ℕ, Bool, true, ◌==◌, List, [], ◌∷◌, codes, filter, find, Option, Some, None, slice_index}
 use Rattle.std.specs.Str.{bytes_eq}
 use Rattle.m11_base.specs.Devices.{Bytes}
 use Rattle.m11_base.specs.Mnemonics.{six_of}
@@ -38,9 +38,17 @@ directive_rows =
     ∷ named (codes ".END  ") End
     ∷ []
 
+-- the directives whose names have this second character
+abbrev pub rows_with : ℕ → List DirectiveRow
+rows_with second = filter (λ row. slice_index row.name 1 == second) directive_rows
+
 abbrev pub directive_in : Option DirectiveRow → Option Directive
 directive_in (Some row) = Some row.directive
 directive_in None = None
+
+-- the directive of a row with a name
+abbrev pub directive_among : List DirectiveRow → Bytes → Option Directive
+directive_among rows name = directive_in (find (λ row. bytes_eq row.name name) rows)
 
 -- the directive of a name of six characters, if it is one
 abbrev pub directive_named : Bytes → Option Directive

@@ -55,86 +55,86 @@ struct DirectiveRow {
     directive: Directive,
 }
 
-const DIRECTIVES: [DirectiveRow; 16] = [
-    DirectiveRow {
-        name: *b".IF   ",
-        directive: Directive::If,
-    },
-    DirectiveRow {
-        name: *b".IFF  ",
-        directive: Directive::IfFalse,
-    },
-    DirectiveRow {
-        name: *b".IFT  ",
-        directive: Directive::IfTrue,
-    },
-    DirectiveRow {
-        name: *b".IFTF ",
-        directive: Directive::IfTrueFalse,
-    },
-    DirectiveRow {
-        name: *b".ENDC ",
-        directive: Directive::EndCondition,
-    },
-    DirectiveRow {
-        name: *b".IIF  ",
-        directive: Directive::ImmediateIf,
-    },
-    DirectiveRow {
-        name: *b".MACRO",
-        directive: Directive::Macro,
-    },
-    DirectiveRow {
-        name: *b".ENDM ",
-        directive: Directive::EndMacro,
-    },
-    DirectiveRow {
-        name: *b".REPT ",
-        directive: Directive::Repeat,
-    },
-    DirectiveRow {
-        name: *b".ENDR ",
-        directive: Directive::EndRepeat,
-    },
-    DirectiveRow {
-        name: *b".IRP  ",
-        directive: Directive::IndefiniteRepeat,
-    },
-    DirectiveRow {
-        name: *b".IRPC ",
-        directive: Directive::CharacterRepeat,
-    },
-    DirectiveRow {
-        name: *b".MEXIT",
-        directive: Directive::MacroExit,
-    },
-    DirectiveRow {
-        name: *b".NARG ",
-        directive: Directive::ArgumentCount,
-    },
-    DirectiveRow {
-        name: *b".NCHR ",
-        directive: Directive::CharacterCount,
-    },
-    DirectiveRow {
-        name: *b".END  ",
-        directive: Directive::End,
-    },
+macro_rules! row {
+    ($name:literal, $directive:expr) => {
+        DirectiveRow {
+            name: *$name,
+            directive: $directive,
+        }
+    };
+}
+
+// The directives by the second characters of their names, since the first is the same in all.
+const WITH_I: [DirectiveRow; 7] = [
+    row!(b".IF   ", Directive::If),
+    row!(b".IFF  ", Directive::IfFalse),
+    row!(b".IFT  ", Directive::IfTrue),
+    row!(b".IFTF ", Directive::IfTrueFalse),
+    row!(b".IIF  ", Directive::ImmediateIf),
+    row!(b".IRP  ", Directive::IndefiniteRepeat),
+    row!(b".IRPC ", Directive::CharacterRepeat),
 ];
+
+const WITH_E: [DirectiveRow; 4] = [
+    row!(b".ENDC ", Directive::EndCondition),
+    row!(b".ENDM ", Directive::EndMacro),
+    row!(b".ENDR ", Directive::EndRepeat),
+    row!(b".END  ", Directive::End),
+];
+
+const WITH_M: [DirectiveRow; 2] = [
+    row!(b".MACRO", Directive::Macro),
+    row!(b".MEXIT", Directive::MacroExit),
+];
+
+const WITH_N: [DirectiveRow; 2] = [
+    row!(b".NARG ", Directive::ArgumentCount),
+    row!(b".NCHR ", Directive::CharacterCount),
+];
+
+const WITH_R: [DirectiveRow; 1] = [row!(b".REPT ", Directive::Repeat)];
 
 /// The directive of a name, in either case; its first six characters count.
 pub fn directive_named(name: &[u8]) -> Option<Directive>
     ensures { result ≡ spec.directive_named (six_of name.now) }
 {
-    let six = six_characters(name);
-    // each begins so, and most operators don't
-    if six[0] != b'.' {
-        return None;
+    // each begins so, and many operators don't
+    match name.first() {
+        Some(b'.') => directive_of_six(&six_characters(name)),
+        _ => None,
     }
-    let found = DIRECTIVES.iter().find(|row| is_same_six(&row.name, &six));
+}
+
+// The directive of a name of six characters.
+#[tactic(auto, using(crate::proofs::SameSecond::named_with))]
+fn directive_of_six(name: &[u8; 6]) -> Option<Directive>
+    ensures { result ≡ spec.directive_named name.now }
+{
+    directive_among(rows_with(name[1]), name)
+}
+
+// The directive of a row with a name.
+fn directive_among(rows: &[DirectiveRow], name: &[u8; 6]) -> Option<Directive>
+    ensures { result ≡ spec.directive_among rows.now name.now }
+{
+    let found = rows.iter().find(|row| is_same_six(&row.name, name));
     match found {
         Some(row) => Some(row.directive),
         None => None,
+    }
+}
+
+// The directives whose names have this second character.
+fn rows_with(second: u8) -> &'static [DirectiveRow]
+    ensures { result.now ≡ spec.rows_with second }
+{
+    match second {
+        b'I' => &WITH_I,
+        b'E' => &WITH_E,
+        b'M' => &WITH_M,
+        b'N' => &WITH_N,
+        b'R' => &WITH_R,
+        _ => &[],
     }
 }
 
