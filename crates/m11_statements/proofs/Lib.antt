@@ -3,3 +3,4 @@ mod Folded
 mod InOrder
 mod NextLabels
 mod NextParts
+mod Operands

@@ -1,11 +1,13 @@
 -- What stands after the labels of a line. (MACRO-11 Language Reference Manual, "Operator field", "Direct assignment statements" and
 -- ".WORD directive". That `.==` is no form, and that a line which begins with anything else counts as words, is this project's own.)
-use Rattle.std.specs.Prelude.{ℕ, Bool, true, false, if◌then◌else◌, List, [], ◌∷◌, Option, Some, None}
+use Rattle.std.specs.Prelude.{ℕ, Bool, true, false, ◌||◌, ◌==◌, if◌then◌else◌, List, [], ◌∷◌, drop, Option, Some, None}
+use Rattle.std.specs.List.{prefix_len}
 use Rattle.m11_base.specs.Devices.{Bytes}
-use Rattle.m11_base.specs.Mnemonics.{six_of}
+use Rattle.m11_base.specs.Mnemonics.{is_name_character, six_of}
 use Rattle.m11_base.specs.Rad50.{Name, name_of}
 use Rattle.m11_scan.specs.declared.sort.Sort.{Sort}
 use Rattle.m11_scan.specs.declared.sort.Sort.TheVariants as sorts
+use Rattle.m11_scan.specs.Characters.{is_blank}
 use Rattle.m11_scan.specs.Cutting.{Lexeme}
 use Rattle.m11_scan.specs.Skipped.{skipped_between}
 use Rattle.m11_statements.specs.Labels.{is_counter}
@@ -42,6 +44,18 @@ abbrev pub assignment_to : Bytes → Lexeme → List Lexeme → Option Body
 assignment_to line target [] = None
 assignment_to line target (equals ∷ tokens) =
     if skipped_between line target.end equals.start then None else assigned target equals
+
+-- a character begins a name, a number, or an operand of another form
+abbrev pub is_operand_start : ℕ → Bool
+is_operand_start byte = is_name_character byte || (byte == 0o43 || (byte == 0o100 || (byte == 0o50 || byte == 0o55)))
+
+abbrev pub begins_or_ends : Bytes → Bool
+begins_or_ends [] = true
+begins_or_ends (byte ∷ text) = is_operand_start byte
+
+-- after its blanks a text begins so, or ends
+abbrev pub begins_operand : Bytes → Bool
+begins_operand text = begins_or_ends (drop (prefix_len is_blank text) text)
 
 abbrev pub is_known_name : (Name → Bool) → Option Name → Bool
 is_known_name known None = false

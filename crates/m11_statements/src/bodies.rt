@@ -1,7 +1,7 @@
 //! What stands after the labels of a line. (MACRO-11 Language Reference Manual, "Operator field", "Direct assignment statements" and
 //! ".WORD directive".)
 
-ghost use Rattle.std.specs.Prelude.{◌≡◌, ◌<◌, ◌≤◌, ℕ, Bool, [], ◌∷◌, length, IfSome, MatchOption};
+ghost use Rattle.std.specs.Prelude.{◌≡◌, ◌<◌, ◌≤◌, ℕ, Bool, [], ◌∷◌, drop, length, IfSome, MatchOption};
 ghost use Rattle.m11_scan.specs.Cutting.{tokens_from};
 ghost use Rattle.m11_scan.specs.Views.{lexeme};
 ghost use Rattle.m11_statements.specs.Bodies as spec;
@@ -9,7 +9,9 @@ ghost use Rattle.m11_statements.specs.Bodies as spec;
 use crate::labels::is_counter;
 use crate::spans::Span;
 use m11_base::Name;
-use m11_scan::{Line, Sort, Token, next_token, read_name, skipped_between};
+use m11_scan::{
+    Line, Sort, Token, blanks_length, is_name_character, next_token, read_name, skipped_between,
+};
 
 /// The operators that are known: the names of instructions, of directives and of the macros that are defined.
 pub trait Operators {
@@ -87,6 +89,10 @@ fn assignment_to(line: &Line, target: Token) -> Option<Body>
         ≡ spec.assignment_to line.now.text (lexeme line.now.text target) (tokens_from line.now.text target.end) }
 {
     let end = usize::from(target.end);
+    // most lines have an operand there, of which no token need be cut
+    if begins_operand(line, end) {
+        return None;
+    }
     let equals = next_token(line, end)?;
     // most tokens are no `=`, so this is asked for first
     let body = assigned(line, target, equals)?;
@@ -95,6 +101,25 @@ fn assignment_to(line: &Line, target: Token) -> Option<Body>
     } else {
         Some(body)
     }
+}
+
+// Whether the first character from a place on that is no blank begins an operand, or there is none.
+fn begins_operand(line: &Line, place: usize) -> bool
+    requires { place ≤ length line.now.text }
+    ensures { result ≡ spec.begins_operand (drop place line.now.text) }
+{
+    let text = &line.text()[place..];
+    match &text[blanks_length(text)..] {
+        [first, ..] => is_operand_start(*first),
+        [] => true,
+    }
+}
+
+// Whether a character begins a name, a number, or an operand of another form.
+fn is_operand_start(byte: u8) -> bool
+    ensures { result ≡ spec.is_operand_start byte }
+{
+    is_name_character(byte) || matches!(byte, b'#' | b'@' | b'(' | b'-')
 }
 
 fn assigned(line: &Line, target: Token, equals: Token) -> Option<Body>
