@@ -11,6 +11,7 @@ use Rattle.m11_scan.specs.Views.{bits_of}
 use Rattle.m11_statements.specs.Labels.{labels_at, labels_end}
 use Rattle.m11_statements.specs.Statements.{body_of, label_letters}
 use Rattle.m11_statements.specs.declared.bodies.Body.{Body}
+use Rattle.m11_statements.specs.declared.statements.Statement.{Statement}
 use Rattle.m11_unfold.specs.Unfolder.{Acts, Unfolding}
 use Rattle.m11_unfold.specs.declared.steps.Act.{Act as Acting}
 use Rattle.m11_unfolding.specs.Stages.{Stage, start}
@@ -45,7 +46,7 @@ use Rattle.m11_table.specs.Asking.{FirmAsked, firm_asked}
 use Rattle.m11_passes.proofs.Placing.{Act, IsActOf, all_so, change_is, deed_so, line_fits, matches_so, mentions_refused, notes_so, puts, sections_refused, stage_so}
 use Rattle.m11_passes.proofs.Settling.{change_modest, changed_moves, labels_blocks}
 use Rattle.m11_passes.proofs.Turning.{first_sound}
-use Rattle.m11_passes.specs.Begun.{Begins, Finishes}
+use Rattle.m11_passes.specs.Begun.{Begins, Finishes, States}
 use Rattle.m11_passes.specs.Bounds.{HasRoom, IsSound, IsSoundUntil}
 use Rattle.m11_passes.specs.Faults.{Fails, Refuses}
 use Rattle.m11_passes.specs.Lines.{PassLines}
@@ -242,16 +243,18 @@ module _ (map_ : Map) (live : Live) (old middle : Going) (does : code.Deed) (beg
 
   -- ---- the line is placed
 
-  pub placed_so : (new : Going) (placed : PlacedLine) → live_in placed.live ≡ live → placed.live.deed ≡ does
+  pub placed_so : (statement : Statement) → States live statement
+      → (new : Going) (placed : PlacedLine) → live_in placed.live ≡ live → placed.live.deed ≡ does
       → new.put ≡ put_by map_ stood.table text done.arguments of
       → placed.section ≡ section_name stood.table → placed.place ≡ put_place stood.table of → placed.counter ≡ place stood.table
       → placed.is_shown ≡ is_shown new.kept.table.settings placed.live.is_expanded
-      → bits_of placed.letters ≡ bit_or (letters_from text begun.statement.labels_end begun.statement.body
-      (bits_of begun.statement.label_letters) (bits_of begun.found.doubled) new.put.letters done.notes.letters)
+      → bits_of placed.letters ≡ bit_or (letters_from text statement.labels_end statement.body
+      (bits_of statement.label_letters) (bits_of begun.found.doubled) new.put.letters done.notes.letters)
       (bits_of begun.found.moved)
       → Finishes map_ live before old new (Ok placed.assigned)
       → Places map_ live before old new (SaysPlaced map_ placed new.put) (Ok tt)
-  placed_so new placed same deed_so_far put_is section_is place_is counter_is shown_is letters_are finishes_so table matches =
+  placed_so statement states new placed same deed_so_far put_is section_is place_is counter_is shown_is letters_are finishes_so table
+      matches =
       let here = begins.labels table matches in
       let line : Given = given_by table live before in
       let finished = finishes_so table matches in
@@ -266,14 +269,14 @@ module _ (map_ : Map) (live : Live) (old middle : Going) (does : code.Deed) (beg
         is_said = record {
           is_live = record { live_is = same; deed_is = ap deed_seen deed_so_far ∙ begins.deed_is ∙ own };
           letters_are = letters_are
-              ∙ ap (λ (n : ℕ). bit_or (letters_from text n begun.statement.body (bits_of begun.statement.label_letters)
+              ∙ ap (λ (n : ℕ). bit_or (letters_from text n statement.body (bits_of statement.label_letters)
               (bits_of begun.found.doubled) new.put.letters done.notes.letters) (bits_of begun.found.moved))
-              begins.states.labels_end_is
-              ∙ ap (λ (b : Body). bit_or (letters_from text (labels_end text) b (bits_of begun.statement.label_letters)
-              (bits_of begun.found.doubled) new.put.letters done.notes.letters) (bits_of begun.found.moved)) begins.states.body_is
+              states.labels_end_is
+              ∙ ap (λ (b : Body). bit_or (letters_from text (labels_end text) b (bits_of statement.label_letters)
+              (bits_of begun.found.doubled) new.put.letters done.notes.letters) (bits_of begun.found.moved)) states.body_is
               ∙ ap (λ (n : ℕ). bit_or (letters_from text (labels_end text) (body_of every_name text) n
               (bits_of begun.found.doubled) new.put.letters done.notes.letters) (bits_of begun.found.moved))
-              begins.states.letters_are
+              states.letters_are
               ∙ ap (λ (n : ℕ). bit_or (letters_from text (labels_end text) (body_of every_name text) (label_letters live.line)
               (bits_of begun.found.doubled) new.put.letters done.notes.letters) n) here.moved
               ∙ ap (λ (n : ℕ). bit_or n (moved_letters map_ text table (labels_at text)))
@@ -316,7 +319,6 @@ begins_still map_ live old middle does begun put begins = record {
   named = begins.named;
   acts = begins.acts;
   deed_is = begins.deed_is;
-  states = begins.states;
   fields_are = begins.fields_are;
 }
 

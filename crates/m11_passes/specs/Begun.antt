@@ -40,7 +40,6 @@ pub record Begins (map : Map) (live : Live) (old new : Going) (does : Deed) (beg
   pub named : new.gathered ≡ with_all (mentions_of_labels live.line.text) old.gathered
   pub acts : Acts (known_after_labels new.kept.table) live.line.text old.unfolder.stage new.unfolder.stage (Ok begun.act)
   pub deed_is : deed_seen does ≡ deed begun.act.is_own live.line.text
-  pub states : States live begun.statement
   pub fields_are : fields_seen begun.fields ≡ deed_fields new.kept.table live.line.text does
 
 -- from there to the end of the line, with what a listing shows of what it assigns; or the line passes a limit

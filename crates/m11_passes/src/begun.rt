@@ -33,7 +33,6 @@ use m11_unfolding::UnfoldFault;
 // What was found of a line whose labels stand and whose operator unfolding has done.
 #[derive(Drop)]
 pub struct Begun {
-    pub(crate) statement: Statement,
     // The letters of its labels.
     pub(crate) found: LabelLetters,
     pub(crate) act: Act,
@@ -47,10 +46,10 @@ impl State {
         &mut self,
         map: &Map<'_>,
         live: &mut LiveLine,
-        statement: Statement,
+        statement: &Statement,
     ) -> Result<Begun, PassFault>
-        requires unlabelled { statement.labels_end ≡ 0 → labels_at live.old.line.text ≡ [] }
-        requires states { States (live_in live.old) statement }
+        requires unlabelled { statement.now.labels_end ≡ 0 → labels_at live.old.line.text ≡ [] }
+        requires states { States (live_in live.old) statement.now }
         requires goes_on { self.old.unfolder.fault ≡ None }
         requires kept { IsKept self.old.unfolder.stage }
         requires free { self.old.unfolder.has_statement ≡ false }
@@ -82,7 +81,6 @@ impl State {
         let act = act_on(&mut self.unfolder, line, operator, &self.pass)?;
         live.deed = deed_after_labels(act.is_own, &live.line, statement.body);
         Ok(Begun {
-            statement,
             found,
             act,
             fields: deed_fields(self.pass.table(), &live.line, &live.deed),

@@ -30,7 +30,7 @@ use m11_listing::Item;
 use m11_operators::Put;
 use m11_placing::{Deed, Mentioned, Pass, line_letters};
 use m11_scan::{Letters, Line};
-use m11_statements::statement;
+use m11_statements::{Statement, statement};
 use m11_table::Map;
 use m11_unfold::{Step, Unfolder};
 use std::alloc::{AllocError, Global};
@@ -130,7 +130,7 @@ impl State {
             place_blank(&self.pass, &mut self.put, &statement, placed);
             return Ok(());
         }
-        let begun = self.begin(map, &mut placed.live, statement)?;
+        let begun = self.begin(map, &mut placed.live, &statement)?;
         placed.section = section_name(&self.pass);
         placed.place = put_place(&self.pass, &placed.live.deed);
         placed.counter = counter(&self.pass);
@@ -143,7 +143,7 @@ impl State {
             &placed.live.deed,
             &begun.fields,
         )?;
-        placed.letters = all_letters(&placed.live.line, &begun, &self.put);
+        placed.letters = all_letters(&placed.live.line, &statement, &begun, &self.put);
         placed.assigned = self.finish(map, &placed.live, &begun)?;
         placed.is_shown = is_shown(&self.pass, placed.live.is_expanded);
         Ok(())
@@ -170,7 +170,7 @@ impl State {
             return Ok(());
         }
         let map = Map::none();
-        let begun = self.begin(&map, live, statement)?;
+        let begun = self.begin(&map, live, &statement)?;
         self.finish(&map, live, &begun)?;
         Ok(())
     }
@@ -215,12 +215,11 @@ impl State {
 }
 
 // The letters of a line: those that the line's definition has, and P where a label of it has moved.
-fn all_letters(line: &Line, begun: &Begun, put: &Put) -> Letters
-    ensures { bits_of result ≡ bit_or (letters_from line.now.text begun.now.statement.labels_end begun.now.statement.body
-        (bits_of begun.now.statement.label_letters) (bits_of begun.now.found.doubled) put.now.letters begun.now.act.notes.letters)
+fn all_letters(line: &Line, statement: &Statement, begun: &Begun, put: &Put) -> Letters
+    ensures { bits_of result ≡ bit_or (letters_from line.now.text statement.now.labels_end statement.now.body
+        (bits_of statement.now.label_letters) (bits_of begun.now.found.doubled) put.now.letters begun.now.act.notes.letters)
         (bits_of begun.now.found.moved) }
 {
-    let statement = &begun.statement;
     let letters = line_letters(
         line,
         usize::from(statement.labels_end),

@@ -10,6 +10,7 @@ use Rattle.m11_passes.specs.Faults.{Fails}
 use Rattle.m11_passes.specs.Refusals.{line_fault}
 use Rattle.m11_passes.proofs.Assembling.{begins_still, placed_so, places_fails}
 use Rattle.m11_passes.proofs.Blanks.{blank_places}
+use Rattle.m11_passes.specs.Begun.{States}
 use Rattle.m11_passes.specs.Blank.{IsBlank}
 use Rattle.m11_passes.specs.Placed.{live_in}
 use Rattle.m11_passes.specs.States.{going_of}
@@ -52,6 +53,13 @@ returns-clause-places c =
     let new = going_of c.finish.new.self in
     let begun = c.in_ok-begun.begun in
     let text = c.begin.new.live.line.text in
+    let statement = c.statement-statement.result in
+    let said : States (live_in c.args.placed.now.live) statement = record {
+      labels_end_is = c.statement-statement.ensures.labels_end;
+      body_is = c.statement-statement.ensures.body;
+      letters_are = c.statement-statement.ensures.label_letters;
+    } in
+    let S : Live → Type 0 = λ l. States l statement in
     let placed : PlacedLine = record {
       live = c.begin.new.live;
       letters = c.all_letters-placed.result;
@@ -64,11 +72,12 @@ returns-clause-places c =
     let L : Live → Type 0 = λ l. Places map l old.unfolder.stage old new (SaysPlaced map placed new.put) (Ok tt) in
     subst L c.begin.ensures.same
     (placed_so map (live_in c.begin.new.live) old (going_of c.begin.new.self) c.begin.new.live.deed begun c.in_ok-begun.ensures.begins
-    new placed refl refl (c.finish.ensures.put ∙ c.in_ok-put_line.ensures.puts) c.section_name-placed.ensures
+    statement (subst S (sym c.begin.ensures.same) said) new placed refl refl
+    (c.finish.ensures.put ∙ c.in_ok-put_line.ensures.puts) c.section_name-placed.ensures
     c.put_place-placed.ensures c.counter-placed.ensures c.is_shown-placed.ensures
     (c.all_letters-placed.ensures
-    ∙ ap (λ (p : Put). bit_or (letters_from text begun.statement.labels_end begun.statement.body
-    (bits_of begun.statement.label_letters) (bits_of begun.found.doubled) p.letters begun.act.notes.letters)
+    ∙ ap (λ (p : Put). bit_or (letters_from text statement.labels_end statement.body
+    (bits_of statement.label_letters) (bits_of begun.found.doubled) p.letters begun.act.notes.letters)
     (bits_of begun.found.moved)) (sym c.finish.ensures.put))
     (c.in_ok-placed.ensures.finishes old
     (begins_still map (live_in c.begin.new.live) old (going_of c.begin.new.self) c.begin.new.live.deed begun c.put_line.new.put
