@@ -1,6 +1,6 @@
 //! The operations of instructions, by their names. (MACRO-11 Language Reference Manual, "Permanent symbol table".)
 
-ghost use Rattle.std.specs.Prelude.{◌≡◌, ◌++◌, slice_get};
+ghost use Rattle.std.specs.Prelude.{◌≡◌, ◌++◌, option_map, slice_get};
 ghost use Rattle.m11_base.specs.Instructions.{other_names, rows};
 ghost use Rattle.m11_base.specs.Mnemonics.{named_in, or_else};
 ghost use Rattle.m11_fields.specs.Hashes.{hash_of, operation_named};
@@ -53,25 +53,22 @@ fn hash_of(name: &[u8; 6]) -> usize
 }
 
 // The row at a place, where the further names stand after the list.
-fn row_at(place: usize) -> Option<Row>
-    ensures { result ≡ slice_get (rows ++ other_names) place }
+fn row_at(place: usize) -> Option<&'static Row>
+    ensures { option_map (λ row. row.now) result ≡ slice_get (rows ++ other_names) place }
 {
     let list = rows();
     match list.get(place) {
-        Some(row) => Some(*row),
-        None => other_names().get(place - list.len()).copied(),
+        Some(row) => Some(row),
+        None => other_names().get(place - list.len()),
     }
 }
 
 // The operation of a row, if the row has this name.
-fn operation_in(row: Option<Row>, name: &[u8; 6]) -> Option<Op>
-    ensures { result ≡ operation_named row name.now }
+fn operation_in(row: Option<&Row>, name: &[u8; 6]) -> Option<Op>
+    ensures { result ≡ operation_named (option_map (λ row. row.now) row.entry) name.now }
 {
-    let row = row?;
-    let listed = row.name;
-    if is_same_six(&listed, name) {
-        Some(row.operation)
-    } else {
-        None
+    match row {
+        Some(row) if is_same_six(&row.name, name) => Some(row.operation),
+        _ => None,
     }
 }
