@@ -23,6 +23,7 @@ use m11_statements::{Body, Statement};
 pub(crate) fn is_blank(statement: &Statement) -> bool
     ensures unlabelled { result ≡ true → statement.now.labels_end ≡ 0 }
     ensures bodiless { result ≡ true → statement.now.body ≡ Nothing }
+    ensures blank { statement.now.labels_end ≡ 0 → statement.now.body ≡ Nothing → result ≡ true }
 {
     statement.labels_end == 0 && matches!(statement.body, Body::Nothing)
 }
