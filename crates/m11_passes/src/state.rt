@@ -175,7 +175,9 @@ impl State {
         Ok(())
     }
 
-    // What a line that has begun mentions and changes, and what a listing shows of what it assigns.
+    // What a line that has begun mentions and changes, and what a listing shows of what it assigns. It is put into both callers: the
+    // call, and the move of what it returns, took a sixth of its instructions.
+    #[inline(always)]
     fn finish(
         &mut self,
         map: &Map<'_>,
