@@ -4,3 +4,4 @@ mod Listing
 mod NamedOperations
 mod Naming
 mod OneRow
+mod Terms

@@ -2,3 +2,4 @@ pub mod Directives
 pub mod Hashes
 pub mod ListedOperations
 pub mod Reads
+pub mod Terms

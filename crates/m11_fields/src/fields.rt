@@ -1,9 +1,12 @@
 //! The fields of an instruction, as they stand in a line. (PDP-11/40 Processor Handbook, "Instruction set"; MACRO-11 Language Reference
 //! Manual, "Operand field".)
 
-ghost use Rattle.std.specs.Prelude.{◌≡◌, ◌≤◌, ◌*◌, ◌∷◌, [], length};
-ghost use Rattle.m11_arguments.specs.Expressions.{known_by};
+ghost use Rattle.std.specs.Prelude.{◌≡◌, ◌≤◌, ◌*◌, ◌∷◌, [], length, IfSome, List, None};
+ghost use Rattle.m11_arguments.specs.Expressions.{IsAlone, known_by};
+ghost use Rattle.m11_base.specs.Devices.{Bytes};
 ghost use Rattle.m11_fields.specs.Reads.{alone, bytes_in, field_seen, fields_seen, places_in};
+ghost use Rattle.m11_fields.specs.Terms.{AreTerms, IsFieldTerm};
+ghost use Rattle.m11_placement.specs.Codes.{others};
 ghost use Rattle.m11_placement.specs.Fields as spec;
 ghost use Rattle.m11_placement.specs.Operands as operand;
 ghost use Rattle.m11_scan.specs.Views.{bits_of};
@@ -11,10 +14,10 @@ ghost use Rattle.m11_scan.specs.Views.{bits_of};
 use crate::elements::has_expression;
 use crate::operands::operand_at;
 use arrayvec::ArrayVec;
-use m11_arguments::{after_comma, place_in};
+use m11_arguments::{after_comma, extent_at, place_in};
 use m11_base::Op;
 use m11_placement::{Field, FieldPlace, Form};
-use m11_scan::{Letters, Line, expression_end};
+use m11_scan::{Letters, Line, Token};
 use m11_values::Names;
 
 /// The fields of an instruction.
@@ -26,6 +29,39 @@ pub struct Fields {
     pub end: u8,
     /// A for each operand, register or target that is missing, and for each missing `)`.
     pub letters: Letters,
+    /// The tokens of those that are one term.
+    pub terms: FieldTerms,
+}
+
+/// The tokens of the expressions in the fields of an instruction, each where the expression is found to be one term.
+#[derive(Clone, Copy)]
+pub struct FieldTerms {
+    /// That of the first field.
+    pub first: Option<Token>,
+    /// That of the second one.
+    pub second: Option<Token>,
+}
+
+impl FieldTerms {
+    /// Those of fields of which none is known to be one term.
+    pub fn none() -> FieldTerms
+        ensures { (line : Bytes) (fields : List Field) → AreTerms line fields result }
+    {
+        FieldTerms {
+            first: None,
+            second: None,
+        }
+    }
+
+    /// Those of the fields after the first one.
+    pub fn others(&self) -> FieldTerms
+        ensures { (line : Bytes) (fields : List Field) → AreTerms line fields self.now → AreTerms line (others fields) result }
+    {
+        FieldTerms {
+            first: self.second,
+            second: None,
+        }
+    }
 }
 
 // A field, as it stands in a line.
@@ -35,6 +71,8 @@ pub struct FieldRead {
     // The place after it.
     pub(crate) end: u8,
     pub(crate) letters: Letters,
+    // Its token, where it is one term.
+    pub(crate) term: Option<Token>,
 }
 
 // The fields that an operation has.
@@ -52,6 +90,7 @@ pub fn fields_at<N: Names>(line: &Line, start: usize, operation: Op, names: &N) 
     ensures fields { fields_seen result
         ≡ spec.fields_at (known_by (N.base names.now) (N.stands_for names.now)) line.now.text start operation }
     ensures within { result.end ≤ length line.now.text }
+    ensures terms { AreTerms line.now.text result.list.items result.terms }
 {
     match places_of(operation) {
         Places::Zero => no_fields(line, start),
@@ -85,17 +124,21 @@ fn no_fields(line: &Line, place: usize) -> Fields
     requires { place ≤ length line.now.text }
     ensures fields { fields_seen result ≡ spec.no_fields place }
     ensures within { result.end ≤ length line.now.text }
+    ensures terms { AreTerms line.now.text result.list.items result.terms }
 {
     Fields {
         list: ArrayVec::new(),
         end: place_in(line, place),
         letters: Letters::none(),
+        terms: FieldTerms::none(),
     }
 }
 
 fn one_field(field: FieldRead) -> Fields
     ensures fields { fields_seen result ≡ alone (field_seen field) }
     ensures end { result.end ≡ field.end }
+    ensures terms { (line : Bytes) → IfSome field.term (λ term. IsFieldTerm line field.field term)
+        → AreTerms line result.list.items result.terms }
 {
     let mut list = ArrayVec::new();
     list.push(field.field);
@@ -103,12 +146,19 @@ fn one_field(field: FieldRead) -> Fields
         list,
         end: field.end,
         letters: field.letters,
+        terms: FieldTerms {
+            first: field.term,
+            second: None,
+        },
     }
 }
 
 fn two_fields(first: FieldRead, second: FieldRead) -> Fields
     ensures fields { fields_seen result ≡ spec.before (field_seen first) (alone (field_seen second)) }
     ensures end { result.end ≡ second.end }
+    ensures terms { (line : Bytes) → IfSome first.term (λ term. IsFieldTerm line first.field term)
+        → IfSome second.term (λ term. IsFieldTerm line second.field term)
+        → AreTerms line result.list.items result.terms }
 {
     let mut list = ArrayVec::new();
     list.push(first.field);
@@ -117,6 +167,10 @@ fn two_fields(first: FieldRead, second: FieldRead) -> Fields
         list,
         end: second.end,
         letters: first.letters.with(second.letters),
+        terms: FieldTerms {
+            first: first.term,
+            second: second.term,
+        },
     }
 }
 
@@ -126,6 +180,7 @@ fn field_after<N: Names>(line: &Line, end: u8, place: FieldPlace, names: &N) -> 
     ensures field { alone (field_seen result) ≡ spec.fields_after
         (known_by (N.base names.now) (N.stands_for names.now)) line.now.text end (place ∷ []) }
     ensures within { result.end ≤ length line.now.text }
+    ensures term { IfSome result.term (λ term. IsFieldTerm line.now.text result.field term) }
 {
     match after_comma(line, usize::from(end)) {
         Some(next) => field_at(line, usize::from(next), place, names),
@@ -137,6 +192,7 @@ fn field_after<N: Names>(line: &Line, end: u8, place: FieldPlace, names: &N) -> 
 fn missing(place: FieldPlace, end: u8) -> FieldRead
     ensures field { alone (field_seen result) ≡ spec.missing_fields end (place ∷ []) }
     ensures end { result.end ≡ end }
+    ensures term { result.term ≡ None }
 {
     match place {
         FieldPlace::Operand => field_read(Field::Formed(Form::Absent), end, Letters::A),
@@ -148,20 +204,24 @@ fn missing(place: FieldPlace, end: u8) -> FieldRead
 fn field_read(field: Field, end: u8, letters: Letters) -> FieldRead
     ensures field { field_seen result ≡ spec.field_read field end (bits_of letters) }
     ensures end { result.end ≡ end }
+    ensures term { result.term ≡ None }
 {
     FieldRead {
         field,
         end,
         letters,
+        term: None,
     }
 }
 
 // The field at a place.
+#[tactic(auto, using(crate::proofs::Terms::registered_term, crate::proofs::Terms::targeted_term, crate::proofs::Terms::numbered_term))]
 fn field_at<N: Names>(line: &Line, start: usize, place: FieldPlace, names: &N) -> FieldRead
     requires { start ≤ length line.now.text }
     ensures field { field_seen result ≡ spec.field_at
         (known_by (N.base names.now) (N.stands_for names.now)) line.now.text start place }
     ensures within { result.end ≤ length line.now.text }
+    ensures term { IfSome result.term (λ term. IsFieldTerm line.now.text result.field term) }
 {
     let begin = place_in(line, start);
     match place {
@@ -178,12 +238,14 @@ fn operand<N: Names>(line: &Line, start: usize, names: &N) -> FieldRead
     ensures field { field_seen result ≡ spec.operand_read (operand.operand_at
         (known_by (N.base names.now) (N.stands_for names.now)) line.now.text start) }
     ensures within { result.end ≤ length line.now.text }
+    ensures term { IfSome result.term (λ term. IsFieldTerm line.now.text result.field term) }
 {
     let operand = operand_at(line, start, names);
     FieldRead {
         field: Field::Formed(operand.form),
         end: operand.end,
         letters: operand.letters,
+        term: operand.term,
     }
 }
 
@@ -193,18 +255,23 @@ fn expression(line: &Line, start: u8, field: Field, letters: Letters) -> FieldRe
     ensures field { field_seen result
         ≡ spec.expression_read field (bits_of letters) line.now.text start }
     ensures within { result.end ≤ length line.now.text }
+    ensures same { IfSome result.term (λ _. result.field ≡ field) }
+    ensures term { IfSome result.term (λ term. IsAlone line.now.text start term) }
 {
     if has_expression(line, usize::from(start)) {
+        let extent = extent_at(line, usize::from(start));
         FieldRead {
             field,
-            end: place_in(line, expression_end(line, usize::from(start))),
+            end: extent.end,
             letters: Letters::none(),
+            term: extent.term,
         }
     } else {
         FieldRead {
             field: Field::Missing,
             end: start,
             letters,
+            term: None,
         }
     }
 }

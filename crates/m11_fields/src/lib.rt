@@ -9,6 +9,6 @@ mod operations;
 mod operators;
 
 pub use elements::{Elements, ListedNames, elements_at, has_expression, names_at};
-pub use fields::{Fields, fields_at, instruction_size, words_of};
+pub use fields::{FieldTerms, Fields, fields_at, instruction_size, words_of};
 pub use operands::{OperandRead, operand_at};
 pub use operators::{is_even, operator_named};

@@ -1,9 +1,11 @@
 //! The operand that stands at a place of a line. (MACRO-11 Language Reference Manual, "Addressing modes"; PDP-11/40 Processor Handbook,
 //! "Addressing modes".)
 
-ghost use Rattle.std.specs.Prelude.{◌≡◌, ◌<◌, ◌≤◌, IfSome, length};
+ghost use Rattle.std.specs.Prelude.{◌≡◌, ◌<◌, ◌≤◌, IfSome, length, Option};
 ghost use Rattle.m11_arguments.specs.Expressions.{IsAlone, known_by, value_at};
+ghost use Rattle.m11_base.specs.Devices.{Bytes};
 ghost use Rattle.m11_fields.specs.Reads.{opens_after, read_seen};
+ghost use Rattle.m11_fields.specs.Terms.{IsFormTerm};
 ghost use Rattle.m11_placement.specs.declared.operands.Form.TheVariants.{Absent, AfterCounter};
 ghost use Rattle.m11_placement.specs.Operands as spec;
 ghost use Rattle.m11_scan.specs.Cutting.{tokens_from};
@@ -15,7 +17,7 @@ ghost use Rattle.m11_values.specs.Kinds.{is_register};
 use m11_arguments::{extent_at, place_in, value_by};
 use m11_base::Mode;
 use m11_placement::Form;
-use m11_scan::{Letters, Line, Sort, Token, expression_end, next_token, skipped_between};
+use m11_scan::{Letters, Line, Sort, Token, next_token, skipped_between};
 use m11_values::Names;
 
 /// An operand, as it stands in a line.
@@ -27,6 +29,8 @@ pub struct OperandRead {
     pub end: u8,
     /// A where nothing stands there, or where a `)` is missing.
     pub letters: Letters,
+    /// The token of its expression, where it has one and this is found to be one term.
+    pub term: Option<Token>,
 }
 
 /// The operand at a place of a line. Whether an expression is a register is asked of names: those of the lines before.
@@ -35,6 +39,7 @@ pub fn operand_at<N: Names>(line: &Line, start: usize, names: &N) -> OperandRead
     ensures read { read_seen result
         ≡ spec.operand_at (known_by (N.base names.now) (N.stands_for names.now)) line.now.text start }
     ensures within { result.end ≤ length line.now.text }
+    ensures term { IfSome result.term (λ term. IsFormTerm line.now.text result.form term) }
 {
     match next_token(line, start) {
         Some(token) => operand_by(line, start, token, names),
@@ -49,6 +54,7 @@ fn operand_by<N: Names>(line: &Line, start: usize, token: Token, names: &N) -> O
     ensures read { read_seen result ≡ spec.operand_by (known_by (N.base names.now) (N.stands_for names.now))
         line.now.text start token.sort token.end (tokens_from line.now.text token.end) }
     ensures within { result.end ≤ length line.now.text }
+    ensures term { IfSome result.term (λ term. IsFormTerm line.now.text result.form term) }
 {
     match token.sort {
         Sort::At => deferred(line, usize::from(token.end), names),
@@ -62,11 +68,13 @@ fn absent(line: &Line, start: usize) -> OperandRead
     requires { start ≤ length line.now.text }
     ensures read { read_seen result ≡ spec.read Absent start letter_A }
     ensures within { result.end ≤ length line.now.text }
+    ensures term { IfSome result.term (λ term. IsFormTerm line.now.text result.form term) }
 {
     OperandRead {
         form: Form::Absent,
         end: place_in(line, start),
         letters: Letters::A,
+        term: None,
     }
 }
 
@@ -76,6 +84,7 @@ fn deferred<N: Names>(line: &Line, start: usize, names: &N) -> OperandRead
     ensures read { read_seen result ≡ spec.deferred_by (known_by (N.base names.now) (N.stands_for names.now))
         line.now.text start (tokens_from line.now.text start) }
     ensures within { result.end ≤ length line.now.text }
+    ensures term { IfSome result.term (λ term. IsFormTerm line.now.text result.form term) }
 {
     match next_token(line, start) {
         Some(token) => begun_by(line, true, start, token, names),
@@ -96,6 +105,7 @@ fn begun_by<N: Names>(
     ensures read { read_seen result ≡ spec.begun_by (known_by (N.base names.now) (N.stands_for names.now)) is_deferred
         line.now.text start token.sort token.end (tokens_from line.now.text token.end) }
     ensures within { result.end ≤ length line.now.text }
+    ensures term { IfSome result.term (λ term. IsFormTerm line.now.text result.form term) }
 {
     match token.sort {
         Sort::NumberSign => immediate(line, is_deferred, token.end),
@@ -111,12 +121,14 @@ fn immediate(line: &Line, is_deferred: bool, start: u8) -> OperandRead
     ensures read { read_seen result ≡ spec.read (AfterCounter (spec.autoincrement is_deferred) start)
         (expression_end line.now.text start) 0 }
     ensures within { result.end ≤ length line.now.text }
+    ensures term { IfSome result.term (λ term. IsFormTerm line.now.text result.form term) }
 {
-    let end = expression_end(line, usize::from(start));
+    let extent = extent_at(line, usize::from(start));
     OperandRead {
         form: Form::AfterCounter(autoincrement(is_deferred), start),
-        end: place_in(line, end),
+        end: extent.end,
         letters: Letters::none(),
+        term: extent.term,
     }
 }
 
@@ -133,6 +145,7 @@ fn after_minus<N: Names>(
     ensures read { read_seen result ≡ spec.after_minus (known_by (N.base names.now) (N.stands_for names.now)) is_deferred
         line.now.text start end (tokens_from line.now.text end) }
     ensures within { result.end ≤ length line.now.text }
+    ensures term { IfSome result.term (λ term. IsFormTerm line.now.text result.form term) }
 {
     match next_token(line, usize::from(end)) {
         Some(token) if opens_after(line, end, token) => closed(
@@ -159,6 +172,7 @@ fn expression<N: Names>(line: &Line, is_deferred: bool, start: usize, names: &N)
     ensures read { read_seen result ≡ spec.expression (known_by (N.base names.now) (N.stands_for names.now)) is_deferred
         line.now.text start }
     ensures within { result.end ≤ length line.now.text }
+    ensures term { IfSome result.term (λ term. IsFormTerm line.now.text result.form term) }
 {
     let extent = extent_at(line, start);
     match extent.next {
@@ -171,6 +185,7 @@ fn expression<N: Names>(line: &Line, is_deferred: bool, start: usize, names: &N)
             form: plain(line, is_deferred, start, extent.term, names),
             end: extent.end,
             letters: Letters::none(),
+            term: extent.term,
         },
     }
 }
@@ -185,7 +200,8 @@ fn plain<N: Names>(
 ) -> Form
     requires within { start ≤ length line.now.text }
     requires term { IfSome term (λ term. IsAlone line.now.text start term) }
-    ensures { result ≡ spec.plain (known_by (N.base names.now) (N.stands_for names.now)) is_deferred line.now.text start }
+    ensures form { result ≡ spec.plain (known_by (N.base names.now) (N.stands_for names.now)) is_deferred line.now.text start }
+    ensures term { IfSome term (λ term. IsFormTerm line.now.text result term) }
 {
     if is_register_at(line, start, term, names) {
         Form::InRegister(direct(is_deferred), place_in(line, start))
@@ -209,35 +225,53 @@ fn bracketed(line: &Line, is_deferred: bool, register: u8) -> OperandRead
     requires { register ≤ length line.now.text }
     ensures read { read_seen result ≡ spec.bracketed is_deferred line.now.text register }
     ensures within { result.end ≤ length line.now.text }
+    ensures term { IfSome result.term (λ term. IsFormTerm line.now.text result.form term) }
 {
     let extent = extent_at(line, usize::from(register));
     match extent.next {
-        Some(token) if is_close(token.sort) => stepped(line, is_deferred, register, token.end),
+        Some(token) if is_close(token.sort) => stepped(
+            line,
+            is_deferred,
+            register,
+            extent.term,
+            token.end,
+        ),
         _ => OperandRead {
             form: pointed(is_deferred, register),
             end: extent.end,
             letters: Letters::A,
+            term: extent.term,
         },
     }
 }
 
-// What stands after `(R)`: `+`, or nothing.
-fn stepped(line: &Line, is_deferred: bool, register: u8, end: u8) -> OperandRead
-    requires { end ≤ length line.now.text }
+// What stands after `(R)`: `+`, or nothing. Where the register is one term, this is its token.
+fn stepped(
+    line: &Line,
+    is_deferred: bool,
+    register: u8,
+    term: Option<Token>,
+    end: u8,
+) -> OperandRead
+    requires within { end ≤ length line.now.text }
+    requires term { IfSome term (λ term. IsAlone line.now.text register term) }
     ensures read { read_seen result
         ≡ spec.stepped_by is_deferred register end (tokens_from line.now.text end) }
     ensures within { result.end ≤ length line.now.text }
+    ensures term { IfSome result.term (λ term. IsFormTerm line.now.text result.form term) }
 {
     match next_token(line, usize::from(end)) {
         Some(token) if is_plus(token.sort) => OperandRead {
             form: Form::InRegister(autoincrement(is_deferred), register),
             end: token.end,
             letters: Letters::none(),
+            term,
         },
         _ => OperandRead {
             form: pointed(is_deferred, register),
             end,
             letters: Letters::none(),
+            term,
         },
     }
 }
@@ -247,6 +281,7 @@ fn closed(line: &Line, form: Form, register: u8) -> OperandRead
     requires { register ≤ length line.now.text }
     ensures read { read_seen result ≡ spec.closed form line.now.text register }
     ensures within { result.end ≤ length line.now.text }
+    ensures term { IfSome result.term (λ term. IsFormTerm line.now.text result.form term) }
 {
     let extent = extent_at(line, usize::from(register));
     match extent.next {
@@ -254,18 +289,22 @@ fn closed(line: &Line, form: Form, register: u8) -> OperandRead
             form,
             end: token.end,
             letters: Letters::none(),
+            term: None,
         },
         _ => OperandRead {
             form,
             end: extent.end,
             letters: Letters::A,
+            term: None,
         },
     }
 }
 
 // `(R)` alone: with `@` it has an index, which is 0.
 fn pointed(is_deferred: bool, register: u8) -> Form
-    ensures { result ≡ spec.pointed is_deferred register }
+    ensures form { result ≡ spec.pointed is_deferred register }
+    ensures term { (line : Bytes) (term : Option Token) → IfSome term (λ term. IsAlone line register term)
+        → IfSome term (λ term. IsFormTerm line result term) }
 {
     if is_deferred {
         Form::Unindexed(register)

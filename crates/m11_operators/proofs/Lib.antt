@@ -11,3 +11,4 @@ pub mod Packs
 mod Rows
 pub mod Stepping
 pub mod TextSteps
+mod TwoFields

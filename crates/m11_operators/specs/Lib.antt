@@ -1,5 +1,6 @@
 pub mod Attributes
 pub mod Changes
+pub mod CodeValues
 pub mod Codes
 pub mod Gathering
 pub mod Numbers

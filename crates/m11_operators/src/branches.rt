@@ -32,15 +32,15 @@ pub(crate) fn in_loop_reach(bytes: u16) -> bool
 }
 
 // Whether a branch at a place reaches a target of its section.
-pub(crate) fn branch_reaches(table: &Table, place: u16, target: Value) -> bool
-    ensures { result ≡ spec.branch_reaches table.now place (quantity target) }
+pub(crate) fn branch_reaches(table: &Table, place: u16, target: &Value) -> bool
+    ensures { result ≡ spec.branch_reaches table.now place (quantity target.now) }
 {
     table.is_here(target.kind) && in_reach(distance(place, target.number))
 }
 
 // The words to go, as eight bits; 0 for a target that isn't reached.
-pub(crate) fn branch_offset(table: &Table, place: u16, target: Value) -> u8
-    ensures { result ≡ spec.branch_offset table.now place (quantity target) }
+pub(crate) fn branch_offset(table: &Table, place: u16, target: &Value) -> u8
+    ensures { result ≡ spec.branch_offset table.now place (quantity target.now) }
 {
     let bytes = distance(place, target.number);
     if table.is_here(target.kind) && in_reach(bytes) {
@@ -51,15 +51,15 @@ pub(crate) fn branch_offset(table: &Table, place: u16, target: Value) -> u8
 }
 
 // Whether SOB at a place reaches a target of its section.
-pub(crate) fn loop_reaches(table: &Table, place: u16, target: Value) -> bool
-    ensures { result ≡ spec.loop_reaches table.now place (quantity target) }
+pub(crate) fn loop_reaches(table: &Table, place: u16, target: &Value) -> bool
+    ensures { result ≡ spec.loop_reaches table.now place (quantity target.now) }
 {
     table.is_here(target.kind) && in_loop_reach(back(place, target.number))
 }
 
 // The words to go back for SOB, 0 to 63; 0 for a target that isn't reached.
-pub(crate) fn loop_offset(table: &Table, place: u16, target: Value) -> u8
-    ensures offset { result ≡ spec.loop_offset table.now place (quantity target) }
+pub(crate) fn loop_offset(table: &Table, place: u16, target: &Value) -> u8
+    ensures offset { result ≡ spec.loop_offset table.now place (quantity target.now) }
     ensures below { result < 64 }
 {
     let bytes = back(place, target.number);

@@ -10,6 +10,7 @@ mod assigning;
 mod attributes;
 mod branches;
 mod changes;
+mod code_values;
 mod codes;
 mod counts;
 mod effects;

@@ -1,10 +1,14 @@
 //! What registers and operands become in an instruction's code, and the words after it. (PDP-11/40 Processor Handbook, "Addressing
 //! modes"; MACRO-11 Language Reference Manual, "Diagnostic error message summary", A and R.)
 
-ghost use Rattle.std.specs.Prelude.{◌≡◌, ◌*◌, IfOk};
-ghost use Rattle.m11_arguments.specs.Expressions.{value_at};
+ghost use Rattle.std.specs.Prelude.{◌≡◌, ◌*◌, ◌%◌, IfOk, IfSome};
+ghost use Rattle.m11_arguments.specs.Expressions.{IsAlone, value_at};
+ghost use Rattle.m11_base.specs.Operand.{register_of};
+ghost use Rattle.m11_fields.specs.Terms.{IsFormTerm};
+ghost use Rattle.m11_operators.specs.CodeValues.{form_value};
 ghost use Rattle.m11_operators.specs.Settings.{setting_of};
 ghost use Rattle.m11_placement.specs.Codes as spec;
+ghost use Rattle.m11_placement.specs.Codes.{Setting as Place};
 ghost use Rattle.m11_placement.specs.Contents.{followed_by, word};
 ghost use Rattle.m11_placement.specs.Operands.{words_of};
 ghost use Rattle.m11_scan.specs.Views.{bits_of};
@@ -15,31 +19,23 @@ use crate::settings::Setting;
 use crate::values::put_word;
 use m11_base::{Mode, Operand, Register};
 use m11_placement::Form;
-use m11_scan::Letters;
+use m11_scan::{Letters, Token};
 use m11_values::Value;
 use std::alloc::AllocError;
 
-// The register of an expression. A number that is no register counts modulo 8.
-pub(crate) fn register(setting: &Setting, start: u8) -> Register
-    ensures { result ≡ spec.register (setting_of setting.now) start }
+// The register of a value. A number that is no register counts modulo 8.
+pub(crate) fn register(value: &Value) -> Register
+    ensures { result ≡ register_of (value.now.number % 8) }
 {
-    let value = setting.value(start);
     Register::of_bits(value.number)
 }
 
-// R where none stands.
-fn as_register_letters(value: Value) -> Letters
-    ensures { bits_of result ≡ spec.as_register_letters (quantity value) }
+// R where no register stands.
+pub(crate) fn as_register_letters(value: &Value) -> Letters
+    ensures { bits_of result ≡ spec.as_register_letters (quantity value.now) }
 {
     let letters = value.letters;
     letters.with(Letters::R.when(!value.kind.is_register()))
-}
-
-// The letters of an expression that stands for a register.
-pub(crate) fn registered_letters(setting: &Setting, start: u8) -> Letters
-    ensures { bits_of result ≡ spec.registered_letters (setting_of setting.now) start }
-{
-    as_register_letters(setting.value(start))
 }
 
 fn operand(mode: Mode, register: Register) -> Operand
@@ -48,28 +44,28 @@ fn operand(mode: Mode, register: Register) -> Operand
     Operand { mode, register }
 }
 
-// The mode and the register of a form.
-pub(crate) fn operand_of(setting: &Setting, form: Form) -> Operand
-    ensures { result ≡ spec.operand_of (setting_of setting.now) form }
+// The mode and the register of a form, whose value this is.
+pub(crate) fn operand_of(form: Form, value: &Value) -> Operand
+    ensures { (setting : Place) → quantity value.now ≡ form_value setting form → result ≡ spec.operand_of setting form }
 {
     match form {
         Form::Absent => operand(Mode::Register, Register::R0),
-        Form::InRegister(mode, start) => operand(mode, register(setting, start)),
-        Form::Indexed(mode, start, _) => operand(mode, register(setting, start)),
-        Form::Unindexed(start) => operand(Mode::IndexDeferred, register(setting, start)),
+        Form::InRegister(mode, _) => operand(mode, register(value)),
+        Form::Indexed(mode, _, _) => operand(mode, register(value)),
+        Form::Unindexed(_) => operand(Mode::IndexDeferred, register(value)),
         Form::AfterCounter(mode, _) => operand(mode, Register::Pc),
     }
 }
 
-// The letters of the register of a form.
-pub(crate) fn form_letters(setting: &Setting, form: Form) -> Letters
-    ensures { bits_of result ≡ spec.form_letters (setting_of setting.now) form }
+// The letters of the register of a form, whose value this is.
+pub(crate) fn form_letters(form: Form, value: &Value) -> Letters
+    ensures { (setting : Place) → quantity value.now ≡ form_value setting form → bits_of result ≡ spec.form_letters setting form }
 {
     match form {
         Form::Absent | Form::AfterCounter(_, _) => Letters::none(),
-        Form::InRegister(_, start) => registered_letters(setting, start),
-        Form::Indexed(_, start, _) => registered_letters(setting, start),
-        Form::Unindexed(start) => registered_letters(setting, start),
+        Form::InRegister(_, _) | Form::Indexed(_, _, _) | Form::Unindexed(_) => {
+            as_register_letters(value)
+        }
     }
 }
 
@@ -90,37 +86,41 @@ pub(crate) fn size_of(form: Form) -> u16
     }
 }
 
-// The word after the instruction, at a place of its own; `.` in it is the place of the instruction.
+// The word after the instruction for a form, whose term this is, at a place of its own; `.` in it is the place of the instruction.
 #[tactic(auto, using(crate::proofs::Joining::followed_nothing))]
 pub(crate) fn put_form(
     put: &mut Put,
     setting: &Setting,
     place: u16,
     form: Form,
+    term: Option<Token>,
 ) -> Result<(), AllocError>
+    requires { IfSome term (λ term. IsFormTerm setting.now.line form term) }
     ensures { IfOk result (λ _. put.new ≡ followed_by put.old (spec.form_words (setting_of setting.now) place form)) }
 {
     match form {
         Form::Absent | Form::InRegister(_, _) => Ok(()),
-        Form::Indexed(_, _, index) => put_reference(put, setting, false, place, index),
+        Form::Indexed(_, _, index) => put_reference(put, setting, false, place, index, None),
         Form::Unindexed(_) => put.add_fixed_word(0),
         Form::AfterCounter(mode, start) => {
-            put_reference(put, setting, is_relative(mode), place, start)
+            put_reference(put, setting, is_relative(mode), place, start, term)
         }
     }
 }
 
-// A word for the expression at a place of the line.
+// A word for the expression at a place of the line. Where it is found to be one term, this is its token.
 fn put_reference(
     put: &mut Put,
     setting: &Setting,
     is_relative: bool,
     place: u16,
     start: u8,
+    term: Option<Token>,
 ) -> Result<(), AllocError>
+    requires { IfSome term (λ term. IsAlone setting.now.line start term) }
     ensures { IfOk result (λ _. put.new ≡ followed_by put.old (word setting.now.map.sections setting.now.table is_relative
         place (value_at (setting_of setting.now).refers setting.now.line start))) }
 {
-    let value = setting.reference(start);
+    let value = setting.reference_by(start, term);
     put_word(put, setting, is_relative, place, value)
 }

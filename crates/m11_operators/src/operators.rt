@@ -5,6 +5,7 @@ ghost use Rattle.std.specs.Prelude.{◌≡◌, ◌≤◌, length, IfOk, IsTrue};
 ghost use Rattle.std.specs.Int.RustNames.{bit_or};
 ghost use Rattle.m11_fields.specs.ListedOperations.{has_listed_operation, is_listed};
 ghost use Rattle.m11_fields.specs.Reads.{fields_seen};
+ghost use Rattle.m11_fields.specs.Terms.{AreTerms};
 ghost use Rattle.m11_operators.specs.Reading.{fields_at, operator_fields};
 ghost use Rattle.m11_placement.specs.Assigning.{number_letters};
 ghost use Rattle.m11_placement.specs.Contents.{followed_by, nothing};
@@ -58,6 +59,7 @@ pub fn put_operator(
     requires listed { IsTrue (has_listed_operation operator) }
     requires fields { fields_seen fields.now ≡ operator_fields table.now line.now.text start operator }
     requires ends { fields.now.end ≤ length line.now.text }
+    requires terms { AreTerms line.now.text fields.now.list.items fields.now.terms }
     ensures { IfOk result (λ _. put.new ≡ followed_by put.old
         (lines.operation_put map.now table.now line.now.text arguments operator start)) }
 {
@@ -80,6 +82,7 @@ fn put_at(
     requires listed { IsTrue (has_listed_operation operator) }
     requires fields { fields_seen fields.now ≡ fields_at setting.now.table setting.now.place setting.now.line start operator }
     requires ends { fields.now.end ≤ length setting.now.line }
+    requires terms { AreTerms setting.now.line fields.now.list.items fields.now.terms }
     ensures { IfOk result (λ _. put.new ≡ followed_by put.old (effects.operator_put
         setting.now.map setting.now.table setting.now.place setting.now.line start arguments operator)) }
 {
@@ -102,6 +105,7 @@ fn put_operation(
     requires fields { fields_seen fields.now
         ≡ instructions.fields setting.now.table setting.now.place setting.now.line start operation }
     requires ends { fields.now.end ≤ length setting.now.line }
+    requires terms { AreTerms setting.now.line fields.now.list.items fields.now.terms }
     ensures { IfOk result (λ _. put.new ≡ followed_by put.old (instructions.words
         setting.now.map setting.now.table setting.now.place setting.now.line start operation)) }
 {
@@ -113,6 +117,7 @@ fn put_operation(
         fields.list.as_slice(),
         usize::from(fields.end),
         fields.letters,
+        &fields.terms,
     )
 }
 

@@ -1,7 +1,9 @@
 //! Reads the fields of operators, once for what they put, mention and change. (MACRO-11 Language Reference Manual, "Operand field".)
 
 ghost use Rattle.std.specs.Prelude.{◌≡◌, ◌≤◌, length};
+ghost use Rattle.m11_base.specs.Devices.{Bytes};
 ghost use Rattle.m11_fields.specs.Reads.{fields_seen};
+ghost use Rattle.m11_fields.specs.Terms.{AreTerms};
 ghost use Rattle.m11_operators.specs.Reading as spec;
 ghost use Rattle.m11_placement.specs.Fields.{no_fields};
 ghost use Rattle.m11_placement.specs.Instructions as instructions;
@@ -9,7 +11,7 @@ ghost use Rattle.m11_placement.specs.Instructions as instructions;
 use crate::alignment::place_for;
 use arrayvec::ArrayVec;
 use m11_base::Op;
-use m11_fields::{Fields, fields_at};
+use m11_fields::{FieldTerms, Fields, fields_at};
 use m11_placement::Operator;
 use m11_scan::{Letters, Line};
 use m11_table::{FirmNames, Table};
@@ -20,6 +22,7 @@ pub fn operator_fields(table: &Table, line: &Line, start: usize, operator: Opera
     requires { start ≤ length line.now.text }
     ensures fields { fields_seen result ≡ spec.operator_fields table.now line.now.text start operator }
     ensures ends { result.end ≤ length line.now.text }
+    ensures terms { AreTerms line.now.text result.list.items result.terms }
 {
     match operator {
         Operator::Instruction(operation) => {
@@ -39,11 +42,13 @@ pub fn operator_fields(table: &Table, line: &Line, start: usize, operator: Opera
 pub fn no_fields() -> Fields
     ensures fields { fields_seen result ≡ no_fields 0 }
     ensures ends { result.end ≡ 0 }
+    ensures terms { (line : Bytes) → AreTerms line result.list.items result.terms }
 {
     Fields {
         list: ArrayVec::new(),
         end: 0,
         letters: Letters::none(),
+        terms: FieldTerms::none(),
     }
 }
 
@@ -52,6 +57,7 @@ fn operation_fields(table: &Table, here: u16, line: &Line, start: usize, operati
     requires { start ≤ length line.now.text }
     ensures fields { fields_seen result ≡ instructions.fields table.now here line.now.text start operation }
     ensures ends { result.end ≤ length line.now.text }
+    ensures terms { AreTerms line.now.text result.list.items result.terms }
 {
     fields_at(line, start, operation, &FirmNames::new(table, here))
 }

@@ -1,16 +1,16 @@
 //! Where a line stands, and what is known there. (MACRO-11 Language Reference Manual, "Symbols" and "Expressions".)
 
-ghost use Rattle.std.specs.Prelude.{◌≡◌};
+ghost use Rattle.std.specs.Prelude.{◌≡◌, IfSome};
 ghost use Rattle.m11_arguments.specs.Expressions as expressions;
-ghost use Rattle.m11_arguments.specs.Expressions.{known_by};
+ghost use Rattle.m11_arguments.specs.Expressions.{IsAlone, known_by};
 ghost use Rattle.m11_operators.specs.Settings.{setting_of, standpoint};
 ghost use Rattle.m11_values.specs.Quantities.{quantity};
 
 use m11_arguments::value_at;
 use m11_placement::Context;
-use m11_scan::Line;
+use m11_scan::{Line, Token};
 use m11_table::{Map, NamesAt, Table};
-use m11_values::{Names, Value};
+use m11_values::{Names, Value, term_value};
 use std::marker::Model;
 
 /// Where a line stands: what a whole source gives its names in the end, what the lines before say, the place, and the line.
@@ -91,12 +91,30 @@ impl<'a> Setting<'a> {
         value_from(self.line, start, &names)
     }
 
+    /// The same, with its one token where it is found to be one term.
+    pub fn value_by(&self, start: u8, term: Option<Token>) -> Value
+        requires { IfSome term (λ term. IsAlone self.now.line start term) }
+        ensures { quantity result ≡ expressions.value_at (setting_of self.now).known self.now.line start }
+    {
+        let names = NamesAt::new(self.map, Context::Knows, self.table, self.place);
+        value_by_term(self.line, start, term, &names)
+    }
+
     /// The value of the expression at a place of the line, in a word: it may refer to other objects.
     pub fn reference(&self, start: u8) -> Value
         ensures { quantity result ≡ expressions.value_at (setting_of self.now).refers self.now.line start }
     {
         let names = NamesAt::new(self.map, Context::Refers, self.table, self.place);
         value_from(self.line, start, &names)
+    }
+
+    /// The same, with its one token where it is found to be one term.
+    pub fn reference_by(&self, start: u8, term: Option<Token>) -> Value
+        requires { IfSome term (λ term. IsAlone self.now.line start term) }
+        ensures { quantity result ≡ expressions.value_at (setting_of self.now).refers self.now.line start }
+    {
+        let names = NamesAt::new(self.map, Context::Refers, self.table, self.place);
+        value_by_term(self.line, start, term, &names)
     }
 }
 
@@ -111,5 +129,17 @@ pub(crate) fn value_from<N: Names>(line: &Line, start: u8, names: &N) -> Value
         value_at(line, start, names)
     } else {
         value_at(line, end, names)
+    }
+}
+
+// The same, with its one token where it is found to be one term.
+fn value_by_term<N: Names>(line: &Line, start: u8, term: Option<Token>, names: &N) -> Value
+    requires { IfSome term (λ term. IsAlone line.now.text start term) }
+    ensures { quantity result
+        ≡ expressions.value_at (known_by (N.base names.now) (N.stands_for names.now)) line.now.text start }
+{
+    match term {
+        Some(term) => term_value(&term, line, names),
+        None => value_from(line, start, names),
     }
 }

@@ -4,6 +4,7 @@ ghost use Rattle.std.specs.Prelude.{◌≡◌, ◌<◌, ◌≤◌, ◌+◌, ◌^
 ghost use Rattle.std.specs.Option.{option_to_list};
 ghost use Rattle.m11_placement.specs.Changes.{changed};
 ghost use Rattle.m11_fields.specs.Reads.{fields_seen};
+ghost use Rattle.m11_fields.specs.Terms.{AreTerms};
 ghost use Rattle.m11_placement.specs.Items.{deed_items, is_shown};
 ghost use Rattle.m11_placement.specs.Limits.{most_names, most_sections};
 ghost use Rattle.m11_placement.specs.Lines.{put_by, put_place, section_name};
@@ -42,6 +43,7 @@ pub(crate) fn put_line(
     requires listed { IsTrue (is_listed deed.now) }
     requires fields { fields_seen fields.now ≡ deed_fields pass.now.table line.now.text deed.now }
     requires ends { fields.now.end ≤ length line.now.text }
+    requires terms { AreTerms line.now.text fields.now.list.items fields.now.terms }
     ensures puts { IfOk result (λ _. put.new ≡ put_by map.now pass.now.table line.now.text arguments (deed_seen deed.now)) }
     ensures refuses { IfErr result (λ fault. Refuses fault ⊥ ⊥) }
 {
@@ -67,6 +69,7 @@ pub(crate) fn mention_line(
     fields: &Fields,
 ) -> Result<(), PassFault>
     requires within { IsWithin (length line.now.text) deed.now }
+    requires terms { AreTerms line.now.text fields.now.list.items fields.now.terms }
     ensures mentions { (table : LineTable) → fields_seen fields.now ≡ deed_fields table line.now.text deed.now → IfOk result
         (λ _. mentioned.new ≡ with_all (mentions_after table line.now.text notes.now arguments (deed_seen deed.now)) mentioned.old) }
     ensures few { (table : LineTable) → fields_seen fields.now ≡ deed_fields table line.now.text deed.now → IfOk result

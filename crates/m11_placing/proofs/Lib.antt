@@ -1,5 +1,6 @@
 pub mod Alike
 mod Assigning
+mod FieldTerms
 mod FirmCounters
 pub mod Gathering
 mod LabelTables

@@ -4,6 +4,7 @@ ghost use Rattle.std.specs.Prelude.{◌≡◌, ◌≤◌, IsTrue, length};
 ghost use Rattle.m11_arguments.specs.Directives.{every_name};
 ghost use Rattle.m11_placement.specs.Lines as spec;
 ghost use Rattle.m11_fields.specs.Reads.{fields_seen};
+ghost use Rattle.m11_fields.specs.Terms.{AreTerms};
 ghost use Rattle.m11_placing.specs.Deeds as deeds;
 ghost use Rattle.m11_placing.specs.Deeds.{IsWithin, deed_seen, is_listed};
 ghost use Rattle.m11_statements.specs.Labels.{labels_end};
@@ -51,6 +52,7 @@ pub fn deed_fields(table: &Table, line: &Line, deed: &Deed) -> Fields
     requires { IsWithin (length line.now.text) deed.now }
     ensures fields { fields_seen result ≡ deeds.deed_fields table.now line.now.text deed.now }
     ensures ends { result.end ≤ length line.now.text }
+    ensures terms { AreTerms line.now.text result.list.items result.terms }
 {
     match *deed {
         Deed::Operates(operator, start) => {

@@ -3,6 +3,7 @@
 ghost use Rattle.std.specs.Prelude.{◌≡◌, ◌<◌, ◌≤◌, IfOk, IsTrue, length};
 ghost use Rattle.m11_operators.specs.Changes.{change_seen};
 ghost use Rattle.m11_fields.specs.Reads.{fields_seen};
+ghost use Rattle.m11_fields.specs.Terms.{AreTerms};
 ghost use Rattle.m11_placement.specs.Contents.{followed_by};
 ghost use Rattle.m11_placement.specs.Lines as spec;
 ghost use Rattle.m11_placement.specs.Tables.{firm_table};
@@ -64,6 +65,7 @@ pub fn put_deed(
     requires listed { IsTrue (is_listed deed.now) }
     requires fields { fields_seen fields.now ≡ deed_fields table.now line.now.text deed.now }
     requires ends { fields.now.end ≤ length line.now.text }
+    requires terms { AreTerms line.now.text fields.now.list.items fields.now.terms }
     ensures { IfOk result (λ _. put.new
         ≡ followed_by put.old (spec.put_by map.now table.now line.now.text arguments (deed_seen deed.now))) }
 {

@@ -1,11 +1,12 @@
 //! The symbols that a line defines or reads. (MACRO-11 Language Reference Manual, "Symbols", "Table of contents and symbol table" and
 //! ".GLOBL directive".)
 
-ghost use Rattle.std.specs.Prelude.{◌≡◌, ◌≤◌, ◌++◌, ◌∷◌, [], length, map};
+ghost use Rattle.std.specs.Prelude.{◌≡◌, ◌≤◌, ◌++◌, ◌∷◌, [], length, map, IfSome};
 ghost use Rattle.std.specs.List.{flat_map};
-ghost use Rattle.m11_arguments.specs.Expressions.{symbols_at, symbols_in};
+ghost use Rattle.m11_arguments.specs.Expressions.{IsAlone, symbols_at, symbols_in};
 ghost use Rattle.m11_operators.specs.Changes.{change_seen, names_among};
 ghost use Rattle.m11_fields.specs.Reads.{fields_seen};
+ghost use Rattle.m11_fields.specs.Terms.{AreTerms, IsFieldTerm, IsFormTerm};
 ghost use Rattle.m11_operators.specs.Reading.{operator_fields};
 ghost use Rattle.m11_placement.specs.Assigning.{target};
 ghost use Rattle.m11_placement.specs.declared.meanings.Context.TheVariants.{Knows};
@@ -22,7 +23,7 @@ use crate::fault::PlacingFault;
 use crate::mentioned::Mentioned;
 use m11_arguments::{Notes, lone_term, note_symbols};
 use m11_base::Name;
-use m11_fields::{Fields, elements_at};
+use m11_fields::{FieldTerms, Fields, elements_at};
 use m11_operators::{Change, argument_count, character_count, listed_names, parts_at};
 use m11_placement::{Context, Directive, Field, Form, Operator};
 use m11_scan::{Line, Token, read_name};
@@ -74,7 +75,8 @@ impl Mentioned {
         deed: &Deed,
         fields: &Fields,
     ) -> Result<(), PlacingFault>
-        requires { IsWithin (length line.now.text) deed.now }
+        requires within { IsWithin (length line.now.text) deed.now }
+        requires terms { AreTerms line.now.text fields.now.list.items fields.now.terms }
         ensures { (table : LineTable) → fields_seen fields.now ≡ deed_fields table line.now.text deed.now
             → Adds (spec.deed_mentions table line.now.text arguments (deed_seen deed.now)) self.old self.new result }
     {
@@ -97,12 +99,15 @@ impl Mentioned {
         operator: Operator,
         fields: &Fields,
     ) -> Result<(), PlacingFault>
-        requires { start ≤ length line.now.text }
+        requires within { start ≤ length line.now.text }
+        requires terms { AreTerms line.now.text fields.now.list.items fields.now.terms }
         ensures { (table : LineTable) → fields_seen fields.now ≡ operator_fields table line.now.text start operator
             → Adds (spec.operator_mentions table line.now.text start arguments operator) self.old self.new result }
     {
         match operator {
-            Operator::Instruction(_) => self.add_fields(line, fields.list.as_slice()),
+            Operator::Instruction(_) => {
+                self.add_fields(line, fields.list.as_slice(), &fields.terms)
+            }
             Operator::Directs(directive) => self.add_directive(line, start, arguments, directive),
         }
     }
@@ -122,6 +127,23 @@ impl Mentioned {
         match lone_term(line, place) {
             Some(term) => self.read_term(line, &term, context),
             None => self.read_all(line, place, context),
+        }
+    }
+
+    // The same, with its one token where it is found to be one term.
+    fn read_by(
+        &mut self,
+        line: &Line,
+        start: u8,
+        term: Option<Token>,
+        context: Context,
+    ) -> Result<(), PlacingFault>
+        requires { IfSome term (λ term. IsAlone line.now.text start term) }
+        ensures { Adds (spec.read_at context line.now.text start) self.old self.new result }
+    {
+        match term {
+            Some(term) => self.read_term(line, &term, context),
+            None => self.read(line, start, context),
         }
     }
 
@@ -145,44 +167,57 @@ impl Mentioned {
 }
 
 impl Mentioned {
-    fn add_fields(&mut self, line: &Line, fields: &[Field]) -> Result<(), PlacingFault>
+    fn add_fields(
+        &mut self,
+        line: &Line,
+        fields: &[Field],
+        terms: &FieldTerms,
+    ) -> Result<(), PlacingFault>
+        requires { AreTerms line.now.text fields.now terms.now }
         ensures { Adds (flat_map (spec.field_mentions line.now.text) fields.now) self.old self.new result }
     {
         match fields {
             [] => Ok(()),
             [field, others @ ..] => {
-                self.add_field(line, *field)?;
-                self.add_fields(line, others)
+                self.add_field(line, *field, terms.first)?;
+                self.add_fields(line, others, &terms.others())
             }
         }
     }
 
-    fn add_field(&mut self, line: &Line, field: Field) -> Result<(), PlacingFault>
+    fn add_field(
+        &mut self,
+        line: &Line,
+        field: Field,
+        term: Option<Token>,
+    ) -> Result<(), PlacingFault>
+        requires { IfSome term (λ term. IsFieldTerm line.now.text field term) }
         ensures { Adds (spec.field_mentions line.now.text field) self.old self.new result }
     {
         match field {
-            Field::Formed(form) => self.add_form(line, form),
+            Field::Formed(form) => self.add_form(line, form, term),
             Field::Registered(start) | Field::Targeted(start) | Field::Numbered(start) => {
-                self.read(line, start, Context::Knows)
+                self.read_by(line, start, term, Context::Knows)
             }
             Field::Missing => Ok(()),
         }
     }
 
     // The word after an instruction may refer to another object. A register may not.
-    fn add_form(&mut self, line: &Line, form: Form) -> Result<(), PlacingFault>
+    fn add_form(&mut self, line: &Line, form: Form, term: Option<Token>) -> Result<(), PlacingFault>
+        requires { IfSome term (λ term. IsFormTerm line.now.text form term) }
         ensures { Adds (spec.form_mentions line.now.text form) self.old self.new result }
     {
         match form {
             Form::Absent => Ok(()),
             Form::InRegister(_, start) | Form::Unindexed(start) => {
-                self.read(line, start, Context::Knows)
+                self.read_by(line, start, term, Context::Knows)
             }
             Form::Indexed(_, start, index) => {
                 self.read(line, index, Context::Refers)?;
                 self.read(line, start, Context::Knows)
             }
-            Form::AfterCounter(_, start) => self.read(line, start, Context::Refers),
+            Form::AfterCounter(_, start) => self.read_by(line, start, term, Context::Refers),
         }
     }
 

@@ -3,6 +3,7 @@ use Rattle.m11_placement.specs.declared.fields.Field.{Field}
 use Rattle.m11_scan.specs.Views.{bits_of}
 use Rattle.m11_fields.specs.Reads.{field_seen}
 use Rattle.m11_fields.proofs.Alone.{two_alone}
+use Rattle.m11_fields.proofs.Terms.{two_terms}
 use Rattle.m11_fields.proofs.fields.two_fields.Goals as goal
 
 pub returns-clause-fields : goal.returns-clause-fields
@@ -11,3 +12,9 @@ returns-clause-fields c =
     (c.push-2.ensures.items ∙ ap (λ (l : List Field). l ++ c.args.second.field ∷ []) c.push.ensures.items
     ∙ ap (λ (l : List Field). (l ++ c.args.first.field ∷ []) ++ c.args.second.field ∷ []) c.new-list.ensures)
     c.with.ensures
+
+pub returns-clause-terms : goal.returns-clause-terms
+returns-clause-terms c = λ line is next.
+    two_terms line c.args.first.field c.args.second.field c.args.first.term c.args.second.term c.push-2.new.self.items
+    (c.push-2.ensures.items ∙ ap (λ (l : List Field). l ++ c.args.second.field ∷ []) c.push.ensures.items
+    ∙ ap (λ (l : List Field). (l ++ c.args.first.field ∷ []) ++ c.args.second.field ∷ []) c.new-list.ensures) is next

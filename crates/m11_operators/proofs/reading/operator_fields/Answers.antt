@@ -9,3 +9,6 @@ returns-in-Instruction-clause-fields c =
     (c.operation_fields.ensures.fields
     ∙ ap (λ (n : ℕ). fields c.args.table.now n c.args.line.now.text c.args.start c.in-Instruction.operation)
     (c.place_for.ensures ∙ ap (place_for true) c.place.ensures))
+
+pub returns-in-Directs-clause-terms : goal.returns-in-Directs-clause-terms
+returns-in-Directs-clause-terms c = c.no_fields.ensures.terms c.args.line.now.text

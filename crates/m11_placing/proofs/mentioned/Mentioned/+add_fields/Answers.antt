@@ -1,7 +1,15 @@
-use Rattle.std.proofs.Common.{refl}
+use Rattle.std.proofs.Common.{refl, rules}
 use Rattle.m11_placement.specs.Mentions.{field_mentions}
+use Rattle.m11_placing.proofs.FieldTerms.{other_terms}
 use Rattle.m11_placing.proofs.Gathering.{failed_item, item_then}
 use Rattle.m11_placing.proofs.mentioned.Mentioned.+add_fields.Goals as goal
+
+pub add_fields-requires : goal.add_fields-requires
+add_fields-requires t c = (
+  search rules,
+  other_terms c.args.line.now.text c.args.fields.now c.others.result c.in-len1-up.len_at_least
+      (c.others.ensures c.args.line.now.text c.args.fields.now c.requires),
+)
 
 pub returns-in_err-add_field-in-len1-up : goal.returns-in_err-add_field-in-len1-up
 returns-in_err-add_field-in-len1-up t c =

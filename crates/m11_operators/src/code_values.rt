@@ -1,0 +1,58 @@
+//! The values that the code of an instruction asks for: those of its registers, targets and numbers, each found once. (PDP-11/40
+//! Processor Handbook, "Instruction set" and "Addressing modes".)
+
+ghost use Rattle.std.specs.Prelude.{◌≡◌, IfSome};
+ghost use Rattle.m11_fields.specs.Terms.{IsFieldTerm, IsFormTerm, IsTermIn};
+ghost use Rattle.m11_operators.specs.CodeValues as spec;
+ghost use Rattle.m11_operators.specs.Settings.{setting_of};
+ghost use Rattle.m11_values.specs.Quantities.{quantity};
+
+use crate::settings::Setting;
+use m11_placement::{Field, Form};
+use m11_scan::{Letters, Token};
+use m11_values::Value;
+
+// The value of a field that asks for none.
+fn no_value() -> Value
+    ensures { quantity result ≡ spec.no_value }
+{
+    Value::absolute(0, Letters::none())
+}
+
+// The value of the register of a form, whose term this is.
+fn form_value(setting: &Setting, form: Form, term: Option<Token>) -> Value
+    requires { IfSome term (λ term. IsFormTerm setting.now.line form term) }
+    ensures { quantity result ≡ spec.form_value (setting_of setting.now) form }
+{
+    match form {
+        Form::Absent | Form::AfterCounter(_, _) => no_value(),
+        Form::InRegister(_, start) => setting.value_by(start, term),
+        Form::Indexed(_, start, _) => setting.value(start),
+        Form::Unindexed(start) => setting.value_by(start, term),
+    }
+}
+
+// The value of the register, the target or the number of a field, whose term this is.
+fn field_value(setting: &Setting, field: Field, term: Option<Token>) -> Value
+    requires { IfSome term (λ term. IsFieldTerm setting.now.line field term) }
+    ensures { quantity result ≡ spec.field_value (setting_of setting.now) field }
+{
+    match field {
+        Field::Formed(form) => form_value(setting, form, term),
+        Field::Registered(start) => setting.value_by(start, term),
+        Field::Targeted(start) => setting.value_by(start, term),
+        Field::Numbered(start) => setting.value_by(start, term),
+        Field::Missing => no_value(),
+    }
+}
+
+// The value in the first of some fields, whose term this is.
+pub(crate) fn value_in(setting: &Setting, fields: &[Field], term: Option<Token>) -> Value
+    requires { IfSome term (λ term. IsTermIn setting.now.line fields.now term) }
+    ensures { quantity result ≡ spec.value_in (setting_of setting.now) fields.now }
+{
+    match fields {
+        [field, ..] => field_value(setting, *field, term),
+        [] => no_value(),
+    }
+}
