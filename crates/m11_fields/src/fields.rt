@@ -7,6 +7,7 @@ ghost use Rattle.m11_base.specs.Devices.{Bytes};
 ghost use Rattle.m11_fields.specs.Reads.{alone, bytes_in, field_seen, fields_seen, places_in};
 ghost use Rattle.m11_fields.specs.Terms.{AreTerms, IsFieldTerm};
 ghost use Rattle.m11_placement.specs.Codes.{others};
+ghost use Rattle.m11_placement.specs.Contents.{has_expression};
 ghost use Rattle.m11_placement.specs.Fields as spec;
 ghost use Rattle.m11_placement.specs.Operands as operand;
 ghost use Rattle.m11_scan.specs.Views.{bits_of};
@@ -258,8 +259,8 @@ fn expression(line: &Line, start: u8, field: Field, letters: Letters) -> FieldRe
     ensures same { IfSome result.term (λ _. result.field ≡ field) }
     ensures term { IfSome result.term (λ term. IsAlone line.now.text start term) }
 {
-    if has_expression(line, usize::from(start)) {
-        let extent = extent_at(line, usize::from(start));
+    let extent = extent_at(line, usize::from(start));
+    if stands(line, start, extent.term) {
         FieldRead {
             field,
             end: extent.end,
@@ -273,6 +274,18 @@ fn expression(line: &Line, start: u8, field: Field, letters: Letters) -> FieldRe
             letters,
             term: None,
         }
+    }
+}
+
+// Whether an expression stands at a place. Where it is found to be one term, this is its token, and no token need be cut.
+fn stands(line: &Line, start: u8, term: Option<Token>) -> bool
+    requires within { start ≤ length line.now.text }
+    requires term { IfSome term (λ term. IsAlone line.now.text start term) }
+    ensures { result ≡ has_expression line.now.text start }
+{
+    match term {
+        Some(_) => true,
+        None => has_expression(line, usize::from(start)),
     }
 }
 
