@@ -147,6 +147,10 @@ impl Operators for EveryName {
     fn is_known(&self, _name: Name) -> bool {
         true
     }
+
+    fn knows_all(&self) -> bool {
+        true
+    }
 }
 
 /// The name that stands after a line's labels, where no assignment stands.

@@ -1,10 +1,11 @@
 pub mod Folding
 mod KeptTexts
+pub mod NamedTokens
 mod NestedBrackets
 mod NextPieces
 mod OnlyCut
 pub mod OrderedTokens
-mod Packed
+pub mod Packed
 mod Spelling
 mod WrittenExpressions
 mod TableOfCodes

@@ -1,6 +1,6 @@
 -- What stands after the labels of a line. (MACRO-11 Language Reference Manual, "Operator field", "Direct assignment statements" and
 -- ".WORD directive". That `.==` is no form, and that a line which begins with anything else counts as words, is this project's own.)
-use Rattle.std.specs.Prelude.{ℕ, Bool, true, false, ◌||◌, ◌==◌, if◌then◌else◌, List, [], ◌∷◌, drop, Option, Some, None}
+use Rattle.std.specs.Prelude.{◌≡◌, ℕ, Bool, true, false, ◌||◌, ◌==◌, if◌then◌else◌, List, [], ◌∷◌, drop, Option, Some, None}
 use Rattle.std.specs.List.{prefix_len}
 use Rattle.m11_base.specs.Devices.{Bytes}
 use Rattle.m11_base.specs.Mnemonics.{is_name_character, six_of}
@@ -9,6 +9,7 @@ use Rattle.m11_scan.specs.declared.sort.Sort.{Sort}
 use Rattle.m11_scan.specs.declared.sort.Sort.TheVariants as sorts
 use Rattle.m11_scan.specs.Characters.{is_blank}
 use Rattle.m11_scan.specs.Cutting.{Lexeme}
+use Rattle.m11_scan.specs.Names.{has_name_characters_alone}
 use Rattle.m11_scan.specs.Skipped.{skipped_between}
 use Rattle.m11_statements.specs.Labels.{is_counter}
 use Rattle.m11_statements.specs.declared.bodies.Body.{Body}
@@ -72,6 +73,10 @@ operates known _ text = false
 -- a known operator
 abbrev pub is_operator : (Name → Bool) → Lexeme → Bool
 is_operator known token = operates known token.sort token.text
+
+-- if a token is a name, it has characters of names alone
+abbrev pub IsNamed : Lexeme → Type 0
+IsNamed token = token.sort ≡ sorts.Name → has_name_characters_alone token.text ≡ true
 
 -- a known operator, or else words
 abbrev pub operation : (Name → Bool) → Lexeme → Body

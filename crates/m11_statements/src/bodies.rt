@@ -1,8 +1,9 @@
 //! What stands after the labels of a line. (MACRO-11 Language Reference Manual, "Operator field", "Direct assignment statements" and
 //! ".WORD directive".)
 
-ghost use Rattle.std.specs.Prelude.{◌≡◌, ◌<◌, ◌≤◌, ℕ, Bool, [], ◌∷◌, drop, length, IfSome, MatchOption};
+ghost use Rattle.std.specs.Prelude.{◌≡◌, ◌<◌, ◌≤◌, ℕ, Bool, true, [], ◌∷◌, drop, length, IfSome, MatchOption};
 ghost use Rattle.m11_scan.specs.Cutting.{tokens_from};
+ghost use Rattle.m11_scan.specs.Names.{has_name_characters_alone};
 ghost use Rattle.m11_scan.specs.Views.{lexeme};
 ghost use Rattle.m11_statements.specs.Bodies as spec;
 
@@ -21,6 +22,10 @@ pub trait Operators {
     /// Whether a name is one of them.
     fn is_known(&self, name: Name) -> bool
         ensures { result ≡ known self.now name };
+
+    /// Whether every name is one of them, so that none need be read.
+    fn knows_all(&self) -> bool
+        ensures { result ≡ true → (name : ℕ × ℕ) → known self.now name ≡ true };
 }
 
 /// An assignment to a name.
@@ -71,7 +76,8 @@ pub(crate) fn body_at<O: Operators>(
 
 // What begins with a token.
 fn begun_body<O: Operators>(line: &Line, first: Token, operators: &O) -> Body
-    requires { first.end ≤ length line.now.text }
+    requires within { first.end ≤ length line.now.text }
+    requires named { spec.IsNamed (lexeme line.now.text first) }
     ensures body { result ≡ spec.begun_body (O.known operators.now) line.now.text (lexeme line.now.text first)
         (tokens_from line.now.text first.end) }
     ensures within { spec.end_of result (length line.now.text) ≤ length line.now.text }
@@ -161,6 +167,7 @@ fn name_set(name: Token, equals: Token) -> Option<Body>
 
 // What begins with a token that isn't assigned to.
 fn operation<O: Operators>(line: &Line, first: Token, operators: &O) -> Body
+    requires named { spec.IsNamed (lexeme line.now.text first) }
     ensures { result ≡ spec.operation (O.known operators.now) (lexeme line.now.text first) }
 {
     if is_operator(line, first, operators) {
@@ -174,6 +181,7 @@ fn operation<O: Operators>(line: &Line, first: Token, operators: &O) -> Body
 }
 
 fn is_operator<O: Operators>(line: &Line, token: Token, operators: &O) -> bool
+    requires named { spec.IsNamed (lexeme line.now.text token) }
     ensures { result ≡ spec.is_operator (O.known operators.now) (lexeme line.now.text token) }
 {
     match token.sort {
@@ -183,9 +191,14 @@ fn is_operator<O: Operators>(line: &Line, token: Token, operators: &O) -> bool
     }
 }
 
+// Whether a name is an operator that is known.
 fn is_known<O: Operators>(text: &[u8], operators: &O) -> bool
+    requires named { has_name_characters_alone text.now ≡ true }
     ensures { result ≡ spec.is_known (O.known operators.now) text.now }
 {
+    if operators.knows_all() {
+        return true;
+    }
     match read_name(text) {
         Some(name) => operators.is_known(name),
         None => false,

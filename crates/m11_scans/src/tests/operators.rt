@@ -22,6 +22,10 @@ impl Operators for One {
         let (first, second) = name.words();
         first == self.first && second == self.second
     }
+
+    fn knows_all(&self) -> bool {
+        false
+    }
 }
 
 static DIRECTIVES: [[u8; 6]; 42] = [

@@ -33,6 +33,10 @@ impl Operators for Known {
         let (first, _) = name.words();
         self.words.iter().any(|word| *word == first)
     }
+
+    fn knows_all(&self) -> bool {
+        false
+    }
 }
 
 // What stands after the labels.
