@@ -1,5 +1,5 @@
 -- Before an operand, or at the end of its line, nothing is assigned to a name.
-use Rattle.std.proofs.Common.{◌≡◌, ℕ, zero, suc, ◌+◌, ◌-◌, Bool, true, false, List, [], ◌∷◌, ◌++◌, Option, Some, None, refl, subst, ap, ◌∙◌, sym, arith}
+use Rattle.std.proofs.Common.{◌≡◌, ℕ, suc, ◌+◌, ◌-◌, Bool, true, false, List, [], ◌∷◌, ◌++◌, None, refl, subst, ap, ◌∙◌, sym, arith}
 use Rattle.std.specs.Prelude.{◌==◌, ◌||◌, cond, if◌then◌else◌, drop}
 use Rattle.std.specs.List.{prefix_len}
 use Rattle.std.proofs.lemmas.Bool.{eqb-true, false≢true, true≢false}
@@ -16,7 +16,6 @@ use Rattle.m11_scan.specs.declared.sort.Sort.{Sort}
 use Rattle.m11_scan.specs.declared.sort.Sort.TheVariants.{Name, Number, DecimalNumber, LocalSymbol, Equals, TwoEquals}
 use Rattle.m11_statements.specs.Bodies.{assigned, assignment_to, begins_operand, begins_or_ends, counter_set, is_operand_start, name_set, set_by}
 use Rattle.m11_statements.specs.Labels.{is_counter}
-use Rattle.m11_statements.specs.declared.bodies.Body.{Body}
 
 abbrev sets : Sort → Bool
 sets Equals = true

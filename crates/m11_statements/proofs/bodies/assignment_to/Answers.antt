@@ -1,4 +1,4 @@
-use Rattle.std.proofs.Common.{◌≡◌, ℕ, true, drop, sym, ap, ◌∙◌}
+use Rattle.std.proofs.Common.{ℕ, drop, sym, ap, ◌∙◌}
 use Rattle.m11_scan.specs.Views.{lexeme}
 use Rattle.m11_statements.specs.Bodies.{begins_operand}
 use Rattle.m11_statements.proofs.Operands.{operand_unset}
