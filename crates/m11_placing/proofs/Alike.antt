@@ -8,7 +8,7 @@ use Rattle.m11_base.specs.Devices.{Bytes}
 use Rattle.m11_placement.specs.Assignments.{all_firm, assigned, standing_of}
 use Rattle.m11_placement.specs.Definitions.{has_key, is_defined, is_labelled, is_of_label, last_definition}
 use Rattle.m11_placement.specs.Labels.{labelled}
-use Rattle.m11_placement.specs.Meanings.{Map, defined_or, is_firm, is_firm_in, known_at, meaning_of, stands_for, undefined}
+use Rattle.m11_placement.specs.Meanings.{Map, defined_or, is_firm, is_firm_in, known_at, letter_D, meaning_of, quantity_of, stands_for, undefined}
 use Rattle.m11_placement.specs.Places.{place_in}
 use Rattle.m11_placement.specs.Sections.{place_kind}
 use Rattle.m11_placement.specs.Tables.{Table, kind_here, place}
@@ -19,8 +19,8 @@ use Rattle.m11_placement.specs.declared.definitions.Standing.TheVariants.{Known}
 use Rattle.m11_placement.specs.declared.meanings.Context.{Context}
 use Rattle.m11_placement.specs.declared.meanings.Context.TheVariants.{Knows}
 use Rattle.m11_placement.specs.declared.settings.Settings.{Settings}
+use Rattle.m11_statements.specs.Statements.{letter_if}
 use Rattle.m11_table.specs.Alike.{Alike}
-use Rattle.m11_table.specs.Asking.{defined_by}
 use Rattle.m11_table.proofs.Defined.{is_some_last}
 use Rattle.m11_values.specs.declared.kinds.Kind.{Kind}
 use Rattle.m11_values.specs.declared.names.Symbol.{Symbol}
@@ -36,6 +36,11 @@ alike_itself table = record {
   counters = λ number. refl;
   settings = refl;
 }
+
+-- what a definition gives, with D where its key is doubled; without one there is something else
+abbrev defined_by : Bool → Quantity → Option Definition → Quantity
+defined_by is_doubled other (Some definition) = quantity_of (letter_if is_doubled letter_D) definition.standing
+defined_by is_doubled other None = other
 
 asked_by : (key : Key) (doubled : List Key) (other : Quantity) (found : Option Definition)
     → defined_or key doubled other found ≡ defined_by (has_key key doubled) other found
