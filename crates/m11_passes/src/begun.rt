@@ -1,7 +1,7 @@
 //! How a live line begins: its labels, and what unfolding does of its operator. (MACRO-11 Language Reference Manual, "Label field" and
 //! "Operator field".)
 
-ghost use Rattle.std.specs.Prelude.{◌≡◌, ◌≤◌, [], IfOk, IfErr, IsTrue, false, None, length};
+ghost use Rattle.std.specs.Prelude.{◌≡◌, ◌≤◌, ◌∷◌, [], IfOk, IfErr, IfSome, IsTrue, false, None, length};
 ghost use Rattle.m11_arguments.specs.Directives.{operator as line_operator};
 ghost use Rattle.m11_fields.specs.Terms.{AreTerms};
 ghost use Rattle.m11_placement.specs.Tables.{Table as LineTable};
@@ -50,6 +50,7 @@ impl State {
         statement: &Statement,
     ) -> Result<Begun, PassFault>
         requires unlabelled { statement.now.labels_end ≡ 0 → labels_at live.old.line.text ≡ [] }
+        requires lone { IfSome statement.now.lone_label (λ label. labels_at live.old.line.text ≡ label ∷ []) }
         requires states { States (live_in live.old) statement.now }
         requires goes_on { self.old.unfolder.fault ≡ None }
         requires kept { IsKept self.old.unfolder.stage }
