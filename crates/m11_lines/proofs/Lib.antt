@@ -6,3 +6,5 @@ pub mod Seeking
 pub mod SourceSteps
 pub mod Runs
 pub mod PlainFronts
+pub mod ShortLines
+pub mod TableOfBytes

@@ -1,5 +1,5 @@
 -- A line whose end has not come yet, kept in bounded room. (This project's own.)
-use Rattle.std.specs.Prelude.{ℕ, Bool, true, false, not, ◌||◌, ◌==◌, if◌then◌else◌, [], ◌∷◌, ◌&&◌}
+use Rattle.std.specs.Prelude.{ℕ, Bool, true, false, not, ◌||◌, ◌==◌, if◌then◌else◌, [], ◌∷◌}
 use Rattle.m11_base.specs.Devices.{Bytes}
 use Rattle.m11_lines.specs.Line.{SourceLine, no_line, with_bytes}
 use Rattle.m11_lines.specs.Lines.{as_read, is_empty}
@@ -39,6 +39,3 @@ is_unbegun line = if line.has_return then false else is_empty line.kept.text
 -- neither NUL, line feed, form feed nor CR
 abbrev pub is_plain : ℕ → Bool
 is_plain byte = not (byte == 0 || byte == 0o12 || byte == 0o14 || byte == 0o15)
-
-abbrev pub are_plain : ℕ → ℕ → ℕ → ℕ → Bool
-are_plain first second third fourth = is_plain first && (is_plain second && (is_plain third && is_plain fourth))

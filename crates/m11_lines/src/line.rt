@@ -1,12 +1,15 @@
 //! A line of a source. (MACRO-11 Language Reference Manual, "Source program format".)
 
-ghost use Rattle.std.specs.Prelude.{◌≡◌, ◌≤◌, ◌+◌, ◌++◌, length};
+ghost use Rattle.std.specs.Prelude.{◌≡◌, ◌≤◌, ◌+◌, ◌++◌, length, take};
 ghost use Rattle.m11_lines.specs.Line.{line_limit, line_of, no_line, with_bytes};
 
 use std::marker::Model;
 
 /// The most characters of a line that count.
 pub const LINE_LIMIT: usize = 132;
+
+// A line with at most so many characters is short.
+const SHORT: usize = 64;
 
 /// The first 132 characters of a line, and whether it has more.
 #[derive(Drop, Debug)]
@@ -61,9 +64,14 @@ impl Line {
     pub fn copy_from(&mut self, other: &Line)
         ensures { self.new ≡ other.now }
     {
-        self.bytes = other.bytes;
         self.length = other.length;
         self.is_over_long = other.is_over_long;
+        // most lines are short, and so few bytes are copied without a call
+        if other.length <= SHORT {
+            self.bytes[..SHORT].copy_from_slice(&other.bytes[..SHORT]);
+        } else {
+            self.bytes = other.bytes;
+        }
     }
 
     /// More characters; those past the limit are dropped.
@@ -76,6 +84,20 @@ impl Line {
             self.is_over_long = true;
         } else {
             self.push_within(bytes);
+        }
+    }
+
+    /// The first characters of a text; those past the limit are dropped.
+    pub(crate) fn push_first(&mut self, text: &[u8], count: usize)
+        requires { count ≤ length text.now }
+        ensures { self.new ≡ with_bytes self.old (take count text.now) }
+    {
+        // mostly a short line begins, and what stands after it in the text may be copied with it
+        if self.length == 0 && count <= SHORT && text.len() >= SHORT {
+            self.bytes[..SHORT].copy_from_slice(&text[..SHORT]);
+            self.length = count;
+        } else {
+            self.push_all(&text[..count]);
         }
     }
 

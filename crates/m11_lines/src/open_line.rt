@@ -1,10 +1,10 @@
 //! A line whose end has not come yet.
 
-ghost use Rattle.std.specs.Prelude.{◌≡◌, ◌≤◌, false, length, take};
+ghost use Rattle.std.specs.Prelude.{◌≡◌, ◌≤◌, ◌∷◌, [], false, length, take};
 ghost use Rattle.std.specs.List.{AllByRecursion, prefix_len};
 ghost use Rattle.std.specs.Bool.{IsTrue};
 ghost use Rattle.m11_lines.specs.Lines.{as_read};
-ghost use Rattle.m11_lines.specs.OpenLine.{are_plain, is_plain, is_unbegun, nothing_open, with_byte, with_plain, with_return};
+ghost use Rattle.m11_lines.specs.OpenLine.{is_plain, is_unbegun, nothing_open, with_byte, with_plain, with_return};
 ghost use Rattle.m11_lines.specs.Sources.{TookOf};
 
 use crate::line::Line;
@@ -93,15 +93,16 @@ impl OpenLine {
         }
     }
 
-    // Takes characters that are kept as they are.
-    fn push_plain(&mut self, bytes: &[u8])
-        ensures { self.new ≡ with_plain self.old bytes.now }
+    // Takes the first characters of some, which are kept as they are.
+    fn push_plain(&mut self, bytes: &[u8], count: usize)
+        requires { count ≤ length bytes.now }
+        ensures { self.new ≡ with_plain self.old (take count bytes.now) }
     {
-        if bytes.is_empty() {
+        if count == 0 {
             return;
         }
         self.keep_return();
-        self.kept.push_all(bytes);
+        self.kept.push_first(bytes, count);
     }
 
     /// Takes bytes up to the first line feed, which is counted, or all of them.
@@ -110,9 +111,9 @@ impl OpenLine {
     {
         let mut rest = bytes;
         'runs: loop {
-            let (run, after) = rest.split_at(plain_length(rest));
-            self.push_plain(run);
-            let Some((byte, more)) = after.split_first() else {
+            let count = plain_length(rest);
+            self.push_plain(rest, count);
+            let Some((byte, more)) = rest[count..].split_first() else {
                 return Taken {
                     count: bytes.len(),
                     is_closed: false,
@@ -145,28 +146,52 @@ fn plain_length(bytes: &[u8]) -> usize
     plain_run(bytes)
 }
 
-// Most bytes are kept, so four are looked at in each turn.
-#[tactic(auto, using(crate::proofs::PlainFronts::four_plain))]
+// Most bytes are kept, so eight are looked at in each turn.
 fn plain_run(bytes: &[u8]) -> usize
     ensures run { result ≡ prefix_len is_plain bytes.now }
     ensures within { result ≤ length bytes.now }
 {
-    let mut count = 0;
     let mut rest = bytes;
-    'fours: while let [first, second, third, fourth, tail @ ..] = rest {
-        if !are_plain(*first, *second, *third, *fourth) {
-            return count + short_run(rest);
+    'eights: while let [
+        first,
+        second,
+        third,
+        fourth,
+        fifth,
+        sixth,
+        seventh,
+        eighth,
+        tail @ ..,
+    ] = rest
+    {
+        let plain = plain_of_four(*first, *second, *third, *fourth);
+        if plain < 4 {
+            return bytes.len() - rest.len() + plain;
         }
-        count += 4;
+        let plain_later = plain_of_four(*fifth, *sixth, *seventh, *eighth);
+        if plain_later < 4 {
+            return bytes.len() - rest.len() + 4 + plain_later;
+        }
         rest = tail;
     }
-    count + short_run(rest)
+    bytes.len() - rest.len() + short_run(rest)
 }
 
-fn are_plain(first: u8, second: u8, third: u8, fourth: u8) -> bool
-    ensures { result ≡ are_plain first second third fourth }
+// How many of four bytes are kept before the first that isn't.
+fn plain_of_four(first: u8, second: u8, third: u8, fourth: u8) -> usize
+    ensures { result ≡ prefix_len is_plain (first ∷ second ∷ third ∷ fourth ∷ []) }
 {
-    is_plain(first) && is_plain(second) && is_plain(third) && is_plain(fourth)
+    if !is_plain(first) {
+        0
+    } else if !is_plain(second) {
+        1
+    } else if !is_plain(third) {
+        2
+    } else if !is_plain(fourth) {
+        3
+    } else {
+        4
+    }
 }
 
 // The same of any bytes, one by one.
@@ -186,9 +211,30 @@ fn short_run(bytes: &[u8]) -> usize
     count
 }
 
-// Most bytes are past those that aren't kept, and need one comparison.
+// Of each byte 1 where it is kept as it is, by rows of sixteen. Each byte of a source is looked at in both passes.
+#[rattlefmt::skip]
+static PLAIN: [u8; 256] = [
+    0, 1, 1, 1, 1, 1, 1, 1, 1, 1, 0, 1, 0, 0, 1, 1,
+    1, 1, 1, 1, 1, 1, 1, 1, 1, 1, 1, 1, 1, 1, 1, 1,
+    1, 1, 1, 1, 1, 1, 1, 1, 1, 1, 1, 1, 1, 1, 1, 1,
+    1, 1, 1, 1, 1, 1, 1, 1, 1, 1, 1, 1, 1, 1, 1, 1,
+    1, 1, 1, 1, 1, 1, 1, 1, 1, 1, 1, 1, 1, 1, 1, 1,
+    1, 1, 1, 1, 1, 1, 1, 1, 1, 1, 1, 1, 1, 1, 1, 1,
+    1, 1, 1, 1, 1, 1, 1, 1, 1, 1, 1, 1, 1, 1, 1, 1,
+    1, 1, 1, 1, 1, 1, 1, 1, 1, 1, 1, 1, 1, 1, 1, 1,
+    1, 1, 1, 1, 1, 1, 1, 1, 1, 1, 1, 1, 1, 1, 1, 1,
+    1, 1, 1, 1, 1, 1, 1, 1, 1, 1, 1, 1, 1, 1, 1, 1,
+    1, 1, 1, 1, 1, 1, 1, 1, 1, 1, 1, 1, 1, 1, 1, 1,
+    1, 1, 1, 1, 1, 1, 1, 1, 1, 1, 1, 1, 1, 1, 1, 1,
+    1, 1, 1, 1, 1, 1, 1, 1, 1, 1, 1, 1, 1, 1, 1, 1,
+    1, 1, 1, 1, 1, 1, 1, 1, 1, 1, 1, 1, 1, 1, 1, 1,
+    1, 1, 1, 1, 1, 1, 1, 1, 1, 1, 1, 1, 1, 1, 1, 1,
+    1, 1, 1, 1, 1, 1, 1, 1, 1, 1, 1, 1, 1, 1, 1, 1,
+];
+
+#[tactic(auto, using(crate::proofs::TableOfBytes::each_listed))]
 fn is_plain(byte: u8) -> bool
     ensures { result ≡ is_plain byte }
 {
-    byte > b'\r' || !matches!(byte, 0 | b'\n' | 0x0c | b'\r')
+    PLAIN[usize::from(byte)] != 0
 }
