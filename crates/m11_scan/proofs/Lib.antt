@@ -9,3 +9,4 @@ pub mod Packed
 mod Spelling
 mod WrittenExpressions
 mod TableOfCodes
+mod TableOfKinds

@@ -1,10 +1,10 @@
--- The table of codes has the code of each byte, and by its code a byte may stand in a name or not.
+-- The table of codes has the code of each byte.
 use Rattle.std.proofs.Common.{◌≡◌, ℕ, ◌<◌, Bool, true, eqb, get_or, Option, Some, None, refl}
 use Rattle.std.proofs.lemmas.Bool.{agree_below_at, eqb-true, lt-ltb}
-use Rattle.m11_base.specs.Mnemonics.{folded, is_name_character}
+use Rattle.m11_base.specs.Mnemonics.{folded}
 use Rattle.m11_base.specs.Rad50.{alphabet, code_of, word_of_codes}
 use Rattle.m11_base.proofs.Characters.{character_again}
-use Rattle.m11_scan.specs.Codes.{code_or_no, code_or_none, is_code_of_name}
+use Rattle.m11_scan.specs.Codes.{code_or_no, code_or_none}
 use Rattle.m11_scan.specs.declared.codes.TheConstants.{CODES}
 
 has_code : ℕ → Bool
@@ -13,13 +13,6 @@ has_code byte = eqb (get_or CODES byte 0) (code_or_none (code_of (folded byte)))
 pub each_listed : (byte : ℕ) → byte < 256 → get_or CODES byte 0 ≡ code_or_none (code_of (folded byte))
 unfolding has_code code_of alphabet
 each_listed byte lt = eqb-true _ _ (agree_below_at has_code (λ _. true) 256 byte refl lt)
-
-named : ℕ → Bool
-named byte = is_code_of_name (code_or_none (code_of (folded byte)))
-
-pub named_by_code : (byte : ℕ) → byte < 256 → is_code_of_name (code_or_none (code_of (folded byte))) ≡ is_name_character byte
-unfolding named code_of alphabet
-named_by_code byte lt = agree_below_at named is_name_character 256 byte refl lt
 
 pub blank_code : code_or_none (code_of 32) ≡ 0
 unfolding code_of alphabet

@@ -1,6 +1,6 @@
 -- Codes of characters in RADIX-50, with a number in place of no code. (MACRO-11 Language Reference Manual, appendix on the RADIX-50
 -- character set: there are forty codes.)
-use Rattle.std.specs.Prelude.{ℕ, Bool, not, ◌&&◌, ◌==◌, nat_lt, if◌then◌else◌, Option, Some, None}
+use Rattle.std.specs.Prelude.{ℕ, nat_lt, if◌then◌else◌, Option, Some, None}
 
 -- a code, or 40 where there is none
 abbrev pub code_or_none : Option ℕ → ℕ
@@ -10,7 +10,3 @@ code_or_none None = 40
 -- the code that a number stands for, if it stands for one
 abbrev pub code_or_no : ℕ → Option ℕ
 code_or_no number = if nat_lt number 40 then Some number else None
-
--- the code of a character that is no blank
-abbrev pub is_code_of_name : ℕ → Bool
-is_code_of_name code = not (code == 0) && not (code == 40)

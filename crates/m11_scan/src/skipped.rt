@@ -1,11 +1,10 @@
 //! Characters that begin no token. (MACRO-11 Language Reference Manual, "Character set".)
 
 ghost use Rattle.std.specs.Prelude.{◌≡◌, ◌≤◌, length};
-ghost use Rattle.m11_scan.specs.Skipped.{has_skipped, has_unkept, is_kept, is_skipped, skipped_between};
+ghost use Rattle.m11_scan.specs.Skipped.{has_skipped, has_unkept, is_skipped, skipped_between};
 
-use crate::characters::is_blank;
-use crate::codes::is_name_character;
-use crate::pieces::{first_piece, mark_form};
+use crate::codes::is_kept;
+use crate::pieces::first_piece;
 use crate::sort::Form;
 use m11_lines::Line;
 
@@ -37,13 +36,8 @@ fn has_unkept(text: &[u8]) -> bool
     text.iter().any(|byte| !is_kept(*byte))
 }
 
-fn is_kept(byte: u8) -> bool
-    ensures { result ≡ is_kept byte }
-{
-    is_name_character(byte) || is_blank(byte) || !is_skipped(mark_form(byte))
-}
-
-// The same of any text, cut piece by piece.
+// The same of any text, cut piece by piece. By a call, as few texts have to be cut.
+#[inline(never)]
 fn is_some_skipped(text: &[u8]) -> bool
     ensures { result ≡ has_skipped text.now }
 {
