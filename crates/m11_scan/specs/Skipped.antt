@@ -1,6 +1,6 @@
 -- Characters that begin no token. (MACRO-11 Language Reference Manual, "Character set". That such a character is skipped wherever
 -- tokens are looked for is this project's own.)
-use Rattle.std.specs.Prelude.{ℕ, Bool, true, false, not, ◌||◌}
+use Rattle.std.specs.Prelude.{ℕ, Bool, true, false, not, ◌||◌, ◌==◌, if◌then◌else◌, [], ◌∷◌}
 use Rattle.std.specs.List.{list_any}
 use Rattle.m11_base.specs.Devices.{Bytes}
 use Rattle.m11_base.specs.Mnemonics.{is_name_character}
@@ -25,9 +25,10 @@ has_skipped text = list_any (λ (piece : Piece). is_skipped piece.form) (pieces_
 abbrev pub is_kept : ℕ → Bool
 is_kept byte = is_name_character byte || is_blank byte || not (is_skipped (mark_form byte))
 
--- another one stands in a text
+-- another one stands in a text, before its comment
 abbrev pub has_unkept : Bytes → Bool
-has_unkept text = list_any (λ byte. not (is_kept byte)) text
+has_unkept [] = false
+has_unkept (byte ∷ text) = if is_kept byte then has_unkept text else not (byte == 0o73)
 
 -- some piece between two places of a line is one
 abbrev pub skipped_between : Bytes → ℕ → ℕ → Bool

@@ -1,8 +1,8 @@
 //! The piece that a text begins with. (MACRO-11 Language Reference Manual, "Symbols and expressions" and "Character
 //! set".)
 
-ghost use Rattle.std.specs.Prelude.{◌≡◌, ◌+◌, ◌<◌, ◌≤◌, false, length, slice_index};
-ghost use Rattle.m11_scan.specs.Characters.{is_blank};
+ghost use Rattle.std.specs.Prelude.{◌≡◌, ℕ, ◌+◌, ◌<◌, ◌≤◌, ◌∷◌, false, true, length};
+ghost use Rattle.m11_scan.specs.Characters.{is_blank, is_digit};
 ghost use Rattle.m11_scan.specs.Pieces as spec;
 
 use crate::characters::{digits_length, is_blank, is_digit, name_length};
@@ -28,38 +28,37 @@ pub(crate) fn first_piece(text: &[u8]) -> Piece
     ensures within { result.length ≤ length text.now }
 {
     // most pieces are blanks, so nothing else is asked for before them
-    if is_blank(text[0]) {
+    let first = text[0];
+    if is_blank(first) {
         Piece {
             form: Form::Blank,
             length: 1,
         }
     } else {
-        other_piece(text)
+        other_piece(first, &text[1..])
     }
 }
 
-// A piece that begins with no blank.
+// A piece that begins with no blank, by its first character and what stands after that one.
 #[inline(never)]
 #[tactic(auto, unfolding(crate::specs::Pieces::first_piece))]
-fn other_piece(text: &[u8]) -> Piece
-    requires nonempty { 0 < length text.now }
-    requires other { is_blank (slice_index text.now 0) ≡ false }
-    ensures piece { result ≡ spec.first_piece text.now }
+fn other_piece(first: u8, rest: &[u8]) -> Piece
+    requires { is_blank first ≡ false }
+    ensures piece { result ≡ spec.first_piece (first ∷ rest.now) }
     ensures begins { 0 < result.length }
-    ensures within { result.length ≤ length text.now }
+    ensures within { result.length ≤ length rest.now + 1 }
 {
-    let byte = text[0];
-    if is_digit(byte) {
-        number_piece(text)
-    } else if is_name_character(byte) {
-        token(Sort::Name, name_length(text))
-    } else if byte == b';' {
+    if is_digit(first) {
+        number_piece(rest)
+    } else if is_name_character(first) {
+        token(Sort::Name, name_length(rest) + 1)
+    } else if first == b';' {
         Piece {
             form: Form::Comment,
-            length: text.len(),
+            length: rest.len() + 1,
         }
     } else {
-        mark_piece(text)
+        mark_piece(first, rest)
     }
 }
 
@@ -72,35 +71,34 @@ fn token(sort: Sort, length: usize) -> Piece
     }
 }
 
-// Digits, with a point or a `$` directly after them where one stands there.
-fn number_piece(text: &[u8]) -> Piece
-    requires { 0 < length text.now }
-    ensures piece { result ≡ spec.number_piece text.now }
-    ensures within { result.length ≤ length text.now }
+// Digits, by what stands after the first, with a point or a `$` directly after them where one stands there.
+fn number_piece(rest: &[u8]) -> Piece
+    ensures piece { (first : ℕ) → is_digit first ≡ true → result ≡ spec.number_piece (first ∷ rest.now) }
+    ensures begins { 0 < result.length }
+    ensures within { result.length ≤ length rest.now + 1 }
 {
-    let digits = digits_length(text);
-    match &text[digits..] {
-        [b'.', ..] => token(Sort::DecimalNumber, digits + 1),
-        [b'$', ..] => token(Sort::LocalSymbol, digits + 1),
-        _ => token(Sort::Number, digits),
+    let digits = digits_length(rest);
+    match &rest[digits..] {
+        [b'.', ..] => token(Sort::DecimalNumber, digits + 2),
+        [b'$', ..] => token(Sort::LocalSymbol, digits + 2),
+        _ => token(Sort::Number, digits + 1),
     }
 }
 
 // A piece that begins with none of digits, letters, `$`, `.`, blanks and `;`.
-fn mark_piece(text: &[u8]) -> Piece
-    requires { 0 < length text.now }
-    ensures piece { result ≡ spec.mark_piece text.now }
+fn mark_piece(first: u8, rest: &[u8]) -> Piece
+    ensures piece { result ≡ spec.mark_piece (first ∷ rest.now) }
     ensures begins { 0 < result.length }
-    ensures within { result.length ≤ length text.now }
+    ensures within { result.length ≤ length rest.now + 1 }
 {
-    match text {
-        [b'\'', ..] => token(Sort::Character, text.len().min(2)),
-        [b'"', ..] => token(Sort::TwoCharacters, text.len().min(3)),
-        [b'^', rest @ ..] => caret_piece(rest),
-        [b':', b':', ..] => token(Sort::TwoColons, 2),
-        [b'=', b'=', ..] => token(Sort::TwoEquals, 2),
+    match (first, rest) {
+        (b'\'', _) => token(Sort::Character, (rest.len() + 1).min(2)),
+        (b'"', _) => token(Sort::TwoCharacters, (rest.len() + 1).min(3)),
+        (b'^', _) => caret_piece(rest),
+        (b':', [b':', ..]) => token(Sort::TwoColons, 2),
+        (b'=', [b'=', ..]) => token(Sort::TwoEquals, 2),
         _ => Piece {
-            form: mark_form(text[0]),
+            form: mark_form(first),
             length: 1,
         },
     }

@@ -29,11 +29,18 @@ fn has_skipped(text: &[u8]) -> bool
     has_unkept(text) && is_some_skipped(text)
 }
 
-// Whether a text has a character that may be skipped.
+// Whether a text has a character that may be skipped. What stands in a comment is none, where no piece before it takes the `;`.
 fn has_unkept(text: &[u8]) -> bool
     ensures { result ≡ has_unkept text.now }
 {
-    text.iter().any(|byte| !is_kept(*byte))
+    let mut rest = text;
+    'bytes: while let [byte, tail @ ..] = rest {
+        if !is_kept(*byte) {
+            return *byte != b';';
+        }
+        rest = tail;
+    }
+    false
 }
 
 // The same of any text, cut piece by piece. By a call, as few texts have to be cut.
