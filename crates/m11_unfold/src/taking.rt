@@ -51,12 +51,15 @@ impl State {
         ensures moves { Moves (stage_of self.old) (stage_of self.new) line.new result }
         ensures free { IsFree self.new.left.has_statement result }
     {
-        if self.has_ended || self.left.is_empty() {
+        if self.has_ended {
             return Ok(Moved::Rests);
         }
         // most lines are those of the source itself
         if self.left.take_source_line(line) {
             return self.take_line(alloc, line, false);
+        }
+        if self.left.is_empty() {
+            return Ok(Moved::Rests);
         }
         self.advance_within(alloc, line)
     }
