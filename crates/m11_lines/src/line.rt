@@ -74,7 +74,8 @@ impl Line {
         }
     }
 
-    /// More characters; those past the limit are dropped.
+    /// More characters; those past the limit are dropped. By a call, since most lines are short and are begun as a whole.
+    #[inline(never)]
     pub fn push_all(&mut self, bytes: &[u8])
         ensures { self.new ≡ with_bytes self.old bytes.now }
     {
