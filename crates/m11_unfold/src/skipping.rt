@@ -2,13 +2,15 @@
 //! block directives".)
 
 ghost use Rattle.std.specs.Prelude.{◌≡◌, ◌<◌, true, false, Some, None};
+ghost use Rattle.m11_arguments.specs.Directives.{directive};
 ghost use Rattle.m11_unfolding.specs.Taking as spec;
 
 use m11_arguments::{Directive, directive_of};
 use m11_expansions::{Conditions, Nesting};
 use m11_scan::Line;
 
-// Skips a line, unless it is live. Returns whether it is skipped.
+// Skips a line, unless it is live. Returns whether it is skipped. Inline: each line of a source comes here, and few are skipped.
+#[inline(always)]
 pub(crate) fn skip(conditions: &mut Conditions, line: &Line) -> bool
     requires { conditions.old.nested < 4294967295 }
     ensures skipped { result ≡ true → spec.skipped conditions.old line.now.text ≡ Some conditions.new }
@@ -16,10 +18,21 @@ pub(crate) fn skip(conditions: &mut Conditions, line: &Line) -> bool
     ensures unchanged { result ≡ false → conditions.new ≡ conditions.old }
 {
     if conditions.is_skipping() {
-        skip_by(conditions, directive_of(line))
+        skip_inside(conditions, line)
     } else {
         false
     }
+}
+
+// Skips a line, where lines are skipped. By a call, so that no room is made for the reading of a line that is live.
+#[inline(never)]
+fn skip_inside(conditions: &mut Conditions, line: &Line) -> bool
+    requires { conditions.old.nested < 4294967295 }
+    ensures skipped { result ≡ true → spec.skipped_by conditions.old (directive line.now.text) ≡ Some conditions.new }
+    ensures live { result ≡ false → spec.skipped_by conditions.old (directive line.now.text) ≡ None }
+    ensures unchanged { result ≡ false → conditions.new ≡ conditions.old }
+{
+    skip_by(conditions, directive_of(line))
 }
 
 // Skips a line by its word, where lines are skipped.
