@@ -45,6 +45,25 @@ pub enum Moved {
 }
 
 impl State {
+    // Takes the line of the source itself, if it is next and becomes live, and returns whether it did. It is what `advance` does then, and
+    // takes less time.
+    #[inline(always)]
+    pub(crate) fn take_live_line(&mut self, line: &mut Line) -> bool
+        requires { IsKept (stage_of self.old) }
+        ensures moves { result ≡ true → Moves (stage_of self.old) (stage_of self.new) line.new (Ok (Moved.Gives false)) }
+        ensures free { result ≡ true → self.new.left.has_statement ≡ false }
+        ensures unchanged { result ≡ false → self.new ≡ self.old }
+    {
+        if self.has_ended || self.opening.is_some() || self.taken >= LINE_MOST {
+            return false;
+        }
+        if self.conditions.is_skipping() || !self.left.take_source_line(line) {
+            return false;
+        }
+        self.taken += 1;
+        true
+    }
+
     // Makes one move. A line that it takes is put into `line`.
     pub(crate) fn advance(&mut self, alloc: Global, line: &mut Line) -> Result<Moved, UnfoldFault>
         requires { IsKept (stage_of self.old) }

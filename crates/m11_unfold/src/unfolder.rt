@@ -138,6 +138,23 @@ impl State {
         ensures kept { IfOk result (λ _. IsKept (stage_of self.new)) }
         ensures free { spec.IsFree self.new.left.has_statement result }
     {
+        // most lines are those of the source itself, and are live
+        if self.take_live_line(line) {
+            Ok(Step::Line(false))
+        } else {
+            self.move_on(alloc, line)
+        }
+    }
+
+    // The same by moves, until a line becomes live. By a call, since few lines need more than one move.
+    #[inline(never)]
+    fn move_on(&mut self, alloc: Global, line: &mut Line) -> Result<Step, UnfoldFault>
+        requires { IsKept (stage_of self.old) }
+        ensures steps { spec.Steps (stage_of self.old) (stage_of self.new) line.new result }
+        ensures empty { spec.IsEmpty (stage_of self.new) result }
+        ensures kept { IfOk result (λ _. IsKept (stage_of self.new)) }
+        ensures free { spec.IsFree self.new.left.has_statement result }
+    {
         'moves: loop {
             match self.advance(alloc, line)? {
                 Moved::Passes => {}

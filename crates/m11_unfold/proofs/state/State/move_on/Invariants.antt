@@ -3,7 +3,7 @@ use Rattle.m11_unfolding.specs.Unfolding.{Leads}
 use Rattle.m11_unfold.specs.Kept.{IsKept}
 use Rattle.m11_unfold.specs.Views.{stage_of}
 use Rattle.m11_unfold.proofs.Keeping.{work_left}
-use Rattle.m11_unfold.proofs.state.State.next_live.Given as goal
+use Rattle.m11_unfold.proofs.state.State.move_on.Given as goal
 
 abbrev pub invariant-moves : goal.invariant-moves
 invariant-moves l = record {
