@@ -16,7 +16,7 @@ front_copied count size front rest bytes short within copied =
     take-append-le count front rest (omega arith) ∙ ap (take count) copied ∙ take-take count size bytes short
 
 -- a short line begins
-pub begun : (is_over_long : Bool) (count : ℕ) (text : List ℕ) → count ≤ 64 → count ≤ length text
+pub begun : (is_over_long : Bool) (count : ℕ) (text : List ℕ) → count ≤ 48 → count ≤ length text
     → record { text = take count text; is_over_long = is_over_long }
     ≡ with_bytes (record { text = []; is_over_long = is_over_long }) (take count text)
 begun is_over_long count text short within =

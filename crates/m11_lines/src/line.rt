@@ -9,7 +9,7 @@ use std::marker::Model;
 pub const LINE_LIMIT: usize = 132;
 
 // A line with at most so many characters is short.
-const SHORT: usize = 64;
+const SHORT: usize = 48;
 
 /// The first 132 characters of a line, and whether it has more.
 #[derive(Drop, Debug)]

@@ -5,6 +5,6 @@ use Rattle.m11_lines.proofs.line.Line.copy_from.Goals as goal
 pub returns-then-other-le-SHORT : goal.returns-then-other-le-SHORT
 returns-then-other-le-SHORT c =
     ap (λ (t : List ℕ). record { text = t; is_over_long = c.other.inside.is_over_long })
-    (front_copied c.other.inside.length 64 c.copy_from_slice.new.self _ c.other.inside.bytes (omega arith) (omega arith)
+    (front_copied c.other.inside.length 48 c.copy_from_slice.new.self _ c.other.inside.bytes (omega arith) (omega arith)
     c.copy_from_slice.ensures.after)
     ∙ c.other.view_is

@@ -6,7 +6,7 @@ use Rattle.m11_lines.proofs.line.Line.push_first.Goals as goal
 pub returns-then-text-ge-SHORT : goal.returns-then-text-ge-SHORT
 returns-then-text-ge-SHORT c =
     ap (λ (t : List ℕ). record { text = t; is_over_long = c.self.inside.is_over_long })
-    (front_copied c.args.count 64 c.copy_from_slice.new.self _ c.args.text.now (omega arith) (omega arith)
+    (front_copied c.args.count 48 c.copy_from_slice.new.self _ c.args.text.now (omega arith) (omega arith)
     c.copy_from_slice.ensures.after)
     ∙ begun c.self.inside.is_over_long c.args.count c.args.text.now (omega arith) c.requires
     ∙ ap (λ (l : SourceLine). with_bytes l (take c.args.count c.args.text.now))
