@@ -3,13 +3,19 @@ use Rattle.std.proofs.Common.{◌≡◌, ◌∙◌, Bool, Option, Some, None, re
 use Rattle.m11_arguments.specs.Definedness.{letter_U}
 use Rattle.m11_values.specs.Quantities.{Quantity, absolute}
 use Rattle.m11_placement.specs.declared.definitions.Key.{Key}
-use Rattle.m11_placement.specs.Definitions.{has_key, last_definition}
-use Rattle.m11_placement.specs.Meanings.{defined_or, empty_map, meaning_of}
+use Rattle.m11_placement.specs.Definitions.{firm_standing, has_key, last_definition}
+use Rattle.m11_placement.specs.Meanings.{defined_or, empty_map, letter_D, meaning_of, quantity_of}
+use Rattle.m11_statements.specs.Statements.{letter_if}
 use Rattle.m11_placement.specs.Tables.{Table, firm_table}
 use Rattle.m11_placement.proofs.FirmNames.{firm_option, last_firm}
-use Rattle.m11_table.specs.Asking.{firm_entry, given_by}
+use Rattle.m11_table.specs.Asking.{given_by}
 use Rattle.m11_table.specs.declared.entries.Entry.{Entry}
 use Rattle.m11_table.specs.Entries.{defined_as}
+
+-- what is kept, as far as it is firm
+abbrev firm_entry : Option Entry → Option Entry
+firm_entry (Some entry) = Some (record entry { standing = firm_standing entry.is_firm entry.standing })
+firm_entry None = None
 
 same_option : (key : Key) (found : Option Entry) → defined_as key (firm_entry found) ≡ firm_option (defined_as key found)
 same_option key (Some entry) = refl
@@ -20,13 +26,25 @@ same_meaning : (table : Table) (key : Key) (other : Quantity) (found : Option En
 same_meaning table key other (Some entry) = refl
 same_meaning table key other None = refl
 
-pub firm_meant : (table : Table) (key : Key) (is_doubled : Bool) (other : Quantity) (found firm : Option Entry)
-    → defined_as key found ≡ last_definition key table.definitions → firm ≡ firm_entry found
-    → is_doubled ≡ has_key key table.doubled → other ≡ absolute 0 letter_U
-    → given_by is_doubled other firm ≡ meaning_of empty_map (absolute 0 letter_U) (firm_table table) key
-firm_meant table key is_doubled other found firm f g d o =
-    ap (λ (b : Bool). given_by b other firm) d
-    ∙ ap (λ (q : Quantity). given_by (has_key key table.doubled) q firm) o
-    ∙ same_meaning table key (absolute 0 letter_U) firm
+firm_meant_by : (table : Table) (key : Key) (found : Option Entry)
+    → defined_as key found ≡ last_definition key table.definitions
+    → given_by (has_key key table.doubled) (absolute 0 letter_U) (firm_entry found)
+    ≡ meaning_of empty_map (absolute 0 letter_U) (firm_table table) key
+firm_meant_by table key found f =
+    same_meaning table key (absolute 0 letter_U) (firm_entry found)
     ∙ ap (defined_or key table.doubled (absolute 0 letter_U))
-    (ap (defined_as key) g ∙ same_option key found ∙ ap firm_option f ∙ sym (last_firm key table.definitions))
+    (same_option key found ∙ ap firm_option f ∙ sym (last_firm key table.definitions))
+
+-- of a key of which something is kept
+pub firm_known : (table : Table) (key : Key) (is_doubled : Bool) (entry : Entry)
+    → defined_as key (Some entry) ≡ last_definition key table.definitions → is_doubled ≡ has_key key table.doubled
+    → quantity_of (letter_if is_doubled letter_D) (firm_standing entry.is_firm entry.standing)
+    ≡ meaning_of empty_map (absolute 0 letter_U) (firm_table table) key
+firm_known table key is_doubled entry f d =
+    ap (λ (b : Bool). quantity_of (letter_if b letter_D) (firm_standing entry.is_firm entry.standing)) d
+    ∙ firm_meant_by table key (Some entry) f
+
+-- and of one of which nothing is
+pub firm_unknown : (table : Table) (key : Key) → defined_as key None ≡ last_definition key table.definitions
+    → absolute 0 letter_U ≡ meaning_of empty_map (absolute 0 letter_U) (firm_table table) key
+firm_unknown table key f = firm_meant_by table key None f

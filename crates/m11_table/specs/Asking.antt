@@ -5,7 +5,6 @@ use Rattle.m11_statements.specs.Statements.{letter_if}
 use Rattle.m11_values.specs.declared.kinds.Kind.{Kind}
 use Rattle.m11_values.specs.Quantities.{Quantity}
 use Rattle.m11_placement.specs.declared.meanings.Context.{Context}
-use Rattle.m11_placement.specs.Definitions.{firm_standing}
 use Rattle.m11_placement.specs.Meanings.{Map, letter_D, quantity_of}
 use Rattle.m11_placement.specs.Tables.{Table}
 use Rattle.m11_table.specs.declared.entries.Entry.{Entry}
@@ -36,8 +35,3 @@ counted place kind = record { number = place; kind = kind; letters = 0 }
 abbrev pub given_by : Bool → Quantity → Option Entry → Quantity
 given_by is_doubled other (Some entry) = quantity_of (letter_if is_doubled letter_D) entry.standing
 given_by is_doubled other None = other
-
--- what is kept, as far as it is firm
-abbrev pub firm_entry : Option Entry → Option Entry
-firm_entry (Some entry) = Some (record entry { standing = firm_standing entry.is_firm entry.standing })
-firm_entry None = None

@@ -1,6 +1,6 @@
 //! What a whole source gives its names in the end, and its sections, as a second pass knows it. (MACRO-11 Language Reference Manual, "Symbols".)
 
-ghost use Rattle.std.specs.Prelude.{◌≡◌};
+ghost use Rattle.std.specs.Prelude.{◌≡◌, option_copied};
 ghost use Rattle.m11_placement.specs.Assigning.{is_exported};
 ghost use Rattle.m11_placement.specs.Definitions.{has_key, last_definition};
 ghost use Rattle.m11_placement.specs.Meanings.{empty_map, map_of};
@@ -52,8 +52,8 @@ impl<'a> Map<'a> {
     }
 
     // What is kept of it.
-    pub(crate) fn entry(&self, key: &Key) -> Option<Entry>
-        ensures { defined_as key.now result ≡ last_definition key.now self.now.definitions }
+    pub(crate) fn entry(&self, key: &Key) -> Option<&Entry>
+        ensures { defined_as key.now (option_copied result) ≡ last_definition key.now self.now.definitions }
     {
         self.table?.entry(key)
     }

@@ -1,6 +1,6 @@
 //! What symbols stand for at a line. (MACRO-11 Language Reference Manual, "Symbols", "Local symbols" and "Current location counter".)
 
-ghost use Rattle.std.specs.Prelude.{◌≡◌, Option};
+ghost use Rattle.std.specs.Prelude.{◌≡◌, Option, option_copied};
 ghost use Rattle.m11_scan.specs.Views.{bits_of};
 ghost use Rattle.m11_statements.specs.Statements.{letter_if};
 ghost use Rattle.m11_values.specs.Quantities.{absolute, quantity};
@@ -8,7 +8,8 @@ ghost use Rattle.m11_placement.specs.Contents.{register_letters};
 ghost use Rattle.m11_placement.specs.Meanings.{empty_map, letter_D, meaning_of, quantity_of, stands_for, undefined};
 ghost use Rattle.m11_placement.specs.declared.meanings.Context.TheVariants.{Knows};
 ghost use Rattle.m11_placement.specs.Tables.{firm_table, kind_here};
-ghost use Rattle.m11_table.specs.Asking.{asked, counted, firm_asked, firm_entry, given_by};
+ghost use Rattle.m11_placement.specs.Definitions.{firm_standing};
+ghost use Rattle.m11_table.specs.Asking.{asked, counted, firm_asked, given_by};
 ghost use Rattle.m11_arguments.specs.Definedness.{letter_U};
 
 use crate::entries::Entry;
@@ -165,8 +166,8 @@ fn undefined(context: Context, symbol: Symbol) -> Value
 }
 
 // What a key stands for by what is kept of it, or else something other.
-fn given_or(found: Option<Entry>, is_doubled: bool, other: Value) -> Value
-    ensures { quantity result ≡ given_by is_doubled (quantity other) found }
+fn given_or(found: Option<&Entry>, is_doubled: bool, other: Value) -> Value
+    ensures { quantity result ≡ given_by is_doubled (quantity other) (option_copied found.entry) }
 {
     match found {
         Some(entry) => value_of(entry.standing, is_doubled),
@@ -186,17 +187,14 @@ fn meaning_of(map: &Map<'_>, other: Value, table: &Table, key: &Key) -> Value
     }
 }
 
-// What is kept of a definition, as far as it is firm.
-fn firm_entry(found: Option<Entry>) -> Option<Entry>
-    ensures { result ≡ firm_entry found }
+// What a definition gives, as far as it is firm.
+fn firm_standing(entry: &Entry) -> Standing
+    ensures { result ≡ firm_standing entry.now.is_firm entry.now.standing }
 {
-    match found {
-        Some(entry) if entry.is_firm => Some(entry),
-        Some(entry) => Some(Entry {
-            standing: Standing::Unknown,
-            ..entry
-        }),
-        None => None,
+    if entry.is_firm {
+        entry.standing
+    } else {
+        Standing::Unknown
     }
 }
 
@@ -206,9 +204,10 @@ fn firm_entry(found: Option<Entry>) -> Option<Entry>
 fn firm_meaning_of(table: &Table, key: &Key) -> Value
     ensures { quantity result ≡ meaning_of empty_map (absolute 0 letter_U) (firm_table table.now) key.now }
 {
-    let found = firm_entry(table.entry(key));
-    let is_doubled = table.is_doubled(key);
-    given_or(found, is_doubled, Value::absolute(0, Letters::U))
+    match table.entry(key) {
+        Some(entry) => value_of(firm_standing(entry), table.is_doubled(key)),
+        None => Value::absolute(0, Letters::U),
+    }
 }
 
 /// R for a register where none may be.

@@ -1,7 +1,7 @@
 //! The table that the lines of a source fill. (MACRO-11 Language Reference Manual, "Symbols and expressions", "Local symbols", "Current
 //! location counter" and "Program section directives".)
 
-ghost use Rattle.std.specs.Prelude.{◌≡◌, ◌<◌, ◌+◌, ◌^◌, IfOk, IfSome, None, length, slice_get};
+ghost use Rattle.std.specs.Prelude.{◌≡◌, ◌<◌, ◌+◌, ◌^◌, IfOk, IfSome, None, length, option_copied, slice_get};
 ghost use Rattle.std.specs.List.{list_any};
 ghost use Rattle.m11_base.specs.Names.{blank_name, name_in_words};
 ghost use Rattle.m11_base.specs.Rad50.{is_same_name};
@@ -20,6 +20,7 @@ ghost use Rattle.m11_table.specs.Entries as entries;
 ghost use Rattle.m11_table.specs.Entries.{counter_or, defined_as, empty_table, with_new_section, with_registers};
 
 use crate::entries::Entry;
+use crate::index_guesses::IndexGuesses;
 use indexmap::{IndexMap, IndexSet};
 use m11_base::{Name, absolute_section, blank_name};
 use m11_placement::{Definition, Key, Section, Settings, Standing};
@@ -41,6 +42,8 @@ const RELOCATABLE: u8 = 0o040;
 #[derive(Drop)]
 pub struct Table {
     names: IndexMap<Name, Entry>,
+    // Where names stand among them.
+    guesses: IndexGuesses,
     local_symbols: IndexMap<(u64, u16), Entry>,
     doubled_names: IndexSet<Name>,
     doubled_symbols: IndexSet<(u64, u16)>,
@@ -105,6 +108,7 @@ impl Table {
     {
         Table {
             names: IndexMap::new(alloc),
+            guesses: IndexGuesses::new(),
             local_symbols: IndexMap::new(alloc),
             doubled_names: IndexSet::new(alloc),
             doubled_symbols: IndexSet::new(alloc),
@@ -240,14 +244,16 @@ impl Table {
         ensures { result ≡ last_definition key.now self.now.definitions }
     {
         match self.entry(key) {
-            Some(entry) => Some(definition(*key, entry)),
+            Some(entry) => Some(definition(*key, *entry)),
             None => None,
         }
     }
 
     // What is kept of the last definition of a key. Each symbol of an expression asks for it, and it is a third as large.
-    pub(crate) fn entry(&self, key: &Key) -> Option<Entry>
-        ensures { defined_as key.now result ≡ last_definition key.now self.now.definitions }
+    // Inline: a call would hand the key on by memory.
+    #[inline(always)]
+    pub(crate) fn entry(&self, key: &Key) -> Option<&Entry>
+        ensures { defined_as key.now (option_copied result) ≡ last_definition key.now self.now.definitions }
     {
         match key {
             Key::Named(name) => self.name_entry(*name),
@@ -255,22 +261,29 @@ impl Table {
         }
     }
 
-    fn name_entry(&self, name: Name) -> Option<Entry>
-        ensures { defined_as (Named name) result ≡ last_definition (Named name) self.now.definitions }
+    fn name_entry(&self, name: Name) -> Option<&Entry>
+        ensures { defined_as (Named name) (option_copied result) ≡ last_definition (Named name) self.now.definitions }
     {
-        match self.names.get(&name) {
-            Some(entry) => Some(*entry),
-            None => None,
+        match self.names.get_index(self.guesses.guess(name)) {
+            Some((found, entry)) if *found == name => Some(entry),
+            _ => self.searched_entry(name),
         }
     }
 
-    fn symbol_entry(&self, block: u64, number: u16) -> Option<Entry>
-        ensures { defined_as (Numbered block number) result ≡ last_definition (Numbered block number) self.now.definitions }
+    // The same by the hash of the name, by a call: most names stand where it is guessed.
+    #[inline(never)]
+    fn searched_entry(&self, name: Name) -> Option<&Entry>
+        ensures { defined_as (Named name) (option_copied result) ≡ last_definition (Named name) self.now.definitions }
     {
-        match self.local_symbols.get(&(block, number)) {
-            Some(entry) => Some(*entry),
-            None => None,
-        }
+        self.names.get(&name)
+    }
+
+    // By a call too, so that what finds a name is short.
+    #[inline(never)]
+    fn symbol_entry(&self, block: u64, number: u16) -> Option<&Entry>
+        ensures { defined_as (Numbered block number) (option_copied result) ≡ last_definition (Numbered block number) self.now.definitions }
+    {
+        self.local_symbols.get(&(block, number))
     }
 
     /// Whether a key has a definition.
@@ -387,7 +400,8 @@ impl Table {
             is_firm: definition.is_firm,
             is_label: definition.is_label,
         };
-        self.names.insert(name, entry)?;
+        let (index, _) = self.names.insert_full(name, entry)?;
+        self.guesses.note(name, index);
         Ok(())
     }
 

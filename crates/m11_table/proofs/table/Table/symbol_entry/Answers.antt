@@ -6,14 +6,8 @@ use Rattle.m11_table.proofs.Found.{symbol_found}
 use Rattle.m11_table.specs.Entries.{defined_as}
 use Rattle.m11_table.proofs.table.Table.symbol_entry.Goals as goal
 
-pub returns-in-Some : goal.returns-in-Some
-returns-in-Some c =
-    ap (defined_as (Numbered c.args.block c.args.number)) c.in-Some.ensures.value
-    ∙ sym (symbol_found c.args.block c.args.number c.self.inside.names.entries c.self.inside.local_symbols.entries)
-    ∙ ap (λ (t : Table). last_definition (Numbered c.args.block c.args.number) t.definitions) c.self.view_is
-
-pub returns-in-None : goal.returns-in-None
-returns-in-None c =
-    ap (defined_as (Numbered c.args.block c.args.number)) c.in-None.ensures.value
+pub returns : goal.returns
+returns c =
+    ap (defined_as (Numbered c.args.block c.args.number)) c.get.ensures.value
     ∙ sym (symbol_found c.args.block c.args.number c.self.inside.names.entries c.self.inside.local_symbols.entries)
     ∙ ap (λ (t : Table). last_definition (Numbered c.args.block c.args.number) t.definitions) c.self.view_is
