@@ -287,19 +287,21 @@ impl Table {
     }
 
     /// Whether a key has a definition.
-    #[tactic(auto, using(crate::proofs::Defined::is_some_last))]
     pub fn is_defined(&self, key: &Key) -> bool
         ensures { result ≡ is_defined key.now self.now.definitions }
     {
-        self.definition(key).is_some()
+        match self.entry(key) {
+            Some(_) => true,
+            None => false,
+        }
     }
 
     /// Whether the last definition of a key is that of a label.
     pub fn is_labelled(&self, key: &Key) -> bool
         ensures { result ≡ is_labelled key.now self.now.definitions }
     {
-        match self.definition(key) {
-            Some(definition) => definition.is_label,
+        match self.entry(key) {
+            Some(entry) => entry.is_label,
             None => false,
         }
     }
@@ -336,10 +338,20 @@ impl Table {
     {
         match symbol {
             Symbol::Counter => true,
-            Symbol::Ordinary(name) => is_firm_in(self.definition(&Key::Named(name))),
+            Symbol::Ordinary(name) => self.is_firm_key(&Key::Named(name)),
             Symbol::Local(number) => {
-                is_firm_in(self.definition(&Key::Numbered(self.settings.block, number)))
+                self.is_firm_key(&Key::Numbered(self.settings.block, number))
             }
+        }
+    }
+
+    // The same of a name or of a local symbol.
+    fn is_firm_key(&self, key: &Key) -> bool
+        ensures { result ≡ is_firm_in (last_definition key.now self.now.definitions) }
+    {
+        match self.entry(key) {
+            Some(entry) => entry.is_firm,
+            None => false,
         }
     }
 }
@@ -539,14 +551,5 @@ fn name_in_words(name: &[u8; 6]) -> Name
     match Name::pack(name) {
         Some(name) => name,
         None => blank_name(),
-    }
-}
-
-fn is_firm_in(found: Option<Definition>) -> bool
-    ensures { result ≡ is_firm_in found }
-{
-    match found {
-        Some(definition) => definition.is_firm,
-        None => false,
     }
 }
