@@ -313,7 +313,7 @@ impl Table {
         ensures { result ≡ has_key key.now self.now.doubled }
     {
         match key {
-            Key::Named(name) => self.doubled_names.contains(name),
+            Key::Named(name) => is_among(&self.doubled_names, *name),
             Key::Numbered(block, number) => self.doubled_symbols.contains(&(*block, *number)),
         }
     }
@@ -499,6 +499,17 @@ impl Table {
     {
         let place = (u64::from(self.place()) + u64::from(size)) % 65536;
         self.go_to(place as u16);
+    }
+}
+
+// Whether a name is among others, of which most sources have none.
+#[inline(always)]
+fn is_among(names: &IndexSet<Name>, name: Name) -> bool
+    ensures { result ≡ list_any (is_same_name name) names.now.keys }
+{
+    match names.as_slice() {
+        [] => false,
+        _ => names.contains(&name),
     }
 }
 

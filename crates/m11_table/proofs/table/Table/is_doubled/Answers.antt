@@ -8,14 +8,14 @@ use Rattle.m11_table.proofs.table.Table.is_doubled.Goals as goal
 
 pub returns-in-Named : goal.returns-in-Named
 returns-in-Named c =
-    c.contains.ensures
+    c.is_among.ensures
     ∙ sym (doubled_name c.in-Named.name c.self.inside.doubled_names.keys c.self.inside.doubled_symbols.keys)
     ∙ ap (λ (t : Table). has_key (Named c.in-Named.name) t.doubled) c.self.view_is
     ∙ ap (λ (k : Key). has_key k c.args.self.now.doubled) (sym c.in-Named.is)
 
 pub returns-in-Numbered : goal.returns-in-Numbered
 returns-in-Numbered c =
-    c.contains-in-Numbered.ensures
+    c.contains.ensures
     ∙ sym (doubled_symbol c.in-Numbered.block c.in-Numbered.number c.self.inside.doubled_names.keys
     c.self.inside.doubled_symbols.keys)
     ∙ ap (λ (t : Table). has_key (Numbered c.in-Numbered.block c.in-Numbered.number) t.doubled) c.self.view_is
