@@ -3,12 +3,12 @@
 
 ghost use Rattle.std.specs.Prelude.{◌≡◌, ◌<◌, ◌≤◌, ◌+◌, ◌^◌, IfOk, IfErr, length};
 ghost use Rattle.m11_placement.specs.Labels as spec;
-ghost use Rattle.m11_placement.specs.Labels.{with_definition};
+ghost use Rattle.m11_placement.specs.Labels.{letter_M, with_definition};
 ghost use Rattle.m11_placement.specs.Limits.{local_count, most_local_symbols};
 ghost use Rattle.m11_placement.specs.Tables.{Table as LineTable};
 ghost use Rattle.m11_placing.specs.Faults.{Refuses};
 ghost use Rattle.m11_placing.specs.Labels.{Defines, DefinesAll};
-ghost use Rattle.m11_placing.specs.Moved.{moved_letters};
+ghost use Rattle.m11_placing.specs.Moved.{moved_key, moved_kind, moved_letters, moved_name};
 ghost use Rattle.m11_placing.specs.Passes.{Follows, Matches};
 ghost use Rattle.m11_table.specs.Alike as tables;
 ghost use Rattle.m11_placement.specs.declared.definitions.Key.TheVariants.{Named, Numbered};
@@ -33,6 +33,41 @@ pub struct LabelLetters {
     pub moved: Letters,
 }
 
+impl LabelLetters {
+    // Those of nothing.
+    fn none() -> LabelLetters
+        ensures doubled { bits_of result.doubled ≡ 0 }
+        ensures moved { bits_of result.moved ≡ 0 }
+    {
+        LabelLetters {
+            doubled: Letters::none(),
+            moved: Letters::none(),
+        }
+    }
+
+    // Those of a label that is defined before it.
+    fn of_doubled() -> LabelLetters
+        ensures doubled { bits_of result.doubled ≡ letter_M }
+        ensures moved { bits_of result.moved ≡ 0 }
+    {
+        LabelLetters {
+            doubled: Letters::M,
+            moved: Letters::none(),
+        }
+    }
+
+    // Those of another one.
+    fn of_new(moved: Letters) -> LabelLetters
+        ensures doubled { bits_of result.doubled ≡ 0 }
+        ensures moved { result.moved ≡ moved }
+    {
+        LabelLetters {
+            doubled: Letters::none(),
+            moved,
+        }
+    }
+}
+
 impl Pass {
     /// Defines the labels of a line, one after the other. M for each whose name or local symbol is defined before it, and P for each other
     /// one whose last definition in the map isn't the place where it stands.
@@ -55,28 +90,31 @@ impl Pass {
             → Refuses fault (most_local_symbols < local_count (spec.with_labels line.now.text before labels.now)) ⊥) }
     {
         match labels {
-            [] => Ok(LabelLetters {
-                doubled: Letters::none(),
-                moved: Letters::none(),
-            }),
+            [] => Ok(LabelLetters::none()),
             [label, others @ ..] => {
-                let moved = moved_letter(map, &self.table, line, label);
-                let letters = self.define_label(line, label)?;
+                let letters = self.define_label(map, line, label)?;
                 let more = self.define_labels(map, line, others)?;
                 Ok(LabelLetters {
-                    doubled: letters.with(more.doubled),
-                    moved: moved.with(more.moved),
+                    doubled: letters.doubled.with(more.doubled),
+                    moved: letters.moved.with(more.moved),
                 })
             }
         }
     }
 
     // Defines a label.
-    fn define_label(&mut self, line: &Line, label: &Label) -> Result<Letters, PlacingFault>
+    fn define_label(
+        &mut self,
+        map: &Map<'_>,
+        line: &Line,
+        label: &Label,
+    ) -> Result<LabelLetters, PlacingFault>
         requires { self.old.table.settings.block + 1 < 2 ^ 64 }
-        ensures defines { IfOk result (λ letters. Defines self.old self.new (bits_of letters)
+        ensures defines { IfOk result (λ letters. Defines self.old self.new (bits_of letters.doubled)
             (λ before. spec.with_label line.now.text before label.now)
             (λ before. spec.kind_letters before (spec.label_name line.now.text label.now) label.now.kind)) }
+        ensures moved { IfOk result (λ letters. bits_of letters.moved
+            ≡ moved_kind map.now self.old.table (spec.label_name line.now.text label.now) label.now.kind) }
         ensures tables { IfOk result (λ _. tables.Follows self.old.table self.new.table
             (λ before. spec.with_label line.now.text before label.now)) }
         ensures few { IfOk result (λ _. self.old.local_symbols ≤ most_local_symbols → self.new.local_symbols ≤ most_local_symbols) }
@@ -85,22 +123,26 @@ impl Pass {
             → Refuses fault (most_local_symbols < local_count (spec.with_label line.now.text before label.now)) ⊥) }
     {
         match label.kind {
-            LabelKind::Ordinary => self.define_name_of(read_name(label.name.text(line)), false),
-            LabelKind::Global => self.define_name_of(read_name(label.name.text(line)), true),
-            LabelKind::Local(number) => self.define_local(number),
-            LabelKind::Outside => Ok(Letters::none()),
+            LabelKind::Ordinary => {
+                self.define_name_of(map, read_name(label.name.text(line)), false)
+            }
+            LabelKind::Global => self.define_name_of(map, read_name(label.name.text(line)), true),
+            LabelKind::Local(number) => self.define_local(map, number),
+            LabelKind::Outside => Ok(LabelLetters::none()),
         }
     }
 
     // A name that is new opens a block of local symbols. One that is defined becomes doubled.
     fn define_name_of(
         &mut self,
+        map: &Map<'_>,
         name: Option<Name>,
         is_global: bool,
-    ) -> Result<Letters, PlacingFault>
+    ) -> Result<LabelLetters, PlacingFault>
         requires { self.old.table.settings.block + 1 < 2 ^ 64 }
-        ensures defines { IfOk result (λ letters. Defines self.old self.new (bits_of letters)
+        ensures defines { IfOk result (λ letters. Defines self.old self.new (bits_of letters.doubled)
             (λ before. spec.with_name is_global before name) (λ before. spec.name_letters before name)) }
+        ensures moved { IfOk result (λ letters. bits_of letters.moved ≡ moved_name map.now self.old.table name) }
         ensures tables { IfOk result (λ _. tables.Follows self.old.table self.new.table
             (λ before. spec.with_name is_global before name)) }
         ensures few { IfOk result (λ _. self.old.local_symbols ≤ most_local_symbols → self.new.local_symbols ≤ most_local_symbols) }
@@ -110,13 +152,14 @@ impl Pass {
         match name {
             Some(name) if self.table.is_defined(&Key::Named(name)) => {
                 self.double(&Key::Named(name))?;
-                Ok(Letters::M)
+                Ok(LabelLetters::of_doubled())
             }
             Some(name) => {
+                let moved = moved_letter(map, &self.table, &Key::Named(name));
                 self.define_new_name(name, is_global)?;
-                Ok(Letters::none())
+                Ok(LabelLetters::of_new(moved))
             }
-            None => Ok(Letters::none()),
+            None => Ok(LabelLetters::none()),
         }
     }
 
@@ -141,10 +184,12 @@ impl Pass {
     }
 
     // A local symbol belongs to the block that is open.
-    fn define_local(&mut self, number: u16) -> Result<Letters, PlacingFault>
-        ensures defines { IfOk result (λ letters. Defines self.old self.new (bits_of letters)
+    fn define_local(&mut self, map: &Map<'_>, number: u16) -> Result<LabelLetters, PlacingFault>
+        ensures defines { IfOk result (λ letters. Defines self.old self.new (bits_of letters.doubled)
             (λ before. spec.with_key (Numbered before.settings.block number) before)
             (λ before. spec.key_letters before (Numbered before.settings.block number))) }
+        ensures moved { IfOk result (λ letters. bits_of letters.moved
+            ≡ moved_key map.now self.old.table (Numbered self.old.table.settings.block number)) }
         ensures tables { IfOk result (λ _. tables.Follows self.old.table self.new.table
             (λ before. spec.with_key (Numbered before.settings.block number) before)) }
         ensures few { IfOk result (λ _. self.old.local_symbols ≤ most_local_symbols → self.new.local_symbols ≤ most_local_symbols) }
@@ -156,11 +201,12 @@ impl Pass {
         let key = Key::Numbered(block, number);
         if self.table.is_defined(&key) {
             self.double(&key)?;
-            Ok(Letters::M)
+            Ok(LabelLetters::of_doubled())
         } else {
+            let moved = moved_letter(map, &self.table, &key);
             let definition = labelled(&self.table, key);
             self.define_symbol(block, number, &definition)?;
-            Ok(Letters::none())
+            Ok(LabelLetters::of_new(moved))
         }
     }
 }

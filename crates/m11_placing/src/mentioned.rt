@@ -1,6 +1,6 @@
 //! The names that lines mention. (MACRO-11 Language Reference Manual, "Table of contents and symbol table" and ".GLOBL directive".)
 
-ghost use Rattle.std.specs.Prelude.{◌≡◌, ◌<◌, ◌∷◌, [], IfOk, IfErr, length};
+ghost use Rattle.std.specs.Prelude.{◌≡◌, ◌<◌, ◌∷◌, [], IfOk, IfErr, length, true};
 ghost use Rattle.m11_placement.specs.Limits.{most_names};
 ghost use Rattle.m11_placement.specs.Mentions.{mention};
 ghost use Rattle.m11_placing.specs.Faults.{Refuses};
@@ -11,6 +11,7 @@ use crate::fault::PlacingFault;
 use indexmap::IndexSet;
 use m11_base::Name;
 use m11_placement::Context;
+use m11_table::IndexGuesses;
 use m11_values::Symbol;
 use std::alloc::{AllocError, Global};
 use std::marker::Model;
@@ -27,6 +28,8 @@ pub struct Mentioned {
     registers: IndexSet<Name>,
     // Where a name without a definition is a reference to another object.
     referred: IndexSet<Name>,
+    // Where names stand among those of the first two.
+    guesses: IndexGuesses,
 }
 
 impl Model for Mentioned {
@@ -47,6 +50,7 @@ impl Mentioned {
             names: IndexSet::new(alloc),
             registers: IndexSet::new(alloc),
             referred: IndexSet::new(alloc),
+            guesses: IndexGuesses::new(),
         }
     }
 
@@ -139,7 +143,10 @@ impl Mentioned {
     fn note_register(&mut self, name: Name) -> Result<(), AllocError>
         ensures { IfOk result (λ _. self.new ≡ record self.old { registers = spec.with_name name self.old.registers }) }
     {
-        self.registers.insert(name)?;
+        if !stands_at(&self.registers, self.guesses.guess(name), name) {
+            let (index, _) = self.registers.insert_full(name)?;
+            self.guesses.note(name, index);
+        }
         Ok(())
     }
 
@@ -150,12 +157,26 @@ impl Mentioned {
         ensures refuses { IfErr result (λ fault. Refuses fault
             (most_names < length (spec.with_name name self.old.names)) ⊥) }
     {
+        if stands_at(&self.names, self.guesses.guess(name), name) {
+            return Ok(());
+        }
         // most sources have far fewer, and then it is looked for once, as it is put in
         if self.names.len() >= MOST_NAMES && !self.names.contains(&name) {
             return Err(PlacingFault::TooManySymbols);
         }
-        self.names.insert(name)?;
+        let (index, _) = self.names.insert_full(name)?;
+        self.guesses.note(name, index);
         Ok(())
+    }
+}
+
+// Whether a name stands at an index of a set.
+fn stands_at(names: &IndexSet<Name>, index: usize, name: Name) -> bool
+    ensures { result ≡ true → spec.with_name name names.now.keys ≡ names.now.keys }
+{
+    match names.get_index(index) {
+        Some(found) => *found == name,
+        None => false,
     }
 }
 

@@ -1,53 +1,22 @@
 //! Which labels stand elsewhere than a map has them. (MACRO-11 Language Reference Manual, "Diagnostic error message summary", P.)
 
-ghost use Rattle.std.specs.Prelude.{◌≡◌};
-ghost use Rattle.m11_placement.specs.Labels.{label_name};
+ghost use Rattle.std.specs.Prelude.{◌≡◌, false};
+ghost use Rattle.m11_placement.specs.Definitions.{is_defined};
 ghost use Rattle.m11_placing.specs.Moved as spec;
 ghost use Rattle.m11_scan.specs.Views.{bits_of};
 
 use bitflags::Flags;
-use m11_base::Name;
 use m11_placement::{Definition, Key, Standing};
-use m11_scan::{Letters, Line, read_name};
-use m11_statements::{Label, LabelKind};
+use m11_scan::Letters;
 use m11_table::{Map, Table};
 use m11_values::Kind;
 
-// The letter of a label, by the table before it.
-pub(crate) fn moved_letter(map: &Map<'_>, table: &Table, line: &Line, label: &Label) -> Letters
-    ensures { bits_of result ≡ spec.moved_kind map.now table.now (label_name line.now.text label.now) label.now.kind }
-{
-    match label.kind {
-        LabelKind::Ordinary | LabelKind::Global => {
-            name_letter(map, table, read_name(label.name.text(line)))
-        }
-        LabelKind::Local(number) => local_letter(map, table, number),
-        LabelKind::Outside => Letters::none(),
-    }
-}
-
-fn name_letter(map: &Map<'_>, table: &Table, name: Option<Name>) -> Letters
-    ensures { bits_of result ≡ spec.moved_name map.now table.now name }
-{
-    match name {
-        Some(name) => key_letter(map, table, &Key::Named(name)),
-        None => Letters::none(),
-    }
-}
-
-// A local symbol belongs to the block that is open.
-fn local_letter(map: &Map<'_>, table: &Table, number: u16) -> Letters
-    ensures { bits_of result ≡ spec.moved_key map.now table.now (Key.Numbered table.now.settings.block number) }
-{
-    key_letter(map, table, &Key::Numbered(table.settings().block, number))
-}
-
-// A key that is defined before has no place of its own.
-fn key_letter(map: &Map<'_>, table: &Table, key: &Key) -> Letters
+// The letter of a label whose key no line before it defines.
+pub(crate) fn moved_letter(map: &Map<'_>, table: &Table, key: &Key) -> Letters
+    requires { is_defined key.now table.now.definitions ≡ false }
     ensures { bits_of result ≡ spec.moved_key map.now table.now key.now }
 {
-    let is_moved = !table.is_defined(key) && !is_place_of(table, map.definition(key));
-    Letters::P.when(is_moved)
+    Letters::P.when(!is_place_of(table, map.definition(key)))
 }
 
 // Whether a definition gives the place where the counter stands.

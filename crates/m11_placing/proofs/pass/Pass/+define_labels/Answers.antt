@@ -1,4 +1,4 @@
-use Rattle.std.proofs.Common.{◌∙◌, ◌<◌, ap}
+use Rattle.std.proofs.Common.{◌∙◌, ◌<◌, refl}
 use Rattle.m11_placement.specs.Labels.{with_labels}
 use Rattle.m11_placement.specs.Limits.{local_count, most_local_symbols}
 use Rattle.m11_placement.specs.Tables.{Table}
@@ -6,7 +6,7 @@ use Rattle.m11_placing.proofs.LabelTables.{labels_then, moved_then}
 use Rattle.m11_placing.proofs.Labelling.{first_defined, first_refused}
 use Rattle.m11_placing.proofs.Refusals.{handed_on}
 use Rattle.m11_placing.specs.Faults.{Refuses}
-use Rattle.m11_placing.specs.Passes.{Kept, Matches}
+use Rattle.m11_placing.specs.Passes.{Matches}
 use Rattle.m11_placing.specs.declared.fault.PlacingFault.{PlacingFault}
 use Rattle.m11_placing.proofs.pass.Pass.+define_labels.Goals as goal
 
@@ -33,6 +33,6 @@ returns-in_ok-more-in-len1-up-clause-tables t c =
 pub returns-in_ok-more-in-len1-up-clause-moved : goal.returns-in_ok-more-in-len1-up-clause-moved
 returns-in_ok-more-in-len1-up-clause-moved t c = λ told matches.
     c.with-in-len1-up.ensures
-    ∙ moved_then c.args.map.now c.args.line.now.text c.args.labels.now _ c.self.inside.table c.args.self.now c.define_label.new.self _ _ _
-    c.in-len1-up.len_at_least (ap (λ (k : Kept). k.table) c.self.view_is) c.in_ok-letters-in-len1-up.ensures.defines
-    c.moved_letter-moved.ensures c.in_ok-more-in-len1-up.ensures.moved told matches
+    ∙ moved_then c.args.map.now c.args.line.now.text c.args.labels.now _ c.args.self.now.table c.args.self.now c.define_label.new.self _ _ _
+    c.in-len1-up.len_at_least refl c.in_ok-letters-in-len1-up.ensures.defines
+    c.in_ok-letters-in-len1-up.ensures.moved c.in_ok-more-in-len1-up.ensures.moved told matches

@@ -30,11 +30,12 @@ returns-in_err-define_symbol-clause-refuses c =
 
 pub returns-in_ok-double-clause-defines : goal.returns-in_ok-double-clause-defines
 returns-in_ok-double-clause-defines c =
-    blocks_double c.args.self.now c.double.new.self c.settings-block.result.block c.args.number
+    rw c.of_doubled.ensures.doubled
+    (blocks_double c.args.self.now c.double.new.self c.settings-block.result.block c.args.number
     (ap (λ (s : Settings). s.block) c.settings-block.ensures ∙ ap (λ (k : Kept). k.table.settings.block) c.self.view_is)
     (ap (λ (k : Kept). is_defined (Numbered c.settings-block.result.block c.args.number) k.table.definitions) (sym c.self.view_is)
     ∙ sym c.if-is_defined.ensures)
-    c.in_ok-double.ensures.doubles
+    c.in_ok-double.ensures.doubles)
 
 pub returns-in_ok-define_symbol-clause-defines : goal.returns-in_ok-define_symbol-clause-defines
 returns-in_ok-define_symbol-clause-defines c =
@@ -43,7 +44,7 @@ returns-in_ok-define_symbol-clause-defines c =
     _ c.labelled-definition.result
     (ap (λ (k : Kept). is_defined (Numbered c.settings-block.result.block c.args.number) k.table.definitions) (sym c.self.view_is)
     ∙ sym c.if-is_defined.ensures)
-    c.none.ensures
+    c.of_new.ensures.doubled
     (c.labelled-definition.ensures
     ∙ ap (λ (k : Kept). labelled k.table (Numbered c.settings-block.result.block c.args.number)) c.self.view_is)
     c.in_ok-define_symbol.ensures.defines

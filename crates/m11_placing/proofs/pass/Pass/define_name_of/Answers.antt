@@ -9,7 +9,7 @@ use Rattle.m11_placing.proofs.pass.Pass.define_name_of.Goals as goal
 
 pub returns-in_ok-double-in-Some-clause-defines : goal.returns-in_ok-double-in-Some-clause-defines
 returns-in_ok-double-in-Some-clause-defines c =
-    rw c.in-Some.is
+    rw (c.in-Some.is, c.of_doubled.ensures.doubled)
     (names_double c.args.self.now c.double.new.self c.in-Some.name c.args.is_global
     (ap (λ (k : Kept). is_defined (Named c.in-Some.name) k.table.definitions) (sym c.self.view_is) ∙ sym c.if-is_defined.ensures)
     c.in_ok-double-in-Some.ensures.doubles)
@@ -22,7 +22,7 @@ returns-in_ok-define_new_name-in-Some-2-clause-defines c =
     ∙ ap (λ (n : Name). is_defined (Named n) c.self.inside.table.definitions)
     (ap (λ (o : Option Name). unwrap_or o (0, 0)) (sym c.in-Some-2.is ∙ c.in-Some.is))
     ∙ sym c.if-is_defined.ensures)
-    c.none.ensures
+    c.of_new.ensures.doubled
     c.in_ok-define_new_name-in-Some-2.ensures.defines)
 
 pub returns-in_ok-double-in-Some-clause-tables : goal.returns-in_ok-double-in-Some-clause-tables
