@@ -78,14 +78,25 @@ impl Mentioned {
     /// Symbols that are mentioned one after the other.
     ///
     /// Errors: `TooManySymbols` where there would be more than 4,096 names besides those of the registers, and `NoMemory`.
+    // Inline: each line comes here, and most read none.
+    #[inline(always)]
     pub fn add_all(&mut self, symbols: &[Symbol], context: Context) -> Result<(), PlacingFault>
+        ensures { Adds (in_context context symbols.now) self.old self.new result }
+    {
+        match symbols {
+            [] => Ok(()),
+            _ => self.add_each(symbols, context),
+        }
+    }
+
+    fn add_each(&mut self, symbols: &[Symbol], context: Context) -> Result<(), PlacingFault>
         ensures { Adds (in_context context symbols.now) self.old self.new result }
     {
         match symbols {
             [] => Ok(()),
             [symbol, others @ ..] => {
                 self.add(*symbol, context)?;
-                self.add_all(others, context)
+                self.add_each(others, context)
             }
         }
     }

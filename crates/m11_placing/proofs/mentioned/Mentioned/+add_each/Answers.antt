@@ -1,6 +1,6 @@
 use Rattle.std.proofs.Common.{sym}
 use Rattle.m11_placing.proofs.Gathering.{failed_symbol}
-use Rattle.m11_placing.proofs.mentioned.Mentioned.+add_all.Goals as goal
+use Rattle.m11_placing.proofs.mentioned.Mentioned.+add_each.Goals as goal
 
 pub returns-in_err-add-in-len1-up : goal.returns-in_err-add-in-len1-up
 returns-in_err-add-in-len1-up t c =
