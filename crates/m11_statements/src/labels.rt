@@ -131,6 +131,8 @@ fn label_at(line: &Line, place: usize) -> Option<Label>
 }
 
 // The label that begins with a token of a line, if one does.
+// Inline: each line comes here, most have none, and a call would hand the answer on by memory.
+#[inline(always)]
 fn label_by(line: &Line, name: Token) -> Option<Label>
     requires { name.end ≤ length line.now.text }
     ensures label { MatchOption result
