@@ -149,6 +149,8 @@ fn label_by(line: &Line, name: Token) -> Option<Label>
 }
 
 // The label of a token with the one after it, if they are one.
+// Inline for the same reason.
+#[inline(always)]
 fn label_of(line: &Line, name: Token, colon: Token) -> Option<Label>
     ensures label { result ≡ spec.label_of (lexeme line.now.text name) (lexeme line.now.text colon) }
     ensures end { IfSome result (λ label. label.end ≡ colon.end) }
