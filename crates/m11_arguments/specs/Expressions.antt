@@ -88,3 +88,7 @@ joins_next None = false
 abbrev pub IsAlone : Bytes → ℕ → Token → Type 0
 IsAlone line place term =
     (role_of term.sort ≡ Term) × (expression_in (tokens_from line place) ≡ lexeme line term ∷ [])
+
+-- a token is the one that stands next in a line from a place on
+abbrev pub IsNext : Bytes → ℕ → Token → Type 0
+IsNext line place token = tokens_from line place ≡ lexeme line token ∷ tokens_from line token.end

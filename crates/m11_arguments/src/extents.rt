@@ -7,7 +7,7 @@ ghost use Rattle.m11_scan.specs.Ends.{expression_end};
 ghost use Rattle.m11_scan.specs.Expressions.{role_of};
 ghost use Rattle.m11_scan.specs.Views.{lexeme};
 ghost use Rattle.m11_arguments.specs.Expressions as spec;
-ghost use Rattle.m11_arguments.specs.Expressions.{IsAlone};
+ghost use Rattle.m11_arguments.specs.Expressions.{IsAlone, IsNext};
 
 use crate::left_overs::place_in;
 use m11_scan::{Line, Role, Sort, Token, expression_end, next_token, role_of};
@@ -24,6 +24,8 @@ pub struct Extent {
 }
 
 /// How far the expression at a place of a line reaches. Where none stands there, it ends at that place.
+// Inline: a call would hand two tokens on by memory.
+#[inline(always)]
 pub fn extent_at(line: &Line, place: usize) -> Extent
     requires { place ≤ length line.now.text }
     ensures end { result.end ≡ expression_end line.now.text place }
@@ -34,7 +36,28 @@ pub fn extent_at(line: &Line, place: usize) -> Extent
     ensures within { result.end ≤ length line.now.text }
     ensures next_within { IfSome result.next (λ token. token.end ≤ length line.now.text) }
 {
-    match lone_at(line, place) {
+    match next_token(line, place) {
+        Some(token) => extent_from(line, place, token),
+        None => long_extent(line, place),
+    }
+}
+
+/// The same, with the token that stands next from that place on: it need not be cut again.
+// Inline for the same reason.
+#[inline(always)]
+pub fn extent_from(line: &Line, place: usize, token: Token) -> Extent
+    requires token { IsNext line.now.text place token }
+    requires least { place ≤ token.end }
+    requires within { token.end ≤ length line.now.text }
+    ensures end { result.end ≡ expression_end line.now.text place }
+    ensures next { MatchOption result.next (tokens_from line.now.text result.end ≡ [])
+        (λ token. tokens_from line.now.text result.end ≡ lexeme line.now.text token ∷ tokens_from line.now.text token.end) }
+    ensures term { IfSome result.term (λ term. IsAlone line.now.text place term) }
+    ensures least { place ≤ result.end }
+    ensures within { result.end ≤ length line.now.text }
+    ensures next_within { IfSome result.next (λ token. token.end ≤ length line.now.text) }
+{
+    match lone_from(line, place, token) {
         Some(lone) => Extent {
             end: lone.term.end,
             next: lone.next,
@@ -70,7 +93,8 @@ pub fn lone_term(line: &Line, place: usize) -> Option<Token>
     ensures alone { IfSome result (λ term. IsAlone line.now.text place term) }
     ensures found { is_some result ≡ spec.is_lone (tokens_from line.now.text place) }
 {
-    let lone = lone_at(line, place)?;
+    let token = next_token(line, place)?;
+    let lone = lone_from(line, place, token)?;
     Some(lone.term)
 }
 
@@ -81,10 +105,12 @@ pub struct LoneTerm {
     pub(crate) next: Option<Token>,
 }
 
-// Inline: a call would hand two tokens on by memory.
+// The term that is the expression at a place, if the token that stands next from there on is one. Inline for the same reason.
 #[inline(always)]
-fn lone_at(line: &Line, place: usize) -> Option<LoneTerm>
-    requires { place ≤ length line.now.text }
+fn lone_from(line: &Line, place: usize, term: Token) -> Option<LoneTerm>
+    requires token { IsNext line.now.text place term }
+    requires least { place ≤ term.end }
+    requires within { term.end ≤ length line.now.text }
     ensures alone { IfSome result (λ lone. IsAlone line.now.text place lone.term) }
     ensures found { is_some result ≡ spec.is_lone (tokens_from line.now.text place) }
     ensures end { IfSome result (λ lone. lone.term.end ≡ expression_end line.now.text place) }
@@ -94,7 +120,6 @@ fn lone_at(line: &Line, place: usize) -> Option<LoneTerm>
     ensures within { IfSome result (λ lone. lone.term.end ≤ length line.now.text) }
     ensures next_within { IfSome result (λ lone. IfSome lone.next (λ token. token.end ≤ length line.now.text)) }
 {
-    let term = next_token(line, place)?;
     if !is_term(term.sort) {
         return None;
     }

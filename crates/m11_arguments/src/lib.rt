@@ -22,7 +22,7 @@ pub use actuals::actuals_from;
 pub use conditions::{Verdict, actual_letters, condition};
 pub use directives::{Directive, EveryName, directive_named, directive_of, operator, operator_in};
 pub use expressions::{note_symbols, value_at, value_by};
-pub use extents::{Extent, extent_at, lone_term};
+pub use extents::{Extent, extent_at, extent_from, lone_term};
 pub use filling::{FIRST_CREATED, Filled, fill};
 pub use immediate::{Immediate, after_comma, immediate_condition};
 pub use indefinite::{Rounds, character_repeat, indefinite_repeat};

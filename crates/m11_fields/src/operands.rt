@@ -1,8 +1,8 @@
 //! The operand that stands at a place of a line. (MACRO-11 Language Reference Manual, "Addressing modes"; PDP-11/40 Processor Handbook,
 //! "Addressing modes".)
 
-ghost use Rattle.std.specs.Prelude.{◌≡◌, ◌<◌, ◌≤◌, IfSome, length, Option};
-ghost use Rattle.m11_arguments.specs.Expressions.{IsAlone, known_by, value_at};
+ghost use Rattle.std.specs.Prelude.{◌≡◌, ◌<◌, ◌≤◌, ◌∷◌, [], IfSome, MatchOption, length, Option};
+ghost use Rattle.m11_arguments.specs.Expressions.{IsAlone, IsNext, known_by, value_at};
 ghost use Rattle.m11_base.specs.Devices.{Bytes};
 ghost use Rattle.m11_fields.specs.Reads.{opens_after, read_seen};
 ghost use Rattle.m11_fields.specs.Terms.{IsFormTerm};
@@ -14,7 +14,7 @@ ghost use Rattle.m11_scan.specs.Letters.{letter_A};
 ghost use Rattle.m11_scan.specs.Views.{lexeme};
 ghost use Rattle.m11_values.specs.Kinds.{is_register};
 
-use m11_arguments::{extent_at, place_in, value_by};
+use m11_arguments::{Extent, extent_at, extent_from, place_in, value_by};
 use m11_base::Mode;
 use m11_placement::Form;
 use m11_scan::{Letters, Line, Sort, Token, next_token, skipped_between};
@@ -50,7 +50,9 @@ pub fn operand_at<N: Names>(line: &Line, start: usize, names: &N) -> OperandRead
 // The operand that begins with a token.
 fn operand_by<N: Names>(line: &Line, start: usize, token: Token, names: &N) -> OperandRead
     requires start { start ≤ length line.now.text }
-    requires token { token.end ≤ length line.now.text }
+    requires token { IsNext line.now.text start token }
+    requires least { start ≤ token.end }
+    requires within { token.end ≤ length line.now.text }
     ensures read { read_seen result ≡ spec.operand_by (known_by (N.base names.now) (N.stands_for names.now))
         line.now.text start token.sort token.end (tokens_from line.now.text token.end) }
     ensures within { result.end ≤ length line.now.text }
@@ -88,7 +90,7 @@ fn deferred<N: Names>(line: &Line, start: usize, names: &N) -> OperandRead
 {
     match next_token(line, start) {
         Some(token) => begun_by(line, true, start, token, names),
-        None => expression(line, true, start, names),
+        None => reached(line, true, start, extent_at(line, start), names),
     }
 }
 
@@ -101,7 +103,9 @@ fn begun_by<N: Names>(
     names: &N,
 ) -> OperandRead
     requires start { start ≤ length line.now.text }
-    requires token { token.end ≤ length line.now.text }
+    requires token { IsNext line.now.text start token }
+    requires least { start ≤ token.end }
+    requires within { token.end ≤ length line.now.text }
     ensures read { read_seen result ≡ spec.begun_by (known_by (N.base names.now) (N.stands_for names.now)) is_deferred
         line.now.text start token.sort token.end (tokens_from line.now.text token.end) }
     ensures within { result.end ≤ length line.now.text }
@@ -110,8 +114,8 @@ fn begun_by<N: Names>(
     match token.sort {
         Sort::NumberSign => immediate(line, is_deferred, token.end),
         Sort::Open => bracketed(line, is_deferred, token.end),
-        Sort::Minus => after_minus(line, is_deferred, start, token.end, names),
-        _ => expression(line, is_deferred, start, names),
+        Sort::Minus => after_minus(line, is_deferred, start, token, names),
+        _ => expression(line, is_deferred, start, token, names),
     }
 }
 
@@ -137,23 +141,25 @@ fn after_minus<N: Names>(
     line: &Line,
     is_deferred: bool,
     start: usize,
-    end: u8,
+    minus: Token,
     names: &N,
 ) -> OperandRead
     requires start { start ≤ length line.now.text }
-    requires end { end ≤ length line.now.text }
+    requires token { IsNext line.now.text start minus }
+    requires least { start ≤ minus.end }
+    requires within { minus.end ≤ length line.now.text }
     ensures read { read_seen result ≡ spec.after_minus (known_by (N.base names.now) (N.stands_for names.now)) is_deferred
-        line.now.text start end (tokens_from line.now.text end) }
+        line.now.text start minus.end (tokens_from line.now.text minus.end) }
     ensures within { result.end ≤ length line.now.text }
     ensures term { IfSome result.term (λ term. IsFormTerm line.now.text result.form term) }
 {
-    match next_token(line, usize::from(end)) {
-        Some(token) if opens_after(line, end, token) => closed(
+    match next_token(line, usize::from(minus.end)) {
+        Some(token) if opens_after(line, minus.end, token) => closed(
             line,
             Form::InRegister(autodecrement(is_deferred), token.end),
             token.end,
         ),
-        _ => expression(line, is_deferred, start, names),
+        _ => expression(line, is_deferred, start, minus, names),
     }
 }
 
@@ -166,15 +172,49 @@ fn opens_after(line: &Line, place: u8, token: Token) -> bool
     is_open(token.sort) && !skipped_between(line, usize::from(place), usize::from(token.start))
 }
 
-// An expression: before `(` it is an index.
-fn expression<N: Names>(line: &Line, is_deferred: bool, start: usize, names: &N) -> OperandRead
-    requires { start ≤ length line.now.text }
+// An expression, which begins with a token. Inline: a call would hand tokens on by memory.
+#[inline(always)]
+fn expression<N: Names>(
+    line: &Line,
+    is_deferred: bool,
+    start: usize,
+    token: Token,
+    names: &N,
+) -> OperandRead
+    requires start { start ≤ length line.now.text }
+    requires token { IsNext line.now.text start token }
+    requires least { start ≤ token.end }
+    requires within { token.end ≤ length line.now.text }
     ensures read { read_seen result ≡ spec.expression (known_by (N.base names.now) (N.stands_for names.now)) is_deferred
         line.now.text start }
     ensures within { result.end ≤ length line.now.text }
     ensures term { IfSome result.term (λ term. IsFormTerm line.now.text result.form term) }
 {
-    let extent = extent_at(line, start);
+    let extent = extent_from(line, start, token);
+    reached(line, is_deferred, start, extent, names)
+}
+
+// An expression that reaches so far: before `(` it is an index. Inline for the same reason.
+#[inline(always)]
+fn reached<N: Names>(
+    line: &Line,
+    is_deferred: bool,
+    start: usize,
+    extent: Extent,
+    names: &N,
+) -> OperandRead
+    requires start { start ≤ length line.now.text }
+    requires end { extent.end ≡ expression_end line.now.text start }
+    requires next { MatchOption extent.next (tokens_from line.now.text extent.end ≡ [])
+        (λ token. tokens_from line.now.text extent.end ≡ lexeme line.now.text token ∷ tokens_from line.now.text token.end) }
+    requires term { IfSome extent.term (λ term. IsAlone line.now.text start term) }
+    requires within { extent.end ≤ length line.now.text }
+    requires next_within { IfSome extent.next (λ token. token.end ≤ length line.now.text) }
+    ensures read { read_seen result ≡ spec.expression (known_by (N.base names.now) (N.stands_for names.now)) is_deferred
+        line.now.text start }
+    ensures within { result.end ≤ length line.now.text }
+    ensures term { IfSome result.term (λ term. IsFormTerm line.now.text result.form term) }
+{
     match extent.next {
         Some(token) if is_open(token.sort) => closed(
             line,
