@@ -10,8 +10,8 @@ ghost use Rattle.m11_arguments.specs.Expressions.{known_by};
 ghost use Rattle.m11_arguments.specs.Notes.{joined, with_symbols};
 
 use crate::definedness::{is_as, names_at};
-use crate::expressions::number_at;
-use crate::left_overs::{has_token, letters_before, place_in, skip_letters};
+use crate::expressions::number_from;
+use crate::left_overs::{place_in, rest_letters, skip_letters};
 use crate::notes::Notes;
 use m11_scan::{Condition, Letters, Line, Sort, Token, blanks_length, next_token, read_condition};
 use m11_statements::{Actual, next_actual, separator_at};
@@ -50,32 +50,44 @@ pub fn condition<N: Names>(
         (spec.condition (known_by (N.base names.now) (N.stands_for names.now)) line.now.text place))) }
     ensures most { IfOk result (λ verdict. verdict.end ≤ length line.now.text) }
 {
-    let before = letters_before(line, place);
-    let finding = named_by(line, place, names, notes)?;
-    notes.add_letters(before.with(finding.letters));
+    let finding = named_at(line, place, names, notes)?;
+    notes.add_letters(finding.letters);
     Ok(Verdict {
         holds: finding.holds,
         end: finding.end,
     })
 }
 
-// The condition that is named at a place.
-fn named_by<N: Names>(
+// The condition that is named at a place, with I for a character that is skipped before its name.
+fn named_at<N: Names>(
     line: &Line,
     place: usize,
     names: &N,
     notes: &mut Notes,
 ) -> Result<Finding, AllocError>
     requires { place ≤ length line.now.text }
-    ensures found { IfOk result (λ finding. IsFound finding (spec.named_by
-        (known_by (N.base names.now) (N.stands_for names.now)) line.now.text (tokens_from line.now.text place))) }
-    ensures notes { IfOk result (λ _. notes.new ≡ with_symbols notes.old (spec.named_by
-        (known_by (N.base names.now) (N.stands_for names.now)) line.now.text (tokens_from line.now.text place)).symbols) }
+    ensures found { IfOk result (λ finding. IsFound finding (spec.condition
+        (known_by (N.base names.now) (N.stands_for names.now)) line.now.text place)) }
+    ensures notes { IfOk result (λ _. notes.new ≡ with_symbols notes.old (spec.condition
+        (known_by (N.base names.now) (N.stands_for names.now)) line.now.text place).symbols) }
     ensures most { IfOk result (λ finding. finding.end ≤ length line.now.text) }
 {
     match next_token(line, place) {
-        Some(name) => asked_by(line, name, names, notes),
-        None => Ok(refused(place_in(line, line.text().len()))),
+        Some(name) => {
+            let before = skip_letters(line, place, usize::from(name.start));
+            let finding = asked_by(line, name, names, notes)?;
+            Ok(Finding {
+                letters: before.with(finding.letters),
+                ..finding
+            })
+        }
+        None => {
+            let end = place_in(line, line.text().len());
+            Ok(Finding {
+                letters: rest_letters(line, place).with(Letters::A),
+                ..refused(end)
+            })
+        }
     }
 }
 
@@ -162,15 +174,17 @@ fn numeric<N: Names>(
         (known_by (N.base names.now) (N.stands_for names.now)) line.now.text place condition).symbols) }
     ensures most { IfOk result (λ finding. finding.end ≤ length line.now.text) }
 {
-    if !has_token(line, place) {
-        return Ok(refused(place_in(line, place)));
+    match next_token(line, place) {
+        Some(token) => {
+            let number = number_from(line, place, token, names, notes)?;
+            Ok(Finding {
+                holds: passes(condition, number.value),
+                end: number.end,
+                letters: number.letters,
+            })
+        }
+        None => Ok(refused(place_in(line, place))),
     }
-    let number = number_at(line, place, names, notes)?;
-    Ok(Finding {
-        holds: passes(condition, number.value),
-        end: number.end,
-        letters: number.letters,
-    })
 }
 
 // Whether a number passes a condition on numbers.

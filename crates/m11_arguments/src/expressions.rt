@@ -5,10 +5,10 @@ ghost use Rattle.m11_scan.specs.Ends.{expression_end};
 ghost use Rattle.m11_scan.specs.Views.{bits_of};
 ghost use Rattle.m11_values.specs.Quantities.{quantity};
 ghost use Rattle.m11_arguments.specs.Expressions as spec;
-ghost use Rattle.m11_arguments.specs.Expressions.{IsAlone, known_by};
+ghost use Rattle.m11_arguments.specs.Expressions.{IsAlone, IsNext, known_by};
 ghost use Rattle.m11_arguments.specs.Notes.{with_symbols};
 
-use crate::extents::{extent_at, lone_term};
+use crate::extents::{LoneTerm, lone_at, lone_from, lone_term};
 use crate::left_overs::{place_in, skip_letters};
 use crate::notes::Notes;
 use m11_scan::{Letters, Line, Token, expression_at};
@@ -43,7 +43,55 @@ pub(crate) fn number_at<N: Names>(
     ensures most { IfOk result (λ number. number.end ≤ length line.now.text) }
     ensures notes { IfOk result (λ _. notes.new ≡ with_symbols notes.old (spec.symbols_at line.now.text place)) }
 {
-    let read = read_expression(line, place, names, notes)?;
+    number_by(line, place, lone_at(line, place), names, notes)
+}
+
+// The same, with the token that stands next from that place on.
+pub(crate) fn number_from<N: Names>(
+    line: &Line,
+    place: usize,
+    token: Token,
+    names: &N,
+    notes: &mut Notes,
+) -> Result<Number, AllocError>
+    requires token { IsNext line.now.text place token }
+    requires least { place ≤ token.end }
+    requires within { token.end ≤ length line.now.text }
+    ensures value { IfOk result (λ number. number.value
+        ≡ spec.number_at (known_by (N.base names.now) (N.stands_for names.now)) line.now.text place) }
+    ensures letters { IfOk result (λ number. bits_of number.letters
+        ≡ spec.number_letters (known_by (N.base names.now) (N.stands_for names.now)) line.now.text place) }
+    ensures end { IfOk result (λ number. number.end ≡ expression_end line.now.text place) }
+    ensures least { IfOk result (λ number. place ≤ number.end) }
+    ensures most { IfOk result (λ number. number.end ≤ length line.now.text) }
+    ensures notes { IfOk result (λ _. notes.new ≡ with_symbols notes.old (spec.symbols_at line.now.text place)) }
+{
+    number_by(line, place, lone_from(line, place, token), names, notes)
+}
+
+// The same, with its one term, where it is one.
+fn number_by<N: Names>(
+    line: &Line,
+    place: usize,
+    lone: Option<LoneTerm>,
+    names: &N,
+    notes: &mut Notes,
+) -> Result<Number, AllocError>
+    requires within { place ≤ length line.now.text }
+    requires alone { IfSome lone (λ lone. IsAlone line.now.text place lone.term) }
+    requires end { IfSome lone (λ lone. lone.term.end ≡ expression_end line.now.text place) }
+    requires least { IfSome lone (λ lone. place ≤ lone.term.end) }
+    requires most { IfSome lone (λ lone. lone.term.end ≤ length line.now.text) }
+    ensures value { IfOk result (λ number. number.value
+        ≡ spec.number_at (known_by (N.base names.now) (N.stands_for names.now)) line.now.text place) }
+    ensures letters { IfOk result (λ number. bits_of number.letters
+        ≡ spec.number_letters (known_by (N.base names.now) (N.stands_for names.now)) line.now.text place) }
+    ensures end { IfOk result (λ number. number.end ≡ expression_end line.now.text place) }
+    ensures least { IfOk result (λ number. place ≤ number.end) }
+    ensures most { IfOk result (λ number. number.end ≤ length line.now.text) }
+    ensures notes { IfOk result (λ _. notes.new ≡ with_symbols notes.old (spec.symbols_at line.now.text place)) }
+{
+    let read = read_expression(line, place, lone, names, notes)?;
     let value = read.value;
     let letters = value
         .letters
@@ -63,14 +111,19 @@ pub(crate) struct Reading {
     pub(crate) end: u8,
 }
 
-// Reads the expression at a place, whose symbols are noted.
+// Reads the expression at a place, with its one term where it is one. Its symbols are noted.
 fn read_expression<N: Names>(
     line: &Line,
     place: usize,
+    lone: Option<LoneTerm>,
     names: &N,
     notes: &mut Notes,
 ) -> Result<Reading, AllocError>
-    requires { place ≤ length line.now.text }
+    requires within { place ≤ length line.now.text }
+    requires alone { IfSome lone (λ lone. IsAlone line.now.text place lone.term) }
+    requires end { IfSome lone (λ lone. lone.term.end ≡ expression_end line.now.text place) }
+    requires least { IfSome lone (λ lone. place ≤ lone.term.end) }
+    requires most { IfSome lone (λ lone. lone.term.end ≤ length line.now.text) }
     ensures value { IfOk result (λ read. quantity read.value
         ≡ spec.value_at (known_by (N.base names.now) (N.stands_for names.now)) line.now.text place) }
     ensures end { IfOk result (λ read. read.end ≡ expression_end line.now.text place) }
@@ -78,13 +131,12 @@ fn read_expression<N: Names>(
     ensures most { IfOk result (λ read. read.end ≤ length line.now.text) }
     ensures notes { IfOk result (λ _. notes.new ≡ with_symbols notes.old (spec.symbols_at line.now.text place)) }
 {
-    let extent = extent_at(line, place);
-    match extent.term {
-        Some(term) => {
-            notes.add_symbols(&[term], line)?;
+    match lone {
+        Some(lone) => {
+            notes.add_symbols(&[lone.term], line)?;
             Ok(Reading {
-                value: term_value(&term, line, names),
-                end: extent.end,
+                value: term_value(&lone.term, line, names),
+                end: lone.term.end,
             })
         }
         None => read_tokens(line, place, names, notes),

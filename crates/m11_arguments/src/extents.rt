@@ -93,8 +93,7 @@ pub fn lone_term(line: &Line, place: usize) -> Option<Token>
     ensures alone { IfSome result (λ term. IsAlone line.now.text place term) }
     ensures found { is_some result ≡ spec.is_lone (tokens_from line.now.text place) }
 {
-    let token = next_token(line, place)?;
-    let lone = lone_from(line, place, token)?;
+    let lone = lone_at(line, place)?;
     Some(lone.term)
 }
 
@@ -105,9 +104,23 @@ pub struct LoneTerm {
     pub(crate) next: Option<Token>,
 }
 
+// The term that is the expression at a place, if one is. Inline for the same reason.
+#[inline(always)]
+pub(crate) fn lone_at(line: &Line, place: usize) -> Option<LoneTerm>
+    requires { place ≤ length line.now.text }
+    ensures alone { IfSome result (λ lone. IsAlone line.now.text place lone.term) }
+    ensures found { is_some result ≡ spec.is_lone (tokens_from line.now.text place) }
+    ensures end { IfSome result (λ lone. lone.term.end ≡ expression_end line.now.text place) }
+    ensures least { IfSome result (λ lone. place ≤ lone.term.end) }
+    ensures within { IfSome result (λ lone. lone.term.end ≤ length line.now.text) }
+{
+    let token = next_token(line, place)?;
+    lone_from(line, place, token)
+}
+
 // The term that is the expression at a place, if the token that stands next from there on is one. Inline for the same reason.
 #[inline(always)]
-fn lone_from(line: &Line, place: usize, term: Token) -> Option<LoneTerm>
+pub(crate) fn lone_from(line: &Line, place: usize, term: Token) -> Option<LoneTerm>
     requires token { IsNext line.now.text place term }
     requires least { place ≤ term.end }
     requires within { term.end ≤ length line.now.text }
