@@ -10,11 +10,11 @@ use Rattle.m11_placement.specs.declared.operands.Form.TheVariants.{Absent, InReg
 use Rattle.m11_scan.specs.declared.cutting.Token.{Token}
 use Rattle.m11_fields.specs.declared.fields.FieldTerms.{FieldTerms}
 
--- a token is all of the expression that a form has in it; of a form with two of them none is kept
+-- a token is all of the expression that a form has in it; of a form with two of them it is all of that of the register
 abbrev pub IsFormTerm : Bytes → Form → Token → Type 0
 IsFormTerm line Absent term = ⊥
 IsFormTerm line (InRegister kind start) term = IsAlone line start term
-IsFormTerm line (Indexed kind start index) term = ⊥
+IsFormTerm line (Indexed kind start index) term = IsAlone line start term
 IsFormTerm line (Unindexed start) term = IsAlone line start term
 IsFormTerm line (AfterCounter kind start) term = IsAlone line start term
 

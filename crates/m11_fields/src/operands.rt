@@ -29,11 +29,13 @@ pub struct OperandRead {
     pub end: u8,
     /// A where nothing stands there, or where a `)` is missing.
     pub letters: Letters,
-    /// The token of its expression, where it has one and this is found to be one term.
+    /// The token of its expression, where it has one and this is found to be one term; of `X(R)` that of the register.
     pub term: Option<Token>,
 }
 
 /// The operand at a place of a line. Whether an expression is a register is asked of names: those of the lines before.
+// Inline: a call would hand its result on by memory.
+#[inline(always)]
 pub fn operand_at<N: Names>(line: &Line, start: usize, names: &N) -> OperandRead
     requires { start ≤ length line.now.text }
     ensures read { read_seen result
@@ -94,7 +96,8 @@ fn deferred<N: Names>(line: &Line, start: usize, names: &N) -> OperandRead
     }
 }
 
-// What begins with a token, after `@` or without it.
+// What begins with a token, after `@` or without it. Inline for the same reason as what it asks.
+#[inline(always)]
 fn begun_by<N: Names>(
     line: &Line,
     is_deferred: bool,
@@ -316,9 +319,11 @@ fn stepped(
     }
 }
 
-// A form with the register that stands after its `(`: `)` stands next.
+// A form with the register that stands after its `(`: `)` stands next. The term of such a form is that of its register.
 fn closed(line: &Line, form: Form, register: u8) -> OperandRead
-    requires { register ≤ length line.now.text }
+    requires within { register ≤ length line.now.text }
+    requires form { (term : Option Token) → IfSome term (λ term. IsAlone line.now.text register term)
+        → IfSome term (λ term. IsFormTerm line.now.text form term) }
     ensures read { read_seen result ≡ spec.closed form line.now.text register }
     ensures within { result.end ≤ length line.now.text }
     ensures term { IfSome result.term (λ term. IsFormTerm line.now.text result.form term) }
@@ -329,13 +334,13 @@ fn closed(line: &Line, form: Form, register: u8) -> OperandRead
             form,
             end: token.end,
             letters: Letters::none(),
-            term: None,
+            term: extent.term,
         },
         _ => OperandRead {
             form,
             end: extent.end,
             letters: Letters::A,
-            term: None,
+            term: extent.term,
         },
     }
 }

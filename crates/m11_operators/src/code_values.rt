@@ -27,7 +27,7 @@ fn form_value(setting: &Setting, form: Form, term: Option<Token>) -> Value
     match form {
         Form::Absent | Form::AfterCounter(_, _) => no_value(),
         Form::InRegister(_, start) => setting.value_by(start, term),
-        Form::Indexed(_, start, _) => setting.value(start),
+        Form::Indexed(_, start, _) => setting.value_by(start, term),
         Form::Unindexed(start) => setting.value_by(start, term),
     }
 }

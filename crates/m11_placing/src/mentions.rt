@@ -215,7 +215,7 @@ impl Mentioned {
             }
             Form::Indexed(_, start, index) => {
                 self.read(line, index, Context::Refers)?;
-                self.read(line, start, Context::Knows)
+                self.read_by(line, start, term, Context::Knows)
             }
             Form::AfterCounter(_, start) => self.read_by(line, start, term, Context::Refers),
         }

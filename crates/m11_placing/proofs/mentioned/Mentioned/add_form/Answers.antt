@@ -13,4 +13,4 @@ pub returns-in_ok-read-in-Indexed : goal.returns-in_ok-read-in-Indexed
 returns-in_ok-read-in-Indexed c =
     rw c.in-Indexed.is
     (added_then (read_at Refers c.args.line.now.text c.in-Indexed.index) (read_at Knows c.args.line.now.text c.in-Indexed.start)
-    c.args.self.now _ _ _ c.in_ok-read-in-Indexed.ensures c.read-in-Indexed.ensures)
+    c.args.self.now _ _ _ c.in_ok-read-in-Indexed.ensures c.read_by.ensures)
