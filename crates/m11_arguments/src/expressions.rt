@@ -46,7 +46,8 @@ pub(crate) fn number_at<N: Names>(
     number_by(line, place, lone_at(line, place), names, notes)
 }
 
-// The same, with the token that stands next from that place on.
+// The same, with the token that stands next from that place on. Inline: a call would hand tokens on by memory.
+#[inline(always)]
 pub(crate) fn number_from<N: Names>(
     line: &Line,
     place: usize,
@@ -69,7 +70,8 @@ pub(crate) fn number_from<N: Names>(
     number_by(line, place, lone_from(line, place, token), names, notes)
 }
 
-// The same, with its one term, where it is one.
+// The same, with its one term, where it is one. Inline for the same reason.
+#[inline(always)]
 fn number_by<N: Names>(
     line: &Line,
     place: usize,
@@ -111,7 +113,8 @@ pub(crate) struct Reading {
     pub(crate) end: u8,
 }
 
-// Reads the expression at a place, with its one term where it is one. Its symbols are noted.
+// Reads the expression at a place, with its one term where it is one. Its symbols are noted. Inline for the same reason.
+#[inline(always)]
 fn read_expression<N: Names>(
     line: &Line,
     place: usize,
