@@ -172,6 +172,8 @@ fn read_tokens<N: Names>(
 }
 
 /// The value of the expression at a place. Where none stands, a term is missing.
+// Inline: a call would hand the value on by memory.
+#[inline(always)]
 pub fn value_at<N: Names>(line: &Line, place: usize, names: &N) -> Value
     requires { place ≤ length line.now.text }
     ensures { quantity result
@@ -204,6 +206,8 @@ fn long_value<N: Names>(line: &Line, place: usize, names: &N) -> Value
 }
 
 /// Notes the symbols that the expression at a place reads, in order. Error: memory may be refused.
+// Inline as `lone_term` is, which is most of it.
+#[inline(always)]
 pub fn note_symbols(line: &Line, place: usize, notes: &mut Notes) -> Result<(), AllocError>
     requires { place ≤ length line.now.text }
     ensures { IfOk result (λ _. notes.new ≡ with_symbols notes.old (spec.symbols_at line.now.text place)) }

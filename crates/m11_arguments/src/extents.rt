@@ -88,6 +88,8 @@ fn long_extent(line: &Line, place: usize) -> Extent
 
 /// The one token of the expression at a place, where it is one term. Most expressions are, and of those no token need be cut past the next
 /// one.
+// Inline: a call would save and restore more than it asks.
+#[inline(always)]
 pub fn lone_term(line: &Line, place: usize) -> Option<Token>
     requires { place ≤ length line.now.text }
     ensures alone { IfSome result (λ term. IsAlone line.now.text place term) }

@@ -46,7 +46,8 @@ fn field_value(setting: &Setting, field: Field, term: Option<Token>) -> Value
     }
 }
 
-// The value in the first of some fields, whose term this is.
+// The value in the first of some fields, whose term this is. Inline: a call would hand the value on by memory.
+#[inline(always)]
 pub(crate) fn value_in(setting: &Setting, fields: &[Field], term: Option<Token>) -> Value
     requires { IfSome term (λ term. IsTermIn setting.now.line fields.now term) }
     ensures { quantity result ≡ spec.value_in (setting_of setting.now) fields.now }
