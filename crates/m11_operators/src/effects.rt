@@ -1,12 +1,15 @@
 //! What operators change for the lines after them. (MACRO-11 Language Reference Manual, "Current location counter" and "General assembler
 //! directives".)
 
-ghost use Rattle.std.specs.Prelude.{◌≡◌, ◌<◌, ◌≤◌, length};
+ghost use Rattle.std.specs.Prelude.{◌≡◌, ◌<◌, ◌≤◌, ℕ, Option, length};
 ghost use Rattle.m11_operators.specs.Changes.{change_seen};
 ghost use Rattle.m11_fields.specs.Reads.{fields_seen};
 ghost use Rattle.m11_operators.specs.Reading.{fields_at, operator_fields};
+ghost use Rattle.m11_placement.specs.Changes.{Counts};
 ghost use Rattle.m11_placement.specs.Effects as spec;
+ghost use Rattle.m11_placement.specs.Places.{Steps};
 ghost use Rattle.m11_placement.specs.Tables.{firm_table};
+ghost use Rattle.m11_placement.specs.declared.operators.Operator.TheVariants.{Instruction};
 
 use crate::alignment::{gap, place_for, to_even, to_odd};
 use crate::ascii::{ascii_size, asciz_size};
@@ -18,6 +21,7 @@ use crate::radix_control::radix;
 use crate::radix50::rad50_size;
 use crate::sections::{absolute_section, control_section, program_section};
 use crate::storage::{LIMIT_SIZE, byte_block_size, byte_size, word_block_size, word_size};
+use m11_base::Op;
 use m11_fields::{Fields, instruction_size, is_even};
 use m11_placement::{Directive, Operator};
 use m11_scan::Line;
@@ -46,6 +50,24 @@ pub fn operator_change(
     change_at(
         table, passed, here, line, start, arguments, operator, fields,
     )
+}
+
+/// The bytes by which an instruction moves the counter, with those that are passed over before it. Its name ends at a place of its line,
+/// and these are its fields.
+pub fn instruction_steps(
+    table: &Table,
+    line: &Line,
+    start: usize,
+    operation: Op,
+    fields: &Fields,
+) -> u32
+    requires fields { fields_seen fields.now ≡ operator_fields table.now line.now.text start (Instruction operation) }
+    ensures { (arguments : Option ℕ) → Counts (Steps result)
+        ≡ spec.operator_change (firm_table table.now) line.now.text start arguments (Instruction operation) }
+{
+    let passed = gap(true, table.place());
+    let size = instruction_size(fields.list.as_slice());
+    u32::from(passed) + u32::from(size)
 }
 
 // What an operator changes that stands at a place, after some bytes that are passed over.

@@ -39,7 +39,7 @@ pub use alignment::place_for;
 pub use assigning::{assignment, assignment_letters, counter_change, counter_letters, known_value};
 pub use changes::{Change, Move};
 pub use counts::{argument_count, character_count};
-pub use effects::operator_change;
+pub use effects::{instruction_steps, operator_change};
 pub use endings::{transfer, transfer_letters};
 pub use exports::listed_names;
 pub use identifications::identification;

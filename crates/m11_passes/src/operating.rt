@@ -5,10 +5,12 @@ ghost use Rattle.std.specs.Option.{option_to_list};
 ghost use Rattle.m11_placement.specs.Changes.{changed};
 ghost use Rattle.m11_fields.specs.Reads.{fields_seen};
 ghost use Rattle.m11_fields.specs.Terms.{AreTerms};
-ghost use Rattle.m11_placement.specs.Items.{deed_items, is_shown};
+ghost use Rattle.m11_operators.specs.Reading.{operator_fields};
+ghost use Rattle.m11_placement.specs.Effects.{operator_change};
+ghost use Rattle.m11_placement.specs.Items.{deed_items, is_shown, number_items};
 ghost use Rattle.m11_placement.specs.Limits.{most_names, most_sections};
 ghost use Rattle.m11_placement.specs.Lines.{put_by, put_place, section_name};
-ghost use Rattle.m11_placement.specs.Tables.{Table as LineTable, place};
+ghost use Rattle.m11_placement.specs.Tables.{Table as LineTable, firm_table, place};
 ghost use Rattle.m11_placing.specs.Deeds.{IsWithin, deed_fields, deed_seen, is_listed};
 ghost use Rattle.m11_placement.specs.Mentions.{mention};
 ghost use Rattle.m11_placement.specs.declared.meanings.Context.TheVariants.{Knows};
@@ -24,7 +26,7 @@ use m11_base::Name;
 use m11_fields::{Fields, is_even};
 use m11_listing::Item;
 use m11_operators::{Put, place_for};
-use m11_placement::Context;
+use m11_placement::{Context, Operator};
 use m11_placing::{Deed, Mentioned, Pass, PlacingFault, assigned_item, deed_change, put_deed};
 use m11_scan::Line;
 use m11_table::Map;
@@ -84,6 +86,7 @@ pub(crate) fn mention_line(
 }
 
 // What a line changes for the lines after it, and what a listing shows of what it assigns.
+#[inline(always)]
 pub(crate) fn change_line(
     pass: &mut Pass,
     map: &Map<'_>,
@@ -111,9 +114,53 @@ pub(crate) fn change_line(
         (changed map.now line.now.text (change_after pass.old.table line.now.text arguments (deed_seen deed.now)) before).sections)) }
 {
     // most lines change nothing
-    match deed {
+    match *deed {
         Deed::Rests => Ok(None),
+        Deed::Operates(operator, start) => {
+            operate_line(pass, map, line, arguments, operator, start, fields)
+        }
         _ => change_any(pass, map, line, arguments, deed, fields),
+    }
+}
+
+// What an operator changes, and what a listing shows of what it assigns. Most operators are instructions, which change the counter alone.
+#[inline(always)]
+fn operate_line(
+    pass: &mut Pass,
+    map: &Map<'_>,
+    line: &Line,
+    arguments: Option<u16>,
+    operator: Operator,
+    start: u8,
+    fields: &Fields,
+) -> Result<Option<Item>, PassFault>
+    requires within { start ≤ length line.now.text }
+    requires fields { fields_seen fields.now ≡ operator_fields pass.old.table line.now.text start operator }
+    requires listed { pass.old.table.settings.listed + 1 < 2 ^ 64 }
+    requires unlisted { pass.old.table.settings.unlisted + 1 < 2 ^ 64 }
+    requires block { pass.old.table.settings.block + 1 < 2 ^ 64 }
+    requires section { pass.old.table.settings.section < 64 }
+    requires sections { length pass.old.table.sections ≤ most_sections }
+    ensures changes { IfOk result (λ _. Follows pass.old pass.new (λ before. changed map.now line.now.text
+        (operator_change (firm_table pass.old.table) line.now.text start arguments operator) before)) }
+    ensures tables { IfOk result (λ _. tables.Follows pass.old.table pass.new.table (λ before. changed map.now line.now.text
+        (operator_change (firm_table pass.old.table) line.now.text start arguments operator) before)) }
+    ensures sections { IfOk result (λ _. length pass.new.table.sections ≤ most_sections) }
+    ensures symbols { IfOk result (λ _. pass.new.local_symbols ≡ pass.old.local_symbols) }
+    ensures shows { IfOk result (λ item. option_to_list item
+        ≡ number_items (operator_change (firm_table pass.old.table) line.now.text start arguments operator)) }
+    ensures refuses { IfErr result (λ fault. (before : LineTable) → Matches pass.old before → Refuses fault ⊥ (most_sections < length
+        (changed map.now line.now.text (operator_change (firm_table pass.old.table) line.now.text start arguments operator) before).sections)) }
+{
+    match operator {
+        Operator::Instruction(operation) => {
+            pass.step_over(line, start, operation, fields);
+            Ok(None)
+        }
+        Operator::Directs(_) => {
+            let deed = Deed::Operates(operator, start);
+            change_any(pass, map, line, arguments, &deed, fields)
+        }
     }
 }
 

@@ -1,16 +1,21 @@
 //! What the operator of a line changes. (MACRO-11 Language Reference Manual, "Direct assignment statements", "Current location counter",
 //! "Program section directives" and ".GLOBL directive".)
 
-ghost use Rattle.std.specs.Prelude.{◌≡◌, ◌∷◌, [], ◌<◌, ◌≤◌, ◌+◌, ◌^◌, IfOk, IfErr, length};
+ghost use Rattle.std.specs.Prelude.{◌≡◌, ◌∷◌, [], ◌<◌, ◌≤◌, ◌+◌, ◌^◌, ℕ, Option, IfOk, IfErr, length};
 ghost use Rattle.m11_arguments.specs.Expressions.{symbols_at};
 ghost use Rattle.m11_scan.specs.Cutting.{tokens_from};
+ghost use Rattle.m11_fields.specs.Reads.{fields_seen};
 ghost use Rattle.m11_operators.specs.Changes.{change_seen, names_among};
+ghost use Rattle.m11_operators.specs.Reading.{operator_fields};
 ghost use Rattle.m11_placement.specs.Assignments as assignments;
 ghost use Rattle.m11_placement.specs.Changes.{changed, numbered, with_globals, with_number, with_value};
+ghost use Rattle.m11_placement.specs.Effects.{operator_change};
 ghost use Rattle.m11_placement.specs.Elements.{listed_names};
 ghost use Rattle.m11_placement.specs.Labels.{with_definition};
 ghost use Rattle.m11_placement.specs.Limits.{most_sections};
-ghost use Rattle.m11_placement.specs.Tables.{Table as LineTable};
+ghost use Rattle.m11_placement.specs.Meanings.{Map as LineMap};
+ghost use Rattle.m11_placement.specs.Tables.{Table as LineTable, firm_table};
+ghost use Rattle.m11_placement.specs.declared.operators.Operator.TheVariants.{Instruction};
 ghost use Rattle.m11_placing.specs.Faults.{Refuses};
 ghost use Rattle.m11_placing.specs.Passes.{Follows, Matches};
 ghost use Rattle.m11_table.specs.Alike as tables;
@@ -22,8 +27,9 @@ use crate::fault::PlacingFault;
 use crate::pass::Pass;
 use bitflags::Flags;
 use m11_arguments::{Notes, note_symbols};
-use m11_base::Name;
-use m11_operators::{Change, known_value, listed_names};
+use m11_base::{Name, Op};
+use m11_fields::Fields;
+use m11_operators::{Change, Move, instruction_steps, known_value, listed_names};
 use m11_placement::{Definition, Key, Standing};
 use m11_scan::{Letters, Line};
 use m11_table::{Map, Table};
@@ -65,6 +71,23 @@ impl Pass {
                 Ok(())
             }
         }
+    }
+
+    /// Does what an instruction changes, whose name ends at a place of its line, and whose fields these are: the counter goes on. Of other
+    /// operators a change is handed on by memory.
+    pub fn step_over(&mut self, line: &Line, start: u8, operation: Op, fields: &Fields)
+        requires fields { fields_seen fields.now ≡ operator_fields self.old.table line.now.text start (Instruction operation) }
+        requires section { self.old.table.settings.section < 64 }
+        requires sections { length self.old.table.sections ≤ most_sections }
+        ensures takes { (map : LineMap) (arguments : Option ℕ) → Follows self.old self.new (λ before. changed map line.now.text
+            (operator_change (firm_table self.old.table) line.now.text start arguments (Instruction operation)) before) }
+        ensures tables { (map : LineMap) (arguments : Option ℕ) → tables.Follows self.old.table self.new.table (λ before. changed map
+            line.now.text (operator_change (firm_table self.old.table) line.now.text start arguments (Instruction operation)) before) }
+        ensures sections { length self.new.table.sections ≤ most_sections }
+        ensures symbols { self.new.local_symbols ≡ self.old.local_symbols }
+    {
+        let steps = instruction_steps(&self.table, line, usize::from(start), operation, fields);
+        self.count(Move::Steps(steps));
     }
 
     // A name is assigned the expression at a place. A label's name becomes doubled.
