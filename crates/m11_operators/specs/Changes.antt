@@ -9,7 +9,7 @@ use Rattle.m11_placement.specs.Changes as changes
 use Rattle.m11_placement.specs.Elements.{with_name}
 use Rattle.m11_placement.specs.Places as places
 use Rattle.m11_operators.specs.declared.changes.Change.{Change}
-use Rattle.m11_operators.specs.declared.changes.Change.TheVariants.{Keeps, Counts, Selects, Assigns, Numbers, Exports, Sets}
+use Rattle.m11_operators.specs.declared.changes.Change.TheVariants.{Keeps, Counts, Selects, Numbers, Exports, Sets}
 use Rattle.m11_operators.specs.declared.changes.Move.{Move}
 use Rattle.m11_operators.specs.declared.changes.Move.TheVariants.{Steps, Goes}
 
@@ -31,7 +31,6 @@ abbrev pub change_seen : Change → changes.Change
 change_seen Keeps = changes.Keeps
 change_seen (Counts move) = changes.Counts (move_seen move)
 change_seen (Selects name attributes) = changes.Selects name attributes
-change_seen (Assigns name is_global start) = changes.Assigns name is_global start
 change_seen (Numbers name number) = changes.Numbers name number
 change_seen (Exports start) = changes.Exports start
 change_seen (Sets settings) = changes.Sets settings

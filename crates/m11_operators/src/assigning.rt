@@ -1,7 +1,7 @@
 //! `name=e`, `name==e` and `.=e`. (MACRO-11 Language Reference Manual, "Direct assignment statements" and "Current location counter".)
 
-ghost use Rattle.std.specs.Prelude.{◌≡◌, ◌≤◌, length};
-ghost use Rattle.m11_arguments.specs.Expressions.{value_at};
+ghost use Rattle.std.specs.Prelude.{◌≡◌, ◌≤◌, IfSome, length};
+ghost use Rattle.m11_arguments.specs.Expressions.{IsAlone, value_at};
 ghost use Rattle.m11_scan.specs.Views.{bits_of};
 ghost use Rattle.m11_values.specs.Quantities.{quantity};
 ghost use Rattle.m11_placement.specs.Assigning as spec;
@@ -11,29 +11,16 @@ ghost use Rattle.m11_placement.specs.declared.meanings.Context.TheVariants.{Know
 ghost use Rattle.m11_operators.specs.Changes.{change_seen};
 
 use crate::changes::{Change, Move};
-use m11_arguments::{has_token, value_at};
+use m11_arguments::{has_token, lone_term, value_at, value_by};
 use m11_base::Name;
 use m11_placement::{Context, Definition, Key, Standing};
-use m11_scan::{Letters, Line, expression_end, read_name};
+use m11_scan::{Letters, Line, Token, expression_end, read_name};
 use m11_statements::Span;
 use m11_table::{FirmNames, Map, NamesAt, Table, register_letters};
 use m11_values::Value;
 
-/// What an assignment changes: its name, if it is one, is assigned the expression at a place.
-pub fn assignment(line: &Line, name: Span, is_global: bool, start: u8) -> Change
-    ensures { change_seen result ≡ spec.assignment line.now.text name is_global start }
-{
-    match target(line, name) {
-        Some(name) => Change::Assigns {
-            name,
-            is_global,
-            start,
-        },
-        None => Change::Keeps,
-    }
-}
-
-fn target(line: &Line, name: Span) -> Option<Name>
+/// The name that an assignment assigns its value to, if it is one.
+pub fn target(line: &Line, name: Span) -> Option<Name>
     ensures { result ≡ spec.target line.now.text name }
 {
     read_name(name.text(line))
@@ -47,11 +34,13 @@ pub fn assignment_letters(
     line: &Line,
     name: Span,
     start: usize,
+    term: Option<Token>,
 ) -> Letters
-    requires { start ≤ length line.now.text }
+    requires within { start ≤ length line.now.text }
+    requires term { IfSome term (λ term. IsAlone line.now.text start term) }
     ensures { bits_of result ≡ spec.assignment_letters map.now table.now line.now.text name start }
 {
-    let value = known_value(map, table, line, start);
+    let value = known_value_by(map, table, line, start, term);
     let letters = value.letters.with(after_expression(line, start));
     target_letters(map, table, target(line, name)).with(letters)
 }
@@ -61,8 +50,23 @@ pub fn known_value(map: &Map<'_>, table: &Table, line: &Line, start: usize) -> V
     requires { start ≤ length line.now.text }
     ensures { quantity result ≡ value_at (known_at map.now Knows table.now (place table.now)) line.now.text start }
 {
+    known_value_by(map, table, line, start, lone_term(line, start))
+}
+
+/// The same, with its one token where it is found to be one term.
+pub fn known_value_by(
+    map: &Map<'_>,
+    table: &Table,
+    line: &Line,
+    start: usize,
+    term: Option<Token>,
+) -> Value
+    requires within { start ≤ length line.now.text }
+    requires term { IfSome term (λ term. IsAlone line.now.text start term) }
+    ensures { quantity result ≡ value_at (known_at map.now Knows table.now (place table.now)) line.now.text start }
+{
     let names = NamesAt::new(map, Context::Knows, table, table.place());
-    value_at(line, start, &names)
+    value_by(line, start, term, &names)
 }
 
 // Q for what stands after the expression at a place.

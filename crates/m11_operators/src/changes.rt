@@ -13,7 +13,7 @@ pub enum Move {
     Goes(u16),
 }
 
-/// What a line changes.
+/// What a line changes that assigns no expression.
 #[derive(Clone, Copy)]
 pub enum Change {
     /// Nothing.
@@ -22,15 +22,6 @@ pub enum Change {
     Counts(Move),
     /// A section is selected. Where its name is new it has these bits of attributes.
     Selects(Name, u8),
-    /// A name is assigned an expression.
-    Assigns {
-        /// The name.
-        name: Name,
-        /// Whether it is made global.
-        is_global: bool,
-        /// The place where the expression begins.
-        start: u8,
-    },
     /// A name is assigned a number that no name decides.
     Numbers(Name, u16),
     /// The names of the list at a place become global.

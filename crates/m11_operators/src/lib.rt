@@ -36,7 +36,9 @@ mod titles;
 mod values;
 
 pub use alignment::place_for;
-pub use assigning::{assignment, assignment_letters, counter_change, counter_letters, known_value};
+pub use assigning::{
+    assignment_letters, counter_change, counter_letters, known_value, known_value_by, target,
+};
 pub use changes::{Change, Move};
 pub use counts::{argument_count, character_count};
 pub use effects::{instruction_steps, operator_change};
@@ -46,5 +48,5 @@ pub use identifications::identification;
 pub use operators::put_operator;
 pub use parts::parts_at;
 pub use puts::Put;
-pub use reading::{no_fields, operator_fields};
+pub use reading::{lone_fields, no_fields, operator_fields};
 pub use titles::title;

@@ -13,7 +13,7 @@ use arrayvec::ArrayVec;
 use m11_base::Op;
 use m11_fields::{FieldTerms, Fields, fields_at};
 use m11_placement::Operator;
-use m11_scan::{Letters, Line};
+use m11_scan::{Letters, Line, Token};
 use m11_table::{FirmNames, Table};
 
 /// The fields of an operator whose name ends at a place of its line: those of an instruction, whose forms are asked of firm names. A
@@ -50,6 +50,17 @@ pub fn no_fields() -> Fields
         letters: Letters::none(),
         terms: FieldTerms::none(),
     }
+}
+
+/// The same, with the token of what has no fields but one expression, where that is one term.
+pub fn lone_fields(term: Option<Token>) -> Fields
+    ensures fields { fields_seen result ≡ no_fields 0 }
+    ensures ends { result.end ≡ 0 }
+    ensures term { result.terms.first ≡ term }
+{
+    let mut fields = no_fields();
+    fields.terms.first = term;
+    fields
 }
 
 // Those of an instruction at a place.

@@ -3,10 +3,9 @@
 
 ghost use Rattle.std.specs.Prelude.{◌≡◌, ◌≤◌, ◌∷◌, [], IfOk, IfErr, IfSome, IsTrue, false, None, length};
 ghost use Rattle.m11_arguments.specs.Directives.{operator as line_operator};
-ghost use Rattle.m11_fields.specs.Terms.{AreTerms};
 ghost use Rattle.m11_placement.specs.Tables.{Table as LineTable};
 ghost use Rattle.m11_placement.specs.Unfolded.{known_after_labels};
-ghost use Rattle.m11_placing.specs.Deeds.{IsWithin, is_listed};
+ghost use Rattle.m11_placing.specs.Deeds.{AreDeedTerms, IsWithin, is_listed};
 ghost use Rattle.m11_placing.specs.Passes.{Matches};
 ghost use Rattle.m11_statements.specs.Labels.{labels_at};
 ghost use Rattle.m11_unfold.specs.Kept.{IsKept};
@@ -37,7 +36,7 @@ pub struct Begun {
     // The letters of its labels.
     pub(crate) found: LabelLetters,
     pub(crate) act: Act,
-    // The fields of what stands after its labels.
+    // The fields of what stands after its labels, or the term of what it assigns.
     pub(crate) fields: Fields,
 }
 
@@ -63,7 +62,7 @@ impl State {
             → Fails (line_fault map.now table self.old.mentioned.names (live_in live.old) self.old.unfolder.stage) fault) }
         ensures within { IfOk result (λ _. IsWithin (length live.old.line.text) live.new.deed) }
         ensures ends { IfOk result (λ begun. begun.fields.end ≤ length live.old.line.text) }
-        ensures terms { IfOk result (λ begun. AreTerms live.old.line.text begun.fields.list.items begun.fields.terms) }
+        ensures terms { IfOk result (λ begun. AreDeedTerms live.old.line.text live.new.deed begun.fields.list.items begun.fields.terms) }
         ensures listed { IfOk result (λ _. IsTrue (is_listed live.new.deed)) }
         ensures room { IfOk result (λ _. HasRoom self.old.unfolder.stage.taken 1 1 self.new.pass.table) }
         ensures few { IfOk result (λ _. IsFew self.new.pass self.new.mentioned) }

@@ -11,7 +11,7 @@ ghost use Rattle.m11_placement.specs.Items.{deed_items, is_shown, number_items};
 ghost use Rattle.m11_placement.specs.Limits.{most_names, most_sections};
 ghost use Rattle.m11_placement.specs.Lines.{put_by, put_place, section_name};
 ghost use Rattle.m11_placement.specs.Tables.{Table as LineTable, firm_table, place};
-ghost use Rattle.m11_placing.specs.Deeds.{IsWithin, deed_fields, deed_seen, is_listed};
+ghost use Rattle.m11_placing.specs.Deeds.{AreDeedTerms, IsWithin, deed_fields, deed_seen, is_listed};
 ghost use Rattle.m11_placement.specs.Mentions.{mention};
 ghost use Rattle.m11_placement.specs.declared.meanings.Context.TheVariants.{Knows};
 ghost use Rattle.m11_placing.specs.Mentioned.{Adds, with_all};
@@ -27,7 +27,7 @@ use m11_fields::{Fields, is_even};
 use m11_listing::Item;
 use m11_operators::{Put, place_for};
 use m11_placement::{Context, Operator};
-use m11_placing::{Deed, Mentioned, Pass, PlacingFault, assigned_item, deed_change, put_deed};
+use m11_placing::{Deed, Mentioned, Pass, PlacingFault, put_deed};
 use m11_scan::Line;
 use m11_table::Map;
 
@@ -45,7 +45,7 @@ pub(crate) fn put_line(
     requires listed { IsTrue (is_listed deed.now) }
     requires fields { fields_seen fields.now ≡ deed_fields pass.now.table line.now.text deed.now }
     requires ends { fields.now.end ≤ length line.now.text }
-    requires terms { AreTerms line.now.text fields.now.list.items fields.now.terms }
+    requires terms { AreDeedTerms line.now.text deed.now fields.now.list.items fields.now.terms }
     ensures puts { IfOk result (λ _. put.new ≡ put_by map.now pass.now.table line.now.text arguments (deed_seen deed.now)) }
     ensures refuses { IfErr result (λ fault. Refuses fault ⊥ ⊥) }
 {
@@ -71,7 +71,7 @@ pub(crate) fn mention_line(
     fields: &Fields,
 ) -> Result<(), PassFault>
     requires within { IsWithin (length line.now.text) deed.now }
-    requires terms { AreTerms line.now.text fields.now.list.items fields.now.terms }
+    requires terms { AreDeedTerms line.now.text deed.now fields.now.list.items fields.now.terms }
     ensures mentions { (table : LineTable) → fields_seen fields.now ≡ deed_fields table line.now.text deed.now → IfOk result
         (λ _. mentioned.new ≡ with_all (mentions_after table line.now.text notes.now arguments (deed_seen deed.now)) mentioned.old) }
     ensures few { (table : LineTable) → fields_seen fields.now ≡ deed_fields table line.now.text deed.now → IfOk result
@@ -97,6 +97,7 @@ pub(crate) fn change_line(
 ) -> Result<Option<Item>, PassFault>
     requires within { IsWithin (length line.now.text) deed.now }
     requires fields { fields_seen fields.now ≡ deed_fields pass.old.table line.now.text deed.now }
+    requires terms { AreDeedTerms line.now.text deed.now fields.now.list.items fields.now.terms }
     requires listed { pass.old.table.settings.listed + 1 < 2 ^ 64 }
     requires unlisted { pass.old.table.settings.unlisted + 1 < 2 ^ 64 }
     requires block { pass.old.table.settings.block + 1 < 2 ^ 64 }
@@ -136,6 +137,7 @@ fn operate_line(
 ) -> Result<Option<Item>, PassFault>
     requires within { start ≤ length line.now.text }
     requires fields { fields_seen fields.now ≡ operator_fields pass.old.table line.now.text start operator }
+    requires terms { AreTerms line.now.text fields.now.list.items fields.now.terms }
     requires listed { pass.old.table.settings.listed + 1 < 2 ^ 64 }
     requires unlisted { pass.old.table.settings.unlisted + 1 < 2 ^ 64 }
     requires block { pass.old.table.settings.block + 1 < 2 ^ 64 }
@@ -176,6 +178,7 @@ fn change_any(
 ) -> Result<Option<Item>, PassFault>
     requires within { IsWithin (length line.now.text) deed.now }
     requires fields { fields_seen fields.now ≡ deed_fields pass.old.table line.now.text deed.now }
+    requires terms { AreDeedTerms line.now.text deed.now fields.now.list.items fields.now.terms }
     requires listed { pass.old.table.settings.listed + 1 < 2 ^ 64 }
     requires unlisted { pass.old.table.settings.unlisted + 1 < 2 ^ 64 }
     requires block { pass.old.table.settings.block + 1 < 2 ^ 64 }
@@ -192,10 +195,7 @@ fn change_any(
     ensures refuses { IfErr result (λ fault. (before : LineTable) → Matches pass.old before → Refuses fault ⊥ (most_sections < length
         (changed map.now line.now.text (change_after pass.old.table line.now.text arguments (deed_seen deed.now)) before).sections)) }
 {
-    let change = deed_change(pass.table(), line, arguments, deed, fields);
-    let assigned = assigned_item(map, pass.table(), line, &change, deed);
-    pass.take(map, line, &change)?;
-    Ok(assigned)
+    Ok(pass.take_deed(map, line, arguments, deed, fields)?)
 }
 
 // The name of the section that lines go into.

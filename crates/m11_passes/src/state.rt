@@ -5,8 +5,7 @@ ghost use Rattle.std.specs.Int.RustNames.{bit_or};
 ghost use Rattle.m11_placement.specs.Meanings.{empty_map};
 ghost use Rattle.m11_placement.specs.Tables.{first_table};
 ghost use Rattle.m11_fields.specs.Reads.{fields_seen};
-ghost use Rattle.m11_fields.specs.Terms.{AreTerms};
-ghost use Rattle.m11_placing.specs.Deeds.{IsWithin, deed_fields};
+ghost use Rattle.m11_placing.specs.Deeds.{AreDeedTerms, IsWithin, deed_fields};
 ghost use Rattle.m11_placing.specs.Lines.{letters_from};
 ghost use Rattle.m11_placing.specs.Passes.{Matches};
 ghost use Rattle.m11_scan.specs.Views.{bits_of};
@@ -187,7 +186,7 @@ impl State {
     ) -> Result<Option<Item>, PassFault>
         requires within { IsWithin (length live.now.line.text) live.now.deed }
         requires fields { fields_seen begun.now.fields ≡ deed_fields self.old.pass.table live.now.line.text live.now.deed }
-        requires terms { AreTerms live.now.line.text begun.now.fields.list.items begun.now.fields.terms }
+        requires terms { AreDeedTerms live.now.line.text live.now.deed begun.now.fields.list.items begun.now.fields.terms }
         requires kept { IsKept self.old.unfolder.stage }
         requires room { HasRoom self.old.unfolder.stage.taken 1 1 self.old.pass.table }
         requires few { IsFew self.old.pass self.old.mentioned }

@@ -1,7 +1,7 @@
 -- What assignments and lists of names do to what a pass keeps.
 use Rattle.std.proofs.Common.{◌≡◌, ◌∙◌, ◌≤◌, ℕ, ◌-◌, ◌&&◌, not, Bool, true, false, if◌then◌else◌, List, [], ◌∷◌, ◌++◌, drop, get_or, length, take, Option, Some, None, Result, Ok, Err, IfOk, sym, ap, subst, arith}
 use Rattle.std.proofs.lemmas.List.{append-nil, append_assoc, take_all}
-use Rattle.m11_arguments.specs.Expressions.{expression_in, symbols_in, value_in}
+use Rattle.m11_arguments.specs.Expressions.{symbols_at, value_at}
 use Rattle.m11_base.specs.Devices.{Bytes}
 use Rattle.m11_base.specs.Rad50.{Name}
 use Rattle.m11_operators.specs.Changes.{names_among}
@@ -15,54 +15,44 @@ use Rattle.m11_placement.specs.declared.definitions.Definition.{Definition}
 use Rattle.m11_placement.specs.declared.definitions.Key.{Key}
 use Rattle.m11_placement.specs.declared.definitions.Key.TheVariants.{Named}
 use Rattle.m11_placement.specs.declared.meanings.Context.TheVariants.{Knows}
-use Rattle.m11_scan.specs.Cutting.{Lexeme, tokens_from}
 use Rattle.m11_table.specs.Alike as tables
 use Rattle.m11_table.specs.Alike.{Alike}
+use Rattle.m11_values.specs.Quantities.{Quantity}
 use Rattle.m11_placing.proofs.Alike.{alike_assigned, alike_labelled}
 use Rattle.m11_placing.specs.Passes.{Follows, Kept, Matches}
 use Rattle.m11_placing.specs.declared.fault.PlacingFault.{PlacingFault}
 
 -- ---- assignments
 
-abbrev assigned_in : (map : Map) (table : Table) (key : Key) → List Lexeme → Definition
-assigned_in map table key tokens = record {
-  key = key;
-  standing = standing_of (value_in (known_at map Knows table (place table)) tokens);
-  is_firm = all_firm table (symbols_in (expression_in tokens));
-  is_label = false;
-}
+abbrev given : Name → Quantity → Bool → Definition
+given name value firm = record { key = Named name; standing = standing_of value; is_firm = firm; is_label = false }
 
-starts_alike : (map : Map) (table : Table) (key : Key) (line : Bytes) (start within : ℕ)
-    → tokens_from line within ≡ tokens_from line start → assigned map table key line within ≡ assigned map table key line start
-starts_alike map table key line start within same = ap (λ (t : List Lexeme). assigned_in map table key t) same
+-- a value that is found, and whether its symbols are firm, are those of the definition
+pub gives : (map : Map) (name : Name) (line : Bytes) (start : ℕ) (table : Table) (value : Quantity) (firm : Bool)
+    (definition : Definition) → definition ≡ given name value firm
+    → value ≡ value_at (known_at map Knows table (place table)) line start → firm ≡ all_firm table (symbols_at line start)
+    → definition ≡ assigned map table (Named name) line start
+gives map name line start table value firm definition is value_is firm_is =
+    is ∙ ap (λ (v : Quantity). given name v firm) value_is
+    ∙ ap (given name (value_at (known_at map Knows table (place table)) line start)) firm_is
 
-pub assigns : {A : Type 0} (map : Map) (key : Key) (line : Bytes) (start within : ℕ) (table : Table) (old new : Kept)
-    (definition : Definition) (result : Result A PlacingFault) → old.table ≡ table
-    → tokens_from line within ≡ tokens_from line start → definition ≡ assigned map table key line within
+pub assigns : {A : Type 0} (map : Map) (key : Key) (line : Bytes) (start : ℕ) (old new : Kept) (definition : Definition)
+    (result : Result A PlacingFault) → definition ≡ assigned map old.table key line start
     → IfOk result (λ _. Follows old new (with_definition definition))
     → IfOk result (λ _. Follows old new (λ told. with_definition (assigned map told key line start) told))
-assigns map key line start within table old new definition (Ok value) is same e follows = λ told matches.
+assigns map key line start old new definition (Ok value) e follows = λ told matches.
     let P : Definition → Type 0 = λ d. Matches new (with_definition d told) in
-    subst P
-    (e ∙ ap (λ (t : Table). assigned map t key line within) (sym is)
-    ∙ alike_assigned old.table told matches.alike map key line within
-    ∙ starts_alike map told key line start within same)
-    (follows told matches)
-assigns map key line start within table old new definition (Err fault) is same e follows = tt
+    subst P (e ∙ alike_assigned old.table told matches.alike map key line start) (follows told matches)
+assigns map key line start old new definition (Err fault) e follows = tt
 
-pub assigns_so : {A : Type 0} (map : Map) (key : Key) (line : Bytes) (start within : ℕ) (table : Table) (old new : Kept)
-    (definition : Definition) (result : Result A PlacingFault) → old.table ≡ table
-    → tokens_from line within ≡ tokens_from line start → definition ≡ assigned map table key line within
-    → IfOk result (λ _. tables.Follows old.table new.table (with_definition definition))
-    → IfOk result (λ _. tables.Follows old.table new.table (λ told. with_definition (assigned map told key line start) told))
-assigns_so map key line start within table old new definition (Ok value) is same e follows = λ told alike.
-    let P : Definition → Type 0 = λ d. Alike new.table (with_definition d told) in
-    subst P
-    (e ∙ ap (λ (t : Table). assigned map t key line within) (sym is)
-    ∙ alike_assigned old.table told alike map key line within
-    ∙ starts_alike map told key line start within same)
-    (follows told alike)
-assigns_so map key line start within table old new definition (Err fault) is same e follows = tt
+pub assigns_so : {A : Type 0} (map : Map) (key : Key) (line : Bytes) (start : ℕ) (old new : Table) (definition : Definition)
+    (result : Result A PlacingFault) → definition ≡ assigned map old key line start
+    → IfOk result (λ _. tables.Follows old new (with_definition definition))
+    → IfOk result (λ _. tables.Follows old new (λ told. with_definition (assigned map told key line start) told))
+assigns_so map key line start old new definition (Ok value) e follows = λ told alike.
+    let P : Definition → Type 0 = λ d. Alike new (with_definition d told) in
+    subst P (e ∙ alike_assigned old told alike map key line start) (follows told alike)
+assigns_so map key line start old new definition (Err fault) e follows = tt
 
 -- ---- a label's name becomes doubled, and any other one is defined
 
@@ -124,6 +114,23 @@ module _ (map : Map) (name : Name) (line : Bytes) (start : ℕ) (old new : Table
       → tables.Follows old new (with_value map name true line start)
   value_exports middle is defines exports = values_so true false is
       (λ told alike. exports (with_definition (assigned map told (Named name) line start) told) (defines told alike))
+
+-- the same of what a pass keeps
+module _ (map : Map) (name : Name) (line : Bytes) (start : ℕ) (old new : Kept) (is : is_labelled (Named name) old.table.definitions ≡ false) where
+  kept_so : (is_global : Bool) → Follows old new (valued map name line start is_global false)
+      → Follows old new (with_value map name is_global line start)
+  kept_so is_global follows told matches =
+      let P : Bool → Type 0 = λ b. Matches new (valued map name line start is_global b told) in
+      subst P (sym is ∙ alike_labelled old.table told matches.alike (Named name)) (follows told matches)
+
+  pub kept_defines : Follows old new (λ told. with_definition (assigned map told (Named name) line start) told)
+      → Follows old new (with_value map name false line start)
+  kept_defines follows = kept_so false follows
+
+  pub kept_exports : (middle : Kept) → Follows old middle (λ told. with_definition (assigned map told (Named name) line start) told)
+      → Follows middle new (with_global name) → Follows old new (with_value map name true line start)
+  kept_exports middle defines exports = kept_so true
+      (λ told matches. exports (with_definition (assigned map told (Named name) line start) told) (defines told matches))
 
 -- ---- names that become global
 

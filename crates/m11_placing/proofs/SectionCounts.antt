@@ -1,9 +1,10 @@
 -- What makes no new section.
-use Rattle.std.proofs.Common.{◌≡◌, ◌∙◌, ◌≤◌, ℕ, Bool, true, false, if◌then◌else◌, List, length, Result, Ok, Err, IfOk, refl, sym, subst}
+use Rattle.std.proofs.Common.{◌≡◌, ◌∙◌, ◌≤◌, ℕ, Bool, true, false, if◌then◌else◌, List, length, Option, Some, None, Result, Ok, Err, IfOk, refl, sym, subst}
 use Rattle.m11_base.specs.Devices.{Bytes}
 use Rattle.m11_base.specs.Rad50.{Name}
+use Rattle.m11_placement.specs.Assigning.{assignment_to}
 use Rattle.m11_placement.specs.Assignments.{assigned}
-use Rattle.m11_placement.specs.Changes.{becomes_global, numbered, with_number, with_value}
+use Rattle.m11_placement.specs.Changes.{becomes_global, changed, numbered, with_number, with_value}
 use Rattle.m11_placement.specs.Definitions.{is_labelled}
 use Rattle.m11_placement.specs.Labels.{global_if, with_definition, with_doubled}
 use Rattle.m11_placement.specs.Meanings.{Map}
@@ -25,13 +26,18 @@ either_sections : (is_known : Bool) (key : Key) (definition : Definition) (table
 either_sections true key definition table = refl
 either_sections false key definition table = refl
 
-pub value_sections : (map : Map) (name : Name) (is_global : Bool) (line : Bytes) (start : ℕ) (table : Table)
+value_sections : (map : Map) (name : Name) (is_global : Bool) (line : Bytes) (start : ℕ) (table : Table)
     → (with_value map name is_global line start table).sections ≡ table.sections
 value_sections map name is_global line start table =
     global_sections (becomes_global is_global name table) name
     (if is_labelled (Named name) table.definitions then with_doubled (Named name) table
     else with_definition (assigned map table (Named name) line start) table)
     ∙ either_sections (is_labelled (Named name) table.definitions) (Named name) (assigned map table (Named name) line start) table
+
+pub assignment_sections : (map : Map) (target : Option Name) (is_global : Bool) (line : Bytes) (start : ℕ) (table : Table)
+    → (changed map line (assignment_to is_global start target) table).sections ≡ table.sections
+assignment_sections map (Some name) is_global line start table = value_sections map name is_global line start table
+assignment_sections map None is_global line start table = refl
 
 pub number_sections : (name : Name) (number : ℕ) (table : Table) → (with_number name number table).sections ≡ table.sections
 number_sections name number table =

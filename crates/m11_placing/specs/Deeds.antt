@@ -1,11 +1,15 @@
 -- What the definitions see of what stands after the labels of a line. (MACRO-11 Language Reference Manual, "Operator field".)
-use Rattle.std.specs.Prelude.{ℕ, ◌≤◌, Bool, true}
+use Rattle.std.specs.Prelude.{ℕ, ◌≤◌, Bool, true, IfSome, List}
+use Rattle.m11_arguments.specs.Expressions.{IsAlone}
 use Rattle.m11_base.specs.Devices.{Bytes}
 use Rattle.m11_fields.specs.ListedOperations.{has_listed_operation}
+use Rattle.m11_fields.specs.Terms.{AreTerms}
+use Rattle.m11_fields.specs.declared.fields.FieldTerms.{FieldTerms}
 use Rattle.m11_operators.specs.Reading.{operator_fields}
 use Rattle.m11_placement.specs.Fields.{Fields, no_fields}
 use Rattle.m11_placement.specs.Lines as lines
 use Rattle.m11_placement.specs.Tables.{Table}
+use Rattle.m11_placement.specs.declared.fields.Field.{Field}
 use Rattle.m11_placing.specs.declared.deeds.Deed.{Deed}
 use Rattle.m11_placing.specs.declared.deeds.Deed.TheVariants.{Rests, Assigns, Sets, Operates}
 
@@ -26,6 +30,13 @@ IsWithin size (Operates operator start) = start ≤ size
 abbrev pub is_listed : Deed → Bool
 is_listed (Operates operator start) = has_listed_operation operator
 is_listed deed = true
+
+-- the terms of its fields, or that of what it assigns, where they are one term
+abbrev pub AreDeedTerms : Bytes → Deed → List Field → FieldTerms → Type 0
+AreDeedTerms line Rests fields terms = Unit {0}
+AreDeedTerms line (Assigns assignment) fields terms = IfSome terms.first (λ term. IsAlone line assignment.value term)
+AreDeedTerms line (Sets value) fields terms = Unit {0}
+AreDeedTerms line (Operates operator start) fields terms = AreTerms line fields terms
 
 -- its fields: those of an instruction
 abbrev pub deed_fields : Table → Bytes → Deed → Fields

@@ -4,15 +4,15 @@ ghost use Rattle.std.specs.Prelude.{◌≡◌, ◌≤◌, IsTrue, length};
 ghost use Rattle.m11_arguments.specs.Directives.{every_name};
 ghost use Rattle.m11_placement.specs.Lines as spec;
 ghost use Rattle.m11_fields.specs.Reads.{fields_seen};
-ghost use Rattle.m11_fields.specs.Terms.{AreTerms};
 ghost use Rattle.m11_placing.specs.Deeds as deeds;
-ghost use Rattle.m11_placing.specs.Deeds.{IsWithin, deed_seen, is_listed};
+ghost use Rattle.m11_placing.specs.Deeds.{AreDeedTerms, IsWithin, deed_seen, is_listed};
 ghost use Rattle.m11_statements.specs.Labels.{labels_end};
 ghost use Rattle.m11_statements.specs.Order.{BodyStands};
 ghost use Rattle.m11_statements.specs.Statements.{body_of};
 
+use m11_arguments::lone_term;
 use m11_fields::{Fields, operator_named};
-use m11_operators::{no_fields, operator_fields};
+use m11_operators::{lone_fields, no_fields, operator_fields};
 use m11_placement::{Directive, Operator};
 use m11_scan::{Line, six_characters};
 use m11_statements::{Assignment, Body, Span, labels_and_body_stand_in_order};
@@ -46,19 +46,20 @@ pub fn deed_after_labels(is_own: bool, line: &Line, body: Body) -> Deed
     }
 }
 
-/// The fields of what stands after the labels of a line, by the table once they stand: those of an instruction. They are read once for what
-/// the line puts, mentions and changes.
+/// The fields of what stands after the labels of a line, by the table once they stand: those of an instruction. Of an assignment the first
+/// term is that of its expression. They are read once for what the line puts, mentions and changes.
 pub fn deed_fields(table: &Table, line: &Line, deed: &Deed) -> Fields
     requires { IsWithin (length line.now.text) deed.now }
     ensures fields { fields_seen result ≡ deeds.deed_fields table.now line.now.text deed.now }
     ensures ends { result.end ≤ length line.now.text }
-    ensures terms { AreTerms line.now.text result.list.items result.terms }
+    ensures terms { AreDeedTerms line.now.text deed.now result.list.items result.terms }
 {
     match *deed {
         Deed::Operates(operator, start) => {
             operator_fields(table, line, usize::from(start), operator)
         }
-        _ => no_fields(),
+        Deed::Assigns(made) => lone_fields(lone_term(line, usize::from(made.value))),
+        Deed::Rests | Deed::Sets(_) => no_fields(),
     }
 }
 

@@ -11,15 +11,12 @@ ghost use Rattle.m11_placement.specs.declared.meanings.Context.TheVariants.{Know
 ghost use Rattle.m11_placing.specs.Deeds.{IsWithin, deed_seen};
 ghost use Rattle.m11_values.specs.Quantities.{quantity};
 
-use crate::deeds::Deed;
 use bitflags::Flags;
-use m11_arguments::value_at;
 use m11_listing::{Item, Mark};
 use m11_object_text::{PieceContent, RelocationKind};
 use m11_operators::Change;
-use m11_placement::{Context, Settings};
-use m11_scan::{Letters, Line};
-use m11_table::{Map, NamesAt, Table};
+use m11_placement::Settings;
+use m11_scan::Letters;
 use m11_values::{Kind, Value};
 use std::alloc::AllocError;
 
@@ -50,34 +47,6 @@ fn add_item(items: &mut Vec<Item>, item: Item) -> Result<(), AllocError>
     Ok(())
 }
 
-/// What is shown of what a line assigns, whether its name takes it or not: a value, or the number of `.NARG` and `.NCHR`.
-pub fn assigned_item(
-    map: &Map<'_>,
-    table: &Table,
-    line: &Line,
-    change: &Change,
-    deed: &Deed,
-) -> Option<Item>
-    requires { IsWithin (length line.now.text) deed.now }
-    ensures { option_to_list result
-        ≡ spec.deed_items map.now table.now line.now.text (change_seen change.now) (deed_seen deed.now) }
-{
-    match deed {
-        Deed::Assigns(assignment) => value_item(assigned_value(map, table, line, assignment.value)),
-        Deed::Operates(_, _) => number_item(change),
-        Deed::Rests | Deed::Sets(_) => None,
-    }
-}
-
-// The value of an assignment, under what a whole source gives its names.
-fn assigned_value(map: &Map<'_>, table: &Table, line: &Line, start: u8) -> Value
-    requires { start ≤ length line.now.text }
-    ensures { quantity result ≡ value_at (known_at map.now Knows table.now (place table.now)) line.now.text start }
-{
-    let names = NamesAt::new(map, Context::Knows, table, table.place());
-    value_at(line, usize::from(start), &names)
-}
-
 /// Whether the levels of listing show a line that has no letters: one of an expansion by `.LIST ME` only.
 pub fn is_shown(settings: &Settings, is_expanded: bool) -> bool
     ensures { result ≡ spec.is_shown settings.now is_expanded }
@@ -86,7 +55,7 @@ pub fn is_shown(settings: &Settings, is_expanded: bool) -> bool
 }
 
 // What is shown of a value that is assigned. One that isn't known isn't shown.
-fn value_item(value: Value) -> Option<Item>
+pub(crate) fn value_item(value: Value) -> Option<Item>
     ensures { option_to_list result ≡ spec.value_items (quantity value) }
 {
     if value.letters.bits() & Letters::U.bits() == 0 {
@@ -97,7 +66,7 @@ fn value_item(value: Value) -> Option<Item>
 }
 
 // What is shown of a number that a directive assigns.
-fn number_item(change: &Change) -> Option<Item>
+pub(crate) fn number_item(change: &Change) -> Option<Item>
     ensures { option_to_list result ≡ spec.number_items (change_seen change.now) }
 {
     match change {

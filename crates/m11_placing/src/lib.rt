@@ -2,6 +2,7 @@
 //! mention, and the limits of all of them. (MACRO-11 Language Reference Manual, "Source program format" and "Symbols and expressions".)
 #![tactic(auto)]
 
+mod assigned;
 mod changing;
 mod deeds;
 mod fault;
@@ -16,9 +17,9 @@ mod pass;
 
 pub use deeds::{Deed, deed_after_labels, deed_fields};
 pub use fault::PlacingFault;
-pub use items::{add_content_items, assigned_item, is_shown};
+pub use items::{add_content_items, is_shown};
 pub use labels::LabelLetters;
 pub use laws::a_line_goes_through_a_pass;
-pub use lines::{deed_change, line_letters, put_deed};
+pub use lines::{line_letters, put_deed};
 pub use mentioned::Mentioned;
 pub use pass::Pass;

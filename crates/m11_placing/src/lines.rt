@@ -1,13 +1,11 @@
 //! What a line changes and puts, and its letters, once its labels stand. (MACRO-11 Language Reference Manual, "Source program format".)
 
-ghost use Rattle.std.specs.Prelude.{◌≡◌, ◌<◌, ◌≤◌, IfOk, IsTrue, length};
-ghost use Rattle.m11_operators.specs.Changes.{change_seen};
+ghost use Rattle.std.specs.Prelude.{◌≡◌, ◌≤◌, IfOk, IfSome, IsTrue, length};
+ghost use Rattle.m11_arguments.specs.Expressions.{IsAlone};
 ghost use Rattle.m11_fields.specs.Reads.{fields_seen};
-ghost use Rattle.m11_fields.specs.Terms.{AreTerms};
 ghost use Rattle.m11_placement.specs.Contents.{followed_by};
 ghost use Rattle.m11_placement.specs.Lines as spec;
-ghost use Rattle.m11_placement.specs.Tables.{firm_table};
-ghost use Rattle.m11_placing.specs.Deeds.{IsWithin, deed_fields, deed_seen, is_listed};
+ghost use Rattle.m11_placing.specs.Deeds.{AreDeedTerms, IsWithin, deed_fields, deed_seen, is_listed};
 ghost use Rattle.m11_placing.specs.Lines.{letters_from};
 ghost use Rattle.m11_placement.specs.Assigning as assigning;
 ghost use Rattle.m11_scan.specs.Views.{bits_of};
@@ -15,42 +13,13 @@ ghost use Rattle.m11_scan.specs.Views.{bits_of};
 use crate::deeds::Deed;
 use m11_arguments::skip_letters;
 use m11_fields::Fields;
-use m11_operators::{
-    Change, Put, assignment, assignment_letters, counter_change, counter_letters, operator_change,
-    put_operator,
-};
-use m11_scan::{Letters, Line};
+use m11_operators::{Put, assignment_letters, counter_letters, put_operator};
+use m11_scan::{Letters, Line, Token};
 use m11_statements::{Assignment, Body};
 use m11_table::{Map, Table};
 use std::alloc::AllocError;
 
-/// What stands after the labels of a line, with its fields, changes for the lines after it. It is asked of firm names alone. `arguments` is
-/// the number of actuals of the macro around the line.
-#[tactic(auto, using(crate::proofs::FirmCounters::counter_firm))]
-pub fn deed_change(
-    table: &Table,
-    line: &Line,
-    arguments: Option<u16>,
-    deed: &Deed,
-    fields: &Fields,
-) -> Change
-    requires within { IsWithin (length line.now.text) deed.now }
-    requires listed { table.now.settings.listed < u64.MAX }
-    requires unlisted { table.now.settings.unlisted < u64.MAX }
-    requires fields { fields_seen fields.now ≡ deed_fields table.now line.now.text deed.now }
-    ensures { change_seen result ≡ spec.change_of (firm_table table.now) line.now.text arguments (deed_seen deed.now) }
-{
-    match *deed {
-        Deed::Rests => Change::Keeps,
-        Deed::Assigns(made) => assignment(line, made.name, made.is_global, made.value),
-        Deed::Sets(start) => counter_change(table, line, usize::from(start)),
-        Deed::Operates(operator, start) => {
-            operator_change(table, line, usize::from(start), arguments, operator, fields)
-        }
-    }
-}
-
-/// What it puts at its places, with the letters of the operator and its arguments: under a map, what a whole source gives its names.
+/// What stands after the labels of a line puts at its places, with the letters of the operator and its arguments: under a map, what a whole source gives its names.
 /// Error: memory may be refused.
 pub fn put_deed(
     put: &mut Put,
@@ -65,7 +34,7 @@ pub fn put_deed(
     requires listed { IsTrue (is_listed deed.now) }
     requires fields { fields_seen fields.now ≡ deed_fields table.now line.now.text deed.now }
     requires ends { fields.now.end ≤ length line.now.text }
-    requires terms { AreTerms line.now.text fields.now.list.items fields.now.terms }
+    requires terms { AreDeedTerms line.now.text deed.now fields.now.list.items fields.now.terms }
     ensures { IfOk result (λ _. put.new
         ≡ followed_by put.old (spec.put_by map.now table.now line.now.text arguments (deed_seen deed.now))) }
 {
@@ -75,7 +44,7 @@ pub fn put_deed(
             Ok(())
         }
         Deed::Assigns(made) => {
-            put.add_letters(value_letters(map, table, line, made));
+            put.add_letters(value_letters(map, table, line, made, fields.terms.first));
             Ok(())
         }
         Deed::Sets(start) => {
@@ -98,12 +67,19 @@ pub fn put_deed(
 }
 
 // The letters of an assignment.
-fn value_letters(map: &Map<'_>, table: &Table, line: &Line, made: Assignment) -> Letters
-    requires { made.value ≤ length line.now.text }
+fn value_letters(
+    map: &Map<'_>,
+    table: &Table,
+    line: &Line,
+    made: Assignment,
+    term: Option<Token>,
+) -> Letters
+    requires within { made.value ≤ length line.now.text }
+    requires term { IfSome term (λ term. IsAlone line.now.text made.value term) }
     ensures { bits_of result
         ≡ assigning.assignment_letters map.now table.now line.now.text made.name made.value }
 {
-    assignment_letters(map, table, line, made.name, usize::from(made.value))
+    assignment_letters(map, table, line, made.name, usize::from(made.value), term)
 }
 
 /// The letters of a line: of itself and its labels, of what is skipped after them before the operator, of what it puts, and those that

@@ -13,7 +13,7 @@ ghost use Rattle.m11_placement.specs.declared.meanings.Context.TheVariants.{Know
 ghost use Rattle.m11_placement.specs.Elements.{listed_names};
 ghost use Rattle.m11_placement.specs.Mentions as spec;
 ghost use Rattle.m11_placement.specs.Tables.{Table as LineTable};
-ghost use Rattle.m11_placing.specs.Deeds.{IsWithin, deed_fields, deed_seen};
+ghost use Rattle.m11_placing.specs.Deeds.{AreDeedTerms, IsWithin, deed_fields, deed_seen};
 ghost use Rattle.m11_placing.specs.Mentioned.{Adds, in_context};
 ghost use Rattle.m11_scan.specs.Views.{lexeme};
 
@@ -76,13 +76,13 @@ impl Mentioned {
         fields: &Fields,
     ) -> Result<(), PlacingFault>
         requires within { IsWithin (length line.now.text) deed.now }
-        requires terms { AreTerms line.now.text fields.now.list.items fields.now.terms }
+        requires terms { AreDeedTerms line.now.text deed.now fields.now.list.items fields.now.terms }
         ensures { (table : LineTable) → fields_seen fields.now ≡ deed_fields table line.now.text deed.now
             → Adds (spec.deed_mentions table line.now.text arguments (deed_seen deed.now)) self.old self.new result }
     {
         match *deed {
             Deed::Rests => Ok(()),
-            Deed::Assigns(assignment) => self.add_assignment(line, assignment),
+            Deed::Assigns(assignment) => self.add_assignment(line, assignment, fields.terms.first),
             Deed::Sets(start) => self.read(line, start, Context::Knows),
             Deed::Operates(operator, start) => {
                 self.add_operator(line, start, arguments, operator, fields)
@@ -112,11 +112,17 @@ impl Mentioned {
         }
     }
 
-    fn add_assignment(&mut self, line: &Line, assignment: Assignment) -> Result<(), PlacingFault>
+    fn add_assignment(
+        &mut self,
+        line: &Line,
+        assignment: Assignment,
+        term: Option<Token>,
+    ) -> Result<(), PlacingFault>
+        requires { IfSome term (λ term. IsAlone line.now.text assignment.value term) }
         ensures { Adds (spec.defined (target line.now.text assignment.name) ++ spec.read_at Knows line.now.text assignment.value) self.old self.new result }
     {
         self.define(read_name(assignment.name.text(line)))?;
-        self.read(line, assignment.value, Context::Knows)
+        self.read_by(line, assignment.value, term, Context::Knows)
     }
 
     // The symbols of the expression at a place. Most expressions are one term, of which no list need be made.

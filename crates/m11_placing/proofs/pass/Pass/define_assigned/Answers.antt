@@ -1,17 +1,28 @@
-use Rattle.std.proofs.Common.{ap, sym}
+use Rattle.std.proofs.Common.{◌∙◌, ap}
+use Rattle.m11_arguments.specs.Expressions.{symbols_at}
+use Rattle.m11_placement.specs.Assignments.{all_firm}
 use Rattle.m11_placement.specs.declared.definitions.Key.TheVariants.{Named}
-use Rattle.m11_placing.proofs.Assigning.{assigns, assigns_so}
+use Rattle.m11_placing.proofs.Assigning.{assigns, assigns_so, gives}
 use Rattle.m11_placing.specs.Passes.{Kept}
+use Rattle.m11_values.specs.Quantities.{quantity}
 use Rattle.m11_placing.proofs.pass.Pass.define_assigned.Goals as goal
 
 pub returns-clause-defines : goal.returns-clause-defines
-returns-clause-defines c =
-    assigns c.args.map.now (Named c.args.name) c.args.line.now.text c.args.start _ c.self.inside.table c.args.self.now
-    c.define_name.new.self c.assigned-definition.result c.define_name.result (ap (λ (k : Kept). k.table) (sym c.self.view_is))
-    c.within-start.ensures.same c.assigned-definition.ensures c.define_name.ensures.defines
+returns-clause-defines c = λ map is.
+    assigns map (Named c.args.name) c.args.line.now.text c.args.start c.args.self.now c.define_name.new.self c.definition_of.result
+    c.define_name.result
+    (gives map c.args.name c.args.line.now.text c.args.start c.args.self.now.table (quantity c.args.value.now) c.in_ok-is_firm.is_firm
+    c.definition_of.result c.definition_of.ensures is
+    (c.in_ok-is_firm.ensures
+    ∙ ap (λ (k : Kept). all_firm k.table (symbols_at c.args.line.now.text c.args.start)) c.self.view_is))
+    c.define_name.ensures.defines
 
 pub returns-clause-tables : goal.returns-clause-tables
-returns-clause-tables c =
-    assigns_so c.args.map.now (Named c.args.name) c.args.line.now.text c.args.start _ c.self.inside.table c.args.self.now
-    c.define_name.new.self c.assigned-definition.result c.define_name.result (ap (λ (k : Kept). k.table) (sym c.self.view_is))
-    c.within-start.ensures.same c.assigned-definition.ensures c.define_name.ensures.tables
+returns-clause-tables c = λ map is.
+    assigns_so map (Named c.args.name) c.args.line.now.text c.args.start c.args.self.now.table c.define_name.new.self.table
+    c.definition_of.result c.define_name.result
+    (gives map c.args.name c.args.line.now.text c.args.start c.args.self.now.table (quantity c.args.value.now) c.in_ok-is_firm.is_firm
+    c.definition_of.result c.definition_of.ensures is
+    (c.in_ok-is_firm.ensures
+    ∙ ap (λ (k : Kept). all_firm k.table (symbols_at c.args.line.now.text c.args.start)) c.self.view_is))
+    c.define_name.ensures.tables

@@ -1,26 +1,17 @@
 use Rattle.std.proofs.Common.{refl}
 use Rattle.m11_operators.specs.Changes.{move_seen}
-use Rattle.m11_placement.specs.Changes.{with_globals, with_move, with_number, with_settings, with_value}
+use Rattle.m11_placement.specs.Changes.{with_globals, with_move, with_number, with_settings}
 use Rattle.m11_placement.specs.Elements.{listed_names}
-use Rattle.m11_placing.proofs.SectionCounts.{number_sections, sections_kept, sections_stay, value_sections}
+use Rattle.m11_placing.proofs.SectionCounts.{number_sections, sections_kept, sections_stay}
 use Rattle.m11_placing.proofs.pass.Pass.take.Goals as goal
 
 pub returns-in-Counts-clause-tables : goal.returns-in-Counts-clause-tables
-returns-in-Counts-clause-tables c = rw c.in-Counts.is c.count.ensures.tables
+returns-in-Counts-clause-tables c = λ map. rw c.in-Counts.is c.count.ensures.tables
 
 pub returns-in-Counts-clause-sections : goal.returns-in-Counts-clause-sections
 returns-in-Counts-clause-sections c =
     sections_stay c.args.self.now.table c.count.new.self.table (with_move (move_seen c.in-Counts.step)) c.count.ensures.tables refl
     c.requires.sections
-
-pub returns-in-Assigns-clause-sections : goal.returns-in-Assigns-clause-sections
-returns-in-Assigns-clause-sections c =
-    sections_kept c.args.self.now.table c.assign.new.self.table
-    (with_value c.args.map.now c.in-Assigns.name c.in-Assigns.is_global c.args.line.now.text c.in-Assigns.start)
-    c.assign.result
-    (value_sections c.args.map.now c.in-Assigns.name c.in-Assigns.is_global c.args.line.now.text c.in-Assigns.start
-    c.args.self.now.table)
-    c.requires.sections c.assign.ensures.tables
 
 pub returns-in-Numbers-clause-sections : goal.returns-in-Numbers-clause-sections
 returns-in-Numbers-clause-sections c =
@@ -29,7 +20,7 @@ returns-in-Numbers-clause-sections c =
     c.number.ensures.tables
 
 pub returns-in-Exports-clause-tables : goal.returns-in-Exports-clause-tables
-returns-in-Exports-clause-tables c = rw c.in-Exports.is c.export_list.ensures.tables
+returns-in-Exports-clause-tables c = λ map. rw c.in-Exports.is c.export_list.ensures.tables
 
 pub returns-in-Exports-clause-sections : goal.returns-in-Exports-clause-sections
 returns-in-Exports-clause-sections c =
@@ -38,7 +29,7 @@ returns-in-Exports-clause-sections c =
     c.export_list.ensures.tables
 
 pub returns-in-Sets-clause-tables : goal.returns-in-Sets-clause-tables
-returns-in-Sets-clause-tables c = rw c.in-Sets.is c.set.ensures.tables
+returns-in-Sets-clause-tables c = λ map. rw c.in-Sets.is c.set.ensures.tables
 
 pub returns-in-Sets-clause-sections : goal.returns-in-Sets-clause-sections
 returns-in-Sets-clause-sections c =
