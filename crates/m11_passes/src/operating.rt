@@ -58,10 +58,16 @@ pub(crate) fn put_line(
 fn mention_read(mentioned: &mut Mentioned, notes: &Notes) -> Result<(), PlacingFault>
     ensures { Adds (map (mention Knows) notes.now.symbols) mentioned.old mentioned.new result }
 {
-    mentioned.add_all(notes.symbols(), Context::Knows)
+    match notes.symbols() {
+        // most lines have none
+        [] => Ok(()),
+        symbols => mentioned.add_all(symbols, Context::Knows),
+    }
 }
 
 // The symbols that unfolding read, and those that the operator mentions, with the fields that it has by a table.
+// Inline: most lines mention nothing, or the fields of an instruction alone.
+#[inline(always)]
 pub(crate) fn mention_line(
     mentioned: &mut Mentioned,
     line: &Line,

@@ -68,6 +68,8 @@ impl Mentioned {
 
     /// What stands after the labels of a line, with the number of actuals of a macro around it and the fields that it has by the table once
     /// its labels stand. Errors as those of `add_all`.
+    // Inline: most lines mention nothing, or the fields of an instruction alone.
+    #[inline(always)]
     pub fn add_deed(
         &mut self,
         line: &Line,
@@ -90,7 +92,8 @@ impl Mentioned {
         }
     }
 
-    // The arguments of an operator.
+    // The arguments of an operator, inline for the same reason.
+    #[inline(always)]
     fn add_operator(
         &mut self,
         line: &Line,
@@ -112,6 +115,8 @@ impl Mentioned {
         }
     }
 
+    // The name of an assignment and what its value reads, by a call: in the caller, each line would save the registers that it needs.
+    #[inline(never)]
     fn add_assignment(
         &mut self,
         line: &Line,
@@ -227,6 +232,8 @@ impl Mentioned {
         }
     }
 
+    // The arguments of a directive, by a call for the same reason.
+    #[inline(never)]
     fn add_directive(
         &mut self,
         line: &Line,
