@@ -1,5 +1,5 @@
-//! What the operator of a line changes. (MACRO-11 Language Reference Manual, "Direct assignment statements", "Current location counter",
-//! "Program section directives" and ".GLOBL directive".)
+//! What the operator of a line changes. (MACRO-11 Language Reference Manual, "Current location counter", "Program section directives" and
+//! ".GLOBL directive".)
 
 ghost use Rattle.std.specs.Prelude.{◌≡◌, ◌∷◌, [], ◌<◌, ◌≤◌, ◌+◌, ◌^◌, ℕ, Option, IfOk, IfErr, length};
 ghost use Rattle.std.specs.Option.{option_to_list};

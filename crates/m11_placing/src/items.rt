@@ -1,14 +1,9 @@
 //! What a listing shows of a line: what it puts, or what it assigns. (MACRO-11 Language Reference Manual, "Listing control directives".)
 
-ghost use Rattle.std.specs.Prelude.{◌≡◌, ◌≤◌, ◌∷◌, ◌++◌, [], IfOk, length};
+ghost use Rattle.std.specs.Prelude.{◌≡◌, ◌∷◌, ◌++◌, [], IfOk};
 ghost use Rattle.std.specs.Option.{option_to_list};
-ghost use Rattle.m11_arguments.specs.Expressions.{value_at};
 ghost use Rattle.m11_operators.specs.Changes.{change_seen};
 ghost use Rattle.m11_placement.specs.Items as spec;
-ghost use Rattle.m11_placement.specs.Meanings.{known_at};
-ghost use Rattle.m11_placement.specs.Tables.{place};
-ghost use Rattle.m11_placement.specs.declared.meanings.Context.TheVariants.{Knows};
-ghost use Rattle.m11_placing.specs.Deeds.{IsWithin, deed_seen};
 ghost use Rattle.m11_values.specs.Quantities.{quantity};
 
 use bitflags::Flags;
