@@ -1,0 +1,110 @@
+-- Contents of blocks that are no records, by what they are. (RT-11 Volume and File Formats Manual, "Object file format".
+-- Which types and commands are refused, and the names of the faults, are this project's own.)
+use Rattle.std.specs.Prelude.{◌≡◌, ◌⊎◌, ℕ, ◌+◌, ◌<◌, ◌≤◌, ◌^◌, Bool, true, List, ◌∷◌, ◌++◌, length, IsSome}
+use Rattle.m11_base.specs.Devices.{Bytes}
+use Rattle.m11_base.specs.Rad50.{Name, IsName, word_limit}
+use Rattle.m11_blocks.specs.Frames.{word_bytes}
+use Rattle.m11_obj.specs.Gsd.{name_bytes, entry_bytes, entries_bytes, EntryFits, EntriesFit}
+use Rattle.m11_obj.specs.Relocations.{parts_of, byte_form, relocation_bytes, relocations_bytes, RelocationFits, RelocationsFit}
+use Rattle.m11_obj.specs.declared.fault.RecordFault.{RecordFault}
+use Rattle.m11_obj.specs.declared.fault.RecordFault.TheVariants.{UnknownType, BadLength, Library, MappedArray, Complex, UnknownRelocation, BadName}
+use Rattle.m11_obj.specs.declared.gsd.GsdEntry.{GsdEntry}
+use Rattle.m11_obj.specs.declared.relocations.Relocation.{Relocation}
+
+-- these bytes are a beginning of what is written, and not all of it
+pub record IsCut (written bytes : Bytes) : Type 0 where
+  pub missing : Bytes
+  pub some : 0 < length missing
+  pub split : written ≡ bytes ++ missing
+
+-- ---- names
+
+-- a word that has no characters: octal 175000 and above
+abbrev pub HasNoCharacters : ℕ → Type 0
+HasNoCharacters word = (word_limit ≤ word) × (word < 2 ^ 16)
+
+-- where a name is to stand, its first or its second word has no characters; any bytes may follow
+pub data BeginsNoName (bytes : Bytes) : Type 0 where
+  First : (word : ℕ) (rest : Bytes) → HasNoCharacters word → bytes ≡ word_bytes word ++ rest → BeginsNoName bytes
+  Second : (first second : ℕ) (rest : Bytes) → first < word_limit → HasNoCharacters second
+      → bytes ≡ word_bytes first ++ (word_bytes second ++ rest) → BeginsNoName bytes
+
+-- ---- entries of the global symbol directory
+
+-- the bytes from an entry on show its fault
+abbrev pub ShowsInEntry : RecordFault → Bytes → Type 0
+-- they end before the entry does
+ShowsInEntry BadLength bytes = (entry : GsdEntry) × EntryFits entry × IsCut (entry_bytes entry) bytes
+-- its name is none
+ShowsInEntry BadName bytes = BeginsNoName bytes
+-- after its name and its flags, type 7
+ShowsInEntry MappedArray bytes =
+    (name : Name) × (flags : ℕ) × (rest : Bytes) × IsName name × (bytes ≡ name_bytes name ++ flags ∷ 0o7 ∷ rest)
+-- or a greater one
+ShowsInEntry UnknownType bytes = (name : Name) × (flags : ℕ) × (type : ℕ) × (rest : Bytes) × IsName name × (0o7 < type)
+    × (bytes ≡ name_bytes name ++ flags ∷ type ∷ rest)
+ShowsInEntry other bytes = ⊥
+
+-- ---- entries of a relocation directory
+
+-- commands that there are not
+abbrev pub IsNoCommand : ℕ → Type 0
+IsNoCommand command = (command ≡ 0) ⊎ (command ≡ 0o13) ⊎ ((0o20 ≤ command) × (command < 0o200))
+
+-- commands that store nothing, or two words, and so have no byte form
+abbrev pub HasNoByteForm : ℕ → Type 0
+HasNoByteForm command = (0o7 ≤ command) × (command ≤ 0o11)
+
+-- a command byte that asks for what there is not
+abbrev pub IsRefused : ℕ → Bool → Type 0
+IsRefused command is_byte = IsNoCommand command ⊎ ((is_byte ≡ true) × HasNoByteForm command)
+
+-- the bytes from a relocation on show its fault
+abbrev pub ShowsInRelocation : RecordFault → Bytes → Type 0
+-- they end before the relocation does
+ShowsInRelocation BadLength bytes =
+    (relocation : Relocation) × RelocationFits relocation × IsCut (relocation_bytes relocation) bytes
+-- its command is none, or has no byte form
+ShowsInRelocation UnknownRelocation bytes = (command : ℕ) × (is_byte : Bool) × (rest : Bytes) × IsRefused command is_byte
+    × (bytes ≡ (command + byte_form is_byte) ∷ rest)
+-- it is complex
+ShowsInRelocation Complex bytes = (is_byte : Bool) × (rest : Bytes) × (bytes ≡ (0o17 + byte_form is_byte) ∷ rest)
+-- a command and a displacement that a name follows, and in its place none
+ShowsInRelocation BadName bytes = (relocation : Relocation) × (rest : Bytes) × RelocationFits relocation
+    × IsSome (parts_of relocation.target).name × BeginsNoName rest
+    × (bytes ≡ ((parts_of relocation.target).command + byte_form relocation.is_byte) ∷ relocation.displacement ∷ rest)
+ShowsInRelocation other bytes = ⊥
+
+-- ---- records
+
+-- whole entries, and after them bytes that show the fault of one more
+abbrev pub ShowsInEntries : RecordFault → Bytes → Type 0
+ShowsInEntries said bytes = (entries : List GsdEntry) × (rest : Bytes) × EntriesFit entries × (0 < length rest)
+    × ShowsInEntry said rest × (bytes ≡ entries_bytes entries ++ rest)
+
+abbrev pub ShowsInRelocations : RecordFault → Bytes → Type 0
+ShowsInRelocations said bytes = (relocations : List Relocation) × (rest : Bytes) × RelocationsFit relocations
+    × (0 < length rest) × ShowsInRelocation said rest × (bytes ≡ relocations_bytes relocations ++ rest)
+
+-- types that there are not
+abbrev pub IsNoType : ℕ → Type 0
+IsNoType type = (type ≡ 0) ⊎ ((0o10 < type) × (type < 2 ^ 16))
+
+-- the types of libraries
+abbrev pub IsLibraryType : ℕ → Type 0
+IsLibraryType type = (type ≡ 0o7) ⊎ (type ≡ 0o10)
+
+-- bytes show that they are no record
+pub data Shows (said : RecordFault) (bytes : Bytes) : Type 0 where
+  -- they end before a type does
+  NoType : said ≡ BadLength → length bytes < 2 → Shows said bytes
+  -- a type that there is not
+  OtherType : (type : ℕ) (rest : Bytes) → said ≡ UnknownType → IsNoType type → bytes ≡ word_bytes type ++ rest → Shows said bytes
+  -- the types of libraries
+  OfLibrary : (type : ℕ) (rest : Bytes) → said ≡ Library → IsLibraryType type → bytes ≡ word_bytes type ++ rest → Shows said bytes
+  -- a text that ends before its load address does
+  NoAddress : (rest : Bytes) → said ≡ BadLength → length rest < 2 → bytes ≡ word_bytes 3 ++ rest → Shows said bytes
+  -- a directory, of which an entry shows it
+  InEntries : (rest : Bytes) → ShowsInEntries said rest → bytes ≡ word_bytes 1 ++ rest → Shows said bytes
+  -- relocations, of which one shows it
+  InRelocations : (rest : Bytes) → ShowsInRelocations said rest → bytes ≡ word_bytes 4 ++ rest → Shows said bytes
