@@ -1,6 +1,8 @@
 pub mod LyingInOrder
 pub mod Contributions
 pub mod PlainTextsWritten
+pub mod LinkedTextsWritten
+pub mod LinesWritten
 pub mod JoiningEnds
 pub mod JoiningFindings
 pub mod JoiningWrites

@@ -1,5 +1,5 @@
 -- Texts that no relocation changes are the blocks of the tape.
-use Rattle.std.proofs.Common.{◌≡◌, ℕ, ◌+◌, ◌-◌, Bool, true, false, ◌==◌, ◌&&◌, not, if◌then◌else◌, List, [], ◌∷◌, ◌++◌, map, take, drop, take-append-drop, length, flat_map, append-nil, Option, Some, None, refl, sym, ap, ap₂, ◌∙◌, arith}
+use Rattle.std.proofs.Common.{◌≡◌, ℕ, ◌+◌, ◌-◌, Bool, true, false, ◌&&◌, not, if◌then◌else◌, List, [], ◌∷◌, ◌++◌, map, take, drop, take-append-drop, length, flat_map, append-nil, Option, Some, None, refl, sym, ap, ap₂, ◌∙◌, arith}
 use Rattle.std.specs.List.{list_any}
 use Rattle.m11_blocks.specs.Tapes.{tape_block}
 use Rattle.m11_obj.specs.declared.gsd.GsdEntry.{GsdEntry}
@@ -34,7 +34,7 @@ use Rattle.m11_link_laws.specs.Texts.{block_of, data_block, only_selects, stores
 -- ---- what goes to the tape
 
 -- writes of which none is to the tape
-abbrev Elsewhere : List Write → Type 0
+abbrev pub Elsewhere : List Write → Type 0
 Elsewhere writes = gained link Tape writes ≡ []
 
 both : (xs ys : List Write) → Elsewhere xs → Elsewhere ys → Elsewhere (xs ++ ys)
@@ -87,7 +87,7 @@ map_elsewhere found =
     (both _ _ (weak_elsewhere (name_writes found false found.references) (names_elsewhere found false))
     (last_elsewhere found))))
 
-front_elsewhere : (found : Findings) → Elsewhere (front_writes found)
+pub front_elsewhere : (found : Findings) → Elsewhere (front_writes found)
 unfolding front_writes
 front_elsewhere found = both _ _ (undefined_elsewhere found) (map_elsewhere found)
 
@@ -111,7 +111,7 @@ unfolding gained
 different_elsewhere found module_index None = refl
 different_elsewhere found module_index (Some section) = unless (attributes_agree (found.attributes section.0) section.1) _ refl
 
-entry_elsewhere : (k : GsdKind) (found : Findings) (module_index : ℕ) (defined : List (ℕ × ℕ)) (entry : GsdEntry)
+pub entry_elsewhere : (k : GsdKind) (found : Findings) (module_index : ℕ) (defined : List (ℕ × ℕ)) (entry : GsdEntry)
     → Elsewhere (writes_by k found module_index defined entry)
 entry_elsewhere kind.GlobalSymbol found module_index defined entry =
     only_if (defines entry && is_among defined entry.name) _ refl
@@ -187,7 +187,7 @@ at_end InDirectory fault e = absurd cc
 at_end InBody fault e = absurd cc
 
 -- a module that has ended has ended its texts
-ended : (parts : List Part) → stage_from InBody parts ≡ Between → has_ended parts ≡ true
+pub ended : (parts : List Part) → stage_from InBody parts ≡ Between → has_ended parts ≡ true
 ended [] e = absurd cc
 ended (Relocations ∷ parts) e = ended parts e
 ended (Relocated relocation ∷ parts) e = ended parts e
@@ -201,7 +201,7 @@ stage_moves stage EndOfModule parts = refl
 stage_moves stage part parts = refl
 
 -- the stage after one more part
-one_more : (before : List Part) (part : Part) (parts : List Part)
+pub one_more : (before : List Part) (part : Part) (parts : List Part)
     → stage_from (stage_after (before ++ part ∷ [])) parts ≡ stage_from (stage_after before) (part ∷ parts)
 unfolding stage_after
 one_more before part parts =
@@ -210,7 +210,7 @@ one_more before part parts =
 
 -- ---- the tape
 
-block_gained : (address : ℕ) (bytes : List ℕ) → gained link Tape (block_at address bytes) ≡ data_block address bytes
+pub block_gained : (address : ℕ) (bytes : List ℕ) → gained link Tape (block_at address bytes) ≡ data_block address bytes
 unfolding gained
 block_gained address [] = refl
 block_gained address (byte ∷ bytes) = append-nil (tape_block address (byte ∷ bytes))
@@ -224,16 +224,16 @@ text_gained found text parts n e =
     ∙ block_gained text.address text.bytes
 
 -- a part that goes elsewhere, before parts of which the tape is known
-skipped : (xs ys : List Write) (bytes : List ℕ) → Elsewhere xs → gained link Tape ys ≡ bytes → gained link Tape (xs ++ ys) ≡ bytes
+pub skipped : (xs ys : List Write) (bytes : List ℕ) → Elsewhere xs → gained link Tape ys ≡ bytes → gained link Tape (xs ++ ys) ≡ bytes
 skipped xs ys bytes e f = gained-append link Tape xs ys ∙ ap₂ (λ some more. some ++ more) e f
 
 -- a text stands in the body of a module
-text_in_body : (before : List Part) (address : ℕ) (bytes : List ℕ) → fault_of before (Text address bytes) ≡ None
+pub text_in_body : (before : List Part) (address : ℕ) (bytes : List ℕ) → fault_of before (Text address bytes) ≡ None
     → stage_after before ≡ InBody
 unfolding fault_known known_of
 text_in_body before address bytes e = in_body (stage_after before) address bytes _ e
 
-closed : (parts : List Part) → fault_of parts EndOfFile ≡ None → stage_after parts ≡ Between
+pub closed : (parts : List Part) → fault_of parts EndOfFile ≡ None → stage_after parts ≡ Between
 unfolding fault_known known_of
 closed parts e = at_end (stage_after parts) _ e
 
@@ -268,7 +268,7 @@ following found before (part ∷ parts) h s n =
     let rest = rest_none (fault_of before part) (first_fault all parts) h in
     following found all parts rest (one_more before part parts ∙ s) n
 
-last_gained : (bytes : List ℕ) → gained link Tape (to_tape bytes ∷ []) ≡ bytes
+pub last_gained : (bytes : List ℕ) → gained link Tape (to_tape bytes ∷ []) ≡ bytes
 unfolding gained
 last_gained bytes = append-nil bytes
 

@@ -1,5 +1,7 @@
 pub mod Places
 pub mod Texts
+pub mod LinkedTexts
+pub mod Lines
 pub mod Joining
 pub mod Moving
 pub mod Order

@@ -5,6 +5,7 @@
 mod joining;
 mod moving;
 mod order;
+mod outputs;
 mod places;
 mod runs;
 mod tables;
@@ -18,6 +19,7 @@ pub use moving::{
     what_moves_together_stays,
 };
 pub use order::map_is_whole_before_the_tape;
+pub use outputs::{linked_texts_are_the_tape, map_is_its_lines, messages_are_their_lines};
 pub use places::{
     contributions_lie_in_order, overlaid_contributions_begin_together,
     relocatable_sections_lie_in_order,

@@ -1,0 +1,280 @@
+-- The map is its lines one after another, and so are the messages.
+use Rattle.std.proofs.Common.{◌≡◌, ℕ, Bool, true, false, ◌&&◌, if◌then◌else◌, List, [], ◌∷◌, ◌++◌, map, append-nil, Option, Some, None, refl, sym, ap₂, subst, ◌∙◌}
+use Rattle.std.specs.List.{concat, cons_option}
+use Rattle.std.proofs.lemmas.List.Folds.{concat-append}
+use Rattle.m11_base.specs.Rad50.{Name}
+use Rattle.m11_blocks.specs.Tapes.{tape_block}
+use Rattle.m11_obj.specs.declared.gsd.GsdEntry.{GsdEntry}
+use Rattle.m11_obj.specs.declared.gsd.GsdKind.{GsdKind}
+use Rattle.m11_obj.specs.declared.gsd.GsdKind.TheVariants as kind
+use Rattle.m11_modules.specs.Names.{is_among}
+use Rattle.m11_modules.specs.Parts.{Part, Entry, Text}
+use Rattle.m11_modules.specs.Places.{current_section, modules_in, this_module}
+use Rattle.m11_modules.specs.Rules.{defines}
+use Rattle.m11_layout.specs.Modules.{reported_after}
+use Rattle.m11_layout.specs.Sections.{attributes_by}
+use Rattle.m11_layout.specs.declared.fault.LinkOutput.{LinkOutput}
+use Rattle.m11_layout.specs.declared.fault.LinkOutput.TheVariants.{Map, Messages}
+use Rattle.m11_link_text.specs.Findings.{Findings}
+use Rattle.m11_link_text.specs.Lines.{different_line, multiple_line, name_line, undefined_line}
+use Rattle.m11_link.specs.Front.{front_writes, global_write, global_writes, map_writes, name_write, name_writes, section_write, section_writes, undefined_names, undefined_write, undefined_writes, weak_writes}
+use Rattle.m11_writes.specs.Writes.{gained, gained_by}
+use Rattle.m11_writes.proofs.Writing.{gained-append}
+use Rattle.m11_link.specs.Outputs.{Write, link, to_messages, to_tape}
+use Rattle.m11_link.specs.Written.{PlacedText, attributes_agree, block_at, defined_names, different_writes, ended_writes, entry_writes, has_ended, link_writes, parts_writes, placed_text, relocations_after, text_writes, with_relocations, writes_at, writes_after, writes_by}
+use Rattle.m11_link_laws.specs.Lines.{different_of, entry_line, line_by, line_of_global, line_of_section, map_lines, message_lines, weak_lines}
+
+-- ---- lines one after another
+
+-- what these writes make for the output is these lines
+record Makes (output : LinkOutput) (writes : List Write) (lines : List (List ℕ)) : Type 0 where
+  text : gained link output writes ≡ concat lines
+
+module _ (output : LinkOutput) where
+  none_made : Makes output [] []
+  unfolding gained
+  none_made = record { text = refl }
+
+  line_made : (write : Write) (writes : List Write) (line : List ℕ) (lines : List (List ℕ))
+      → gained_by link output write ≡ line → Makes output writes lines → Makes output (write ∷ writes) (line ∷ lines)
+  unfolding gained
+  line_made write writes line lines e made =
+      record { text = ap₂ (λ some others. some ++ others) e made.text }
+
+  skipped : (write : Write) (writes : List Write) (lines : List (List ℕ)) → gained_by link output write ≡ []
+      → Makes output writes lines → Makes output (write ∷ writes) lines
+  unfolding gained
+  skipped write writes lines e made = record { text = ap₂ (λ some others. some ++ others) e made.text }
+
+  then_made : (xs ys : List Write) (lines more : List (List ℕ)) → Makes output xs lines → Makes output ys more
+      → Makes output (xs ++ ys) (lines ++ more)
+  then_made xs ys lines more first second = record {
+    text = gained-append link output xs ys ∙ ap₂ (λ some others. some ++ others) first.text second.text
+        ∙ sym (concat-append lines more);
+  }
+
+  then_skipped : (xs ys : List Write) (lines : List (List ℕ)) → Makes output xs lines → Makes output ys []
+      → Makes output (xs ++ ys) lines
+  then_skipped xs ys lines first second = record {
+    text = gained-append link output xs ys ∙ ap₂ (λ some others. some ++ others) first.text second.text
+        ∙ append-nil (concat lines);
+  }
+
+  module _ {X : Type 0} (write : X → Write) where
+    each_made : (line : X → List ℕ) → ((x : X) → gained_by link output (write x) ≡ line x) → (xs : List X)
+        → Makes output (map write xs) (map line xs)
+    each_made line h [] = none_made
+    each_made line h (x ∷ xs) = line_made (write x) (map write xs) (line x) (map line xs) (h x) (each_made line h xs)
+
+    each_skipped : ((x : X) → gained_by link output (write x) ≡ []) → (xs : List X) → Makes output (map write xs) []
+    each_skipped h [] = none_made
+    each_skipped h (x ∷ xs) = skipped (write x) (map write xs) [] (h x) (each_skipped h xs)
+
+-- ---- what stands before the parts
+
+sections_made : (found : Findings) → Makes Map (section_writes found.sections) (map line_of_section found.sections)
+unfolding section_writes
+sections_made found = each_made Map section_write line_of_section (λ x. refl) found.sections
+
+globals_made : (found : Findings) → Makes Map (global_writes found.globals) (map line_of_global found.globals)
+unfolding global_writes
+globals_made found = each_made Map global_write line_of_global (λ x. refl) found.globals
+
+names_made : (found : Findings) (is_strong : Bool) → Makes Map (name_writes found is_strong found.references)
+    (map name_line (undefined_names found is_strong found.references))
+unfolding name_writes
+names_made found is_strong =
+    each_made Map name_write name_line (λ x. refl) (undefined_names found is_strong found.references)
+
+weak_named : (names : List Name) → Makes Map (weak_writes (map name_write names)) (weak_lines names)
+weak_named [] = none_made Map
+weak_named (name ∷ names) =
+    line_made Map _ _ _ _ refl (each_made Map name_write name_line (λ x. refl) (name ∷ names))
+
+weak_made : (found : Findings) → Makes Map (weak_writes (name_writes found false found.references))
+    (weak_lines (undefined_names found false found.references))
+unfolding name_writes
+weak_made found = weak_named (undefined_names found false found.references)
+
+map_made : (found : Findings) → Makes Map (map_writes found) (map_lines found)
+unfolding map_writes
+map_made found =
+    then_made Map _ _ _ _ (line_made Map _ _ _ _ refl (sections_made found))
+    (then_made Map _ _ _ _ (line_made Map _ _ _ _ refl (globals_made found))
+    (then_made Map _ _ _ _ (line_made Map _ _ _ _ refl (names_made found true))
+    (then_made Map _ _ _ _ (weak_made found)
+    (line_made Map _ _ _ _ refl (line_made Map _ _ _ _ refl (none_made Map))))))
+
+front_of_map : (found : Findings) → Makes Map (front_writes found) (map_lines found)
+unfolding front_writes undefined_writes
+front_of_map found =
+    then_made Map _ _ [] _
+    (each_skipped Map undefined_write (λ x. refl) (undefined_names found true found.references)) (map_made found)
+
+-- the map makes no message
+sections_silent : (found : Findings) → Makes Messages (section_writes found.sections) []
+unfolding section_writes
+sections_silent found = each_skipped Messages section_write (λ x. refl) found.sections
+
+globals_silent : (found : Findings) → Makes Messages (global_writes found.globals) []
+unfolding global_writes
+globals_silent found = each_skipped Messages global_write (λ x. refl) found.globals
+
+names_silent : (found : Findings) (is_strong : Bool) → Makes Messages (name_writes found is_strong found.references) []
+unfolding name_writes
+names_silent found is_strong =
+    each_skipped Messages name_write (λ x. refl) (undefined_names found is_strong found.references)
+
+weak_silent : (writes : List Write) → Makes Messages writes [] → Makes Messages (weak_writes writes) []
+weak_silent [] made = none_made Messages
+weak_silent (write ∷ writes) made = skipped Messages _ _ _ refl made
+
+map_silent : (found : Findings) → Makes Messages (map_writes found) []
+unfolding map_writes
+map_silent found =
+    then_skipped Messages _ _ _ (skipped Messages _ _ _ refl (sections_silent found))
+    (then_skipped Messages _ _ _ (skipped Messages _ _ _ refl (globals_silent found))
+    (then_skipped Messages _ _ _ (skipped Messages _ _ _ refl (names_silent found true))
+    (then_skipped Messages _ _ _
+    (weak_silent (name_writes found false found.references) (names_silent found false))
+    (skipped Messages _ _ _ refl (skipped Messages _ _ _ refl (none_made Messages))))))
+
+front_of_messages : (found : Findings)
+    → Makes Messages (front_writes found) (map undefined_line (undefined_names found true found.references))
+unfolding front_writes undefined_writes
+front_of_messages found =
+    then_skipped Messages _ _ _
+    (each_made Messages undefined_write undefined_line (λ x. refl) (undefined_names found true found.references))
+    (map_silent found)
+
+-- ---- what the parts make
+
+-- a write to the tape makes no line
+module _ (output : LinkOutput) (apart : (bytes : List ℕ) → gained_by link output (to_tape bytes) ≡ []) where
+  block_skipped : (address : ℕ) (bytes : List ℕ) → Makes output (block_at address bytes) []
+  block_skipped address [] = none_made output
+  block_skipped address (byte ∷ bytes) =
+      skipped output (to_tape (tape_block address (byte ∷ bytes))) [] [] (apart (tape_block address (byte ∷ bytes)))
+      (none_made output)
+
+  ended_skipped : (found : Findings) (text : PlacedText) (parts : List Part) (b : Bool) → has_ended parts ≡ b
+      → Makes output (ended_writes found text parts) []
+  ended_skipped found text parts b e =
+      let whole = with_relocations found text (relocations_after parts) in
+      let here = either b whole in
+      subst (λ (c : Bool). Makes output (if c then text_writes whole else []) []) (sym e) here
+    where
+      either : (c : Bool) (whole : PlacedText) → Makes output (if c then text_writes whole else []) []
+      either true whole = block_skipped whole.address whole.bytes
+      either false whole = none_made output
+
+-- for the map, none at all
+unless_silent : (b : Bool) (bytes : List ℕ) → Makes Map (if b then [] else to_messages bytes ∷ []) []
+unless_silent true bytes = none_made Map
+unless_silent false bytes = skipped Map _ _ _ refl (none_made Map)
+
+if_silent : (b : Bool) (bytes : List ℕ) → Makes Map (if b then to_messages bytes ∷ [] else []) []
+if_silent true bytes = skipped Map _ _ _ refl (none_made Map)
+if_silent false bytes = none_made Map
+
+different_silent : (found : Findings) (module_index : ℕ) (section : Option (Name × ℕ))
+    → Makes Map (different_writes found module_index section) []
+different_silent found module_index None = none_made Map
+different_silent found module_index (Some section) =
+    unless_silent (attributes_agree (found.attributes section.0) section.1)
+    (different_line section.0 (found.module_name module_index))
+
+entry_silent : (k : GsdKind) (found : Findings) (module_index : ℕ) (defined : List Name) (entry : GsdEntry)
+    → Makes Map (writes_by k found module_index defined entry) []
+entry_silent kind.GlobalSymbol found module_index defined entry =
+    if_silent (defines entry && is_among defined entry.name) (multiple_line entry.name (found.module_name module_index))
+entry_silent k found module_index defined entry = different_silent found module_index (attributes_by k entry)
+
+parts_of_map : (found : Findings) (before parts : List Part) → Makes Map (writes_after found before parts) []
+unfolding writes_at
+parts_of_map found before [] = none_made Map
+parts_of_map found before (Entry entry ∷ parts) =
+    then_skipped Map _ _ _ (entry_silent entry.kind found (modules_in before) (defined_names before) entry)
+    (parts_of_map found (before ++ Entry entry ∷ []) parts)
+parts_of_map found before (Text address bytes ∷ parts) =
+    then_skipped Map _ _ _
+    (ended_skipped Map (λ bytes. refl) found
+    (placed_text found (modules_in before) (current_section (this_module before)) address bytes) parts (has_ended parts) refl)
+    (parts_of_map found (before ++ Text address bytes ∷ []) parts)
+parts_of_map found before (part ∷ parts) = parts_of_map found (before ++ part ∷ []) parts
+
+-- for the messages, those of entries
+abbrev lines_of : Option (List ℕ) → List (List ℕ)
+lines_of None = []
+lines_of (Some line) = line ∷ []
+
+unless_made : (b : Bool) (bytes : List ℕ)
+    → Makes Messages (if b then [] else to_messages bytes ∷ []) (lines_of (if b then None else Some bytes))
+unless_made true bytes = none_made Messages
+unless_made false bytes = line_made Messages _ _ _ _ refl (none_made Messages)
+
+if_made : (b : Bool) (bytes : List ℕ)
+    → Makes Messages (if b then to_messages bytes ∷ [] else []) (lines_of (if b then Some bytes else None))
+if_made true bytes = line_made Messages _ _ _ _ refl (none_made Messages)
+if_made false bytes = none_made Messages
+
+different_made : (found : Findings) (before : List Part) (section : Option (Name × ℕ))
+    → Makes Messages (different_writes found (modules_in before) section) (lines_of (different_of found before section))
+different_made found before None = none_made Messages
+different_made found before (Some section) =
+    unless_made (attributes_agree (found.attributes section.0) section.1)
+    (different_line section.0 (found.module_name (modules_in before)))
+
+entry_made : (k : GsdKind) (found : Findings) (before : List Part) (entry : GsdEntry)
+    → Makes Messages (writes_by k found (modules_in before) (defined_names before) entry)
+    (lines_of (line_by k found before entry))
+entry_made kind.GlobalSymbol found before entry =
+    if_made (defines entry && is_among (defined_names before) entry.name)
+    (multiple_line entry.name (found.module_name (modules_in before)))
+entry_made k found before entry = different_made found before (attributes_by k entry)
+
+one_more : (line : Option (List ℕ)) (lines : List (List ℕ)) → lines_of line ++ lines ≡ cons_option line lines
+one_more None lines = refl
+one_more (Some line) lines = refl
+
+parts_of_messages : (found : Findings) (before parts : List Part)
+    → Makes Messages (writes_after found before parts) (reported_after (entry_line found) before parts)
+unfolding writes_at
+parts_of_messages found before [] = none_made Messages
+parts_of_messages found before (Entry entry ∷ parts) =
+    let all = before ++ Entry entry ∷ [] in
+    let line : Option (List ℕ) = line_by entry.kind found before entry in
+    let more : List (List ℕ) = reported_after (entry_line found) all parts in
+    subst (λ (lines : List (List ℕ)). Makes Messages
+    (entry_writes found (modules_in before) (defined_names before) entry ++ writes_after found all parts) lines)
+    (one_more line more)
+    (then_made Messages (entry_writes found (modules_in before) (defined_names before) entry)
+    (writes_after found all parts) (lines_of line) more (entry_made entry.kind found before entry)
+    (parts_of_messages found all parts))
+parts_of_messages found before (Text address bytes ∷ parts) =
+    then_made Messages _ _ [] _
+    (ended_skipped Messages (λ bytes. refl) found
+    (placed_text found (modules_in before) (current_section (this_module before)) address bytes) parts (has_ended parts) refl)
+    (parts_of_messages found (before ++ Text address bytes ∷ []) parts)
+parts_of_messages found before (part ∷ parts) = parts_of_messages found (before ++ part ∷ []) parts
+
+-- ---- the whole link
+
+pub map_of_lines : (found : Findings) (parts : List Part)
+    → gained link Map (link_writes found parts) ≡ concat (map_lines found)
+unfolding parts_writes
+map_of_lines found parts =
+    let made = then_skipped Map (front_writes found ++ parts_writes found parts) _ (map_lines found)
+    (then_skipped Map (front_writes found) (parts_writes found parts) (map_lines found) (front_of_map found)
+    (parts_of_map found [] parts)) (skipped Map (to_tape (tape_block found.transfer [])) [] [] refl (none_made Map)) in
+    made.text
+
+pub messages_of_lines : (found : Findings) (parts : List Part)
+    → gained link Messages (link_writes found parts) ≡ concat (message_lines found parts)
+unfolding parts_writes
+messages_of_lines found parts =
+    let made = then_skipped Messages (front_writes found ++ parts_writes found parts) _ (message_lines found parts)
+    (then_made Messages (front_writes found) (parts_writes found parts) _ _ (front_of_messages found)
+    (parts_of_messages found [] parts))
+    (skipped Messages (to_tape (tape_block found.transfer [])) [] [] refl (none_made Messages)) in
+    made.text

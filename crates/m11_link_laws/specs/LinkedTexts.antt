@@ -1,0 +1,51 @@
+-- The tape of a link: each text, with what its relocations store, as one block. (RT-11 Volume and File Formats Manual,
+-- "Object file format", TXT and RLD blocks; "Absolute binary file format".)
+use Rattle.std.specs.Prelude.{ℕ, List, [], ◌∷◌, ◌++◌, map, Option, Some, None}
+use Rattle.std.specs.List.{cons_option}
+use Rattle.m11_base.specs.Devices.{Bytes}
+use Rattle.m11_base.specs.Rad50.{Name}
+use Rattle.m11_obj.specs.declared.relocations.Relocation.{Relocation}
+use Rattle.m11_modules.specs.Parts.{Part, Text}
+use Rattle.m11_modules.specs.Places.{current_section, modules_in, this_module}
+use Rattle.m11_link_text.specs.Findings.{Findings}
+use Rattle.m11_link.specs.Written.{PlacedText, placed_text, relocations_after, with_relocations}
+
+-- a text as objects have it: its module, the section that the module selected last, its address there, its bytes, and
+-- the relocations that stand after it, before any other part
+pub record ObjectText : Type 0 where
+  pub module_index : ℕ
+  pub section : Name
+  pub address : ℕ
+  pub bytes : Bytes
+  pub relocations : List Relocation
+
+abbrev pub text_at : List Part → Part → List Part → Option ObjectText
+text_at before (Text address bytes) following = Some (record {
+  module_index = modules_in before;
+  section = current_section (this_module before);
+  address = address;
+  bytes = bytes;
+  relocations = relocations_after following;
+})
+text_at before part following = None
+
+abbrev pub texts_after : List Part → List Part → List ObjectText
+texts_after before [] = []
+texts_after before (part ∷ following) =
+    cons_option (text_at before part following) (texts_after (before ++ part ∷ []) following)
+
+-- the texts of all objects, in order
+unfoldable pub object_texts : List Part → List ObjectText
+object_texts parts = texts_after [] parts
+
+-- where a text lies, counted from the base of its section, with what its relocations store one after another
+abbrev pub linked : Findings → ObjectText → PlacedText
+linked found text =
+    with_relocations found (placed_text found text.module_index text.section text.address text.bytes) text.relocations
+
+abbrev pub linked_text : Findings → ObjectText → ℕ × Bytes
+linked_text found text = ((linked found text).address, (linked found text).bytes)
+
+-- the address and the bytes of each, in order
+abbrev pub linked_texts : Findings → List Part → List (ℕ × Bytes)
+linked_texts found parts = map (linked_text found) (object_texts parts)

@@ -1,0 +1,41 @@
+//! What each output of a link gains, as one text.
+
+ghost use Rattle.std.specs.Prelude.{◌≡◌, List, [], ◌++◌, None};
+ghost use Rattle.std.specs.List.{concat, flat_map};
+ghost use Rattle.m11_blocks.specs.Tapes.{tape_block};
+ghost use Rattle.m11_modules.specs.Parts.{Part, EndOfFile};
+ghost use Rattle.m11_modules.specs.Rules.{fault_of, first_fault};
+ghost use Rattle.m11_layout.specs.declared.fault.LinkOutput.TheVariants.{Tape, Map, Messages};
+ghost use Rattle.m11_link_text.specs.Findings.{Findings};
+ghost use Rattle.m11_writes.specs.Writes.{gained};
+ghost use Rattle.m11_link.specs.Outputs.{link};
+ghost use Rattle.m11_link.specs.Written.{link_writes};
+ghost use Rattle.m11_link_laws.specs.Texts.{block_of};
+ghost use Rattle.m11_link_laws.specs.LinkedTexts.{linked_texts};
+ghost use Rattle.m11_link_laws.specs.Lines.{map_lines, message_lines};
+
+/// The tape of whole modules has a block for each of their texts, in their order, and after them the transfer block. A
+/// text's block has the text's bytes, with what its relocations store in them, at the base of the section that it counts
+/// from plus its address. A text without data is no block.
+#[tactic(auto, using(crate::proofs::LinkedTextsWritten::tape_of_linked_texts))]
+pub fn linked_texts_are_the_tape()
+    ensures { (found : Findings) (parts : List Part) → first_fault [] parts ≡ None → fault_of parts EndOfFile ≡ None
+        → gained link Tape (link_writes found parts)
+        ≡ flat_map block_of (linked_texts found parts) ++ tape_block found.transfer [] }
+{}
+
+/// The map has a line for each section, for each global and for each name that is defined nowhere, under their words, and
+/// then the transfer address and the limits; nothing else, whatever the parts are.
+#[tactic(auto, using(crate::proofs::LinesWritten::map_of_lines))]
+pub fn map_is_its_lines()
+    ensures { (found : Findings) (parts : List Part)
+        → gained link Map (link_writes found parts) ≡ concat (map_lines found) }
+{}
+
+/// The messages have a line for each global that has a strong reference and is defined nowhere, and then one for each
+/// entry that defines a name again, or gives a section other attributes than its first entry; nothing else.
+#[tactic(auto, using(crate::proofs::LinesWritten::messages_of_lines))]
+pub fn messages_are_their_lines()
+    ensures { (found : Findings) (parts : List Part)
+        → gained link Messages (link_writes found parts) ≡ concat (message_lines found parts) }
+{}
