@@ -8,6 +8,7 @@ pub mod JoiningFindings
 pub mod JoiningWrites
 pub mod ItemsParts
 pub mod JoiningItems
+pub mod RunsBegun
 pub mod RunsDecided
 pub mod JoiningBytes
 pub mod MovingNumbers

@@ -10,14 +10,16 @@ use Rattle.m11_layout.specs.declared.fault.LinkFault.TheVariants as fault
 use Rattle.m11_link_text.specs.Findings.{findings_of, planned}
 use Rattle.m11_link.specs.FirstPass.{ReadsFirst, pass_of}
 use Rattle.m11_link.specs.Objects.{◌>>=◌, AreItems, GiveItems, Item, outcome, taken, unless_too_large}
-use Rattle.m11_link.specs.Outputs.{Gains, Outputs, Write}
+use Rattle.m11_link.specs.Outputs.{Gains, Outputs, StopsBetween, StopsIn, Write, link}
 use Rattle.m11_link.specs.SecondPass.{LinkRuns, ReadsSecond}
 use Rattle.m11_link.specs.Written.{counted, link_writes}
 use Rattle.m11_link.specs.declared.emit.LinkDone.{LinkDone}
 use Rattle.m11_link.proofs.Agreeing.{written_by_definition}
 use Rattle.m11_link.proofs.ItemsTaken.{PartsOrFault}
 use Rattle.m11_link.proofs.Sole.{objects_same}
+use Rattle.m11_writes.specs.Writes.{LeavesBeginnings}
 use Rattle.m11_link_laws.specs.Runs.{AreKnown, IsDecided, IsKnown, IsRefusal, MayStop}
+use Rattle.m11_link_laws.proofs.RunsBegun.{nothing_begun, read_begun, stop_begun}
 
 -- ---- answers
 
@@ -95,6 +97,24 @@ module _ {F : Type 0} (text : F → Option Text) (faults : F → ℕ) (bottom : 
         × (done.messages ≡ counted 0 (link_writes (planned plan) parts))
     second_writes done h = (h.3, ap (taken []) (sym (same_items second known h.1 h.2)) ∙ h.4, h.5, h.6)
 
+    -- where it stops, each output has a beginning of what all parts make
+    abbrev Begun : List Part → Type 0
+    Begun parts = LeavesBeginnings link old new (link_writes (planned plan) parts)
+
+    second_begins : (parts : List Part) → taken [] items ≡ Ok parts → (stopped : LinkFault)
+        → ReadsSecond (pass_of text faults second second') plan old new (Err stopped) → Begun parts
+    second_begins parts e fault.Read h =
+        read_begun text faults second second' sources items are known plan parts e old new h
+    second_begins parts e (fault.Write output) h =
+        stop_begun text faults second second' sources items are known plan parts e old new (fault.Write output)
+        (StopsIn output old new) (λ writes stops. stops) h.1 (same_items second known h.1 h.2) h.4
+    second_begins parts e fault.NoMemory h =
+        stop_begun text faults second second' sources items are known plan parts e old new fault.NoMemory
+        (StopsBetween old new) (λ writes stops. stops) h.1 (same_items second known h.1 h.2) h.4
+    second_begins parts e stopped h =
+        let refused = ap (taken []) (sym (same_items second known h.1 h.2)) ∙ h.3 in
+        absurd (no_both (taken [] items) parts stopped e refused)
+
   -- ---- the run
 
   device_stops : (stopped : LinkFault) → IsDevice stopped → MayStop stopped
@@ -145,14 +165,30 @@ module _ {F : Type 0} (text : F → Option Text) (faults : F → ℕ) (bottom : 
         let G : List Write → Type 0 = λ these. Gains old new these in
         (subst G ws wrote.2, wrote.3 ∙ ap (λ these. counted 0 these) ws)
 
+    begun : (parts : List Part) → outcome bottom items ≡ Ok parts → (stopped : LinkFault) → (plan : Planned)
+        → ReadsFirst (pass_of text faults first first') bottom (Ok plan) → taken [] items ≡ Ok parts
+        → ReadsSecond (pass_of text faults second second') plan old new (Err stopped)
+        → LeavesBeginnings link old new (link_writes (findings_of bottom parts) parts)
+    begun parts e stopped plan h are-taken k =
+        let planned-so = first_plans first first' known plan h in
+        let here = one_parts (outcome bottom items) planned-so.0 parts planned-so.1 e in
+        let P : List Part → Type 0 = λ these. IsPlanOf bottom these plan in
+        let ws = written_by_definition bottom parts parts plan (subst P here planned-so.2) in
+        let G : List Write → Type 0 = λ these. LeavesBeginnings link old new these in
+        subst G ws (second_begins second second' again plan old new parts are-taken stopped k)
+
     decided : (o : PartsOrFault) → outcome bottom items ≡ o → (result : Result LinkDone LinkFault)
         → LinkRuns (pass_of text faults first first') (pass_of text faults second second') bottom old new result → IsDecided bottom o old new result
     decided (Ok parts) e (Ok done) h = all_written parts done e h.0 h.1 h.2
-    decided (Ok parts) e (Err stopped) (inl h) =
-        stops_or stopped (outcome bottom items) parts e (first_or stopped (first_says first first' known stopped h.0))
+    decided (Ok parts) e (Err stopped) (inl h) = (
+      stops_or stopped (outcome bottom items) parts e (first_or stopped (first_says first first' known stopped h.0)),
+      nothing_begun old new (link_writes (findings_of bottom parts) parts) h.2,
+    )
     decided (Ok parts) e (Err stopped) (inr h) =
-        stops_or stopped (taken [] items) parts (taken_of bottom (taken [] items) parts e)
-        (second_says second second' again h.0 old new stopped h.2)
+        let are-taken = taken_of bottom (taken [] items) parts e in (
+          stops_or stopped (taken [] items) parts are-taken (second_says second second' again h.0 old new stopped h.2),
+          begun parts e stopped h.0 h.1 are-taken h.2,
+        )
     decided (Err refused) e (Ok done) h =
         let p = first_plans first first' known h.0 h.1 in
         no_both (outcome bottom items) p.0 refused p.1 e

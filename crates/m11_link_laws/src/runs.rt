@@ -13,8 +13,8 @@ use m11_base::Feed;
 
 /// Where both passes get the same known bytes, their outcome decides the run. If it is parts, a run that is Ok has
 /// written exactly what the definitions say of them, to the tape, the map and the messages, and no other faults come than
-/// `Read`, `Write` and `NoMemory`. If it is a refusal, the run returns that refusal, `Read` or `NoMemory`, and writes
-/// nothing.
+/// `Read`, `Write` and `NoMemory`, after which each of the three has a beginning of that, and no other bytes. If it is a
+/// refusal, the run returns that refusal, `Read` or `NoMemory`, and writes nothing.
 #[tactic(auto, using(crate::proofs::RunsDecided::run_decided))]
 pub fn known_objects_decide_the_run<F: Feed>()
     ensures { (first again second later : List F) (bottom : ℕ) (sources : List (List ℕ)) (items : List Item)
