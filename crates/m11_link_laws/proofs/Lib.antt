@@ -8,6 +8,9 @@ pub mod JoiningFindings
 pub mod JoiningWrites
 pub mod ItemsParts
 pub mod JoiningItems
+pub mod WholeObjects
+pub mod TextsFit
+pub mod TapesOfObjects
 pub mod RunsBegun
 pub mod RunsDecided
 pub mod JoiningBytes

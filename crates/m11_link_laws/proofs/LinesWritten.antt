@@ -1,7 +1,8 @@
 -- The map is its lines one after another, and so are the messages.
-use Rattle.std.proofs.Common.{◌≡◌, ℕ, Bool, true, false, ◌&&◌, if◌then◌else◌, List, [], ◌∷◌, ◌++◌, map, append-nil, Option, Some, None, refl, sym, ap₂, subst, ◌∙◌}
-use Rattle.std.specs.List.{concat, cons_option}
+use Rattle.std.proofs.Common.{◌≡◌, ℕ, suc, ◌+◌, ◌≤◌, min, arith, length, length-append, Bool, true, false, ◌&&◌, if◌then◌else◌, List, [], ◌∷◌, ◌++◌, map, append-nil, Option, Some, None, refl, sym, ap, ap₂, subst, ◌∙◌}
+use Rattle.std.specs.List.{concat, cons_option, filter}
 use Rattle.std.proofs.lemmas.List.Folds.{concat-append}
+use Rattle.std.proofs.lemmas.List.Elements.{filter-append}
 use Rattle.m11_base.specs.Rad50.{Name}
 use Rattle.m11_blocks.specs.Tapes.{tape_block}
 use Rattle.m11_obj.specs.declared.gsd.GsdEntry.{GsdEntry}
@@ -14,59 +15,88 @@ use Rattle.m11_modules.specs.Rules.{defines}
 use Rattle.m11_layout.specs.Modules.{reported_after}
 use Rattle.m11_layout.specs.Sections.{attributes_by}
 use Rattle.m11_layout.specs.declared.fault.LinkOutput.{LinkOutput}
-use Rattle.m11_layout.specs.declared.fault.LinkOutput.TheVariants.{Map, Messages}
+use Rattle.m11_layout.specs.declared.fault.LinkOutput.TheVariants.{Tape, Map, Messages}
 use Rattle.m11_link_text.specs.Findings.{Findings}
 use Rattle.m11_link_text.specs.Lines.{different_line, multiple_line, name_line, undefined_line}
 use Rattle.m11_link.specs.Front.{front_writes, global_write, global_writes, map_writes, name_write, name_writes, section_write, section_writes, undefined_names, undefined_write, undefined_writes, weak_writes}
-use Rattle.m11_writes.specs.Writes.{gained, gained_by}
+use Rattle.m11_writes.specs.Writes.{gained}
 use Rattle.m11_writes.proofs.Writing.{gained-append}
-use Rattle.m11_link.specs.Outputs.{Write, link, to_messages, to_tape}
-use Rattle.m11_link.specs.Written.{PlacedText, attributes_agree, block_at, defined_names, different_writes, ended_writes, entry_writes, has_ended, link_writes, parts_writes, placed_text, relocations_after, text_writes, with_relocations, writes_at, writes_after, writes_by}
+use Rattle.m11_link.specs.Outputs.{Write, is_output, link, to_messages, to_tape}
+use Rattle.m11_link.specs.Written.{PlacedText, attributes_agree, block_at, counted, is_message, is_to_messages, most_messages, one_more as one_count, defined_names, different_writes, ended_writes, entry_writes, has_ended, link_writes, parts_writes, placed_text, relocations_after, text_writes, with_relocations, writes_at, writes_after, writes_by}
 use Rattle.m11_link_laws.specs.Lines.{different_of, entry_line, line_by, line_of_global, line_of_section, map_lines, message_lines, weak_lines}
 
 -- ---- lines one after another
 
--- what these writes make for the output is these lines
+-- how many writes go to the output
+abbrev writes_to : LinkOutput → List Write → ℕ
+writes_to output writes = length (filter (λ write. is_output output write.output) writes)
+
+-- what these writes make for the output is these lines, each by one write
 record Makes (output : LinkOutput) (writes : List Write) (lines : List (List ℕ)) : Type 0 where
   text : gained link output writes ≡ concat lines
+  count : writes_to output writes ≡ length lines
 
 module _ (output : LinkOutput) where
+  abbrev IsTo : Write → Type 0
+  IsTo write = is_output output write.output ≡ true
+
+  abbrev IsApart : Write → Type 0
+  IsApart write = is_output output write.output ≡ false
+
   none_made : Makes output [] []
   unfolding gained
-  none_made = record { text = refl }
+  none_made = record { text = refl; count = refl }
 
-  line_made : (write : Write) (writes : List Write) (line : List ℕ) (lines : List (List ℕ))
-      → gained_by link output write ≡ line → Makes output writes lines → Makes output (write ∷ writes) (line ∷ lines)
+  line_made : (write : Write) (writes : List Write) (lines : List (List ℕ)) → IsTo write → Makes output writes lines
+      → Makes output (write ∷ writes) (write.bytes ∷ lines)
   unfolding gained
-  line_made write writes line lines e made =
-      record { text = ap₂ (λ some others. some ++ others) e made.text }
+  line_made write writes lines e made = record {
+    text = ap₂ (λ (b : Bool) others. (if b then write.bytes else []) ++ others) e made.text;
+    count = ap (λ (b : Bool). length (if b then write ∷ others writes else others writes)) e
+        ∙ ap (λ (n : ℕ). suc n) made.count;
+  }
+    where
+      others : List Write → List Write
+      others writes = filter (λ write. is_output output write.output) writes
 
-  skipped : (write : Write) (writes : List Write) (lines : List (List ℕ)) → gained_by link output write ≡ []
-      → Makes output writes lines → Makes output (write ∷ writes) lines
+  skipped : (write : Write) (writes : List Write) (lines : List (List ℕ)) → IsApart write → Makes output writes lines
+      → Makes output (write ∷ writes) lines
   unfolding gained
-  skipped write writes lines e made = record { text = ap₂ (λ some others. some ++ others) e made.text }
+  skipped write writes lines e made = record {
+    text = ap₂ (λ (b : Bool) others. (if b then write.bytes else []) ++ others) e made.text;
+    count = ap (λ (b : Bool). length (if b then write ∷ others writes else others writes)) e ∙ made.count;
+  }
+    where
+      others : List Write → List Write
+      others writes = filter (λ write. is_output output write.output) writes
+
+  both_count : (xs ys : List Write) → writes_to output (xs ++ ys) ≡ writes_to output xs + writes_to output ys
+  both_count xs ys =
+      ap length (filter-append (λ write. is_output output write.output) xs ys)
+      ∙ length-append (filter (λ write. is_output output write.output) xs)
+      (filter (λ write. is_output output write.output) ys)
 
   then_made : (xs ys : List Write) (lines more : List (List ℕ)) → Makes output xs lines → Makes output ys more
       → Makes output (xs ++ ys) (lines ++ more)
   then_made xs ys lines more first second = record {
     text = gained-append link output xs ys ∙ ap₂ (λ some others. some ++ others) first.text second.text
         ∙ sym (concat-append lines more);
+    count = both_count xs ys ∙ ap₂ (λ (n m : ℕ). n + m) first.count second.count ∙ sym (length-append lines more);
   }
 
   then_skipped : (xs ys : List Write) (lines : List (List ℕ)) → Makes output xs lines → Makes output ys []
       → Makes output (xs ++ ys) lines
-  then_skipped xs ys lines first second = record {
-    text = gained-append link output xs ys ∙ ap₂ (λ some others. some ++ others) first.text second.text
-        ∙ append-nil (concat lines);
-  }
+  then_skipped xs ys lines first second =
+      subst (λ (all : List (List ℕ)). Makes output (xs ++ ys) all) (append-nil lines)
+      (then_made xs ys lines [] first second)
 
   module _ {X : Type 0} (write : X → Write) where
-    each_made : (line : X → List ℕ) → ((x : X) → gained_by link output (write x) ≡ line x) → (xs : List X)
-        → Makes output (map write xs) (map line xs)
-    each_made line h [] = none_made
-    each_made line h (x ∷ xs) = line_made (write x) (map write xs) (line x) (map line xs) (h x) (each_made line h xs)
+    each_made : ((x : X) → IsTo (write x)) → (xs : List X)
+        → Makes output (map write xs) (map (λ x. (write x).bytes) xs)
+    each_made h [] = none_made
+    each_made h (x ∷ xs) = line_made (write x) (map write xs) (map (λ x. (write x).bytes) xs) (h x) (each_made h xs)
 
-    each_skipped : ((x : X) → gained_by link output (write x) ≡ []) → (xs : List X) → Makes output (map write xs) []
+    each_skipped : ((x : X) → IsApart (write x)) → (xs : List X) → Makes output (map write xs) []
     each_skipped h [] = none_made
     each_skipped h (x ∷ xs) = skipped (write x) (map write xs) [] (h x) (each_skipped h xs)
 
@@ -74,22 +104,22 @@ module _ (output : LinkOutput) where
 
 sections_made : (found : Findings) → Makes Map (section_writes found.sections) (map line_of_section found.sections)
 unfolding section_writes
-sections_made found = each_made Map section_write line_of_section (λ x. refl) found.sections
+sections_made found = each_made Map section_write (λ x. refl) found.sections
 
 globals_made : (found : Findings) → Makes Map (global_writes found.globals) (map line_of_global found.globals)
 unfolding global_writes
-globals_made found = each_made Map global_write line_of_global (λ x. refl) found.globals
+globals_made found = each_made Map global_write (λ x. refl) found.globals
 
 names_made : (found : Findings) (is_strong : Bool) → Makes Map (name_writes found is_strong found.references)
     (map name_line (undefined_names found is_strong found.references))
 unfolding name_writes
 names_made found is_strong =
-    each_made Map name_write name_line (λ x. refl) (undefined_names found is_strong found.references)
+    each_made Map name_write (λ x. refl) (undefined_names found is_strong found.references)
 
 weak_named : (names : List Name) → Makes Map (weak_writes (map name_write names)) (weak_lines names)
 weak_named [] = none_made Map
 weak_named (name ∷ names) =
-    line_made Map _ _ _ _ refl (each_made Map name_write name_line (λ x. refl) (name ∷ names))
+    line_made Map _ _ _ refl (each_made Map name_write (λ x. refl) (name ∷ names))
 
 weak_made : (found : Findings) → Makes Map (weak_writes (name_writes found false found.references))
     (weak_lines (undefined_names found false found.references))
@@ -99,11 +129,11 @@ weak_made found = weak_named (undefined_names found false found.references)
 map_made : (found : Findings) → Makes Map (map_writes found) (map_lines found)
 unfolding map_writes
 map_made found =
-    then_made Map _ _ _ _ (line_made Map _ _ _ _ refl (sections_made found))
-    (then_made Map _ _ _ _ (line_made Map _ _ _ _ refl (globals_made found))
-    (then_made Map _ _ _ _ (line_made Map _ _ _ _ refl (names_made found true))
+    then_made Map _ _ _ _ (line_made Map _ _ _ refl (sections_made found))
+    (then_made Map _ _ _ _ (line_made Map _ _ _ refl (globals_made found))
+    (then_made Map _ _ _ _ (line_made Map _ _ _ refl (names_made found true))
     (then_made Map _ _ _ _ (weak_made found)
-    (line_made Map _ _ _ _ refl (line_made Map _ _ _ _ refl (none_made Map))))))
+    (line_made Map _ _ _ refl (line_made Map _ _ _ refl (none_made Map))))))
 
 front_of_map : (found : Findings) → Makes Map (front_writes found) (map_lines found)
 unfolding front_writes undefined_writes
@@ -144,17 +174,17 @@ front_of_messages : (found : Findings)
 unfolding front_writes undefined_writes
 front_of_messages found =
     then_skipped Messages _ _ _
-    (each_made Messages undefined_write undefined_line (λ x. refl) (undefined_names found true found.references))
+    (each_made Messages undefined_write (λ x. refl) (undefined_names found true found.references))
     (map_silent found)
 
 -- ---- what the parts make
 
 -- a write to the tape makes no line
-module _ (output : LinkOutput) (apart : (bytes : List ℕ) → gained_by link output (to_tape bytes) ≡ []) where
+module _ (output : LinkOutput) (apart : is_output output Tape ≡ false) where
   block_skipped : (address : ℕ) (bytes : List ℕ) → Makes output (block_at address bytes) []
   block_skipped address [] = none_made output
   block_skipped address (byte ∷ bytes) =
-      skipped output (to_tape (tape_block address (byte ∷ bytes))) [] [] (apart (tape_block address (byte ∷ bytes)))
+      skipped output (to_tape (tape_block address (byte ∷ bytes))) [] [] apart
       (none_made output)
 
   ended_skipped : (found : Findings) (text : PlacedText) (parts : List Part) (b : Bool) → has_ended parts ≡ b
@@ -198,7 +228,7 @@ parts_of_map found before (Entry entry ∷ parts) =
     (parts_of_map found (before ++ Entry entry ∷ []) parts)
 parts_of_map found before (Text address bytes ∷ parts) =
     then_skipped Map _ _ _
-    (ended_skipped Map (λ bytes. refl) found
+    (ended_skipped Map refl found
     (placed_text found (modules_in before) (current_section (this_module before)) address bytes) parts (has_ended parts) refl)
     (parts_of_map found (before ++ Text address bytes ∷ []) parts)
 parts_of_map found before (part ∷ parts) = parts_of_map found (before ++ part ∷ []) parts
@@ -211,11 +241,11 @@ lines_of (Some line) = line ∷ []
 unless_made : (b : Bool) (bytes : List ℕ)
     → Makes Messages (if b then [] else to_messages bytes ∷ []) (lines_of (if b then None else Some bytes))
 unless_made true bytes = none_made Messages
-unless_made false bytes = line_made Messages _ _ _ _ refl (none_made Messages)
+unless_made false bytes = line_made Messages _ _ _ refl (none_made Messages)
 
 if_made : (b : Bool) (bytes : List ℕ)
     → Makes Messages (if b then to_messages bytes ∷ [] else []) (lines_of (if b then Some bytes else None))
-if_made true bytes = line_made Messages _ _ _ _ refl (none_made Messages)
+if_made true bytes = line_made Messages _ _ _ refl (none_made Messages)
 if_made false bytes = none_made Messages
 
 different_made : (found : Findings) (before : List Part) (section : Option (Name × ℕ))
@@ -253,7 +283,7 @@ parts_of_messages found before (Entry entry ∷ parts) =
     (parts_of_messages found all parts))
 parts_of_messages found before (Text address bytes ∷ parts) =
     then_made Messages _ _ [] _
-    (ended_skipped Messages (λ bytes. refl) found
+    (ended_skipped Messages refl found
     (placed_text found (modules_in before) (current_section (this_module before)) address bytes) parts (has_ended parts) refl)
     (parts_of_messages found (before ++ Text address bytes ∷ []) parts)
 parts_of_messages found before (part ∷ parts) = parts_of_messages found (before ++ part ∷ []) parts
@@ -269,12 +299,60 @@ map_of_lines found parts =
     (parts_of_map found [] parts)) (skipped Map (to_tape (tape_block found.transfer [])) [] [] refl (none_made Map)) in
     made.text
 
-pub messages_of_lines : (found : Findings) (parts : List Part)
-    → gained link Messages (link_writes found parts) ≡ concat (message_lines found parts)
+messages_made : (found : Findings) (parts : List Part)
+    → Makes Messages (link_writes found parts) (message_lines found parts)
 unfolding parts_writes
-messages_of_lines found parts =
-    let made = then_skipped Messages (front_writes found ++ parts_writes found parts) _ (message_lines found parts)
+messages_made found parts =
+    then_skipped Messages (front_writes found ++ parts_writes found parts) _ (message_lines found parts)
     (then_made Messages (front_writes found) (parts_writes found parts) _ _ (front_of_messages found)
     (parts_of_messages found [] parts))
-    (skipped Messages (to_tape (tape_block found.transfer [])) [] [] refl (none_made Messages)) in
-    made.text
+    (skipped Messages (to_tape (tape_block found.transfer [])) [] [] refl (none_made Messages))
+
+pub messages_of_lines : (found : Findings) (parts : List Part)
+    → gained link Messages (link_writes found parts) ≡ concat (message_lines found parts)
+messages_of_lines found parts = (messages_made found parts).text
+
+-- ---- the count of messages
+
+counts_on : (count more most : ℕ) → min (min (count + 1) most + more) most ≡ min (count + suc more) most
+counts_on count more most = omega arith
+
+same_test : (output : LinkOutput) → is_to_messages output ≡ is_output Messages output
+same_test Tape = refl
+same_test Map = refl
+same_test Messages = refl
+
+one_counted : (b : Bool) (count : ℕ) (write : Write) (writes : List Write) → count ≤ most_messages
+    → min (one_count count b + length writes) most_messages
+    ≡ min (count + length (if b then write ∷ writes else writes)) most_messages
+one_counted true count write writes le = counts_on count (length writes) most_messages
+one_counted false count write writes le = refl
+
+still_most : (b : Bool) (count : ℕ) → count ≤ most_messages → one_count count b ≤ most_messages
+still_most true count le = below_min (count + 1) most_messages
+  where
+    below_min : (n most : ℕ) → min n most ≤ most
+    below_min n most = omega arith
+still_most false count le = le
+
+within : (count most : ℕ) → count ≤ most → count ≡ min (count + 0) most
+within count most le = omega arith
+
+counted_writes : (count : ℕ) (writes : List Write) → count ≤ most_messages
+    → counted count writes ≡ min (count + writes_to Messages writes) most_messages
+counted_writes count [] le = within count most_messages le
+counted_writes count (write ∷ writes) le =
+    counted_writes (one_count count (is_message write)) writes (still_most (is_message write) count le)
+    ∙ one_counted (is_message write) count write (filter (λ w. is_output Messages w.output) writes) le
+    ∙ ap (λ (b : Bool). min (count + length (if b then write ∷ filter (λ w. is_output Messages w.output) writes
+    else filter (λ w. is_output Messages w.output) writes)) most_messages) (same_test write.output)
+
+none_before : (n : ℕ) → 0 + n ≡ n
+none_before n = omega arith
+
+pub lines_counted : (found : Findings) (parts : List Part)
+    → counted 0 (link_writes found parts) ≡ min (length (message_lines found parts)) most_messages
+lines_counted found parts =
+    counted_writes 0 (link_writes found parts) (omega arith)
+    ∙ ap (λ (n : ℕ). min n most_messages)
+    (none_before (writes_to Messages (link_writes found parts)) ∙ (messages_made found parts).count)

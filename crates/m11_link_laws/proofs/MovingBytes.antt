@@ -122,7 +122,7 @@ value_width width e f false value = subst (λ n. 2 ≤ n) (sym f) (omega arith)
 nothing_within : (width : ℕ) → 0 ≤ width
 nothing_within width = omega arith
 
-stored_width : (near : Findings) (index own location : ℕ) (is_byte : Bool) (t : Target)
+pub stored_width : (near : Findings) (index own location : ℕ) (is_byte : Bool) (t : Target)
     → length (stored_bytes near index own location is_byte t) ≤ width_of is_byte t
 stored_width near index own location is_byte target.ProgramLimits = omega arith
 stored_width near index own location is_byte (target.LocationCounterDefinition name constant) =

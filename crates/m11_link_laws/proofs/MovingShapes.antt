@@ -48,7 +48,7 @@ stored_length : (is_byte : Bool) (value other : ℕ)
 stored_length true value other = refl
 stored_length false value other = refl
 
-replaced_is : (text bytes : List ℕ) (index : ℕ)
+pub replaced_is : (text bytes : List ℕ) (index : ℕ)
     → length (replaced text index bytes)
     ≡ min index (length text) + length bytes + (length text - (index + length bytes))
 replaced_is text bytes index = simp (length-append, length-take, length-drop) refl

@@ -32,7 +32,8 @@ Goes room bytes own = (more : List Item) × ObjectItems room bytes (own ++ more)
 
 goes_on : (room : ℕ) (bytes rest : List ℕ) (own : List Item) → BeginningItems room bytes own
     → Goes room (bytes ++ rest) own
-goes_on room bytes rest _ (objects.BeginningItems.Begins {left = left} {rest = after} {content = content} {items = items} e fits h) =
+goes_on room bytes rest _
+    (objects.BeginningItems.Begins {left = left} {rest = after} {content = content} {items = items} e fits h) =
     let others = goes_on left after rest items h in
     let seen = block_steady.ok bytes rest content after e in (
       others.0,

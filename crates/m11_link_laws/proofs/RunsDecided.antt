@@ -37,7 +37,7 @@ small : (b : Bool) (these parts : List Part) → ◌≡◌ {A = PartsOrFault} (i
 small true these parts e = absurd cc
 small false these parts e = e
 
-taken_of : (bottom : ℕ) (r : PartsOrFault) (parts : List Part) → (r >>= unless_too_large bottom) ≡ Ok parts → r ≡ Ok parts
+pub taken_of : (bottom : ℕ) (r : PartsOrFault) (parts : List Part) → (r >>= unless_too_large bottom) ≡ Ok parts → r ≡ Ok parts
 taken_of bottom (Ok these) parts e = small (is_too_large bottom these) these parts e
 taken_of bottom (Err stopped) parts e = absurd cc
 

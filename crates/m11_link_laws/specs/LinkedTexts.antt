@@ -1,7 +1,7 @@
 -- The tape of a link: each text, with what its relocations store, as one block. (RT-11 Volume and File Formats Manual,
 -- "Object file format", TXT and RLD blocks; "Absolute binary file format".)
-use Rattle.std.specs.Prelude.{ℕ, List, [], ◌∷◌, ◌++◌, map, Option, Some, None}
-use Rattle.std.specs.List.{cons_option}
+use Rattle.std.specs.Prelude.{ℕ, Bool, true, false, List, [], ◌∷◌, ◌++◌, map, Option, Some, None}
+use Rattle.std.specs.List.{cons_option, filter}
 use Rattle.m11_base.specs.Devices.{Bytes}
 use Rattle.m11_base.specs.Rad50.{Name}
 use Rattle.m11_obj.specs.declared.relocations.Relocation.{Relocation}
@@ -49,3 +49,11 @@ linked_text found text = ((linked found text).address, (linked found text).bytes
 -- the address and the bytes of each, in order
 abbrev pub linked_texts : Findings → List Part → List (ℕ × Bytes)
 linked_texts found parts = map (linked_text found) (object_texts parts)
+
+abbrev pub has_data : Bytes → Bool
+has_data [] = false
+has_data (byte ∷ bytes) = true
+
+-- those that are blocks of the tape: a block without data would be the transfer block
+abbrev pub tape_blocks : Findings → List Part → List (ℕ × Bytes)
+tape_blocks found parts = filter (λ text. has_data text.1) (linked_texts found parts)

@@ -19,7 +19,10 @@ pub use moving::{
     what_moves_together_stays,
 };
 pub use order::map_is_whole_before_the_tape;
-pub use outputs::{linked_texts_are_the_tape, map_is_its_lines, messages_are_their_lines};
+pub use outputs::{
+    linked_texts_are_the_tape, map_is_its_lines, messages_are_their_lines,
+    objects_make_the_tape_of_their_texts,
+};
 pub use places::{
     contributions_lie_in_order, overlaid_contributions_begin_together,
     relocatable_sections_lie_in_order,

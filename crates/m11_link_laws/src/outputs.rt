@@ -1,17 +1,19 @@
 //! What each output of a link gains, as one text.
 
-ghost use Rattle.std.specs.Prelude.{◌≡◌, List, [], ◌++◌, None};
+ghost use Rattle.std.specs.Prelude.{◌≡◌, ℕ, List, [], ◌++◌, length, min, None, Ok};
 ghost use Rattle.std.specs.List.{concat, flat_map};
-ghost use Rattle.m11_blocks.specs.Tapes.{tape_block};
+ghost use Rattle.m11_blocks.specs.Tapes.{IsTape, tape_block};
 ghost use Rattle.m11_modules.specs.Parts.{Part, EndOfFile};
 ghost use Rattle.m11_modules.specs.Rules.{fault_of, first_fault};
+ghost use Rattle.m11_layout.specs.Transfers.{transfer_address};
 ghost use Rattle.m11_layout.specs.declared.fault.LinkOutput.TheVariants.{Tape, Map, Messages};
-ghost use Rattle.m11_link_text.specs.Findings.{Findings};
+ghost use Rattle.m11_link_text.specs.Findings.{Findings, findings_of};
 ghost use Rattle.m11_writes.specs.Writes.{gained};
+ghost use Rattle.m11_link.specs.Objects.{AreItems, Item, outcome};
 ghost use Rattle.m11_link.specs.Outputs.{link};
-ghost use Rattle.m11_link.specs.Written.{link_writes};
+ghost use Rattle.m11_link.specs.Written.{counted, link_writes, most_messages};
 ghost use Rattle.m11_link_laws.specs.Texts.{block_of};
-ghost use Rattle.m11_link_laws.specs.LinkedTexts.{linked_texts};
+ghost use Rattle.m11_link_laws.specs.LinkedTexts.{linked_texts, tape_blocks};
 ghost use Rattle.m11_link_laws.specs.Lines.{map_lines, message_lines};
 
 /// The tape of whole modules has a block for each of their texts, in their order, and after them the transfer block. A
@@ -24,6 +26,21 @@ pub fn linked_texts_are_the_tape()
         ≡ flat_map block_of (linked_texts found parts) ++ tape_block found.transfer [] }
 {}
 
+/// The tape that a link of objects writes holds, as a loader reads it, the blocks of their texts that have data, and its
+/// transfer address is that of the objects: nothing stands between the blocks, and nothing after the transfer block.
+#[tactic(auto, using(crate::proofs::TapesOfObjects::tape_of_objects, crate::proofs::TapesOfObjects::objects_make_a_tape))]
+pub fn objects_make_the_tape_of_their_texts()
+    ensures bytes { (bottom : ℕ) (sources : List (List ℕ)) (items : List Item) (parts : List Part)
+        → AreItems sources items → outcome bottom items ≡ Ok parts
+        → gained link Tape (link_writes (findings_of bottom parts) parts)
+        ≡ flat_map block_of (linked_texts (findings_of bottom parts) parts)
+        ++ tape_block (transfer_address bottom parts) [] }
+    ensures tape { (bottom : ℕ) (sources : List (List ℕ)) (items : List Item) (parts : List Part)
+        → AreItems sources items → outcome bottom items ≡ Ok parts
+        → IsTape (tape_blocks (findings_of bottom parts) parts) (transfer_address bottom parts)
+        (gained link Tape (link_writes (findings_of bottom parts) parts)) }
+{}
+
 /// The map has a line for each section, for each global and for each name that is defined nowhere, under their words, and
 /// then the transfer address and the limits; nothing else, whatever the parts are.
 #[tactic(auto, using(crate::proofs::LinesWritten::map_of_lines))]
@@ -33,9 +50,12 @@ pub fn map_is_its_lines()
 {}
 
 /// The messages have a line for each global that has a strong reference and is defined nowhere, and then one for each
-/// entry that defines a name again, or gives a section other attributes than its first entry; nothing else.
-#[tactic(auto, using(crate::proofs::LinesWritten::messages_of_lines))]
+/// entry that defines a name again, or gives a section other attributes than its first entry; nothing else. The count of
+/// messages that a run reports is the number of these lines, and stops at 4,294,967,295.
+#[tactic(auto, using(crate::proofs::LinesWritten::messages_of_lines, crate::proofs::LinesWritten::lines_counted))]
 pub fn messages_are_their_lines()
-    ensures { (found : Findings) (parts : List Part)
+    ensures lines { (found : Findings) (parts : List Part)
         → gained link Messages (link_writes found parts) ≡ concat (message_lines found parts) }
+    ensures count { (found : Findings) (parts : List Part)
+        → counted 0 (link_writes found parts) ≡ min (length (message_lines found parts)) most_messages }
 {}
