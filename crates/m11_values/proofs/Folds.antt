@@ -117,7 +117,7 @@ no_prefix TwoColons h = cc
 no_prefix Equals h = cc
 no_prefix TwoEquals h = cc
 
-no_operator : (sort : Sort) → role_of sort ≡ Term → last_operator begin (sort ∷ []) ≡ None
+pub no_operator : (sort : Sort) → role_of sort ≡ Term → last_operator begin (sort ∷ []) ≡ None
 no_operator Name h = refl
 no_operator Number h = refl
 no_operator DecimalNumber h = refl

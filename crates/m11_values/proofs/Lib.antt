@@ -1,3 +1,4 @@
+mod BeforeTerms
 mod Cases
 mod Exits
 mod FirstOperators

@@ -17,7 +17,8 @@ pub use expressions::{expression_value, term_value};
 pub use kinds::Kind;
 pub use laws::{
     an_operator_joins_its_sides, brackets_keep_the_value, case_makes_no_difference,
-    operators_apply_from_left_to_right, symbols_that_are_read_decide,
+    operators_apply_from_left_to_right, prefixes_apply_to_the_term_after_them,
+    symbols_that_are_read_decide, terms_are_made_of_terms,
 };
 pub use m11_scan::Radix;
 pub use names::{Names, Symbol};
