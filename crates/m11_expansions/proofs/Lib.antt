@@ -1,3 +1,4 @@
+mod Words
 mod Pieces
 pub mod Stacks
 pub mod Whole

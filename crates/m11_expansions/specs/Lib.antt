@@ -3,3 +3,4 @@ pub mod Conditions
 pub mod Left
 pub mod Bodies
 pub mod Frames
+pub mod Laws

@@ -5,6 +5,7 @@ ghost use Rattle.std.specs.List.{list_any};
 ghost use Rattle.m11_base.specs.Devices.{Bytes};
 ghost use Rattle.m11_base.specs.Rad50.{Name};
 ghost use Rattle.m11_expansions.specs.Bodies.{HalfTaken, IsTaken, before_left, body_of, cut_at, nothing_taken, taken_with, depth_after, texts_of, with_lines};
+ghost use Rattle.m11_expansions.specs.Laws.{IsReplacedBy, IsWord, begins_in_word, ends_in_word, without_first_quote, without_last_quote};
 ghost use Rattle.m11_expansions.specs.Left.{End, Left, Line, expanded};
 ghost use Rattle.m11_expansions.specs.Substitution.{Other, Run, actual_for, is_replaced, joined, line_with, pieces_of, substituted};
 ghost use Rattle.m11_expansions.specs.declared.mark.Mark.{Mark};
@@ -18,6 +19,38 @@ pub fn formals_alone_are_replaced()
     ensures joins { (formals : List Name) (actuals : List Bytes) (first second one other : Bytes)
         → actual_for formals actuals (Run first) ≡ Some one → actual_for formals actuals (Run second) ≡ Some other
         → joined formals actuals false (Run first ∷ Other 0o47 ∷ Run second ∷ []) ≡ one ++ other }
+{}
+
+/// A formal that is a whole word of a text gives way to its actual, and with it one `'` directly before it and one directly after
+/// it, if they stand there. What stands before and after goes on the same way.
+pub fn a_formal_gives_way_with_a_quote_on_each_side()
+    ensures { (formals : List Name) (actuals : List Bytes) (before name after actual : Bytes) → IsWord name
+        → ends_in_word before ≡ false → begins_in_word after ≡ false → actual_for formals actuals (Run name) ≡ Some actual
+        → substituted formals actuals (before ++ (name ++ after))
+        ≡ substituted formals actuals (without_last_quote before)
+        ++ (actual ++ substituted formals actuals (without_first_quote after)) }
+{}
+
+/// A word that is replaced takes one `'` on each side with it: where it stands alone, after a quote, before one, or between two, its
+/// actual is all that stays. One quote or two between two such words join their actuals; of three, one stays.
+pub fn quotes_beside_a_formal_vanish()
+    ensures alone { (formals : List Name) (actuals : List Bytes) (word actual : Bytes) → IsReplacedBy formals actuals word actual
+        → substituted formals actuals word ≡ actual }
+    ensures after_quote { (formals : List Name) (actuals : List Bytes) (word actual : Bytes)
+        → IsReplacedBy formals actuals word actual → substituted formals actuals (0o47 ∷ word) ≡ actual }
+    ensures before_quote { (formals : List Name) (actuals : List Bytes) (word actual : Bytes)
+        → IsReplacedBy formals actuals word actual → substituted formals actuals (word ++ 0o47 ∷ []) ≡ actual }
+    ensures between_quotes { (formals : List Name) (actuals : List Bytes) (word actual : Bytes)
+        → IsReplacedBy formals actuals word actual → substituted formals actuals (0o47 ∷ (word ++ 0o47 ∷ [])) ≡ actual }
+    ensures one_quote { (formals : List Name) (actuals : List Bytes) (first second one other : Bytes)
+        → IsReplacedBy formals actuals first one → IsReplacedBy formals actuals second other
+        → substituted formals actuals (first ++ 0o47 ∷ second) ≡ one ++ other }
+    ensures two_quotes { (formals : List Name) (actuals : List Bytes) (first second one other : Bytes)
+        → IsReplacedBy formals actuals first one → IsReplacedBy formals actuals second other
+        → substituted formals actuals (first ++ 0o47 ∷ 0o47 ∷ second) ≡ one ++ other }
+    ensures three_quotes { (formals : List Name) (actuals : List Bytes) (first second one other : Bytes)
+        → IsReplacedBy formals actuals first one → IsReplacedBy formals actuals second other
+        → substituted formals actuals (first ++ 0o47 ∷ 0o47 ∷ 0o47 ∷ second) ≡ one ++ 0o47 ∷ other }
 {}
 
 /// A body that is half taken goes on where it stopped: what is left is cut as if its lines still stood in front.

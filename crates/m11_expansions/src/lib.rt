@@ -16,7 +16,8 @@ mod text;
 
 pub use conditions::{CONDITION_LIMIT, Conditions, OpenCondition, Part};
 pub use laws::{
-    expansions_are_rounds_and_an_end, formals_alone_are_replaced, half_taken_bodies_go_on,
+    a_formal_gives_way_with_a_quote_on_each_side, expansions_are_rounds_and_an_end,
+    formals_alone_are_replaced, half_taken_bodies_go_on, quotes_beside_a_formal_vanish,
 };
 pub use left::{EXPANSION_LIMIT, Remaining, Taken};
 pub use mark::Mark;
