@@ -1,3 +1,4 @@
+mod Switches
 mod Words
 mod Pieces
 pub mod Stacks

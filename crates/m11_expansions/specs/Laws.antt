@@ -1,10 +1,12 @@
--- Words in a text, and the quotes beside them.
+-- Words in a text with the quotes beside them; what stands inside a condition.
 use Rattle.std.specs.Prelude.{◌≡◌, ◌==◌, Bool, true, false, if◌then◌else◌, List, [], ◌∷◌, Some}
 use Rattle.m11_base.specs.Devices.{Bytes}
 use Rattle.m11_base.specs.Mnemonics.{is_name_character}
 use Rattle.m11_base.specs.Rad50.{Name}
 use Rattle.m11_scan.specs.Names.{has_name_characters_alone}
+use Rattle.m11_expansions.specs.Conditions.{OpenConditions, closed, entering, nested, past, switched, unnested}
 use Rattle.m11_expansions.specs.Substitution.{Run, actual_for}
+use Rattle.m11_expansions.specs.declared.conditions.Part.{Part}
 
 -- one name character or more, and no other
 abbrev pub IsWord : Bytes → Type 0
@@ -36,3 +38,20 @@ abbrev pub without_last_quote : Bytes → Bytes
 without_last_quote [] = []
 without_last_quote (byte ∷ []) = if byte == 0o47 then [] else byte ∷ []
 without_last_quote (byte ∷ next ∷ text) = byte ∷ without_last_quote (next ∷ text)
+
+-- what stands in skipped lines: whole conditions alone, one after the other, and each with such lines inside
+pub data SkippedInside : OpenConditions → OpenConditions → Type 0 where
+  NoneSkipped : (conditions : OpenConditions) → SkippedInside conditions conditions
+  OneSkipped : (first inner last : OpenConditions) → SkippedInside (nested first) inner → SkippedInside (unnested inner) last
+      → SkippedInside first last
+
+-- what stands inside a condition: switches and whole conditions, one after the other. The whole ones were entered, or stood in
+-- lines that are skipped, or were past the last that may be open.
+pub data Inside : OpenConditions → OpenConditions → Type 0 where
+  Nothing : (conditions : OpenConditions) → Inside conditions conditions
+  Switch : (part : Part) (first last : OpenConditions) → Inside (switched part first) last → Inside first last
+  Entered : (holds : Bool) (first inner last : OpenConditions) → Inside (entering holds first) inner
+      → Inside (closed inner) last → Inside first last
+  Skipped : (first inner last : OpenConditions) → SkippedInside (nested first) inner → Inside (unnested inner) last
+      → Inside first last
+  Past : (first inner last : OpenConditions) → SkippedInside (past first) inner → Inside (closed inner) last → Inside first last

@@ -1,13 +1,17 @@
 //! Laws of bodies and expansions. Each is the contract of a function that does nothing.
 
-ghost use Rattle.std.specs.Prelude.{◌≡◌, ◌∷◌, ◌++◌, [], ℕ, List, Some, false, map};
+ghost use Rattle.std.specs.Prelude.{◌≡◌, ◌∷◌, ◌++◌, [], ℕ, Bool, List, Some, false, map, not};
 ghost use Rattle.std.specs.List.{list_any};
 ghost use Rattle.m11_base.specs.Devices.{Bytes};
 ghost use Rattle.m11_base.specs.Rad50.{Name};
 ghost use Rattle.m11_expansions.specs.Bodies.{HalfTaken, IsTaken, before_left, body_of, cut_at, nothing_taken, taken_with, depth_after, texts_of, with_lines};
-ghost use Rattle.m11_expansions.specs.Laws.{IsReplacedBy, IsWord, begins_in_word, ends_in_word, without_first_quote, without_last_quote};
+ghost use Rattle.m11_expansions.specs.Conditions.{OpenConditions, closed, entering, is_live_in, is_skipping};
+ghost use Rattle.m11_expansions.specs.Conditions.{nested, past, switched, unnested};
+ghost use Rattle.m11_expansions.specs.Laws.{Inside, IsReplacedBy, IsWord, SkippedInside, begins_in_word, ends_in_word};
+ghost use Rattle.m11_expansions.specs.Laws.{without_first_quote, without_last_quote};
 ghost use Rattle.m11_expansions.specs.Left.{End, Left, Line, expanded};
 ghost use Rattle.m11_expansions.specs.Substitution.{Other, Run, actual_for, is_replaced, joined, line_with, pieces_of, substituted};
+ghost use Rattle.m11_expansions.specs.declared.conditions.Part.{Part};
 ghost use Rattle.m11_expansions.specs.declared.mark.Mark.{Mark};
 ghost use Rattle.m11_expansions.specs.declared.open_body.Nesting.{Nesting};
 ghost use Rattle.m11_lines.specs.Line.{SourceLine};
@@ -31,8 +35,8 @@ pub fn a_formal_gives_way_with_a_quote_on_each_side()
         ++ (actual ++ substituted formals actuals (without_first_quote after)) }
 {}
 
-/// A word that is replaced takes one `'` on each side with it: where it stands alone, after a quote, before one, or between two, its
-/// actual is all that stays. One quote or two between two such words join their actuals; of three, one stays.
+/// A word that is replaced takes one `'` on each side with it: where it stands alone, after a quote, before one, or between two,
+/// its actual is all that stays. One quote or two between two such words join their actuals; of three, one stays.
 pub fn quotes_beside_a_formal_vanish()
     ensures alone { (formals : List Name) (actuals : List Bytes) (word actual : Bytes) → IsReplacedBy formals actuals word actual
         → substituted formals actuals word ≡ actual }
@@ -72,4 +76,27 @@ pub fn expansions_are_rounds_and_an_end()
         → expanded formals [] body mark left ≡ End mark ∷ left }
     ensures empty { (formals : List Name) (rounds : List (List Bytes)) (mark : Mark) (left : List Left)
         → expanded formals rounds [] mark left ≡ End mark ∷ left }
+{}
+
+/// Inside a condition the last `.IFF`, `.IFT` or `.IFTF`, and whether the condition holds, decide whether the lines after it are
+/// skipped. What stood before it, other switches and whole conditions, makes no difference. Before the first one, whether the
+/// condition holds decides alone.
+pub fn the_last_switch_decides()
+    ensures skips { (holds : Bool) (part : Part) (conditions inside : OpenConditions) → conditions.is_past ≡ false
+        → Inside (entering holds conditions) inside → is_skipping (switched part inside) ≡ not (is_live_in part holds) }
+    ensures begins { (holds : Bool) (conditions : OpenConditions) → conditions.is_past ≡ false
+        → is_skipping (entering holds conditions) ≡ not holds }
+    ensures forgets { (part other : Part) (conditions : OpenConditions)
+        → switched part (switched other conditions) ≡ switched part conditions }
+{}
+
+/// An `.ENDC` undoes its `.IF`: the conditions are again as they were before it, whatever switches and whole conditions stood
+/// between the two. So does that of an `.IF` in lines that are skipped, and that of the condition past the last that may be open.
+pub fn an_endc_undoes_its_if()
+    ensures entered { (holds : Bool) (conditions inside : OpenConditions) → conditions.is_past ≡ false
+        → Inside (entering holds conditions) inside → closed inside ≡ conditions }
+    ensures skipped { (conditions inside : OpenConditions) → SkippedInside (nested conditions) inside
+        → unnested inside ≡ conditions }
+    ensures past { (conditions inside : OpenConditions) → conditions.is_past ≡ false → SkippedInside (past conditions) inside
+        → closed inside ≡ conditions }
 {}

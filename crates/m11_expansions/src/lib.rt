@@ -16,8 +16,9 @@ mod text;
 
 pub use conditions::{CONDITION_LIMIT, Conditions, OpenCondition, Part};
 pub use laws::{
-    a_formal_gives_way_with_a_quote_on_each_side, expansions_are_rounds_and_an_end,
-    formals_alone_are_replaced, half_taken_bodies_go_on, quotes_beside_a_formal_vanish,
+    a_formal_gives_way_with_a_quote_on_each_side, an_endc_undoes_its_if,
+    expansions_are_rounds_and_an_end, formals_alone_are_replaced, half_taken_bodies_go_on,
+    quotes_beside_a_formal_vanish, the_last_switch_decides,
 };
 pub use left::{EXPANSION_LIMIT, Remaining, Taken};
 pub use mark::Mark;
