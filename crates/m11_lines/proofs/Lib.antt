@@ -8,3 +8,4 @@ pub mod Runs
 pub mod PlainFronts
 pub mod ShortLines
 pub mod TableOfBytes
+pub mod PlainTexts

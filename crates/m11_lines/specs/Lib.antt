@@ -3,3 +3,4 @@ pub mod Line
 pub mod OpenLine
 pub mod Sources
 pub mod Reader
+pub mod Laws

@@ -10,6 +10,9 @@ mod reader;
 mod sources;
 
 pub use fault::LineFault;
-pub use laws::lines_of_parts_are_those_of_the_whole;
+pub use laws::{
+    lines_of_parts_are_those_of_the_whole, lines_within_the_limit_are_kept_whole,
+    plain_lines_are_cut_as_they_stand,
+};
 pub use line::{LINE_LIMIT, Line};
 pub use reader::LineReader;

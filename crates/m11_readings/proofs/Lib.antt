@@ -4,3 +4,4 @@ pub mod Passing
 pub mod Given
 pub mod Reached
 pub mod Feeds
+mod PlainLines

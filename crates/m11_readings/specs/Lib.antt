@@ -1,2 +1,3 @@
 pub mod Readings
 pub mod Calls
+pub mod Laws

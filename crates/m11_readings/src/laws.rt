@@ -1,12 +1,14 @@
 //! Laws of readings. Each is the contract of a function that does nothing.
 
-ghost use Rattle.std.specs.Prelude.{◌≡◌, ◌∷◌, ◌++◌, ℕ, List, [], Option, Some, None, Ok, Err};
+ghost use Rattle.std.specs.Prelude.{◌≡◌, ◌≤◌, ◌∷◌, ◌++◌, ℕ, List, [], length, map, sum_by, Option, Some, None, Ok, Err};
 ghost use Rattle.m11_base.specs.Devices.{Bytes};
 ghost use Rattle.m11_base.specs.Feed.{Text};
 ghost use Rattle.m11_lines.specs.declared.fault.LineFault.TheVariants.{Read, TooMuchSource, TooManyLines};
-ghost use Rattle.m11_lines.specs.Line.{SourceLine};
+ghost use Rattle.m11_lines.specs.Line.{SourceLine, line_of};
+ghost use Rattle.m11_lines.specs.Lines.{most_bytes, most_lines};
 ghost use Rattle.m11_lines.specs.Reader.{Place, place_at, ReadsNext};
 ghost use Rattle.m11_readings.specs.Calls.{BeginReading, FailReading, HasRead, HaveReading, start};
+ghost use Rattle.m11_readings.specs.Laws.{HaveLines};
 ghost use Rattle.m11_readings.specs.Readings.{reading_of};
 
 /// Before the first call no line was read, and each call that returns one adds it to those before.
@@ -20,6 +22,13 @@ pub fn calls_read_lines_in_order()
 pub fn sources_after_a_line_feed_are_one_text()
     ensures { (one other : Bytes) (sources : List Bytes)
         → reading_of ((one ++ 0o12 ∷ []) ∷ other ∷ sources) ≡ reading_of (((one ++ 0o12 ∷ []) ++ other) ∷ sources) }
+{}
+
+/// Lines without NULs, line feeds, form feeds and CRs are read as they stand, in order, from one source or from several, within
+/// the limits: a line feed follows each, or the end of its source follows the last one.
+pub fn plain_lines_are_read_as_they_stand()
+    ensures { (sources lines : List Bytes) → HaveLines sources lines → sum_by length sources ≤ most_bytes
+        → length lines ≤ most_lines → reading_of sources ≡ record { lines = map line_of lines; fault = None } }
 {}
 
 /// What a new reader returns call by call is the reading of the sources that its feeds give. Where no more is read, the

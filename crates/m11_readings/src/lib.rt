@@ -7,5 +7,5 @@ mod laws;
 
 pub use laws::{
     calls_read_lines_in_order, lines_read_are_those_of_the_sources,
-    sources_after_a_line_feed_are_one_text,
+    plain_lines_are_read_as_they_stand, sources_after_a_line_feed_are_one_text,
 };
