@@ -1,4 +1,5 @@
 mod Calls
+mod Created
 mod Fillings
 mod Headers
 mod Immediately

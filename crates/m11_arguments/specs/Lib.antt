@@ -7,6 +7,7 @@ pub mod Expressions
 pub mod Filling
 pub mod Immediate
 pub mod Indefinite
+pub mod Laws
 pub mod LeftOvers
 pub mod Macros
 pub mod Notes
