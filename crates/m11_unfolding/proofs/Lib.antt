@@ -1,11 +1,11 @@
 mod Calls
 mod Constructs
-mod Ending
-mod Expanding
+pub mod Ending
+pub mod Expanding
 pub mod Following
 pub mod MoreLines
-mod OneUnfolding
+pub mod OneUnfolding
 mod OpenConditions
-mod Operators
-mod OtherLines
+pub mod Operators
+pub mod OtherLines
 mod Repeats

@@ -1,0 +1,4 @@
+pub mod Bodies
+pub mod Runs
+pub mod Texts
+pub mod Words

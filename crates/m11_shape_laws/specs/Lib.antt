@@ -1,0 +1,5 @@
+pub mod Bodies
+pub mod Limits
+pub mod Places
+pub mod Putting
+pub mod Shapes

@@ -1,0 +1,7 @@
+//! Laws of the shapes of a source: which lines become live of calls, repeats, definitions and conditions, any of them in any other. (MACRO-11
+//! Language Reference Manual, "Macro directives" and "Conditional assembly directives".)
+#![tactic(auto)]
+
+mod laws;
+
+pub use laws::a_body_ends_at_its_close_by_nesting_alone;
