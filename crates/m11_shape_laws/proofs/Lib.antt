@@ -1,4 +1,6 @@
 pub mod Bodies
+pub mod Lines
 pub mod Runs
+pub mod Shaped
 pub mod Texts
 pub mod Words

@@ -1,4 +1,5 @@
 pub mod Bodies
+pub mod Laws
 pub mod Limits
 pub mod Places
 pub mod Putting

@@ -12,15 +12,15 @@ use Rattle.m11_arguments.specs.Notes.{Notes, noting}
 use Rattle.m11_arguments.specs.declared.directives.Directive.{Directive}
 use Rattle.m11_arguments.specs.declared.directives.Directive.TheVariants as word
 use Rattle.m11_arguments.specs.declared.macros.MacroFormal.{MacroFormal}
-use Rattle.m11_expansions.specs.Conditions.{is_live_in}
+use Rattle.m11_expansions.specs.Conditions.{is_live_in, past}
 use Rattle.m11_expansions.specs.Left.{has_mark}
 use Rattle.m11_expansions.specs.declared.conditions.Part.{Part}
 use Rattle.m11_expansions.specs.declared.conditions.Part.TheVariants as part
-use Rattle.m11_unfolding.specs.Acting.{Operation, Calls, Directs, Foreign, flagged, letter_O}
+use Rattle.m11_unfolding.specs.Acting.{Operation, Directs, Foreign, flagged, letter_O, operation}
 use Rattle.m11_unfolding.specs.Constructs.{condition_notes}
 use Rattle.m11_unfolding.specs.Stages.{Purpose, Defines, Drops}
 use Rattle.m11_unfolding.specs.Unfolding.{Given}
-use Rattle.m11_shape_laws.specs.Places.{Place, Situation, counting, defining, has_condition_left, operation_at, other_line, own_line, within_condition, within_expansion}
+use Rattle.m11_shape_laws.specs.Places.{Place, Situation, counting, defining, has_condition_left, only_entered, operation_at, other_line, own_line, within_condition, within_expansion}
 use Rattle.m11_shape_laws.specs.Putting.{HasBody, HasNoClose, Opens, Put, Puts}
 
 -- how lines end
@@ -64,8 +64,8 @@ pub data IsAstray (place : Place) (text : Bytes) : Operation → Notes → Type 
   EndMacro : (at : ℕ) → IsAstray place text (Directs word.EndMacro at) (noting letter_O [])
   EndRepeat : (at : ℕ) → IsAstray place text (Directs word.EndRepeat at) (noting letter_O [])
   MacroExit : (at : ℕ) → place.around ≡ [] → IsAstray place text (Directs word.MacroExit at) (flagged letter_O text at)
-  Begin : (operation : Operation) (part : Part) (at : ℕ) → Begins operation part at → place.entered ≡ []
-      → IsAstray place text operation (flagged letter_O text at)
+  Begin : (operator : Operation) (part : Part) (at : ℕ) → Begins operator part at → place.entered ≡ []
+      → IsAstray place text operator (flagged letter_O text at)
   EndCondition : (at : ℕ) → place.entered ≡ [] → IsAstray place text (Directs word.EndCondition at) (flagged letter_O text at)
 
 -- ---- text that is skipped
@@ -167,7 +167,8 @@ mutual
     -- a 33rd condition has the letter O, and all up to its `.ENDC` is text
     Refused : (place : Place) (before after : Situation) (ending : Ending) (known last : Known) (line close : SourceLine)
         (text lines : List SourceLine) (gives : List Given) (at end : ℕ) → operation_at place before line ≡ Directs word.If at
-        → has_condition_left place ≡ false → IsText true 0 text 0 → operation_at place before close ≡ Directs word.EndCondition end
+        → has_condition_left place ≡ false → IsText true 0 text 0
+        → operation (past (only_entered place.entered)) before.macros close.text ≡ Directs word.EndCondition end
         → Shape place (counting (length text + 2) before) lines gives after ending
         → Shape place before (line ∷ text ++ close ∷ lines)
         (own_line place known line (noting letter_O []) ∷ own_line place last close (flagged 0 close.text end) ∷ gives) after ending

@@ -1,0 +1,41 @@
+-- Where the lines of a shape lead to. (MACRO-11 Language Reference Manual, "Macro directives" and "Conditional assembly directives".)
+use Rattle.std.specs.Prelude.{◌≡◌, ◌⊎◌, ℕ, true, false, List, [], ◌∷◌, ◌++◌, map, Option}
+use Rattle.m11_lines.specs.Line.{SourceLine}
+use Rattle.m11_expansions.specs.Conditions.{OpenConditions, is_live_inside}
+use Rattle.m11_expansions.specs.Left.{Left, marks}
+use Rattle.m11_unfolding.specs.Stages.{Opening, Stage, line_left}
+use Rattle.m11_unfolding.specs.Taking.{Rests, move}
+use Rattle.m11_unfolding.specs.Unfolding.{Given, Leads, Unfolds}
+use Rattle.m11_shape_laws.specs.Limits.{IsCutShort}
+use Rattle.m11_shape_laws.specs.Places.{Place, Situation, stage_of}
+use Rattle.m11_shape_laws.specs.Shapes.{Ending, GoesOn, Stops, Ends}
+
+-- what is left after lines is so at their place: these expansions are open, and the lines are live in all conditions
+pub record StandsIn (place : Place) (left : List Left) : Type 0 where
+  pub around : marks left ≡ place.around
+  pub is_live : is_live_inside place.entered ≡ true
+
+-- lines before what is left
+abbrev pub before_lines : Place → Situation → List SourceLine → List Left → Stage
+before_lines place situation lines left = stage_of place situation (map line_left lines ++ left)
+
+-- some conditions and some body may be open
+pub record IsStopped (situation : Situation) (left : List Left) (stage : Stage) : Type 0 where
+  pub conditions : OpenConditions
+  pub opening : Option Opening
+  pub is : stage ≡ record {
+    left = left;
+    conditions = conditions;
+    opening = opening;
+    macros = situation.macros;
+    defined_bytes = situation.defined_bytes;
+    created = situation.created;
+    taken = situation.taken;
+    has_ended = false;
+  }
+
+-- the stage after lines, by how they end
+abbrev pub Arrived : Ending → Place → Situation → List Left → Stage → Type 0
+Arrived GoesOn place after left stage = stage ≡ stage_of place after left
+Arrived Stops place after left stage = IsStopped after left stage
+Arrived Ends place after left stage = stage.has_ended ≡ true
