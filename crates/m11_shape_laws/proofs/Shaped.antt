@@ -46,7 +46,7 @@ AtEnd GoesOn left = ⊤
 AtEnd Stops left = after_mark left ≡ left
 AtEnd Ends left = ⊤
 
-at_mark : (ending : Ending) (mark : Mark) (left : List Left) → AtEnd ending (End mark ∷ left)
+pub at_mark : (ending : Ending) (mark : Mark) (left : List Left) → AtEnd ending (End mark ∷ left)
 at_mark GoesOn mark left = tt
 at_mark Stops mark left = refl
 at_mark Ends mark left = tt
@@ -163,7 +163,7 @@ module _ (place : Place) (before : Situation) (known : Known) (line : SourceLine
       (subst (λ (o : Operation). Opens known line.text o notes (Repeats formals rounds)) (sym is) opened) has around taking
 
 -- what stands after an expansion
-returned : (place : Place) (middle : Situation) (arguments : Option ℕ) (bytes : ℕ) (left : List Left) (inner : Ending) (stage : Stage)
+pub returned : (place : Place) (middle : Situation) (arguments : Option ℕ) (bytes : ℕ) (left : List Left) (inner : Ending) (stage : Stage)
     → Returns inner → Arrived inner (within_expansion arguments bytes place) middle (End (mark_at place arguments bytes) ∷ left) stage
     → Runs stage [] (λ s. s ≡ stage_of place middle left)
 returned place middle arguments bytes left GoesOn stage returns there =
@@ -288,7 +288,7 @@ module _ (P : Stage → Type 0) (place : Place) (before : Situation) (known last
 
 -- a part, and then a word of the condition
 module _ (P : Stage → Type 0) (place : Place) (holds is_live : Bool) (before middle : Situation) (known : Known) (line : SourceLine)
-    (lines others : List SourceLine) (gives later : List Given) (at : ℕ) (left : List Left) where
+    (lines others : List SourceLine) (gives later : List Given) (notes : Notes) (left : List Left) where
   abbrev part_stage : Bool → Situation → List Left → Stage
   part_stage live situation l = stage_of (within_condition holds live place) situation l
 
@@ -302,15 +302,15 @@ module _ (P : Stage → Type 0) (place : Place) (holds is_live : Bool) (before m
       → move (part_stage is_live middle (Line line ∷ others_left))
       ≡ Gives (record { line = line; is_expanded = is_expanding others_left }) (part_stage is_live (counting 1 middle) others_left)
       → acted_by known line.text (part_stage is_live (counting 1 middle) others_left)
-      (operation_at (within_condition holds is_live place) middle line) ≡ own (flagged 0 line.text at) there
+      (operation_at (within_condition holds is_live place) middle line) ≡ own notes there
       → Runs there later P
       → Runs (part_stage is_live before (map line_left (lines ++ line ∷ others) ++ left))
-      (gives ++ own_line place known line (flagged 0 line.text at) ∷ later) P
+      (gives ++ own_line place known line notes ∷ later) P
   after_part there part around moves acts next =
       let Q : Stage → Type 0 = λ s. s ≡ part_stage is_live middle (Line line ∷ others_left) in
-      let told : List Given = own_line place known line (flagged 0 line.text at) ∷ later in
+      let told : List Given = own_line place known line notes ∷ later in
       let word : Runs (part_stage is_live middle (Line line ∷ others_left)) told P
-      = line_by P (within_condition holds is_live place) middle known line others_left (own (flagged 0 line.text at) there) later
+      = line_by P (within_condition holds is_live place) middle known line others_left (own notes there) later
       (same_marks others left ∙ around) moves acts next in
       from_same P (part_stage is_live before (map line_left (lines ++ line ∷ others) ++ left))
       (part_stage is_live before (map line_left lines ++ (Line line ∷ others_left))) (gives ++ told)
@@ -462,7 +462,7 @@ mutual
       begins next) left around taking end =
       let rest : List Left = map line_left others ++ left in
       let inside : Place = within_condition holds is_live place in
-      after_part (Arrived ending place after left) place holds is_live before middle known line lines others gives later at left
+      after_part (Arrived ending place after left) place holds is_live before middle known line lines others gives later (flagged 0 line.text at) left
       (stage_of (within_condition holds (is_live_in part holds) place) (counting 1 middle) rest)
       (one_part place holds is_live before lines gives middle GoesOn one (Line line ∷ rest) (same_marks others left ∙ around) tt)
       around (begin_comes place holds middle line rest is_live (operation_at inside middle line) part at begins refl)
@@ -472,12 +472,26 @@ mutual
       closing next) left around taking end =
       let rest : List Left = map line_left others ++ left in
       let here : Stage = stage_of (within_condition holds is_live place) (counting 1 middle) rest in
-      after_part (Arrived ending place after left) place holds is_live before middle known line lines others gives later at left
+      after_part (Arrived ending place after left) place holds is_live before middle known line lines others gives later (flagged 0 line.text at) left
       (stage_of place (counting 1 middle) rest)
       (one_part place holds is_live before lines gives middle GoesOn one (Line line ∷ rest) (same_marks others left ∙ around) tt)
       around (close_comes place holds middle line rest is_live at closing)
       (ap (acted_by known line.text here) closing ∙ close_acts known line.text place holds is_live (counting 1 middle) rest at)
       (shape place (counting 1 middle) others later after ending next left around taking end)
+  parts _ _ _ _ _ _ _ _ (shapes.Parts.ImmediateInPart place holds before middle after ending known line lines others gives later at one
+      is next) left around taking end =
+      let rest : List Left = map line_left others ++ left in
+      let inside : Place = within_condition holds true place in
+      let here : Stage = stage_of inside (counting 1 middle) rest in
+      let all : List SourceLine = statement known line.text at ++ others in
+      let notes : Notes = immediate.notes known line.text at in
+      after_part (Arrived ending place after left) place holds true before middle known line lines others gives later notes left
+      (stage_of inside (counting 1 middle) (map line_left all ++ left))
+      (one_part place holds true before lines gives middle GoesOn one (Line line ∷ rest) (same_marks others left ∙ around) tt)
+      around refl
+      (ap (acted_by known line.text here) is ∙ ap (own notes) (with_next inside (counting 1 middle) line.text
+      (immediate.immediate known line.text at).holds (immediate.immediate known line.text at).statement others left))
+      (parts place holds true (counting 1 middle) all later after ending next left around taking end)
   parts _ _ _ _ _ _ _ _ (shapes.Parts.Last place holds is_live before after ending lines gives one) left around taking end =
       weakened (Arrived ending (within_condition holds is_live place) after left) (Arrived (unclosed ending) place after left)
       (before_lines (within_condition holds is_live place) before lines left) gives

@@ -1,12 +1,11 @@
 -- Where the lines of a shape lead to. (MACRO-11 Language Reference Manual, "Macro directives" and "Conditional assembly directives".)
-use Rattle.std.specs.Prelude.{◌≡◌, ◌⊎◌, ℕ, true, false, List, [], ◌∷◌, ◌++◌, map, Option}
+use Rattle.std.specs.Prelude.{◌≡◌, true, false, List, ◌++◌, map, Option}
 use Rattle.m11_lines.specs.Line.{SourceLine}
 use Rattle.m11_expansions.specs.Conditions.{OpenConditions, is_live_inside}
 use Rattle.m11_expansions.specs.Left.{Left, marks}
 use Rattle.m11_unfolding.specs.Stages.{Opening, Stage, line_left}
 use Rattle.m11_unfolding.specs.Taking.{Rests, move}
 use Rattle.m11_unfolding.specs.Unfolding.{Given, Leads, Unfolds}
-use Rattle.m11_shape_laws.specs.Limits.{IsCutShort}
 use Rattle.m11_shape_laws.specs.Places.{Place, Situation, stage_of}
 use Rattle.m11_shape_laws.specs.Shapes.{Ending, GoesOn, Stops, Ends}
 
@@ -39,3 +38,20 @@ abbrev pub Arrived : Ending → Place → Situation → List Left → Stage → 
 Arrived GoesOn place after left stage = stage ≡ stage_of place after left
 Arrived Stops place after left stage = IsStopped after left stage
 Arrived Ends place after left stage = stage.has_ended ≡ true
+
+-- `.END` became live after these lines
+pub record IsEndedAfter (before : Stage) (gives : List Given) : Type 0 where
+  pub stage : Stage
+  pub leads : Leads before gives stage
+  pub ended : stage.has_ended ≡ true
+
+-- these are all live lines of a source
+pub record HasLiveLines (source : List SourceLine) (gives : List Given) : Type 0 where
+  pub stage : Stage
+  pub unfolds : Unfolds source gives stage
+  pub rests : move stage ≡ Rests
+
+-- some lines begin with others
+pub record BeginWith (gives done : List Given) : Type 0 where
+  pub more : List Given
+  pub whole : gives ≡ done ++ more

@@ -214,6 +214,15 @@ mutual
         → Parts place holds is_live before (lines ++ line ∷ others)
         (gives ++ own_line place known line (flagged 0 line.text at) ∷ later) after ending
 
+    -- a live part up to an `.IIF` whose statement is a word of the condition, or stands before one
+    ImmediateInPart : (place : Place) (holds : Bool) (before middle after : Situation) (ending : Ending) (known : Known)
+        (line : SourceLine) (lines others : List SourceLine) (gives later : List Given) (at : ℕ)
+        → OnePart place holds true before lines gives middle GoesOn
+        → operation_at (within_condition holds true place) middle line ≡ Directs word.ImmediateIf at
+        → Parts place holds true (counting 1 middle) (statement known line.text at ++ others) later after ending
+        → Parts place holds true before (lines ++ line ∷ others)
+        (gives ++ own_line place known line (immediate.notes known line.text at) ∷ later) after ending
+
     -- the part alone, where the expansion, the source or all ends with it
     Last : (place : Place) (holds is_live : Bool) (before after : Situation) (ending : Ending) (lines : List SourceLine)
         (gives : List Given) → OnePart place holds is_live before lines gives after ending

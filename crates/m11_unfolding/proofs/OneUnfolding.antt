@@ -107,7 +107,7 @@ gives_too tells stage after other done later more live known fault moves acts to
     })
 
 -- what a front of the lines was told
-front_told : (tells : List Given → Live → Known) (done more : List Given) → IsKnownBy tells (done ++ more) → IsKnownBy tells done
+pub front_told : (tells : List Given → Live → Known) (done more : List Given) → IsKnownBy tells (done ++ more) → IsKnownBy tells done
 front_told tells done more told earlier later one is =
     told earlier (later ++ more) one (ap (λ (d : List Given). d ++ more) is ∙ append_assoc earlier (one ∷ later) more)
 
@@ -154,7 +154,7 @@ stays_there stage after more rests (Gave next live known rest moves is leads) =
     let both : Rests ≡ Gives live next = sym rests ∙ moves in
     absurd (cc both)
 
-same_end : (done later : List Given) (first second : Stage) → move first ≡ Rests → GoesOn done first later second
+pub same_end : (done later : List Given) (first second : Stage) → move first ≡ Rests → GoesOn done first later second
     → (later ≡ done) × (second ≡ first)
 same_end done later first second rests on =
     let still = stays_there first second on.more rests (first_step first second on.more on.leads) in
