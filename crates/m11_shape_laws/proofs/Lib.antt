@@ -1,7 +1,10 @@
 pub mod Bodies
+pub mod PlainBlocks
 pub mod Lines
 pub mod Runs
 pub mod Shaped
 pub mod Texts
+pub mod Walks
 pub mod Wholes
 pub mod Words
+pub mod Worked

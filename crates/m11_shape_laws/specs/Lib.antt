@@ -4,3 +4,4 @@ pub mod Limits
 pub mod Places
 pub mod Putting
 pub mod Shapes
+pub mod Worked
