@@ -1,11 +1,12 @@
 -- The calls give the unfolding of the source that was fed.
-use Rattle.std.proofs.Common.{◌≡◌, List, [], ◌∷◌, ◌++◌, append-nil, None, sym, subst}
-use Rattle.std.specs.Prelude.{Result, Ok, Err}
+use Rattle.std.proofs.Common.{◌≡◌, ◌∙◌, Bool, true, false, List, [], ◌∷◌, ◌++◌, append-nil, Some, None, sym, ap, subst}
+use Rattle.std.specs.Prelude.{if◌then◌else◌, Result, Ok, Err}
 use Rattle.std.proofs.lemmas.List.{map-append}
 use Rattle.m11_arguments.specs.Expressions.{Known}
 use Rattle.m11_expansions.specs.Left.{Left}
 use Rattle.m11_expansions.specs.Left as lefts
 use Rattle.m11_lines.specs.Line.{SourceLine}
+use Rattle.m11_unfolding.proofs.Ending.{rests_after, stays_after}
 use Rattle.m11_unfolding.proofs.Following.{follows}
 use Rattle.m11_unfolding.proofs.MoreLines.{leads_on}
 use Rattle.m11_unfolding.specs.Acting.{act, act_fault}
@@ -16,8 +17,9 @@ use Rattle.m11_unfolding.specs.Unfolding.{Given, Leads, Unfolds, given}
 use Rattle.m11_unfolding.specs.Unfolding as steps
 use Rattle.m11_unfolding.specs.declared.fault.UnfoldFault.{UnfoldFault}
 use Rattle.m11_unfolding.specs.declared.fault.UnfoldFault.TheVariants.{TooDeep, TooManyLines, TooMuchText, TooManyMacros, NoMemory}
-use Rattle.m11_unfold.specs.Sources.{Exceeds, Reaches, Refuses}
-use Rattle.m11_unfold.specs.Unfolder.{Comes, Passes, Steps, Stops, live_of}
+use Rattle.m11_unfold.specs.Sources.{Exceeds, ExceedsAt, IsAllTaken, IsOver, Reaches, ReachesOn, Refuses}
+use Rattle.m11_unfold.specs.Unfolder.{Acts, Comes, Passes, Steps, Stops, live_of}
+use Rattle.m11_unfold.specs.declared.steps.Act.{Act}
 use Rattle.m11_unfold.specs.declared.steps.Step.{Step}
 use Rattle.m11_unfold.specs.declared.steps.Step.TheVariants.{NeedLine, End, Line}
 
@@ -67,10 +69,66 @@ refuses source done before TooMuchText stands stops = exceeds source done before
 refuses source done before TooManyMacros stands stops = exceeds source done before TooManyMacros stands stops
 refuses source done before NoMemory stands stops = tt
 
+-- nothing is taken where nothing is left, and after `.END`
+rests_without : (left : List Left) (stage : Stage) → left ≡ [] → stage.has_ended ≡ false
+    → (if stage.has_ended then taking.Rests else taking.move_from left stage) ≡ taking.Rests
+rests_without left stage none going =
+    ap (λ (b : Bool). if b then taking.Rests else taking.move_from left stage) going
+    ∙ ap (λ (l : List Left). taking.move_from l stage) none
+
+all_taken : (source : List SourceLine) (done : List Given) (before after : Stage) → Unfolds source done before → Leads before [] after
+    → after.left ≡ [] → after.has_ended ≡ false → IsAllTaken source done after
+all_taken source done before after stands leads none going = record {
+  unfolds = passes_on source done before after stands leads;
+  none_left = none;
+  rests = rests_without after.left after none going;
+}
+
+over : (source : List SourceLine) (done : List Given) (before after : Stage) → Unfolds source done before → Leads before [] after
+    → after.has_ended ≡ true → IsOver source done after
+over source done before after stands leads ended = record {
+  unfolds = passes_on source done before after stands leads;
+  rests = λ more. rests_after (with_more more after) ended;
+  no_more = λ more later stage leads'. (stays_after (with_more more after) stage later ended leads').0;
+}
+
 pub reaches : (source : List SourceLine) (done : List Given) (before after : Stage) (line : SourceLine) (result : Result Step UnfoldFault)
     → Unfolds source done before → Steps before after line result → Reaches source done after line result
-reaches source done before after line (Ok NeedLine) stands stepped = passes_on source done before after stands stepped.0
-reaches source done before after line (Ok End) stands stepped = passes_on source done before after stands stepped.0
+reaches source done before after line (Ok NeedLine) stands stepped = all_taken source done before after stands stepped.0 stepped.1 stepped.2
+reaches source done before after line (Ok End) stands stepped = over source done before after stands stepped.0 stepped.1
 reaches source done before after line (Ok (Line is_expanded)) stands stepped =
     λ known acts. comes source done before after (live_of line is_expanded) known stands stepped acts
 reaches source done before after line (Err fault) stands stepped = refuses source done before fault stands stepped
+
+-- ---- the operator of a live line
+
+module _ (source : List SourceLine) (done : List Given) (before live_stage after : Stage) (line : SourceLine) (is_expanded : Bool)
+    (known : Known) (stands : Unfolds source done before) (came : Comes before (live_of line is_expanded) live_stage) where
+  exceeds_at : (fault : UnfoldFault) → act_fault live_stage line.text ≡ Some fault
+      → ExceedsAt source done (live_of line is_expanded) fault
+  exceeds_at fault is = record {
+    stage = came.middle;
+    after = live_stage;
+    unfolds = passes_on source done before came.middle stands came.passing;
+    is_within = came.is_within;
+    gives = came.gives;
+    passes = is;
+  }
+
+  pub reaches_on : (result : Result Act UnfoldFault) → Acts known line.text live_stage after result
+      → ReachesOn source done known (live_of line is_expanded) live_stage after result
+  reaches_on (Ok acted) acts =
+      let next = comes source done before live_stage (live_of line is_expanded) known stands came acts.0 in
+      let P : Stage → Type 0 = λ s. Unfolds source (done ++ given known (live_of line is_expanded) live_stage ∷ []) s in
+      (subst P (sym acts.1) next, acts.2, acts.3, acts.4)
+  reaches_on (Err TooDeep) acts = exceeds_at TooDeep acts
+  reaches_on (Err TooManyLines) acts = exceeds_at TooManyLines acts
+  reaches_on (Err TooMuchText) acts = exceeds_at TooMuchText acts
+  reaches_on (Err TooManyMacros) acts = exceeds_at TooManyMacros acts
+  reaches_on (Err NoMemory) acts = tt
+
+pub acts_on : (source : List SourceLine) (done : List Given) (before live_stage after : Stage) (line : SourceLine) (is_expanded : Bool)
+    (known : Known) (result : Result Act UnfoldFault) → Unfolds source done before → Steps before live_stage line (Ok (Line is_expanded))
+    → Acts known line.text live_stage after result → ReachesOn source done known (live_of line is_expanded) live_stage after result
+acts_on source done before live_stage after line is_expanded known result stands came acts =
+    reaches_on source done before live_stage after line is_expanded known stands came result acts

@@ -5,10 +5,13 @@ use Rattle.m11_lines.specs.Line.{SourceLine}
 use Rattle.m11_unfolding.specs.Acting.{act, act_fault}
 use Rattle.m11_unfolding.specs.Limits.{next_fault}
 use Rattle.m11_unfolding.specs.Stages.{Stage}
-use Rattle.m11_unfolding.specs.Unfolding.{Given, Unfolds, given}
+use Rattle.m11_unfolding.specs.Histories.{with_more}
+use Rattle.m11_unfolding.specs.Taking.{Gives, Live, Rests, move}
+use Rattle.m11_unfolding.specs.Unfolding.{Given, Leads, Unfolds, given}
 use Rattle.m11_unfolding.specs.declared.fault.UnfoldFault.{UnfoldFault}
 use Rattle.m11_unfolding.specs.declared.fault.UnfoldFault.TheVariants.{NoMemory}
 use Rattle.m11_unfold.specs.Unfolder.{live_of}
+use Rattle.m11_unfold.specs.declared.steps.Act.{Act}
 use Rattle.m11_unfold.specs.declared.steps.Step.{Step}
 use Rattle.m11_unfold.specs.declared.steps.Step.TheVariants.{NeedLine, End, Line}
 
@@ -22,10 +25,42 @@ abbrev pub Refuses : List SourceLine → List Given → UnfoldFault → Type 0
 Refuses source done NoMemory = Unit {0}
 Refuses source done fault = Exceeds source done fault
 
+-- all lines of the source were taken, and a further one is needed
+pub record IsAllTaken (source : List SourceLine) (done : List Given) (after : Stage) : Type 0 where
+  pub unfolds : Unfolds source done after
+  pub none_left : after.left ≡ []
+  pub rests : move after ≡ Rests
+
+-- `.END` became live: whatever lines follow in the source, nothing is taken, and none becomes live
+pub record IsOver (source : List SourceLine) (done : List Given) (after : Stage) : Type 0 where
+  pub unfolds : Unfolds source done after
+  pub rests : (more : List SourceLine) → move (with_more more after) ≡ Rests
+  pub no_more : (more : List SourceLine) (later : List Given) (stage : Stage) → Leads (with_more more after) later stage → later ≡ []
+
 -- after a step: the lines so far are those of the unfolding, and a line that became live is the next one of it, once its operator is done
 abbrev pub Reaches : List SourceLine → List Given → Stage → SourceLine → Result Step UnfoldFault → Type 0
-Reaches source done after line (Ok NeedLine) = Unfolds source done after
-Reaches source done after line (Ok End) = Unfolds source done after
+Reaches source done after line (Ok NeedLine) = IsAllTaken source done after
+Reaches source done after line (Ok End) = IsOver source done after
 Reaches source done after line (Ok (Line is_expanded)) = (known : Known) → act_fault after line.text ≡ None
     → Unfolds source (done ++ given known (live_of line is_expanded) after ∷ []) (act known after line.text).after
 Reaches source done after line (Err fault) = Refuses source done fault
+
+-- the unfolding passes a limit after these lines, where the operator of the next one is done
+pub record ExceedsAt (source : List SourceLine) (done : List Given) (live : Live) (fault : UnfoldFault) : Type 0 where
+  pub stage : Stage
+  pub after : Stage
+  pub unfolds : Unfolds source done stage
+  pub is_within : next_fault stage ≡ None
+  pub gives : move stage ≡ Gives live after
+  pub passes : act_fault after live.line.text ≡ Some fault
+
+abbrev pub RefusesAt : List SourceLine → List Given → Live → UnfoldFault → Type 0
+RefusesAt source done live NoMemory = Unit {0}
+RefusesAt source done live fault = ExceedsAt source done live fault
+
+-- after the operator of a live line is done: the line is the next one of the unfolding, with what its operator gave
+abbrev pub ReachesOn : List SourceLine → List Given → Known → Live → Stage → Stage → Result Act UnfoldFault → Type 0
+ReachesOn source done known live before after (Ok acted) =
+    Unfolds source (done ++ given known live before ∷ []) after × (acted.is_own ≡ (given known live before).is_own)
+    × (acted.notes ≡ (given known live before).notes) × (acted.arguments ≡ (given known live before).arguments)
+ReachesOn source done known live before after (Err fault) = RefusesAt source done live fault

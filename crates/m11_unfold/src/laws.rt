@@ -1,19 +1,24 @@
 //! That an unfolder's calls together give the unfolding of a source. It is the contract of a function that does nothing.
 
-ghost use Rattle.std.specs.Prelude.{◌≡◌, ◌++◌, ◌∷◌, List, [], Result};
+ghost use Rattle.std.specs.Prelude.{◌≡◌, ◌++◌, ◌∷◌, Bool, List, [], Result, Ok};
+ghost use Rattle.m11_arguments.specs.Expressions.{Known};
 ghost use Rattle.m11_expansions.specs.Left.{Line};
 ghost use Rattle.m11_lines.specs.Line.{SourceLine};
 ghost use Rattle.m11_unfolding.specs.Histories.{with_more};
 ghost use Rattle.m11_unfolding.specs.Stages.{Stage, start};
 ghost use Rattle.m11_unfolding.specs.Unfolding.{Given, Unfolds};
 ghost use Rattle.m11_unfolding.specs.declared.fault.UnfoldFault.{UnfoldFault};
-ghost use Rattle.m11_unfold.specs.Sources.{Reaches};
-ghost use Rattle.m11_unfold.specs.Unfolder.{Steps};
+ghost use Rattle.m11_unfold.specs.Sources.{Reaches, ReachesOn};
+ghost use Rattle.m11_unfold.specs.Unfolder.{Acts, Steps, live_of};
+ghost use Rattle.m11_unfold.specs.declared.steps.Act.{Act};
 ghost use Rattle.m11_unfold.specs.declared.steps.Step.{Step};
+ghost use Rattle.m11_unfold.specs.declared.steps.Step.TheVariants as step;
 
 /// The stage of a new unfolder stands for no line of a source; `feed` keeps what stands, for a source of one line more; and after `next`
 /// the lines so far, and the one that it gives once its operator is done, are those of the source, or its unfolding passes the limit of
-/// the fault there. Whatever lines follow in a longer source, the same lines became live.
+/// the fault there. Where `next` needs a line, none that was fed is left, and nothing is taken; after `End` none becomes live, whatever
+/// follows. After `act` the live line is the next one of the source, or its operator passes the limit of the fault. Whatever lines
+/// follow in a longer source, the same lines became live.
 pub fn the_calls_unfold_the_source()
     ensures begins { Unfolds [] [] (start []) }
     ensures feeds { (source : List SourceLine) (line : SourceLine) (done : List Given) (stage : Stage) → Unfolds source done stage
@@ -21,6 +26,10 @@ pub fn the_calls_unfold_the_source()
     ensures steps { (source : List SourceLine) (done : List Given) (before after : Stage) (line : SourceLine)
         (result : Result Step UnfoldFault) → Unfolds source done before → Steps before after line result
         → Reaches source done after line result }
+    ensures acts { (source : List SourceLine) (done : List Given) (before live_stage after : Stage) (line : SourceLine)
+        (is_expanded : Bool) (known : Known) (result : Result Act UnfoldFault) → Unfolds source done before
+        → Steps before live_stage line (Ok (step.Line is_expanded)) → Acts known line.text live_stage after result
+        → ReachesOn source done known (live_of line is_expanded) live_stage after result }
     ensures longer { (source more : List SourceLine) (done : List Given) (stage : Stage) → Unfolds source done stage
         → Unfolds (source ++ more) done (with_more more stage) }
 {}

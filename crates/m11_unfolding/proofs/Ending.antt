@@ -12,11 +12,11 @@ use Rattle.m11_unfolding.specs.Unfolding.{Given, Leads}
 use Rattle.m11_unfolding.specs.Unfolding as steps
 
 -- where `.END` came, nothing is taken
-rests_after : (stage : Stage) → stage.has_ended ≡ true → move stage ≡ Rests
+pub rests_after : (stage : Stage) → stage.has_ended ≡ true → move stage ≡ Rests
 rests_after stage ended = ap (λ (b : Bool). if b then Rests else move_from stage.left stage) ended
 
 -- and so no stage but the same one is led to
-stays_after : (before after : Stage) (done : List Given) → before.has_ended ≡ true → Leads before done after
+pub stays_after : (before after : Stage) (done : List Given) → before.has_ended ≡ true → Leads before done after
     → (done ≡ []) × (after ≡ before)
 stays_after before _ _ ended steps.Leads.Stays = (refl, refl)
 stays_after before _ _ ended (steps.Leads.Passing done stage after steps' fault moves) =

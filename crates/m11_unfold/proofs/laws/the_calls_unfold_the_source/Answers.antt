@@ -1,4 +1,4 @@
-use Rattle.m11_unfold.proofs.Sources.{begins, feeds, of_longer, reaches}
+use Rattle.m11_unfold.proofs.Sources.{acts_on, begins, feeds, of_longer, reaches}
 use Rattle.m11_unfold.proofs.laws.the_calls_unfold_the_source.Goals as goal
 
 pub returns-clause-begins : goal.returns-clause-begins
@@ -9,6 +9,9 @@ returns-clause-feeds c = feeds
 
 pub returns-clause-steps : goal.returns-clause-steps
 returns-clause-steps c = reaches
+
+pub returns-clause-acts : goal.returns-clause-acts
+returns-clause-acts c = acts_on
 
 pub returns-clause-longer : goal.returns-clause-longer
 returns-clause-longer c = of_longer
