@@ -1,10 +1,10 @@
 -- A body is taken up to its close.
-use Rattle.std.proofs.Common.{◌≡◌, ◌∙◌, ◌⊎◌, inl, inr, ℕ, zero, suc, ◌+◌, Bool, true, false, List, [], ◌∷◌, ◌++◌, length, map, append_assoc, append-nil, Option, Some, None, refl, sym, ap, subst, arith}
+use Rattle.std.proofs.Common.{◌≡◌, ◌∙◌, ◌⊎◌, inl, inr, ℕ, suc, ◌+◌, true, false, List, [], ◌∷◌, ◌++◌, length, append_assoc, append-nil, Option, Some, None, refl, sym, ap, subst, arith}
 use Rattle.m11_base.specs.Devices.{Bytes}
 use Rattle.m11_lines.specs.Line.{SourceLine}
-use Rattle.m11_expansions.specs.Bodies.{Cut, HalfTaken, cut_after, cut_at, depth_after, taken_with, texts_of, with_line}
-use Rattle.m11_expansions.specs.Left.{Left, Line, End, after_mark}
-use Rattle.m11_unfolding.specs.Stages.{Purpose, Stage, line_left}
+use Rattle.m11_expansions.specs.Bodies.{Cut, HalfTaken, cut_after, cut_at, depth_after, taken_with}
+use Rattle.m11_expansions.specs.Left.{Left, Line, End}
+use Rattle.m11_unfolding.specs.Stages.{Purpose, Stage}
 use Rattle.m11_unfolding.specs.Taking.{Passes, ended, into_body, move, nesting, one_taken, used}
 use Rattle.m11_unfolding.specs.Unfolding.{Leads}
 use Rattle.m11_expansions.specs.declared.mark.Mark.{Mark}
@@ -28,7 +28,8 @@ module _ (purpose : Purpose) where
       → move (open_at stage half taken (Line line ∷ left))
       ≡ Passes (into_body purpose half line.text depth (one_taken left (open_at stage half taken (Line line ∷ left))))
   step stage half taken line left depth is =
-      ap (λ (d : Option ℕ). Passes (into_body purpose half line.text d (one_taken left (open_at stage half taken (Line line ∷ left))))) is
+      ap (λ (d : Option ℕ). Passes
+      (into_body purpose half line.text d (one_taken left (open_at stage half taken (Line line ∷ left))))) is
 
   abbrev Closes : Stage → HalfTaken → ℕ → List Left → Cut → Type 0
   Closes stage half taken left cut = Runs (open_at stage half taken left) [] (λ s. s ≡ closed_by stage half taken cut)
@@ -42,7 +43,8 @@ module _ (purpose : Purpose) where
   closing_line stage half taken line left cut closed more None came same =
       let before : Stage = open_at stage half taken (Line line ∷ left) in
       let body : half.body ≡ half.body ++ [] = sym (append-nil half.body) in
-      let by : List Bytes → Stage = λ b. used purpose b (record stage { left = left; opening = None; taken = taken + 1; has_ended = false }) in
+      let by : List Bytes → Stage
+      = λ b. used purpose b (record stage { left = left; opening = None; taken = taken + 1; has_ended = false }) in
       let there : by half.body ≡ closed_by stage half taken cut = ap by body ∙ ap (closed_by stage half taken) same in
       passes (λ s. s ≡ closed_by stage half taken cut) before (by half.body) (step stage half taken line left None came) there
   closing_line stage half taken line left cut closed more (Some depth) came same =
@@ -54,7 +56,8 @@ module _ (purpose : Purpose) where
       let body : (half.body ++ line.text ∷ []) ++ inner.body ≡ half.body ++ line.text ∷ inner.body
       = append_assoc half.body (line.text ∷ []) inner.body in
       let count : taken + 1 + (length inner.body + 1) ≡ taken + (suc (length inner.body) + 1) = omega arith in
-      let by : List Bytes → ℕ → Stage = λ b n. used purpose b (record stage { left = inner.after; opening = None; taken = n; has_ended = false }) in
+      let by : List Bytes → ℕ → Stage
+      = λ b n. used purpose b (record stage { left = inner.after; opening = None; taken = n; has_ended = false }) in
       let there : closed_by stage half' (taken + 1) inner ≡ closed_by stage half taken cut
       = ap (λ (b : List Bytes). by b (taken + 1 + (length inner.body + 1))) body
       ∙ ap (by (half.body ++ line.text ∷ inner.body)) count
@@ -64,7 +67,8 @@ module _ (purpose : Purpose) where
       = weakened (λ s. s ≡ closed_by stage half' (taken + 1) inner) P mid [] (λ s is. is ∙ there) (more half' shut) in
       passes_on P before mid [] (step stage half taken line left (Some depth) came) rest
 
-  pub closes : (stage : Stage) (left : List Left) (half : HalfTaken) (taken : ℕ) → (cut_at nesting half.depth left).is_closed ≡ true
+  pub closes : (stage : Stage) (left : List Left) (half : HalfTaken) (taken : ℕ)
+      → (cut_at nesting half.depth left).is_closed ≡ true
       → Closes stage half taken left (cut_at nesting half.depth left)
   closes stage [] half taken closed = absurd (let bad : false ≡ true = closed in cc)
   closes stage (End mark ∷ left) half taken closed = absurd (let bad : false ≡ true = closed in cc)
@@ -112,9 +116,10 @@ module _ (purpose : Purpose) where
       let there : (s : Stage) → IsOpenAt stage half' (taken + 1) inner s → IsOpenAt stage half taken cut s = λ s stood. record {
         inner = stood.inner;
         is = stood.is
-        ∙ ap (λ (b : List Bytes). by stood.inner b (taken + 1 + length inner.body)) body
-        ∙ ap (by stood.inner (half.body ++ line.text ∷ inner.body)) count
-        ∙ ap (λ (c : Cut). open_at stage (record { body = half.body ++ c.body; depth = stood.inner }) (taken + length c.body) c.after) same;
+            ∙ ap (λ (b : List Bytes). by stood.inner b (taken + 1 + length inner.body)) body
+            ∙ ap (by stood.inner (half.body ++ line.text ∷ inner.body)) count
+            ∙ ap (λ (c : Cut). open_at stage (record { body = half.body ++ c.body; depth = stood.inner })
+            (taken + length c.body) c.after) same;
       } in
       let rest : Runs mid [] (IsOpenAt stage half taken cut)
       = weakened (IsOpenAt stage half' (taken + 1) inner) (IsOpenAt stage half taken cut) mid [] there (more half' shut) in
@@ -151,11 +156,14 @@ module _ (purpose : Purpose) (taken : HalfTaken) (stage : Stage) where
       arrived before last []
       (and_then Q P before [] [] (stays_open purpose stage stage.left taken stage.taken is)
       (λ s stood.
-      let by : List Left → Stage = λ l. open_at purpose stage (record { body = taken.body ++ cut.body; depth = stood.inner }) (stage.taken + length cut.body) l in
+      let by : List Left → Stage
+      = λ l. open_at purpose stage (record { body = taken.body ++ cut.body; depth = stood.inner })
+      (stage.taken + length cut.body) l in
       from_same P s (by (End mark ∷ left)) [] (stood.is ∙ ap by stands)
       (passes P (by (End mark ∷ left)) last refl refl)))
 
-  pub left_open : cut.is_closed ≡ false → cut.after ≡ [] → StaysOpen purpose taken cut stage ⊎ IsCutShort (with_body purpose taken stage) []
+  pub left_open : cut.is_closed ≡ false → cut.after ≡ []
+      → StaysOpen purpose taken cut stage ⊎ IsCutShort (with_body purpose taken stage) []
   left_open is stands = stood (stays_open purpose stage stage.left taken stage.taken is) where
     stood : Runs (with_body purpose taken stage) [] (IsOpenAt purpose stage taken stage.taken cut)
         → StaysOpen purpose taken cut stage ⊎ IsCutShort (with_body purpose taken stage) []

@@ -1,7 +1,7 @@
 -- A live line at a place, and what follows it.
-use Rattle.std.proofs.Common.{◌≡◌, ◌∙◌, ℕ, zero, suc, ◌+◌, Bool, true, false, List, [], ◌∷◌, ◌++◌, length, map, append_assoc, Option, Some, None, refl, sym, ap, subst, arith}
-use Rattle.std.specs.Prelude.{not, if◌then◌else◌, ⊤}
-use Rattle.std.proofs.lemmas.List.{length-map, map-append}
+use Rattle.std.proofs.Common.{◌≡◌, ◌∙◌, ℕ, Bool, true, false, List, [], ◌∷◌, ◌++◌, map, append_assoc, Option, Some, None, refl, ap}
+use Rattle.std.specs.Prelude.{not, if◌then◌else◌}
+use Rattle.std.proofs.lemmas.List.{map-append}
 use Rattle.m11_base.specs.Devices.{Bytes}
 use Rattle.m11_lines.specs.Line.{SourceLine}
 use Rattle.m11_arguments.specs.Directives.{directive}
@@ -13,12 +13,11 @@ use Rattle.m11_expansions.specs.Conditions.{OpenConditions, is_live_inside}
 use Rattle.m11_expansions.specs.Left.{Left, Line, End, after_mark, count_in, has_mark, is_expanding, marks}
 use Rattle.m11_expansions.specs.declared.conditions.Part.{Part}
 use Rattle.m11_expansions.specs.declared.mark.Mark.{Mark}
-use Rattle.m11_unfolding.specs.Acting.{Acted, Directs, Operation, act, acted_by, operation}
+use Rattle.m11_unfolding.specs.Acting.{Acted, Directs, Operation, acted_by}
 use Rattle.m11_unfolding.specs.Stages.{Stage, line_left}
 use Rattle.m11_unfolding.specs.Taking.{Gives, Live, live_or_skipped, move, nesting, skipped_by}
 use Rattle.m11_unfolding.specs.Unfolding.{Given, given}
 use Rattle.m11_unfolding.proofs.Operators.{has_word}
-use Rattle.m11_unfolding.proofs.OtherLines.{same_marks}
 use Rattle.m11_shape_laws.specs.Places.{Place, Situation, counting, only_entered, operation_at, stage_of, within_condition}
 use Rattle.m11_shape_laws.specs.Shapes.{Begins}
 use Rattle.m11_shape_laws.specs.Shapes as shapes
@@ -82,7 +81,8 @@ module _ (P : Stage → Type 0) (place : Place) (situation : Situation) (known :
       → Runs before (shown place known line acted ∷ gives) P
   line_then around taking acts next =
       let moves : move before ≡ Gives live here
-      = ap (λ (b : Bool). live_or_skipped (if not b then skipped_by (only_entered place.entered) (directive line.text) else None) line here) taking in
+      = ap (λ (b : Bool). live_or_skipped
+      (if not b then skipped_by (only_entered place.entered) (directive line.text) else None) line here) taking in
       line_by around moves acts next
 
 -- ---- a word of the condition around it
@@ -107,17 +107,23 @@ module _ (place : Place) (holds : Bool) (situation : Situation) (line : SourceLi
       → operation_at (within_condition holds is_live place) situation line ≡ operator → Comes is_live
   begin_comes true operator part at begins is = refl
   begin_comes false _ _ _ (shapes.Begins.IfFalse at) is =
-      by_word (Some word.IfFalse) (has_word situation.macros (only_entered (within_condition holds false place).entered) line.text at word.IfFalse is) refl
+      by_word (Some word.IfFalse)
+      (has_word situation.macros (only_entered (within_condition holds false place).entered) line.text at word.IfFalse is) refl
   begin_comes false _ _ _ (shapes.Begins.IfTrue at) is =
-      by_word (Some word.IfTrue) (has_word situation.macros (only_entered (within_condition holds false place).entered) line.text at word.IfTrue is) refl
+      by_word (Some word.IfTrue)
+      (has_word situation.macros (only_entered (within_condition holds false place).entered) line.text at word.IfTrue is) refl
   begin_comes false _ _ _ (shapes.Begins.IfTrueFalse at) is =
-      by_word (Some word.IfTrueFalse) (has_word situation.macros (only_entered (within_condition holds false place).entered) line.text at word.IfTrueFalse is) refl
+      by_word (Some word.IfTrueFalse)
+      (has_word situation.macros (only_entered (within_condition holds false place).entered) line.text at word.IfTrueFalse is)
+      refl
 
   pub close_comes : (is_live : Bool) (at : ℕ)
       → operation_at (within_condition holds is_live place) situation line ≡ Directs word.EndCondition at → Comes is_live
   close_comes true at is = refl
   close_comes false at is =
-      by_word (Some word.EndCondition) (has_word situation.macros (only_entered (within_condition holds false place).entered) line.text at word.EndCondition is) refl
+      by_word (Some word.EndCondition)
+      (has_word situation.macros (only_entered (within_condition holds false place).entered) line.text at word.EndCondition is)
+      refl
 
 -- ---- bodies before what is left
 
@@ -127,7 +133,8 @@ with_left left cut = record cut { after = cut.after ++ left }
 cut_line : (text : Bytes) (lines : List SourceLine) (left : List Left)
     → ((depth : ℕ) → (cut_at nesting depth (map line_left lines)).is_closed ≡ true
     → cut_at nesting depth (map line_left lines ++ left) ≡ with_left left (cut_at nesting depth (map line_left lines)))
-    → (depth : Option ℕ) → (cut_after text (map line_left lines) (λ d. cut_at nesting d (map line_left lines)) depth).is_closed ≡ true
+    → (depth : Option ℕ) → (cut_after text (map line_left lines) (λ d. cut_at nesting d (map line_left lines)) depth).is_closed
+    ≡ true
     → cut_after text (map line_left lines ++ left) (λ d. cut_at nesting d (map line_left lines ++ left)) depth
     ≡ with_left left (cut_after text (map line_left lines) (λ d. cut_at nesting d (map line_left lines)) depth)
 cut_line text lines left more None closed = refl
@@ -156,7 +163,8 @@ nothing_cut (Line line ∷ left) depth ends = absurd (no_line left left line end
 open_line : (text : Bytes) (lines : List SourceLine) (left : List Left)
     → ((depth : ℕ) → (cut_at nesting depth (map line_left lines)).is_closed ≡ false
     → cut_at nesting depth (map line_left lines ++ left) ≡ open_cut (texts_of lines) left)
-    → (depth : Option ℕ) → (cut_after text (map line_left lines) (λ d. cut_at nesting d (map line_left lines)) depth).is_closed ≡ false
+    → (depth : Option ℕ) → (cut_after text (map line_left lines) (λ d. cut_at nesting d (map line_left lines)) depth).is_closed
+    ≡ false
     → cut_after text (map line_left lines ++ left) (λ d. cut_at nesting d (map line_left lines ++ left)) depth
     ≡ open_cut (text ∷ texts_of lines) left
 open_line text lines left more None shut = absurd (let bad : true ≡ false = shut in cc)

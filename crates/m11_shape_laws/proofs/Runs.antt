@@ -50,7 +50,8 @@ and_then P Q before gives later (inl here) next = joined (next here.stage here.h
   })
 
 -- the same from an equal stage
-pub from_same : (P : Stage → Type 0) (one other : Stage) (gives : List Given) → one ≡ other → Runs other gives P → Runs one gives P
+pub from_same : (P : Stage → Type 0) (one other : Stage) (gives : List Given) → one ≡ other → Runs other gives P
+    → Runs one gives P
 from_same P one other gives same runs =
     let Q : Stage → Type 0 = λ s. Runs s gives P in
     subst Q (sym same) runs
@@ -58,7 +59,8 @@ from_same P one other gives same runs =
 -- the same with what follows from what holds
 pub weakened : (P Q : Stage → Type 0) (before : Stage) (gives : List Given) → ((stage : Stage) → P stage → Q stage)
     → Runs before gives P → Runs before gives Q
-weakened P Q before gives next (inl here) = inl (record { stage = here.stage; leads = here.leads; holds = next here.stage here.holds })
+weakened P Q before gives next (inl here)
+    = inl (record { stage = here.stage; leads = here.leads; holds = next here.stage here.holds })
 weakened P Q before gives next (inr short) = inr short
 
 -- a move that gives no line
@@ -88,32 +90,33 @@ gives_line P before after live known one acted moves acts shown holds =
     let holds' : P (act known after live.line.text).after = subst (λ (a : Acted). P a.after) (sym acts) holds in
     let R : Given → Type 0 = λ g. Runs before (g ∷ []) P in
     subst R shown (by_taking (next_fault before) refl (act_fault after live.line.text) refl holds') where
-  short_by : PassesLimit before → Runs before (given known live after ∷ []) P
-  short_by passed = inr (record {
-    first = [];
-    more = given known live after ∷ [];
-    whole = refl;
-    stage = before;
-    leads = steps.Leads.Stays;
-    passes = passed;
-  })
+      short_by : PassesLimit before → Runs before (given known live after ∷ []) P
+      short_by passed = inr (record {
+        first = [];
+        more = given known live after ∷ [];
+        whole = refl;
+        stage = before;
+        leads = steps.Leads.Stays;
+        passes = passed;
+      })
 
-  by_taking : (fault : Option UnfoldFault) → next_fault before ≡ fault → (acting : Option UnfoldFault)
-      → act_fault after live.line.text ≡ acting → P (act known after live.line.text).after
-      → Runs before (given known live after ∷ []) P
-  by_taking (Some fault) is acting was stands = short_by (PassesLimit.Taking fault is)
-  by_taking None is (Some fault) was stands = short_by (PassesLimit.Acting fault live after is moves was)
-  by_taking None is None was stands = inl (record {
-    stage = (act known after live.line.text).after;
-    leads = steps.Leads.Giving [] before after live known steps.Leads.Stays is moves was;
-    holds = stands;
-  })
+      by_taking : (fault : Option UnfoldFault) → next_fault before ≡ fault → (acting : Option UnfoldFault)
+          → act_fault after live.line.text ≡ acting → P (act known after live.line.text).after
+          → Runs before (given known live after ∷ []) P
+      by_taking (Some fault) is acting was stands = short_by (PassesLimit.Taking fault is)
+      by_taking None is (Some fault) was stands = short_by (PassesLimit.Acting fault live after is moves was)
+      by_taking None is None was stands = inl (record {
+        stage = (act known after live.line.text).after;
+        leads = steps.Leads.Giving [] before after live known steps.Leads.Stays is moves was;
+        holds = stands;
+      })
 
 -- a move that gives no line, and a run from there
 pub passes_on : (P : Stage → Type 0) (before after : Stage) (gives : List Given) → move before ≡ Passes after → Runs after gives P
     → Runs before gives P
 passes_on P before after gives moves runs =
-    and_then (λ s. s ≡ after) P before [] gives (passes (λ s. s ≡ after) before after moves refl) (λ s is. from_same P s after gives is runs)
+    and_then (λ s. s ≡ after) P before [] gives (passes (λ s. s ≡ after) before after moves refl)
+    (λ s is. from_same P s after gives is runs)
 
 -- a run that arrives at one stage
 pub arrived : (before after : Stage) (gives : List Given) → Runs before gives (λ s. s ≡ after)

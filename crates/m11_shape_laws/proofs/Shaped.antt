@@ -1,10 +1,10 @@
 -- Lines that have a shape give its live lines.
-use Rattle.std.proofs.Common.{◌≡◌, ◌∙◌, ℕ, suc, ◌+◌, Bool, true, false, List, [], ◌∷◌, ◌++◌, length, map, append-nil, Option, Some, None, refl, sym, ap, subst, arith}
-use Rattle.std.specs.Prelude.{drop, if◌then◌else◌, nat_lt, ⊤}
+use Rattle.std.proofs.Common.{◌≡◌, ◌∙◌, ℕ, ◌+◌, Bool, true, false, List, [], ◌∷◌, ◌++◌, length, map, append-nil, Option, Some, None, refl, sym, ap, subst, arith}
+use Rattle.std.specs.Prelude.{if◌then◌else◌, nat_lt, ⊤}
 use Rattle.std.proofs.lemmas.List.{length-map}
 use Rattle.m11_base.specs.Devices.{Bytes}
 use Rattle.m11_base.specs.Rad50.{Name}
-use Rattle.m11_lines.specs.Line.{SourceLine, line_of}
+use Rattle.m11_lines.specs.Line.{SourceLine}
 use Rattle.m11_arguments.specs.Actuals as actuals
 use Rattle.m11_arguments.specs.Actuals.{actuals_from}
 use Rattle.m11_arguments.specs.Conditions.{condition}
@@ -15,13 +15,12 @@ use Rattle.m11_arguments.specs.Filling.{filled}
 use Rattle.m11_arguments.specs.Immediate as immediate
 use Rattle.m11_arguments.specs.Notes.{Notes, noting}
 use Rattle.m11_arguments.specs.declared.directives.Directive.TheVariants as word
-use Rattle.m11_arguments.specs.declared.macros.MacroFormal.{MacroFormal}
-use Rattle.m11_expansions.specs.Bodies.{Cut, cut_at, nothing_taken, size_of, texts_of}
+use Rattle.m11_expansions.specs.Bodies.{Cut, cut_at, nothing_taken, texts_of}
 use Rattle.m11_expansions.specs.Conditions.{is_live_in, is_live_inside, most_conditions, past}
 use Rattle.m11_expansions.specs.Left.{Left, Line, End, after_mark, conditions_in, count_in, expanded, has_mark, is_expanding, marks}
 use Rattle.m11_expansions.specs.declared.mark.Mark.{Mark}
 use Rattle.m11_unfolding.specs.Acting.{Acted, Calls, Directs, Operation, act, acted_by, condition_opened, flagged, foreign, formal_name, letter_O, opens, operation, own, with_statement}
-use Rattle.m11_unfolding.specs.Constructs.{condition_notes, lines_of_rounds, round_lines}
+use Rattle.m11_unfolding.specs.Constructs.{condition_notes, round_lines}
 use Rattle.m11_unfolding.specs.Stages.{Macro, Purpose, Defines, Repeats, Drops, Stage, line_left}
 use Rattle.m11_unfolding.specs.Taking.{Gives, Live, live_or_skipped, move, nesting, skipped_by, used}
 use Rattle.m11_unfolding.specs.Unfolding.{Given, given}
@@ -29,7 +28,7 @@ use Rattle.m11_unfolding.proofs.Expanding.{as_lines}
 use Rattle.m11_unfolding.proofs.Operators.{has_word}
 use Rattle.m11_unfolding.proofs.OtherLines.{same_marks}
 use Rattle.m11_shape_laws.specs.Laws.{Arrived, IsStopped, before_lines}
-use Rattle.m11_shape_laws.specs.Places.{Place, Situation, counting, defining, has_condition_left, mark_at, only_entered, operation_at, other_line, own_line, stage_of, within_condition, within_expansion}
+use Rattle.m11_shape_laws.specs.Places.{Place, Situation, counting, defining, has_condition_left, mark_at, only_entered, operation_at, own_line, stage_of, within_condition, within_expansion}
 use Rattle.m11_shape_laws.specs.Putting.{HasBody, HasNoClose, Opens, Put, Puts}
 use Rattle.m11_shape_laws.specs.Putting as putting
 use Rattle.m11_shape_laws.specs.Shapes.{Begins, Ending, GoesOn, Stops, Ends, IsAstray, IsOther, IsText, OnePart, Parts, Returns, Shape, statement, statement_of, unclosed}
@@ -53,12 +52,14 @@ at_mark Ends mark left = tt
 
 -- ---- bodies
 
-module _ (place : Place) (before : Situation) (purpose : Purpose) (lines others : List SourceLine) (body : List Bytes) (left : List Left) where
+module _ (place : Place) (before : Situation) (purpose : Purpose) (lines others : List SourceLine) (body : List Bytes)
+    (left : List Left) where
   abbrev open_body : Stage
   open_body = opens purpose (stage_of place (counting 1 before) (map line_left lines ++ left))
 
   body_used : HasBody lines body others
-      → Runs open_body [] (λ s. s ≡ used purpose body (stage_of place (counting (length body + 2) before) (map line_left others ++ left)))
+      → Runs open_body [] (λ s. s
+      ≡ used purpose body (stage_of place (counting (length body + 2) before) (map line_left others ++ left)))
   body_used has =
       let all : List Left = map line_left lines ++ left in
       let stage : Stage = stage_of place (counting 1 before) all in
@@ -70,7 +71,8 @@ module _ (place : Place) (before : Situation) (purpose : Purpose) (lines others 
       let by : ℕ → Cut → Stage = λ n c. used purpose c.body (stage_of place (record before { taken = n }) c.after) in
       let sum : before.taken + 1 + (length body + 1) ≡ before.taken + (length body + 2) = omega arith in
       let P : Stage → Type 0 = λ s. s ≡ by (before.taken + (length body + 2)) cut in
-      let there : by (before.taken + 1 + (length (cut_at nesting 0 all).body + 1)) (cut_at nesting 0 all) ≡ by (before.taken + (length body + 2)) cut
+      let there : by (before.taken + 1 + (length (cut_at nesting 0 all).body + 1)) (cut_at nesting 0 all)
+      ≡ by (before.taken + (length body + 2)) cut
       = ap (λ (c : Cut). by (before.taken + 1 + (length c.body + 1)) c) same ∙ ap (λ (n : ℕ). by n cut) sum in
       weakened (λ s. s ≡ by (before.taken + 1 + (length (cut_at nesting 0 all).body + 1)) (cut_at nesting 0 all)) P open_body []
       (λ s is. is ∙ there) (closes purpose stage all nothing_taken (before.taken + 1) shut')
@@ -90,81 +92,93 @@ module _ (place : Place) (before : Situation) (purpose : Purpose) (lines : List 
       let by : ℕ → ℕ → Cut → Stage = λ inner n c. record (stage_of place (record before { taken = n }) c.after) {
         opening = Some (record { purpose = purpose; taken = record { body = c.body; depth = inner } });
       } in
-      weakened (IsOpenAt purpose stage nothing_taken (before.taken + 1) (cut_at nesting 0 all)) (IsStopped (counting (length lines + 1) before) left)
+      weakened (IsOpenAt purpose stage nothing_taken (before.taken + 1) (cut_at nesting 0 all))
+      (IsStopped (counting (length lines + 1) before) left)
       (opens purpose stage) []
       (λ s stood. record {
         conditions = only_entered place.entered;
         opening = Some (record { purpose = purpose; taken = record { body = texts_of lines; depth = stood.inner } });
         is = stood.is ∙ ap (λ (c : Cut). by stood.inner (before.taken + 1 + length c.body) c) same
-        ∙ ap (λ (n : ℕ). by stood.inner n cut) sum;
+            ∙ ap (λ (n : ℕ). by stood.inner n cut) sum;
       })
       (stays_open purpose stage all nothing_taken (before.taken + 1) shut')
 
 -- ---- expansions
 
-module _ (place : Place) (before : Situation) (known : Known) (line : SourceLine) (lines : List SourceLine) (left : List Left) where
-  abbrev rest : List Left
-  rest = map line_left lines ++ left
+module _ (place : Place) (before : Situation) (known : Known) (line : SourceLine) (lines : List SourceLine) (left : List Left)
+  where
+    abbrev rest : List Left
+    rest = map line_left lines ++ left
 
-  abbrev here : Stage
-  here = stage_of place (counting 1 before) rest
+    abbrev here : Stage
+    here = stage_of place (counting 1 before) rest
 
-  -- what is put there, and the expansion's end
-  abbrev put_there : Put → Stage
-  put_there put = stage_of (within_expansion put.arguments put.bytes place) put.situation
-      (map line_left put.lines ++ End (mark_at place put.arguments put.bytes) ∷ (map line_left put.others ++ left))
+    -- what is put there, and the expansion's end
+    abbrev put_there : Put → Stage
+    put_there put = stage_of (within_expansion put.arguments put.bytes place) put.situation
+        (map line_left put.lines ++ End (mark_at place put.arguments put.bytes) ∷ (map line_left put.others ++ left))
 
-  -- an expansion stands in front of what is left
-  abbrev Stands : Put → Type 0
-  Stands put = Runs (stage_of place before (Line line ∷ rest)) (own_line place known line put.notes ∷ []) (λ s. s ≡ put_there put)
+    -- an expansion stands in front of what is left
+    abbrev Stands : Put → Type 0
+    Stands put = Runs (stage_of place before (Line line ∷ rest)) (own_line place known line put.notes ∷ []) (λ s. s
+        ≡ put_there put)
 
-  call_stands : (macro : Macro) (at : ℕ) → operation_at place before line ≡ Calls macro at
-      → marks left ≡ place.around → is_live_inside place.entered ≡ true
-      → Stands (putting.put_by_call macro (actuals_from known line.text (length macro.formals) at) before lines)
-  call_stands macro at is around taking =
-      let given : actuals.Given = actuals_from known line.text (length macro.formals) at in
-      let put : Put = putting.put_by_call macro given before lines in
-      let formals : List Name = map formal_name macro.formals in
-      let texts : List Bytes = (filled macro.formals given.texts before.created).texts in
-      let mark : Mark = mark_at place put.arguments put.bytes in
-      let inside : List Left → Stage = λ l. stage_of (within_expansion put.arguments put.bytes place) put.situation l in
-      let lefts : expanded formals (texts ∷ []) macro.body mark rest ≡ map line_left put.lines ++ End mark ∷ rest
-      = as_lines formals (texts ∷ []) macro.body mark rest
-      ∙ ap (λ (ls : List SourceLine). map line_left ls ++ End mark ∷ rest) (append-nil (round_lines formals macro.body texts)) in
-      let acted : Acted = own given.notes (put_there put) in
-      let acts : acted_by known line.text here (operation_at place before line) ≡ acted
-      = ap (acted_by known line.text here) is ∙ ap (λ (l : List Left). own given.notes (inside l)) lefts in
-      let P : Stage → Type 0 = λ s. s ≡ put_there put in
-      line_then P place before known line rest acted [] (same_marks lines left ∙ around) taking acts (stays P (put_there put) refl)
+    call_stands : (macro : Macro) (at : ℕ) → operation_at place before line ≡ Calls macro at
+        → marks left ≡ place.around → is_live_inside place.entered ≡ true
+        → Stands (putting.put_by_call macro (actuals_from known line.text (length macro.formals) at) before lines)
+    call_stands macro at is around taking =
+        let given : actuals.Given = actuals_from known line.text (length macro.formals) at in
+        let put : Put = putting.put_by_call macro given before lines in
+        let formals : List Name = map formal_name macro.formals in
+        let texts : List Bytes = (filled macro.formals given.texts before.created).texts in
+        let mark : Mark = mark_at place put.arguments put.bytes in
+        let inside : List Left → Stage = λ l. stage_of (within_expansion put.arguments put.bytes place) put.situation l in
+        let lefts : expanded formals (texts ∷ []) macro.body mark rest ≡ map line_left put.lines ++ End mark ∷ rest
+        = as_lines formals (texts ∷ []) macro.body mark rest
+        ∙ ap (λ (ls : List SourceLine). map line_left ls ++ End mark ∷ rest) (append-nil (round_lines formals macro.body texts))
+        in
+        let acted : Acted = own given.notes (put_there put) in
+        let acts : acted_by known line.text here (operation_at place before line) ≡ acted
+        = ap (acted_by known line.text here) is ∙ ap (λ (l : List Left). own given.notes (inside l)) lefts in
+        let P : Stage → Type 0 = λ s. s ≡ put_there put in
+        line_then P place before known line rest acted [] (same_marks lines left
+        ∙ around) taking acts (stays P (put_there put) refl)
 
-  repeat_stands : (notes : Notes) (formals : List Name) (rounds : List (List Bytes)) (body : List Bytes) (others : List SourceLine)
-      → Opens known line.text (operation_at place before line) notes (Repeats formals rounds) → HasBody lines body others
-      → marks left ≡ place.around → is_live_inside place.entered ≡ true
-      → Stands (putting.put_by_repeat notes formals rounds body before others)
-  repeat_stands notes formals rounds body others is has around taking =
-      let put : Put = putting.put_by_repeat notes formals rounds body before others in
-      let mark : Mark = mark_at place put.arguments put.bytes in
-      let after : List Left = map line_left others ++ left in
-      let inside : List Left → Stage = λ l. stage_of (within_expansion put.arguments put.bytes place) put.situation l in
-      let P : Stage → Type 0 = λ s. s ≡ put_there put in
-      let Q : Stage → Type 0 = λ s. s ≡ used (Repeats formals rounds) body (stage_of place (counting (length body + 2) before) after) in
-      let same : inside (expanded formals rounds body mark after) ≡ put_there put = ap inside (as_lines formals rounds body mark after) in
-      let stood : Runs (opens (Repeats formals rounds) here) [] P
-      = weakened Q P (opens (Repeats formals rounds) here) [] (λ s stands. stands ∙ same)
-      (body_used place before (Repeats formals rounds) lines others body left has) in
-      line_then P place before known line rest (own notes (opens (Repeats formals rounds) here)) [] (same_marks lines left ∙ around) taking
-      (opens_acts known line.text here (operation_at place before line) notes (Repeats formals rounds) is) stood
+    repeat_stands : (notes : Notes) (formals : List Name) (rounds : List (List Bytes)) (body : List Bytes)
+        (others : List SourceLine)
+        → Opens known line.text (operation_at place before line) notes (Repeats formals rounds) → HasBody lines body others
+        → marks left ≡ place.around → is_live_inside place.entered ≡ true
+        → Stands (putting.put_by_repeat notes formals rounds body before others)
+    repeat_stands notes formals rounds body others is has around taking =
+        let put : Put = putting.put_by_repeat notes formals rounds body before others in
+        let mark : Mark = mark_at place put.arguments put.bytes in
+        let after : List Left = map line_left others ++ left in
+        let inside : List Left → Stage = λ l. stage_of (within_expansion put.arguments put.bytes place) put.situation l in
+        let P : Stage → Type 0 = λ s. s ≡ put_there put in
+        let Q : Stage → Type 0 = λ s. s
+        ≡ used (Repeats formals rounds) body (stage_of place (counting (length body + 2) before) after) in
+        let same : inside (expanded formals rounds body mark after) ≡ put_there put
+        = ap inside (as_lines formals rounds body mark after) in
+        let stood : Runs (opens (Repeats formals rounds) here) [] P
+        = weakened Q P (opens (Repeats formals rounds) here) [] (λ s stands. stands ∙ same)
+        (body_used place before (Repeats formals rounds) lines others body left has) in
+        line_then P place before known line rest (own notes (opens (Repeats formals rounds) here)) [] (same_marks lines left
+        ∙ around) taking
+        (opens_acts known line.text here (operation_at place before line) notes (Repeats formals rounds) is) stood
 
-  stands : (operator : Operation) (put : Put) → operation_at place before line ≡ operator
-      → Puts known before line.text lines operator put → marks left ≡ place.around → is_live_inside place.entered ≡ true → Stands put
-  stands _ _ is (putting.Puts.Call macro at) around taking = call_stands macro at is around taking
-  stands _ _ is (putting.Puts.Repeat operator notes formals rounds body others opened has) around taking =
-      repeat_stands notes formals rounds body others
-      (subst (λ (o : Operation). Opens known line.text o notes (Repeats formals rounds)) (sym is) opened) has around taking
+    stands : (operator : Operation) (put : Put) → operation_at place before line ≡ operator
+        → Puts known before line.text lines operator put → marks left ≡ place.around → is_live_inside place.entered ≡ true
+        → Stands put
+    stands _ _ is (putting.Puts.Call macro at) around taking = call_stands macro at is around taking
+    stands _ _ is (putting.Puts.Repeat operator notes formals rounds body others opened has) around taking =
+        repeat_stands notes formals rounds body others
+        (subst (λ (o : Operation). Opens known line.text o notes (Repeats formals rounds)) (sym is) opened) has around taking
 
 -- what stands after an expansion
-pub returned : (place : Place) (middle : Situation) (arguments : Option ℕ) (bytes : ℕ) (left : List Left) (inner : Ending) (stage : Stage)
-    → Returns inner → Arrived inner (within_expansion arguments bytes place) middle (End (mark_at place arguments bytes) ∷ left) stage
+pub returned : (place : Place) (middle : Situation) (arguments : Option ℕ) (bytes : ℕ) (left : List Left) (inner : Ending)
+    (stage : Stage)
+    → Returns inner → Arrived inner (within_expansion arguments bytes place) middle (End (mark_at place arguments bytes) ∷ left)
+    stage
     → Runs stage [] (λ s. s ≡ stage_of place middle left)
 returned place middle arguments bytes left GoesOn stage returns there =
     let P : Stage → Type 0 = λ s. s ≡ stage_of place middle left in
@@ -214,7 +228,8 @@ module _ (place : Place) (before : Situation) (known : Known) (line : SourceLine
 
 -- ---- `.IIF`
 
-with_next : (place : Place) (situation : Situation) (text : Bytes) (holds : Bool) (at : Option ℕ) (lines : List SourceLine) (left : List Left)
+with_next : (place : Place) (situation : Situation) (text : Bytes) (holds : Bool) (at : Option ℕ) (lines : List SourceLine)
+    (left : List Left)
     → with_statement text holds at (stage_of place situation (map line_left lines ++ left))
     ≡ stage_of place situation (map line_left (statement_of text holds at ++ lines) ++ left)
 with_next place situation text true (Some at) lines left = refl
@@ -224,7 +239,8 @@ with_next place situation text false at lines left = refl
 -- ---- the cases of conditions
 
 -- a 33rd condition, and the text up to its `.ENDC`
-module _ (P : Stage → Type 0) (place : Place) (before : Situation) (known last : Known) (line close : SourceLine) (text lines : List SourceLine)
+module _ (P : Stage → Type 0) (place : Place) (before : Situation) (known last : Known) (line close : SourceLine)
+    (text lines : List SourceLine)
     (gives : List Given) (at end : ℕ) (left : List Left) where
   abbrev refused_end : Given
   refused_end = own_line place last close (flagged 0 close.text end)
@@ -235,7 +251,8 @@ module _ (P : Stage → Type 0) (place : Place) (before : Situation) (known last
   close_refused : operation (past (only_entered place.entered)) before.macros close.text ≡ Directs word.EndCondition end
       → directive close.text ≡ Some word.EndCondition → marks left ≡ place.around
       → Runs (stage_of place (counting (length text + 2) before) after_text) gives P
-      → Runs (text_stage true place 0 (counting (length text) (counting 1 before)) (Line close ∷ after_text)) (refused_end ∷ gives) P
+      → Runs (text_stage true place 0 (counting (length text) (counting 1 before)) (Line close ∷ after_text))
+      (refused_end ∷ gives) P
   close_refused is word around next =
       let count : before.taken + 1 + length text + 1 ≡ before.taken + (length text + 2) = omega arith in
       let here : Stage = text_stage true place 0 (counting 1 (counting (length text) (counting 1 before))) after_text in
@@ -287,7 +304,8 @@ module _ (P : Stage → Type 0) (place : Place) (before : Situation) (known last
       (if_acts place before known line rest at false is (same_marks (text ++ close ∷ lines) left ∙ around) none) further
 
 -- a part, and then a word of the condition
-module _ (P : Stage → Type 0) (place : Place) (holds is_live : Bool) (before middle : Situation) (known : Known) (line : SourceLine)
+module _ (P : Stage → Type 0) (place : Place) (holds is_live : Bool) (before middle : Situation) (known : Known)
+    (line : SourceLine)
     (lines others : List SourceLine) (gives later : List Given) (notes : Notes) (left : List Left) where
   abbrev part_stage : Bool → Situation → List Left → Stage
   part_stage live situation l = stage_of (within_condition holds live place) situation l
@@ -300,7 +318,8 @@ module _ (P : Stage → Type 0) (place : Place) (holds is_live : Bool) (before m
       (λ s. s ≡ part_stage is_live middle (Line line ∷ others_left))
       → marks left ≡ place.around
       → move (part_stage is_live middle (Line line ∷ others_left))
-      ≡ Gives (record { line = line; is_expanded = is_expanding others_left }) (part_stage is_live (counting 1 middle) others_left)
+      ≡ Gives (record { line = line; is_expanded = is_expanding others_left })
+      (part_stage is_live (counting 1 middle) others_left)
       → acted_by known line.text (part_stage is_live (counting 1 middle) others_left)
       (operation_at (within_condition holds is_live place) middle line) ≡ own notes there
       → Runs there later P
@@ -321,7 +340,8 @@ module _ (P : Stage → Type 0) (place : Place) (holds is_live : Bool) (before m
 -- ---- all cases
 
 mutual
-  pub shape : (place : Place) (before : Situation) (lines : List SourceLine) (gives : List Given) (after : Situation) (ending : Ending)
+  pub shape : (place : Place) (before : Situation) (lines : List SourceLine) (gives : List Given) (after : Situation)
+      (ending : Ending)
       → Shape place before lines gives after ending → (left : List Left) → marks left ≡ place.around
       → is_live_inside place.entered ≡ true → AtEnd ending left
       → Runs (before_lines place before lines left) gives (Arrived ending place after left)
@@ -330,16 +350,20 @@ mutual
   shape _ _ _ _ _ _ (shapes.Shape.Other place before after ending known line lines gives is next) left around taking end =
       let rest : List Left = map line_left lines ++ left in
       let here : Stage = stage_of place (counting 1 before) rest in
-      line_then (Arrived ending place after left) place before known line rest (foreign here) gives (same_marks lines left ∙ around) taking
+      line_then (Arrived ending place after left) place before known line rest (foreign here) gives (same_marks lines left
+      ∙ around) taking
       (other_acts known line.text here (operation_at place before line) is)
       (shape place (counting 1 before) lines gives after ending next left around taking end)
   shape _ _ _ _ _ _ (shapes.Shape.Astray place before after ending known line lines gives notes is next) left around taking end =
       let rest : List Left = map line_left lines ++ left in
       let here : Stage = stage_of place (counting 1 before) rest in
-      line_then (Arrived ending place after left) place before known line rest (own notes here) gives (same_marks lines left ∙ around) taking
-      (astray_acts known line.text place (counting 1 before) rest (operation_at place before line) notes (same_marks lines left ∙ around) is)
+      line_then (Arrived ending place after left) place before known line rest (own notes here) gives (same_marks lines left
+      ∙ around) taking
+      (astray_acts known line.text place (counting 1 before) rest (operation_at place before line) notes (same_marks lines left
+      ∙ around) is)
       (shape place (counting 1 before) lines gives after ending next left around taking end)
-  shape _ _ _ _ _ _ (shapes.Shape.Expansion place before middle after inner ending known line lines gives later put puts body returns next)
+  shape _ _ _ _ _ _ (shapes.Shape.Expansion place before middle after inner ending known line lines gives later put puts body
+      returns next)
       left around taking end =
       let mark : Mark = mark_at place put.arguments put.bytes in
       let others : List Left = map line_left put.others ++ left in
@@ -352,8 +376,10 @@ mutual
       let inside : Runs (put_there place before known line lines left put) gives R
       = shape (within_expansion put.arguments put.bytes place) put.situation put.lines gives middle inner body (End mark ∷ others)
       (ap (λ (m : List Mark). mark ∷ m) (same_marks put.others left ∙ around)) refl (at_mark inner mark others) in
-      let beyond : Runs (stage_of place middle others) later P = shape place middle put.others later after ending next left around taking end in
-      and_then Q P (before_lines place before (line ∷ lines) left) (own_line place known line put.notes ∷ []) (gives ++ later) begun
+      let beyond : Runs (stage_of place middle others) later P
+      = shape place middle put.others later after ending next left around taking end in
+      and_then Q P (before_lines place before (line ∷ lines) left) (own_line place known line put.notes ∷ []) (gives ++ later)
+      begun
       (λ s is. from_same P s (put_there place before known line lines left put) (gives ++ later) is
       (and_then R P (put_there place before known line lines left put) gives later inside
       (λ t there. and_then S P t [] later (returned place middle put.arguments put.bytes others inner t returns there)
@@ -370,7 +396,8 @@ mutual
       (ap (λ (m : List Mark). mark ∷ m) (same_marks put.others left ∙ around)) refl tt in
       and_then Q P (before_lines place before (line ∷ lines) left) (own_line place known line put.notes ∷ []) gives begun
       (λ s is. from_same P s (put_there place before known line lines left put) gives is inside)
-  shape _ _ _ _ _ _ (shapes.Shape.Definition place before after ending known line lines others gives notes name formals body is has next)
+  shape _ _ _ _ _ _ (shapes.Shape.Definition place before after ending known line lines others gives notes name formals body is
+      has next)
       left around taking end =
       let rest : List Left = map line_left lines ++ left in
       let here : Stage = stage_of place (counting 1 before) rest in
@@ -398,28 +425,35 @@ mutual
   shape _ _ _ _ _ _ (shapes.Shape.OpenBody place before known line lines notes purpose is none) left around taking end =
       let rest : List Left = map line_left lines ++ left in
       let here : Stage = stage_of place (counting 1 before) rest in
-      line_then (IsStopped (counting (length lines + 1) before) left) place before known line rest (own notes (opens purpose here)) []
+      line_then (IsStopped (counting (length lines + 1) before) left) place before known line rest
+      (own notes (opens purpose here)) []
       (same_marks lines left ∙ around) taking
       (opens_acts known line.text here (operation_at place before line) notes purpose is)
       (body_open place before purpose lines left none end)
-  shape _ _ _ _ _ _ (shapes.Shape.Condition place before after ending known line lines gives at is room next) left around taking end =
+  shape _ _ _ _ _ _ (shapes.Shape.Condition place before after ending known line lines gives at is room next) left around taking
+      end =
       let rest : List Left = map line_left lines ++ left in
       let here : Stage = stage_of place (counting 1 before) rest in
       let holds : Bool = (condition known line.text at).holds in
       line_then (Arrived ending place after left) place before known line rest
       (own (condition_notes known line.text at) (stage_of (within_condition holds holds place) (counting 1 before) rest)) gives
-      (same_marks lines left ∙ around) taking (if_acts place before known line rest at true is (same_marks lines left ∙ around) room)
+      (same_marks lines left ∙ around) taking
+      (if_acts place before known line rest at true is (same_marks lines left ∙ around) room)
       (parts place holds holds (counting 1 before) lines gives after ending next left around taking end)
-  shape _ _ _ _ _ _ (shapes.Shape.Refused place before after ending known last line close text lines gives at end' is none skipped closing next)
+  shape _ _ _ _ _ _ (shapes.Shape.Refused place before after ending known last line close text lines gives at end' is none
+      skipped closing next)
       left around taking end =
-      refused_runs (Arrived ending place after left) place before known last line close text lines gives at end' left is none skipped closing
+      refused_runs (Arrived ending place after left) place before known last line close text lines gives at end' left is none
+      skipped closing
       around taking (shape place (counting (length text + 2) before) lines gives after ending next left around taking end)
   shape _ _ _ _ _ _ (shapes.Shape.OpenRefused place before known line lines at inner is none skipped) left around taking end =
       let rest : List Left = map line_left lines ++ left in
       let here : Stage = text_stage true place 0 (counting 1 before) rest in
       let sum : before.taken + 1 + length lines ≡ before.taken + (length lines + 1) = omega arith in
-      line_then (IsStopped (counting (length lines + 1) before) left) place before known line rest (own (noting letter_O []) here) []
-      (same_marks lines left ∙ around) taking (if_acts place before known line rest at false is (same_marks lines left ∙ around) none)
+      line_then (IsStopped (counting (length lines + 1) before) left) place before known line rest
+      (own (noting letter_O []) here) []
+      (same_marks lines left ∙ around) taking
+      (if_acts place before known line rest at false is (same_marks lines left ∙ around) none)
       (weakened (λ s. s ≡ text_stage true place inner (counting (length lines) (counting 1 before)) left)
       (IsStopped (counting (length lines + 1) before) left) here []
       (λ s stood. record {
@@ -433,7 +467,8 @@ mutual
       let here : Stage = stage_of place (counting 1 before) rest in
       let there : Stage = stage_of place (counting 1 before) (map line_left (statement known line.text at ++ lines) ++ left) in
       let notes : Notes = immediate.notes known line.text at in
-      line_then (Arrived ending place after left) place before known line rest (own notes there) gives (same_marks lines left ∙ around) taking
+      line_then (Arrived ending place after left) place before known line rest (own notes there) gives (same_marks lines left
+      ∙ around) taking
       (ap (acted_by known line.text here) is ∙ ap (own notes) (with_next place (counting 1 before) line.text
       (immediate.immediate known line.text at).holds (immediate.immediate known line.text at).statement lines left))
       (shape place (counting 1 before) (statement known line.text at ++ lines) gives after ending next left around taking end)
@@ -442,43 +477,59 @@ mutual
       let here : Stage = stage_of place (counting 1 before) rest in
       let there : Stage = stage_of place (counting 1 before) left in
       let notes : Notes = flagged 0 line.text at in
-      let by : Bool → Acted = λ b. if b then own notes (record here { left = after_mark rest }) else own (flagged letter_O line.text at) here in
-      line_then (IsStopped (counting 1 before) left) place before known line rest (own notes there) [] (same_marks lines left ∙ around) taking
-      (ap (acted_by known line.text here) is ∙ ap (λ (m : List Mark). by (has_mark m)) (same_marks lines left ∙ around) ∙ ap by expanding
+      let by : Bool → Acted = λ b.
+      if b then own notes (record here { left = after_mark rest }) else own (flagged letter_O line.text at) here in
+      line_then (IsStopped (counting 1 before) left) place before known line rest (own notes there) [] (same_marks lines left
+      ∙ around) taking
+      (ap (acted_by known line.text here) is ∙ ap (λ (m : List Mark). by (has_mark m)) (same_marks lines left ∙ around)
+      ∙ ap by expanding
       ∙ ap (λ (l : List Left). own notes (record here { left = l })) (past_lines lines left ∙ end))
-      (stays (IsStopped (counting 1 before) left) there (record { conditions = only_entered place.entered; opening = None; is = refl }))
+      (stays (IsStopped (counting 1 before) left) there (record {
+        conditions = only_entered place.entered;
+        opening = None;
+        is
+            = refl;
+      }))
   shape _ _ _ _ _ _ (shapes.Shape.End place before known line lines at is) left around taking end =
       let rest : List Left = map line_left lines ++ left in
       let here : Stage = stage_of place (counting 1 before) rest in
-      line_then (Arrived Ends place (counting 1 before) left) place before known line rest (foreign (record here { has_ended = true })) []
+      line_then (Arrived Ends place (counting 1 before) left) place before known line rest
+      (foreign (record here { has_ended = true })) []
       (same_marks lines left ∙ around) taking (ap (acted_by known line.text here) is)
       (stays (Arrived Ends place (counting 1 before) left) (record here { has_ended = true }) refl)
 
-  parts : (place : Place) (holds is_live : Bool) (before : Situation) (lines : List SourceLine) (gives : List Given) (after : Situation)
-      (ending : Ending) → Parts place holds is_live before lines gives after ending → (left : List Left) → marks left ≡ place.around
+  parts : (place : Place) (holds is_live : Bool) (before : Situation) (lines : List SourceLine) (gives : List Given)
+      (after : Situation)
+      (ending : Ending) → Parts place holds is_live before lines gives after ending → (left : List Left)
+      → marks left ≡ place.around
       → is_live_inside place.entered ≡ true → AtEnd ending left
       → Runs (before_lines (within_condition holds is_live place) before lines left) gives (Arrived ending place after left)
-  parts _ _ _ _ _ _ _ _ (shapes.Parts.Next place holds is_live before middle after ending known line lines others gives later part at one
+  parts _ _ _ _ _ _ _ _ (shapes.Parts.Next place holds is_live before middle after ending known line lines others gives later
+      part at one
       begins next) left around taking end =
       let rest : List Left = map line_left others ++ left in
       let inside : Place = within_condition holds is_live place in
-      after_part (Arrived ending place after left) place holds is_live before middle known line lines others gives later (flagged 0 line.text at) left
+      after_part (Arrived ending place after left) place holds is_live before middle known line lines others gives later
+      (flagged 0 line.text at) left
       (stage_of (within_condition holds (is_live_in part holds) place) (counting 1 middle) rest)
       (one_part place holds is_live before lines gives middle GoesOn one (Line line ∷ rest) (same_marks others left ∙ around) tt)
       around (begin_comes place holds middle line rest is_live (operation_at inside middle line) part at begins refl)
       (begins_acts known line.text place holds is_live (counting 1 middle) rest (operation_at inside middle line) part at begins)
       (parts place holds (is_live_in part holds) (counting 1 middle) others later after ending next left around taking end)
-  parts _ _ _ _ _ _ _ _ (shapes.Parts.Close place holds is_live before middle after ending known line lines others gives later at one
+  parts _ _ _ _ _ _ _ _ (shapes.Parts.Close place holds is_live before middle after ending known line lines others gives later
+      at one
       closing next) left around taking end =
       let rest : List Left = map line_left others ++ left in
       let here : Stage = stage_of (within_condition holds is_live place) (counting 1 middle) rest in
-      after_part (Arrived ending place after left) place holds is_live before middle known line lines others gives later (flagged 0 line.text at) left
+      after_part (Arrived ending place after left) place holds is_live before middle known line lines others gives later
+      (flagged 0 line.text at) left
       (stage_of place (counting 1 middle) rest)
       (one_part place holds is_live before lines gives middle GoesOn one (Line line ∷ rest) (same_marks others left ∙ around) tt)
       around (close_comes place holds middle line rest is_live at closing)
       (ap (acted_by known line.text here) closing ∙ close_acts known line.text place holds is_live (counting 1 middle) rest at)
       (shape place (counting 1 middle) others later after ending next left around taking end)
-  parts _ _ _ _ _ _ _ _ (shapes.Parts.ImmediateInPart place holds before middle after ending known line lines others gives later at one
+  parts _ _ _ _ _ _ _ _ (shapes.Parts.ImmediateInPart place holds before middle after ending known line lines others gives later
+      at one
       is next) left around taking end =
       let rest : List Left = map line_left others ++ left in
       let inside : Place = within_condition holds true place in
@@ -498,8 +549,10 @@ mutual
       (λ s there. unclosed_arrived ending place holds is_live after left s there)
       (one_part place holds is_live before lines gives after ending one left around (unclosed_end ending left end))
 
-  one_part : (place : Place) (holds is_live : Bool) (before : Situation) (lines : List SourceLine) (gives : List Given) (after : Situation)
-      (ending : Ending) → OnePart place holds is_live before lines gives after ending → (left : List Left) → marks left ≡ place.around
+  one_part : (place : Place) (holds is_live : Bool) (before : Situation) (lines : List SourceLine) (gives : List Given)
+      (after : Situation)
+      (ending : Ending) → OnePart place holds is_live before lines gives after ending → (left : List Left)
+      → marks left ≡ place.around
       → AtEnd ending left
       → Runs (before_lines (within_condition holds is_live place) before lines left) gives
       (Arrived ending (within_condition holds is_live place) after left)

@@ -1,5 +1,5 @@
 -- Text is skipped.
-use Rattle.std.proofs.Common.{◌≡◌, ◌∙◌, ℕ, suc, ◌+◌, Bool, true, false, List, [], ◌∷◌, ◌++◌, length, map, Option, Some, None, refl, sym, ap, arith}
+use Rattle.std.proofs.Common.{◌≡◌, ◌∙◌, ℕ, suc, ◌+◌, Bool, true, false, List, [], ◌∷◌, ◌++◌, length, map, Option, Some, None, refl, ap, arith}
 use Rattle.std.specs.Prelude.{◌==◌, ◌-◌, ◌||◌, not, if◌then◌else◌}
 use Rattle.std.proofs.lemmas.Bool.Decides.{nat_tests}
 use Rattle.m11_lines.specs.Line.{SourceLine}
@@ -8,7 +8,6 @@ use Rattle.m11_arguments.specs.declared.directives.Directive.{Directive}
 use Rattle.m11_arguments.specs.declared.directives.Directive.TheVariants as word
 use Rattle.m11_expansions.specs.Conditions.{OpenConditions, is_live_inside}
 use Rattle.m11_expansions.specs.Left.{Left, Line}
-use Rattle.m11_expansions.specs.declared.conditions.OpenCondition.{OpenCondition}
 use Rattle.m11_unfolding.specs.Stages.{Stage, line_left}
 use Rattle.m11_unfolding.specs.Taking.{Passes, live_or_skipped, move, skipped_by}
 use Rattle.m11_shape_laws.specs.Places.{Place, Situation, counting, stage_of}
@@ -69,7 +68,8 @@ module _ (is_past : Bool) (place : Place) where
   -- ---- lines
 
   skips_line : (inner next : ℕ) (situation : Situation) (line : SourceLine) (left : List Left)
-      → is_past || not (is_live_inside place.entered) ≡ true → skipped_by (skipping inner) (directive line.text) ≡ Some (skipping next)
+      → is_past || not (is_live_inside place.entered) ≡ true
+      → skipped_by (skipping inner) (directive line.text) ≡ Some (skipping next)
       → move (text_stage inner situation (Line line ∷ left)) ≡ Passes (text_stage next (counting 1 situation) left)
   skips_line inner next situation line left skips is =
       let here : Stage = text_stage inner (counting 1 situation) left in
@@ -81,7 +81,8 @@ module _ (is_past : Bool) (place : Place) where
       (λ s. s ≡ text_stage last (counting (length lines) situation) left)
 
   one_skipped : (inner next last : ℕ) (line : SourceLine) (lines : List SourceLine) (situation : Situation) (left : List Left)
-      → is_past || not (is_live_inside place.entered) ≡ true → skipped_by (skipping inner) (directive line.text) ≡ Some (skipping next)
+      → is_past || not (is_live_inside place.entered) ≡ true
+      → skipped_by (skipping inner) (directive line.text) ≡ Some (skipping next)
       → Skips next last lines (counting 1 situation) left → Skips inner last (line ∷ lines) situation left
   one_skipped inner next last line lines situation left skips is more =
       let all : List Left = map line_left lines ++ left in
@@ -108,5 +109,6 @@ module _ (is_past : Bool) (place : Place) where
       one_skipped inner (suc inner) last line lines situation left skips (ap (skipped_by (skipping inner)) is ∙ one_more inner)
       (skips_text (suc inner) lines last text (counting 1 situation) left skips)
   skips_text _ _ _ (shapes.IsText.EndCondition inner last line lines is text) situation left skips =
-      one_skipped (suc inner) inner last line lines situation left skips (ap (skipped_by (skipping (suc inner))) is ∙ one_less inner)
+      one_skipped (suc inner) inner last line lines situation left skips (ap (skipped_by (skipping (suc inner))) is
+      ∙ one_less inner)
       (skips_text inner lines last text (counting 1 situation) left skips)

@@ -1,5 +1,5 @@
 -- An unfolding that is walked through, move by move.
-use Rattle.std.proofs.Common.{◌≡◌, ◌∙◌, ℕ, zero, suc, List, [], ◌∷◌, ◌++◌, Option, Some, None, refl, sym, ap, subst}
+use Rattle.std.proofs.Common.{◌≡◌, ℕ, zero, suc, List, [], ◌∷◌, Option, Some, None, refl, subst}
 use Rattle.m11_arguments.specs.Expressions.{Known}
 use Rattle.m11_unfolding.specs.Acting.{act, act_fault}
 use Rattle.m11_unfolding.specs.Limits.{next_fault}
@@ -41,7 +41,8 @@ Led stage all = Leads stage all.gives all.after × (move all.after ≡ Rests)
 
 module _ (known : Known) (stage : Stage) (more : Stage → Option Walk) (all : Walk)
     (leads : (after : Stage) (rest : Walk) → more after ≡ Some rest → Led after rest) where
-  acted_so : (live : Live) (after : Stage) → next_fault stage ≡ None → move stage ≡ Gives live after → (acting : Option UnfoldFault)
+  acted_so : (live : Live) (after : Stage) → next_fault stage ≡ None → move stage ≡ Gives live after
+      → (acting : Option UnfoldFault)
       → act_fault after live.line.text ≡ acting → by_acting known live after more acting ≡ Some all → Led stage all
   acted_so live after none gives (Some fault) acts is = absurd (let bad = is in cc)
   acted_so live after none gives None acts is = with_rest (more next) refl is where
@@ -58,7 +59,8 @@ module _ (known : Known) (stage : Stage) (more : Stage → Option Walk) (all : W
         (steps.Leads.Giving [] stage after live known steps.Leads.Stays none gives acts) on.0 in
         subst (Led stage) whole (joined, on.1)
 
-  moved_so : next_fault stage ≡ None → (moves : Move) → move stage ≡ moves → by_move known stage more moves ≡ Some all → Led stage all
+  moved_so : next_fault stage ≡ None → (moves : Move) → move stage ≡ moves → by_move known stage more moves ≡ Some all
+      → Led stage all
   moved_so none Rests moves is =
       let whole : record { gives = []; after = stage } ≡ all = cc in
       subst (Led stage) whole (steps.Leads.Stays, moves)
@@ -67,11 +69,13 @@ module _ (known : Known) (stage : Stage) (more : Stage → Option Walk) (all : W
       (follows stage after all.after [] all.gives (steps.Leads.Passing [] stage after steps.Leads.Stays none moves) on.0, on.1)
   moved_so none (Gives live after) moves is = acted_so live after none moves (act_fault after live.line.text) refl is
 
-  taken_so : (taking : Option UnfoldFault) → next_fault stage ≡ taking → by_taking known stage more taking ≡ Some all → Led stage all
+  taken_so : (taking : Option UnfoldFault) → next_fault stage ≡ taking → by_taking known stage more taking ≡ Some all
+      → Led stage all
   taken_so (Some fault) none is = absurd (let bad = is in cc)
   taken_so None none is = moved_so none (move stage) refl is
 
 pub walked : (n : ℕ) (known : Known) (stage : Stage) (all : Walk) → walk n known stage ≡ Some all → Led stage all
 walked zero known stage all is = absurd (let bad = is in cc)
 walked (suc n) known stage all is =
-    taken_so known stage (λ after. walk n known after) all (λ after rest was. walked n known after rest was) (next_fault stage) refl is
+    taken_so known stage (λ after. walk n known after) all (λ after rest was. walked n known after rest was) (next_fault stage)
+    refl is

@@ -3,24 +3,23 @@ use Rattle.std.proofs.Common.{◌≡◌, ◌∙◌, ◌⊎◌, inl, inr, Bool, t
 use Rattle.std.specs.Prelude.{ℕ, if◌then◌else◌}
 use Rattle.m11_lines.specs.Line.{SourceLine}
 use Rattle.m11_arguments.specs.Expressions.{Known}
-use Rattle.m11_expansions.specs.Left.{Left, Line, End, marks}
+use Rattle.m11_expansions.specs.Left.{Left, Line, End}
 use Rattle.m11_expansions.specs.declared.mark.Mark.{Mark}
-use Rattle.m11_unfolding.specs.Acting.{act, act_fault}
+use Rattle.m11_unfolding.specs.Acting.{act_fault}
 use Rattle.m11_unfolding.specs.Histories.{GoesOn, IsKnownBy}
 use Rattle.m11_unfolding.specs.Limits.{fault_from, next_fault}
 use Rattle.m11_unfolding.specs.Stages.{Stage, line_left, start}
-use Rattle.m11_unfolding.specs.Taking.{Gives, Live, Move, Passes, Rests, line_taken, live_or_skipped, move, move_from, one_taken, skipped}
+use Rattle.m11_unfolding.specs.Taking.{Gives, Live, Passes, Rests, line_taken, live_or_skipped, move, move_from, one_taken, skipped}
 use Rattle.m11_unfolding.specs.Unfolding.{Given, Leads, Unfolds}
 use Rattle.m11_unfolding.specs.Unfolding as steps
-use Rattle.m11_unfolding.specs.declared.fault.UnfoldFault.{UnfoldFault}
 use Rattle.m11_unfolding.proofs.OneUnfolding as unfoldings
-use Rattle.m11_shape_laws.specs.Laws.{Arrived, BeginWith, HasLiveLines, IsEndedAfter, IsStopped, StandsIn, before_lines}
+use Rattle.m11_shape_laws.specs.Laws.{Arrived, BeginWith, HasLiveLines, IsEndedAfter, StandsIn, before_lines}
 use Rattle.m11_shape_laws.specs.Limits.{IsCutShort, PassesLimit}
 use Rattle.m11_shape_laws.specs.Limits as limits
 use Rattle.m11_shape_laws.specs.Places.{Place, Situation, beginning, mark_at, source_place, stage_of, within_expansion}
 use Rattle.m11_shape_laws.specs.Shapes.{Ending, Returns, Shape}
 use Rattle.m11_shape_laws.specs.Shapes as shapes
-use Rattle.m11_shape_laws.proofs.Runs.{Arrives, Runs, and_then, arrived, from_same}
+use Rattle.m11_shape_laws.proofs.Runs.{Runs, and_then, arrived, from_same}
 use Rattle.m11_shape_laws.proofs.Shaped.{AtEnd, at_mark, returned, shape}
 
 -- ---- lines before what is left
@@ -33,11 +32,15 @@ goes_on place before after lines gives left shaped stands =
     arrived (before_lines place before lines left) (stage_of place after left) gives
     (shape place before lines gives after shapes.Ending.GoesOn shaped left stands.around stands.is_live tt)
 
-pub expands : (place : Place) (before after : Situation) (arguments : Option ℕ) (bytes : ℕ) (lines : List SourceLine) (gives : List Given)
-    (ending : Ending) (left : List Left) → Shape (within_expansion arguments bytes place) before lines gives after ending → Returns ending
+pub expands : (place : Place) (before after : Situation) (arguments : Option ℕ) (bytes : ℕ) (lines : List SourceLine)
+    (gives : List Given)
+    (ending : Ending) (left : List Left) → Shape (within_expansion arguments bytes place) before lines gives after ending
+    → Returns ending
     → StandsIn place left
-    → Leads (before_lines (within_expansion arguments bytes place) before lines (End (mark_at place arguments bytes) ∷ left)) gives (stage_of place after left)
-    ⊎ IsCutShort (before_lines (within_expansion arguments bytes place) before lines (End (mark_at place arguments bytes) ∷ left)) gives
+    → Leads (before_lines (within_expansion arguments bytes place) before lines (End (mark_at place arguments bytes) ∷ left))
+    gives (stage_of place after left)
+    ⊎ IsCutShort (before_lines (within_expansion arguments bytes place) before lines
+    (End (mark_at place arguments bytes) ∷ left)) gives
 expands place before after arguments bytes lines gives ending left shaped returns stands =
     let mark : Mark = mark_at place arguments bytes in
     let inside : Place = within_expansion arguments bytes place in
@@ -55,10 +58,10 @@ pub ends : (place : Place) (before after : Situation) (lines : List SourceLine) 
     → IsEndedAfter (before_lines place before lines left) gives ⊎ IsCutShort (before_lines place before lines left) gives
 ends place before after lines gives left shaped stands =
     ended (shape place before lines gives after shapes.Ending.Ends shaped left stands.around stands.is_live tt) where
-  ended : Runs (before_lines place before lines left) gives (λ s. s.has_ended ≡ true)
-      → IsEndedAfter (before_lines place before lines left) gives ⊎ IsCutShort (before_lines place before lines left) gives
-  ended (inl there) = inl (record { stage = there.stage; leads = there.leads; ended = there.holds })
-  ended (inr short) = inr short
+      ended : Runs (before_lines place before lines left) gives (λ s. s.has_ended ≡ true)
+          → IsEndedAfter (before_lines place before lines left) gives ⊎ IsCutShort (before_lines place before lines left) gives
+      ended (inl there) = inl (record { stage = there.stage; leads = there.leads; ended = there.holds })
+      ended (inr short) = inr short
 
 -- ---- a whole source
 
@@ -67,7 +70,8 @@ source_ends shapes.Ending.GoesOn = tt
 source_ends shapes.Ending.Stops = refl
 source_ends shapes.Ending.Ends = tt
 
-nothing_left : (ending : Ending) (after : Situation) (stage : Stage) → Arrived ending source_place after [] stage → move stage ≡ Rests
+nothing_left : (ending : Ending) (after : Situation) (stage : Stage) → Arrived ending source_place after [] stage
+    → move stage ≡ Rests
 nothing_left shapes.Ending.GoesOn after stage there = ap move there
 nothing_left shapes.Ending.Stops after stage there = ap move there.is
 nothing_left shapes.Ending.Ends after stage there = ap (λ (b : Bool). if b then Rests else move_from stage.left stage) there
@@ -78,9 +82,14 @@ whole source gives after ending shaped =
     all (from_same (Arrived ending source_place after []) (start source) (before_lines source_place beginning source []) gives
     (ap (stage_of source_place beginning) (sym (append-nil (map line_left source))))
     (shape source_place beginning source gives after ending shaped [] refl refl (source_ends ending))) where
-  all : Runs (start source) gives (Arrived ending source_place after []) → HasLiveLines source gives ⊎ IsCutShort (start source) gives
-  all (inl there) = inl (record { stage = there.stage; unfolds = there.leads; rests = nothing_left ending after there.stage there.holds })
-  all (inr short) = inr short
+      all : Runs (start source) gives (Arrived ending source_place after [])
+          → HasLiveLines source gives ⊎ IsCutShort (start source) gives
+      all (inl there) = inl (record {
+        stage = there.stage;
+        unfolds = there.leads;
+        rests = nothing_left ending after there.stage there.holds;
+      })
+      all (inr short) = inr short
 
 -- ---- where a limit is passed
 
@@ -92,7 +101,8 @@ module _ (before : Stage) where
 
   no_line : (after : Stage) (live : Live) → PassesLimit before → next_fault before ≡ None → move before ≡ Gives live after
       → act_fault after live.line.text ≡ None → ⊥
-  no_line after live (limits.PassesLimit.Taking fault is) none moves acts = absurd (let bad : Some fault ≡ None = sym is ∙ none in cc)
+  no_line after live (limits.PassesLimit.Taking fault is) none moves acts
+      = absurd (let bad : Some fault ≡ None = sym is ∙ none in cc)
   no_line after live (limits.PassesLimit.Acting fault live' there is gives acts') none moves acts =
       let both : Gives live' there ≡ Gives live after = sym gives ∙ moves in
       let same_live : live' ≡ live = cc in
@@ -102,7 +112,8 @@ module _ (before : Stage) where
       absurd (let bad : Some fault ≡ None = sym acts' ∙ same ∙ acts in cc)
 
   -- nothing further is taken
-  stays_short : (done : List Given) (after : Stage) → PassesLimit before → Leads before done after → (done ≡ []) × (after ≡ before)
+  stays_short : (done : List Given) (after : Stage) → PassesLimit before → Leads before done after
+      → (done ≡ []) × (after ≡ before)
   stays_short _ _ passed steps.Leads.Stays = (refl, refl)
   stays_short _ _ passed (steps.Leads.Passing done stage after leads fault moves) =
       let earlier = stays_short done stage passed leads in
@@ -135,18 +146,21 @@ no_limit_at_rest stage rests (limits.PassesLimit.Taking fault is) = by_end stage
 
 -- ---- no other lines
 
-module _ (tells : List Given → Live → Known) (source : List SourceLine) (gives done : List Given) (after : Situation) (ending : Ending)
+module _ (tells : List Given → Live
+    → Known) (source : List SourceLine) (gives done : List Given) (after : Situation) (ending : Ending)
     (stage : Stage) (shaped : Shape source_place beginning source gives after ending) (told : IsKnownBy tells gives)
     (told' : IsKnownBy tells done) (unfolds : Unfolds source done stage) where
   pub no_others : BeginWith gives done
   no_others = by_shape (whole source gives after ending shaped) where
-    with_all : (all : HasLiveLines source gives) → GoesOn done stage gives all.stage ⊎ GoesOn gives all.stage done stage → BeginWith gives done
+    with_all : (all : HasLiveLines source gives) → GoesOn done stage gives all.stage ⊎ GoesOn gives all.stage done stage
+        → BeginWith gives done
     with_all all (inl on) = record { more = on.more; whole = on.whole }
     with_all all (inr on) =
         let same = unfoldings.same_end gives done all.stage stage all.rests on in
         record { more = []; whole = sym same.0 ∙ sym (append-nil done) }
 
-    with_first : (short : IsCutShort (start source) gives) → GoesOn done stage short.first short.stage ⊎ GoesOn short.first short.stage done stage
+    with_first : (short : IsCutShort (start source) gives)
+        → GoesOn done stage short.first short.stage ⊎ GoesOn short.first short.stage done stage
         → BeginWith gives done
     with_first short (inl on) = record {
       more = on.more ++ short.more;
@@ -158,14 +172,17 @@ module _ (tells : List Given → Live → Known) (source : List SourceLine) (giv
         record { more = short.more; whole = short.whole ∙ ap (λ (g : List Given). g ++ short.more) (sym same) }
 
     by_shape : HasLiveLines source gives ⊎ IsCutShort (start source) gives → BeginWith gives done
-    by_shape (inl all) = with_all all (unfoldings.compared tells (start source) stage all.stage done gives told' told unfolds all.unfolds)
+    by_shape (inl all) = with_all all
+        (unfoldings.compared tells (start source) stage all.stage done gives told' told unfolds all.unfolds)
     by_shape (inr short) =
         with_first short (unfoldings.compared tells (start source) stage short.stage done short.first told'
-        (unfoldings.front_told tells short.first short.more (subst (λ (g : List Given). IsKnownBy tells g) short.whole told)) unfolds short.leads)
+        (unfoldings.front_told tells short.first short.more (subst (λ (g : List Given). IsKnownBy tells g) short.whole told))
+        unfolds short.leads)
 
   pub just_these : move stage ≡ Rests → done ≡ gives
   just_these rests = by_shape (whole source gives after ending shaped) where
-    with_first : (short : IsCutShort (start source) gives) → GoesOn done stage short.first short.stage ⊎ GoesOn short.first short.stage done stage
+    with_first : (short : IsCutShort (start source) gives)
+        → GoesOn done stage short.first short.stage ⊎ GoesOn short.first short.stage done stage
         → done ≡ gives
     with_first short (inl on) =
         let same = unfoldings.same_end done short.first stage short.stage rests on in
@@ -175,7 +192,9 @@ module _ (tells : List Given → Live → Known) (source : List SourceLine) (giv
         absurd (no_limit_at_rest stage rests (subst PassesLimit (sym still.1) short.passes))
 
     by_shape : HasLiveLines source gives ⊎ IsCutShort (start source) gives → done ≡ gives
-    by_shape (inl all) = (unfoldings.one_end tells (start source) stage all.stage done gives told' told unfolds all.unfolds rests all.rests).0
+    by_shape (inl all) = (unfoldings.one_end tells (start source) stage all.stage done gives told' told unfolds all.unfolds
+        rests all.rests).0
     by_shape (inr short) =
         with_first short (unfoldings.compared tells (start source) stage short.stage done short.first told'
-        (unfoldings.front_told tells short.first short.more (subst (λ (g : List Given). IsKnownBy tells g) short.whole told)) unfolds short.leads)
+        (unfoldings.front_told tells short.first short.more (subst (λ (g : List Given). IsKnownBy tells g) short.whole told))
+        unfolds short.leads)

@@ -1,23 +1,19 @@
 -- What the words of a shape do at a stage.
-use Rattle.std.proofs.Common.{◌≡◌, ◌∙◌, ℕ, suc, ◌+◌, Bool, true, false, List, [], ◌∷◌, length, Option, Some, None, refl, sym, ap, arith}
-use Rattle.std.specs.Prelude.{◌==◌, ◌||◌, not, if◌then◌else◌}
+use Rattle.std.proofs.Common.{◌≡◌, ◌∙◌, ℕ, Bool, false, List, [], length, refl, ap, arith}
+use Rattle.std.specs.Prelude.{◌==◌, if◌then◌else◌}
 use Rattle.std.proofs.lemmas.Bool.Decides.{nat_tests}
 use Rattle.m11_base.specs.Devices.{Bytes}
-use Rattle.m11_lines.specs.Line.{SourceLine}
-use Rattle.m11_arguments.specs.Directives.{directive}
 use Rattle.m11_arguments.specs.Expressions.{Known}
 use Rattle.m11_arguments.specs.Notes.{Notes}
-use Rattle.m11_arguments.specs.declared.directives.Directive.{Directive}
 use Rattle.m11_arguments.specs.declared.directives.Directive.TheVariants as word
-use Rattle.m11_expansions.specs.Conditions.{OpenConditions, closed, is_live_in, switched}
+use Rattle.m11_expansions.specs.Conditions.{closed, is_live_in, switched}
 use Rattle.m11_expansions.specs.Left.{Left, after_mark, has_mark, marks}
 use Rattle.m11_expansions.specs.declared.conditions.OpenCondition.{OpenCondition}
 use Rattle.m11_expansions.specs.declared.conditions.Part.{Part}
 use Rattle.m11_expansions.specs.declared.conditions.Part.TheVariants as parts
 use Rattle.m11_expansions.specs.declared.mark.Mark.{Mark}
-use Rattle.m11_unfolding.specs.Acting.{Acted, Directs, Operation, acted_by, flagged, foreign, letter_O, opens, own}
+use Rattle.m11_unfolding.specs.Acting.{Directs, Operation, acted_by, flagged, foreign, letter_O, opens, own}
 use Rattle.m11_unfolding.specs.Stages.{Purpose, Stage}
-use Rattle.m11_unfolding.proofs.Operators.{has_word}
 use Rattle.m11_shape_laws.specs.Places.{Place, Situation, only_entered, stage_of, within_condition}
 use Rattle.m11_shape_laws.specs.Putting.{Opens}
 use Rattle.m11_shape_laws.specs.Putting as putting
@@ -50,18 +46,19 @@ module _ (known : Known) (text : Bytes) (place : Place) (situation : Situation) 
   astray_acts _ _ around (shapes.IsAstray.MacroExit at none) =
       ap (λ (m : List Mark). if has_mark m then own (flagged 0 text at) (record stage { left = after_mark left })
       else own (flagged letter_O text at) stage) (around ∙ none)
-  astray_acts operation notes around (shapes.IsAstray.Begin operation' part at begins none) = begin_astray operation' part at begins none where
-    begin_astray : (operation : Operation) (part : Part) (at : ℕ) → Begins operation part at → place.entered ≡ []
-        → acted_by known text stage operation ≡ own (flagged letter_O text at) stage
-    begin_astray _ _ _ (shapes.Begins.IfFalse at) none =
-        ap (λ (e : List OpenCondition). if length e == 0 then own (flagged letter_O text at) stage
-        else own (flagged 0 text at) (record stage { conditions = switched parts.False (only_entered place.entered) })) none
-    begin_astray _ _ _ (shapes.Begins.IfTrue at) none =
-        ap (λ (e : List OpenCondition). if length e == 0 then own (flagged letter_O text at) stage
-        else own (flagged 0 text at) (record stage { conditions = switched parts.True (only_entered place.entered) })) none
-    begin_astray _ _ _ (shapes.Begins.IfTrueFalse at) none =
-        ap (λ (e : List OpenCondition). if length e == 0 then own (flagged letter_O text at) stage
-        else own (flagged 0 text at) (record stage { conditions = switched parts.Both (only_entered place.entered) })) none
+  astray_acts operation notes around (shapes.IsAstray.Begin operation' part at begins none)
+      = begin_astray operation' part at begins none where
+        begin_astray : (operation : Operation) (part : Part) (at : ℕ) → Begins operation part at → place.entered ≡ []
+            → acted_by known text stage operation ≡ own (flagged letter_O text at) stage
+        begin_astray _ _ _ (shapes.Begins.IfFalse at) none =
+            ap (λ (e : List OpenCondition). if length e == 0 then own (flagged letter_O text at) stage
+            else own (flagged 0 text at) (record stage { conditions = switched parts.False (only_entered place.entered) })) none
+        begin_astray _ _ _ (shapes.Begins.IfTrue at) none =
+            ap (λ (e : List OpenCondition). if length e == 0 then own (flagged letter_O text at) stage
+            else own (flagged 0 text at) (record stage { conditions = switched parts.True (only_entered place.entered) })) none
+        begin_astray _ _ _ (shapes.Begins.IfTrueFalse at) none =
+            ap (λ (e : List OpenCondition). if length e == 0 then own (flagged letter_O text at) stage
+            else own (flagged 0 text at) (record stage { conditions = switched parts.Both (only_entered place.entered) })) none
   astray_acts _ _ around (shapes.IsAstray.EndCondition at none) =
       ap (λ (e : List OpenCondition). if length e == 0 then own (flagged letter_O text at) stage
       else own (flagged 0 text at) (record stage { conditions = closed (only_entered place.entered) })) none
@@ -91,4 +88,5 @@ module _ (known : Known) (text : Bytes) (place : Place) (holds is_live : Bool) (
   pub close_acts : (at : ℕ) → acted_by known text inside (Directs word.EndCondition at)
       ≡ own (flagged 0 text at) (stage_of place situation left)
   close_acts at =
-      ap (λ (b : Bool). if b then own (flagged letter_O text at) inside else own (flagged 0 text at) (stage_of place situation left)) some
+      ap (λ (b : Bool). if b then own (flagged letter_O text at) inside else own (flagged 0 text at)
+      (stage_of place situation left)) some

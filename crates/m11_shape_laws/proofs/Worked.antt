@@ -1,7 +1,6 @@
 -- The worked source has its shape.
-use Rattle.std.proofs.Common.{◌≡◌, ◌∙◌, ℕ, Bool, true, false, List, [], ◌∷◌, ◌++◌, length, map, Option, Some, None, refl, sym, ap}
+use Rattle.std.proofs.Common.{◌≡◌, ℕ, List, [], ◌∷◌, ◌++◌, map, Some, None, refl}
 use Rattle.std.specs.Prelude.{codes}
-use Rattle.m11_base.specs.Devices.{Bytes}
 use Rattle.m11_base.specs.Rad50.{alphabet, code_of}
 use Rattle.m11_lines.specs.Line.{SourceLine, line_of}
 use Rattle.m11_scan.specs.Pieces.{first_piece}
@@ -10,12 +9,10 @@ use Rattle.m11_values.specs.declared.names.Symbol.{Symbol}
 use Rattle.m11_values.specs.Quantities.{Quantity}
 use Rattle.m11_values.specs.Values.{value_of}
 use Rattle.m11_arguments.specs.Expressions.{Known, known_by}
-use Rattle.m11_arguments.specs.Macros.{header}
-use Rattle.m11_arguments.specs.Notes.{Notes, no_notes}
-use Rattle.m11_arguments.specs.Repeats as repeats
+use Rattle.m11_arguments.specs.Notes.{no_notes}
 use Rattle.m11_arguments.specs.declared.directives.Directive.TheVariants as word
-use Rattle.m11_unfolding.specs.Acting.{Calls, Directs, Foreign, Operation, operation}
-use Rattle.m11_unfolding.specs.Stages.{Macro, Purpose, Defines, Repeats, start}
+use Rattle.m11_unfolding.specs.Acting.{Directs}
+use Rattle.m11_unfolding.specs.Stages.{Macro, Defines, start}
 use Rattle.m11_unfolding.specs.Unfolding.{Given}
 use Rattle.m11_shape_laws.specs.Places.{Place, Situation, beginning, operation_at, source_place, stage_of, within_expansion}
 use Rattle.m11_shape_laws.specs.Laws.{HasLiveLines}
@@ -100,7 +97,8 @@ module _ (stands_for : Symbol → Quantity) where
   unfolding alphabet code_of first_piece value_of
   branch_other_1 = shapes.IsOther.Other
 
-  rounds_1 : Shape in_rounds (made 30001 10) (nop ∷ nop ∷ []) (inner_line stands_for (codes " NOP") ∷ inner_line stands_for (codes " NOP") ∷ [])
+  rounds_1 : Shape in_rounds (made 30001 10) (nop ∷ nop ∷ [])
+      (inner_line stands_for (codes " NOP") ∷ inner_line stands_for (codes " NOP") ∷ [])
       (made 30001 12) shapes.Ending.GoesOn
   rounds_1 =
       shapes.Shape.Other in_rounds (made 30001 10) (made 30001 12) shapes.Ending.GoesOn known nop (nop ∷ [])
@@ -109,13 +107,15 @@ module _ (stands_for : Symbol → Quantity) where
       (shapes.Shape.Nothing in_rounds (made 30001 12)))
 
   inside_1 : Shape in_call (made 30001 7) (repeat_line_1 ∷ repeat_rest_1)
-      (worked.repeat_line stands_for (codes "30000$: .REPT 2") ∷ inner_line stands_for (codes " NOP") ∷ inner_line stands_for (codes " NOP")
+      (worked.repeat_line stands_for (codes "30000$: .REPT 2") ∷ inner_line stands_for (codes " NOP")
+      ∷ inner_line stands_for (codes " NOP")
       ∷ inner_line stands_for (codes " BR 30000$") ∷ []) (made 30001 13) shapes.Ending.GoesOn
   unfolding alphabet code_of
   inside_1 =
       shapes.Shape.Expansion in_call (made 30001 7) (made 30001 12) (made 30001 13) shapes.Ending.GoesOn
       shapes.Ending.GoesOn known repeat_line_1 repeat_rest_1
-      (inner_line stands_for (codes " NOP") ∷ inner_line stands_for (codes " NOP") ∷ []) (inner_line stands_for (codes " BR 30000$") ∷ [])
+      (inner_line stands_for (codes " NOP") ∷ inner_line stands_for (codes " NOP") ∷ [])
+      (inner_line stands_for (codes " BR 30000$") ∷ [])
       put_1 repeat_puts_1 rounds_1 tt
       (shapes.Shape.Other in_call (made 30001 12) (made 30001 13) shapes.Ending.GoesOn known branch_1 [] []
       branch_other_1 (shapes.Shape.Nothing in_call (made 30001 13)))
@@ -135,16 +135,19 @@ module _ (stands_for : Symbol → Quantity) where
   unfolding alphabet code_of first_piece value_of call_put_1
   call_puts_1 others = putting.Puts.Call twice 6
 
-  then_1 : (others : List SourceLine) (later : List Given) → Shape source_place (made 30001 13) others later worked_end shapes.Ending.GoesOn
+  then_1 : (others : List SourceLine) (later : List Given)
+      → Shape source_place (made 30001 13) others later worked_end shapes.Ending.GoesOn
       → Shape source_place (made 30000 6) (call ∷ others)
       (source_line stands_for (codes " TWICE") ∷ worked.repeat_line stands_for (codes "30000$: .REPT 2")
-      ∷ inner_line stands_for (codes " NOP") ∷ inner_line stands_for (codes " NOP") ∷ inner_line stands_for (codes " BR 30000$") ∷ later)
+      ∷ inner_line stands_for (codes " NOP") ∷ inner_line stands_for (codes " NOP") ∷ inner_line stands_for (codes " BR 30000$")
+      ∷ later)
       worked_end shapes.Ending.GoesOn
   unfolding call_put_1
   then_1 others later next =
       shapes.Shape.Expansion source_place (made 30000 6) (made 30001 13) worked_end shapes.Ending.GoesOn
       shapes.Ending.GoesOn known call others
-      (worked.repeat_line stands_for (codes "30000$: .REPT 2") ∷ inner_line stands_for (codes " NOP") ∷ inner_line stands_for (codes " NOP")
+      (worked.repeat_line stands_for (codes "30000$: .REPT 2") ∷ inner_line stands_for (codes " NOP")
+      ∷ inner_line stands_for (codes " NOP")
       ∷ inner_line stands_for (codes " BR 30000$") ∷ []) later (call_put_1 others) (call_puts_1 others) inside_1 tt next
 
   -- ---- the call that creates 30001$
@@ -175,7 +178,8 @@ module _ (stands_for : Symbol → Quantity) where
   unfolding alphabet code_of first_piece value_of
   branch_other_2 = shapes.IsOther.Other
 
-  rounds_2 : Shape in_rounds (made 30002 17) (nop ∷ nop ∷ []) (inner_line stands_for (codes " NOP") ∷ inner_line stands_for (codes " NOP") ∷ [])
+  rounds_2 : Shape in_rounds (made 30002 17) (nop ∷ nop ∷ [])
+      (inner_line stands_for (codes " NOP") ∷ inner_line stands_for (codes " NOP") ∷ [])
       (made 30002 19) shapes.Ending.GoesOn
   rounds_2 =
       shapes.Shape.Other in_rounds (made 30002 17) (made 30002 19) shapes.Ending.GoesOn known nop (nop ∷ [])
@@ -184,13 +188,15 @@ module _ (stands_for : Symbol → Quantity) where
       (shapes.Shape.Nothing in_rounds (made 30002 19)))
 
   inside_2 : Shape in_call (made 30002 14) (repeat_line_2 ∷ repeat_rest_2)
-      (worked.repeat_line stands_for (codes "30001$: .REPT 2") ∷ inner_line stands_for (codes " NOP") ∷ inner_line stands_for (codes " NOP")
+      (worked.repeat_line stands_for (codes "30001$: .REPT 2") ∷ inner_line stands_for (codes " NOP")
+      ∷ inner_line stands_for (codes " NOP")
       ∷ inner_line stands_for (codes " BR 30001$") ∷ []) (made 30002 20) shapes.Ending.GoesOn
   unfolding alphabet code_of
   inside_2 =
       shapes.Shape.Expansion in_call (made 30002 14) (made 30002 19) (made 30002 20) shapes.Ending.GoesOn
       shapes.Ending.GoesOn known repeat_line_2 repeat_rest_2
-      (inner_line stands_for (codes " NOP") ∷ inner_line stands_for (codes " NOP") ∷ []) (inner_line stands_for (codes " BR 30001$") ∷ [])
+      (inner_line stands_for (codes " NOP") ∷ inner_line stands_for (codes " NOP") ∷ [])
+      (inner_line stands_for (codes " BR 30001$") ∷ [])
       put_2 repeat_puts_2 rounds_2 tt
       (shapes.Shape.Other in_call (made 30002 19) (made 30002 20) shapes.Ending.GoesOn known branch_2 [] []
       branch_other_2 (shapes.Shape.Nothing in_call (made 30002 20)))
@@ -210,16 +216,19 @@ module _ (stands_for : Symbol → Quantity) where
   unfolding alphabet code_of first_piece value_of call_put_2
   call_puts_2 others = putting.Puts.Call twice 6
 
-  then_2 : (others : List SourceLine) (later : List Given) → Shape source_place (made 30002 20) others later worked_end shapes.Ending.GoesOn
+  then_2 : (others : List SourceLine) (later : List Given)
+      → Shape source_place (made 30002 20) others later worked_end shapes.Ending.GoesOn
       → Shape source_place (made 30001 13) (call ∷ others)
       (source_line stands_for (codes " TWICE") ∷ worked.repeat_line stands_for (codes "30001$: .REPT 2")
-      ∷ inner_line stands_for (codes " NOP") ∷ inner_line stands_for (codes " NOP") ∷ inner_line stands_for (codes " BR 30001$") ∷ later)
+      ∷ inner_line stands_for (codes " NOP") ∷ inner_line stands_for (codes " NOP") ∷ inner_line stands_for (codes " BR 30001$")
+      ∷ later)
       worked_end shapes.Ending.GoesOn
   unfolding call_put_2
   then_2 others later next =
       shapes.Shape.Expansion source_place (made 30001 13) (made 30002 20) worked_end shapes.Ending.GoesOn
       shapes.Ending.GoesOn known call others
-      (worked.repeat_line stands_for (codes "30001$: .REPT 2") ∷ inner_line stands_for (codes " NOP") ∷ inner_line stands_for (codes " NOP")
+      (worked.repeat_line stands_for (codes "30001$: .REPT 2") ∷ inner_line stands_for (codes " NOP")
+      ∷ inner_line stands_for (codes " NOP")
       ∷ inner_line stands_for (codes " BR 30001$") ∷ []) later (call_put_2 others) (call_puts_2 others) inside_2 tt next
 
   -- ---- the whole
@@ -227,21 +236,28 @@ module _ (stands_for : Symbol → Quantity) where
   abbrev second_call : List Given
   second_call =
       source_line stands_for (codes " TWICE") ∷ worked.repeat_line stands_for (codes "30001$: .REPT 2")
-      ∷ inner_line stands_for (codes " NOP") ∷ inner_line stands_for (codes " NOP") ∷ inner_line stands_for (codes " BR 30001$") ∷ []
+      ∷ inner_line stands_for (codes " NOP") ∷ inner_line stands_for (codes " NOP") ∷ inner_line stands_for (codes " BR 30001$")
+      ∷ []
 
   abbrev both_calls : List Given
   both_calls =
       source_line stands_for (codes " TWICE") ∷ worked.repeat_line stands_for (codes "30000$: .REPT 2")
-      ∷ inner_line stands_for (codes " NOP") ∷ inner_line stands_for (codes " NOP") ∷ inner_line stands_for (codes " BR 30000$") ∷ second_call
+      ∷ inner_line stands_for (codes " NOP") ∷ inner_line stands_for (codes " NOP") ∷ inner_line stands_for (codes " BR 30000$")
+      ∷ second_call
 
   pub as_worked : Shape source_place beginning worked_source (worked_lines stands_for) worked_end shapes.Ending.GoesOn
   as_worked =
-      shapes.Shape.Definition source_place beginning worked_end shapes.Ending.GoesOn known first body_lines calls both_calls no_notes twice_name
+      shapes.Shape.Definition source_place beginning worked_end shapes.Ending.GoesOn known first body_lines calls both_calls
+      no_notes twice_name
       twice_formals twice_body opens_macro has_body
       (then_1 (call ∷ []) second_call (then_2 [] [] (shapes.Shape.Nothing source_place worked_end)))
 
   pub unfolds_so : HasLiveLines worked_source (worked_lines stands_for)
   unfolding alphabet code_of first_piece value_of
   unfolds_so =
-      let all = walked 60 known (start worked_source) (record { gives = worked_lines stands_for; after = stage_of source_place worked_end [] }) refl in
+      let all = walked 60 known (start worked_source) (record {
+        gives = worked_lines stands_for;
+        after
+            = stage_of source_place worked_end [];
+      }) refl in
       record { stage = stage_of source_place worked_end []; unfolds = all.0; rests = all.1 }

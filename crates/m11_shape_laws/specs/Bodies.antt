@@ -1,10 +1,8 @@
 -- Bodies of the unfolding that runs. (MACRO-11 Language Reference Manual, "Macro definition" and "Repeat block directive".)
-use Rattle.std.specs.Prelude.{◌≡◌, ℕ, ◌+◌, Bool, true, false, List, [], ◌++◌, length, Some, None}
+use Rattle.std.specs.Prelude.{ℕ, ◌+◌, false, [], ◌++◌, length, Some, None}
 use Rattle.m11_expansions.specs.Bodies.{Cut, HalfTaken, cut_at}
-use Rattle.m11_expansions.specs.Left.{Left}
-use Rattle.m11_expansions.specs.declared.mark.Mark.{Mark}
 use Rattle.m11_unfolding.specs.Stages.{Purpose, Stage}
-use Rattle.m11_unfolding.specs.Taking.{ended, nesting, used}
+use Rattle.m11_unfolding.specs.Taking.{nesting}
 use Rattle.m11_unfolding.specs.Unfolding.{Leads}
 
 -- a stage in which a body is open, of which some lines are taken
@@ -29,7 +27,13 @@ past_body cut stage = record stage {
 
 -- those of a body without a close are
 abbrev pub past_open_body : Cut → Stage → Stage
-past_open_body cut stage = record stage { left = cut.after; opening = None; taken = stage.taken + length cut.body; has_ended = false }
+past_open_body cut stage = record stage {
+  left = cut.after;
+  opening = None;
+  taken = stage.taken + length cut.body;
+  has_ended
+      = false;
+}
 
 -- the lines of a body without a close are taken, and it stays open
 pub record StaysOpen (purpose : Purpose) (taken : HalfTaken) (cut : Cut) (before : Stage) : Type 0 where

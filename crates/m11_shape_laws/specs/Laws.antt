@@ -1,4 +1,5 @@
--- Where the lines of a shape lead to. (MACRO-11 Language Reference Manual, "Macro directives" and "Conditional assembly directives".)
+-- Where the lines of a shape lead to. (MACRO-11 Language Reference Manual, "Macro directives" and "Conditional assembly
+-- directives".)
 use Rattle.std.specs.Prelude.{◌≡◌, true, false, List, ◌++◌, map, Option}
 use Rattle.m11_lines.specs.Line.{SourceLine}
 use Rattle.m11_expansions.specs.Conditions.{OpenConditions, is_live_inside}

@@ -1,5 +1,5 @@
--- Where lines stand, what the lines before them have made, and what a live line shows. (MACRO-11 Language Reference Manual, "Macro
--- directives" and "Conditional assembly directives".)
+-- Where lines stand, what the lines before them have made, and what a live line shows. (MACRO-11 Language Reference Manual,
+-- "Macro directives" and "Conditional assembly directives".)
 use Rattle.std.specs.Prelude.{ℕ, ◌+◌, Bool, true, false, nat_lt, List, [], ◌∷◌, length, Option, None}
 use Rattle.m11_base.specs.Devices.{Bytes}
 use Rattle.m11_base.specs.Rad50.{Name}

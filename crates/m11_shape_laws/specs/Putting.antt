@@ -1,5 +1,5 @@
--- Lines that open a body, and the lines that a call or a repeat puts in its place. (MACRO-11 Language Reference Manual, "Macro definition",
--- "Macro calls", "Repeat block directive" and "Indefinite repeat block directives".)
+-- Lines that open a body, and the lines that a call or a repeat puts in its place. (MACRO-11 Language Reference Manual, "Macro
+-- definition", "Macro calls", "Repeat block directive" and "Indefinite repeat block directives".)
 use Rattle.std.specs.Prelude.{◌≡◌, ℕ, ◌+◌, true, false, List, [], length, map, replicate, Option, Some, None}
 use Rattle.m11_base.specs.Devices.{Bytes}
 use Rattle.m11_base.specs.Rad50.{Name}
@@ -36,21 +36,25 @@ HasNoClose lines = (body_of nesting (map line_left lines)).is_closed ≡ false
 pub data Opens (known : Known) (text : Bytes) : Operation → Notes → Purpose → Type 0 where
   -- a macro; where the name is missing or bad, the body is for nothing
   Macro : (place : ℕ)
-      → Opens known text (Directs word.Macro place) (noting (header text place).letters []) (acting.defining (header text place).named)
+      → Opens known text (Directs word.Macro place) (noting (header text place).letters [])
+      (acting.defining (header text place).named)
   -- as many rounds as the expression says, without formals
   Repeat : (place : ℕ)
-      → Opens known text (Directs word.Repeat place) (repeats.notes known text place) (Repeats [] (replicate (repeats.repeat_count known text place) []))
+      → Opens known text (Directs word.Repeat place) (repeats.notes known text place)
+      (Repeats [] (replicate (repeats.repeat_count known text place) []))
   -- a round for each argument, which is put in place of the formal
   IndefiniteRepeat : (place : ℕ)
-      → Opens known text (Directs word.IndefiniteRepeat place) (indefinite_repeat known text place).notes (repeating (indefinite_repeat known text place).rounds)
+      → Opens known text (Directs word.IndefiniteRepeat place) (indefinite_repeat known text place).notes
+      (repeating (indefinite_repeat known text place).rounds)
   -- a round for each character
   CharacterRepeat : (place : ℕ)
-      → Opens known text (Directs word.CharacterRepeat place) (character_repeat text place).notes (repeating (character_repeat text place).rounds)
+      → Opens known text (Directs word.CharacterRepeat place) (character_repeat text place).notes
+      (repeating (character_repeat text place).rounds)
 
 -- ---- what is put in place
 
--- what an expansion puts in its place: letters and symbols of its first line; the number of actuals, if it is a call; the bytes that it
--- holds; its lines; the situation as they begin; and the lines that stand after it
+-- what an expansion puts in its place: letters and symbols of its first line; the number of actuals, if it is a call; the bytes
+-- that it holds; its lines; the situation as they begin; and the lines that stand after it
 pub record Put : Type 0 where
   pub notes : Notes
   pub arguments : Option ℕ
@@ -85,7 +89,8 @@ put_by_repeat notes formals rounds body situation others = record {
   others = others;
 }
 
-pub data Puts (known : Known) (situation : Situation) (text : Bytes) (following : List SourceLine) : Operation → Put → Type 0 where
+pub data Puts (known : Known) (situation : Situation) (text : Bytes) (following : List SourceLine) : Operation → Put
+    → Type 0 where
   Call : (macro : stages.Macro) (place : ℕ)
       → Puts known situation text following (Calls macro place)
       (put_by_call macro (actuals_from known text (length macro.formals) place) situation following)

@@ -1,6 +1,6 @@
--- The shapes of a source, and the lines that become live in each. (MACRO-11 Language Reference Manual, "Macro directives", "Conditional
--- assembly directives" and ".END directive". Limits don't count here, but for the most conditions that may be open.)
-use Rattle.std.specs.Prelude.{◌≡◌, ℕ, ◌+◌, zero, suc, Bool, true, false, not, ◌||◌, ◌==◌, List, [], ◌∷◌, ◌++◌, length, drop, Option, Some, None, ⊤}
+-- The shapes of a source, and the lines that become live in each. (MACRO-11 Language Reference Manual, "Macro directives",
+-- "Conditional assembly directives" and ".END directive". Limits don't count here, but for the most conditions that may be open.)
+use Rattle.std.specs.Prelude.{◌≡◌, ℕ, ◌+◌, suc, Bool, true, false, not, ◌||◌, ◌==◌, List, [], ◌∷◌, ◌++◌, length, drop, Option, Some, None, ⊤}
 use Rattle.m11_base.specs.Devices.{Bytes}
 use Rattle.m11_base.specs.Rad50.{Name}
 use Rattle.m11_lines.specs.Line.{SourceLine, line_of}
@@ -58,8 +58,8 @@ pub data Begins : Operation → Part → ℕ → Type 0 where
   IfTrue : (place : ℕ) → Begins (Directs word.IfTrue place) part.True place
   IfTrueFalse : (place : ℕ) → Begins (Directs word.IfTrueFalse place) part.Both place
 
--- a word where it has no meaning: the close of a body where none is open, a part or the end of a condition where none is open in the
--- expansion, and an exit outside all expansions. Its line has the letter O.
+-- a word where it has no meaning: the close of a body where none is open, a part or the end of a condition where none is open in
+-- the expansion, and an exit outside all expansions. Its line has the letter O.
 pub data IsAstray (place : Place) (text : Bytes) : Operation → Notes → Type 0 where
   EndMacro : (at : ℕ) → IsAstray place text (Directs word.EndMacro at) (noting letter_O [])
   EndRepeat : (at : ℕ) → IsAstray place text (Directs word.EndRepeat at) (noting letter_O [])
@@ -70,8 +70,8 @@ pub data IsAstray (place : Place) (text : Bytes) : Operation → Notes → Type 
 
 -- ---- text that is skipped
 
--- a word in skipped lines that changes nothing: any but `.IF` and `.ENDC`, and the parts of the condition that is skipped. A condition past
--- the last has no parts.
+-- a word in skipped lines that changes nothing: any but `.IF` and `.ENDC`, and the parts of the condition that is skipped. A
+-- condition past the last has no parts.
 abbrev pub is_plain : Bool → ℕ → Option Directive → Bool
 is_plain is_past inner (Some word.If) = false
 is_plain is_past inner (Some word.EndCondition) = false
@@ -105,25 +105,23 @@ statement known text place =
 
 -- ---- shapes
 
--- Lines at a place and in a situation; the lines that become live; the situation after them, and how they end. Lines that end with their
--- expansion are all that are left of it.
+-- Lines at a place and in a situation; the lines that become live; the situation after them, and how they end. Lines that end
+-- with their expansion are all that are left of it.
 mutual
   pub data Shape : Place → Situation → List SourceLine → List Given → Situation → Ending → Type 0 where
     -- no line
     Nothing : (place : Place) (before : Situation) → Shape place before [] [] before GoesOn
-
     -- a line whose operator isn't unfolding's becomes live as it is
     Other : (place : Place) (before after : Situation) (ending : Ending) (known : Known) (line : SourceLine)
         (lines : List SourceLine) (gives : List Given) → IsOther (operation_at place before line)
         → Shape place (counting 1 before) lines gives after ending
         → Shape place before (line ∷ lines) (other_line place known line ∷ gives) after ending
-
     -- a word where it has no meaning does nothing
     Astray : (place : Place) (before after : Situation) (ending : Ending) (known : Known) (line : SourceLine)
         (lines : List SourceLine) (gives : List Given) (notes : Notes)
-        → IsAstray place line.text (operation_at place before line) notes → Shape place (counting 1 before) lines gives after ending
+        → IsAstray place line.text (operation_at place before line) notes
+        → Shape place (counting 1 before) lines gives after ending
         → Shape place before (line ∷ lines) (own_line place known line notes ∷ gives) after ending
-
     -- a call or a repeat gives its own line, and then what the lines give that it puts in its place
     Expansion : (place : Place) (before middle after : Situation) (inner ending : Ending) (known : Known) (line : SourceLine)
         (lines : List SourceLine) (gives later : List Given) (put : Put)
@@ -131,39 +129,35 @@ mutual
         → Shape (within_expansion put.arguments put.bytes place) put.situation put.lines gives middle inner → Returns inner
         → Shape place middle put.others later after ending
         → Shape place before (line ∷ lines) (own_line place known line put.notes ∷ gives ++ later) after ending
-
     -- an `.END` in it is the last line of all
     LastExpansion : (place : Place) (before after : Situation) (known : Known) (line : SourceLine) (lines : List SourceLine)
         (gives : List Given) (put : Put) → Puts known before line.text lines (operation_at place before line) put
         → Shape (within_expansion put.arguments put.bytes place) put.situation put.lines gives after Ends
         → Shape place before (line ∷ lines) (own_line place known line put.notes ∷ gives) after Ends
-
     -- `.MACRO`: its own line; the lines of the body are the macro's
     Definition : (place : Place) (before after : Situation) (ending : Ending) (known : Known) (line : SourceLine)
         (lines others : List SourceLine) (gives : List Given) (notes : Notes) (name : Name) (formals : List MacroFormal)
         (body : List Bytes) → Opens known line.text (operation_at place before line) notes (Defines name formals)
-        → HasBody lines body others → Shape place (defining name formals body (counting (length body + 2) before)) others gives after ending
+        → HasBody lines body others
+        → Shape place (defining name formals body (counting (length body + 2) before)) others gives after ending
         → Shape place before (line ∷ lines) (own_line place known line notes ∷ gives) after ending
-
     -- `.MACRO` without a name: the lines of the body are for nothing
     Dropped : (place : Place) (before after : Situation) (ending : Ending) (known : Known) (line : SourceLine)
         (lines others : List SourceLine) (gives : List Given) (notes : Notes) (body : List Bytes)
         → Opens known line.text (operation_at place before line) notes Drops → HasBody lines body others
         → Shape place (counting (length body + 2) before) others gives after ending
         → Shape place before (line ∷ lines) (own_line place known line notes ∷ gives) after ending
-
     -- a body without a close is for nothing, and takes all lines
     OpenBody : (place : Place) (before : Situation) (known : Known) (line : SourceLine) (lines : List SourceLine) (notes : Notes)
         (purpose : Purpose) → Opens known line.text (operation_at place before line) notes purpose → HasNoClose lines
         → Shape place before (line ∷ lines) (own_line place known line notes ∷ []) (counting (length lines + 1) before) Stops
-
     -- `.IF`: its own line, and then its parts, the first of which is live where it holds
     Condition : (place : Place) (before after : Situation) (ending : Ending) (known : Known) (line : SourceLine)
         (lines : List SourceLine) (gives : List Given) (at : ℕ) → operation_at place before line ≡ Directs word.If at
         → has_condition_left place ≡ true
-        → Parts place (condition known line.text at).holds (condition known line.text at).holds (counting 1 before) lines gives after ending
+        → Parts place (condition known line.text at).holds (condition known line.text at).holds (counting 1 before) lines gives
+        after ending
         → Shape place before (line ∷ lines) (own_line place known line (condition_notes known line.text at) ∷ gives) after ending
-
     -- a 33rd condition has the letter O, and all up to its `.ENDC` is text
     Refused : (place : Place) (before after : Situation) (ending : Ending) (known last : Known) (line close : SourceLine)
         (text lines : List SourceLine) (gives : List Given) (at end : ℕ) → operation_at place before line ≡ Directs word.If at
@@ -171,24 +165,23 @@ mutual
         → operation (past (only_entered place.entered)) before.macros close.text ≡ Directs word.EndCondition end
         → Shape place (counting (length text + 2) before) lines gives after ending
         → Shape place before (line ∷ text ++ close ∷ lines)
-        (own_line place known line (noting letter_O []) ∷ own_line place last close (flagged 0 close.text end) ∷ gives) after ending
-
+        (own_line place known line (noting letter_O []) ∷ own_line place last close (flagged 0 close.text end) ∷ gives) after
+        ending
     -- or all lines are, where that doesn't come
-    OpenRefused : (place : Place) (before : Situation) (known : Known) (line : SourceLine) (lines : List SourceLine) (at inner : ℕ)
+    OpenRefused : (place : Place) (before : Situation) (known : Known) (line : SourceLine) (lines : List SourceLine)
+        (at inner : ℕ)
         → operation_at place before line ≡ Directs word.If at → has_condition_left place ≡ false → IsText true 0 lines inner
-        → Shape place before (line ∷ lines) (own_line place known line (noting letter_O []) ∷ []) (counting (length lines + 1) before) Stops
-
+        → Shape place before (line ∷ lines) (own_line place known line (noting letter_O []) ∷ [])
+        (counting (length lines + 1) before) Stops
     -- `.IIF`: its own line, and where it holds its statement as the next line
     Immediate : (place : Place) (before after : Situation) (ending : Ending) (known : Known) (line : SourceLine)
         (lines : List SourceLine) (gives : List Given) (at : ℕ) → operation_at place before line ≡ Directs word.ImmediateIf at
         → Shape place (counting 1 before) (statement known line.text at ++ lines) gives after ending
         → Shape place before (line ∷ lines) (own_line place known line (immediate.notes known line.text at) ∷ gives) after ending
-
     -- `.MEXIT`: no line after it in the expansion is taken, in none of its rounds
     Exit : (place : Place) (before : Situation) (known : Known) (line : SourceLine) (lines : List SourceLine) (at : ℕ)
         → operation_at place before line ≡ Directs word.MacroExit at → has_mark place.around ≡ true
         → Shape place before (line ∷ lines) (own_line place known line (flagged 0 line.text at) ∷ []) (counting 1 before) Stops
-
     -- `.END`: no line after it is taken at all
     End : (place : Place) (before : Situation) (known : Known) (line : SourceLine) (lines : List SourceLine) (at : ℕ)
         → operation_at place before line ≡ Directs word.End at
@@ -204,7 +197,6 @@ mutual
         → Parts place holds (is_live_in part holds) (counting 1 middle) others later after ending
         → Parts place holds is_live before (lines ++ line ∷ others)
         (gives ++ own_line place known line (flagged 0 line.text at) ∷ later) after ending
-
     -- the part, and then `.ENDC` with what stands after it
     Close : (place : Place) (holds is_live : Bool) (before middle after : Situation) (ending : Ending) (known : Known)
         (line : SourceLine) (lines others : List SourceLine) (gives later : List Given) (at : ℕ)
@@ -213,7 +205,6 @@ mutual
         → Shape place (counting 1 middle) others later after ending
         → Parts place holds is_live before (lines ++ line ∷ others)
         (gives ++ own_line place known line (flagged 0 line.text at) ∷ later) after ending
-
     -- a live part up to an `.IIF` whose statement is a word of the condition, or stands before one
     ImmediateInPart : (place : Place) (holds : Bool) (before middle after : Situation) (ending : Ending) (known : Known)
         (line : SourceLine) (lines others : List SourceLine) (gives later : List Given) (at : ℕ)
@@ -222,7 +213,6 @@ mutual
         → Parts place holds true (counting 1 middle) (statement known line.text at ++ others) later after ending
         → Parts place holds true before (lines ++ line ∷ others)
         (gives ++ own_line place known line (immediate.notes known line.text at) ∷ later) after ending
-
     -- the part alone, where the expansion, the source or all ends with it
     Last : (place : Place) (holds is_live : Bool) (before after : Situation) (ending : Ending) (lines : List SourceLine)
         (gives : List Given) → OnePart place holds is_live before lines gives after ending
@@ -230,10 +220,12 @@ mutual
 
   -- One part: its lines have a shape where it is live, or else are text.
   pub data OnePart : Place → Bool → Bool → Situation → List SourceLine → List Given → Situation → Ending → Type 0 where
-    Live : (place : Place) (holds : Bool) (before after : Situation) (ending : Ending) (lines : List SourceLine) (gives : List Given)
+    Live : (place : Place) (holds : Bool) (before after : Situation) (ending : Ending) (lines : List SourceLine)
+        (gives : List Given)
         → Shape (within_condition holds true place) before lines gives after ending
         → OnePart place holds true before lines gives after ending
     Text : (place : Place) (holds : Bool) (before : Situation) (lines : List SourceLine) → IsText false 0 lines 0
         → OnePart place holds false before lines [] (counting (length lines) before) GoesOn
-    OpenText : (place : Place) (holds : Bool) (before : Situation) (lines : List SourceLine) (inner : ℕ) → IsText false 0 lines inner
+    OpenText : (place : Place) (holds : Bool) (before : Situation) (lines : List SourceLine) (inner : ℕ)
+        → IsText false 0 lines inner
         → OnePart place holds false before lines [] (counting (length lines) before) Stops

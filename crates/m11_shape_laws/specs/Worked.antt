@@ -1,5 +1,5 @@
--- A macro with a repeat in it that is called twice, worked by hand. (MACRO-11 Language Reference Manual, "Automatic creation of local symbols"
--- and "Repeat block directive".) In a loop that is written so, each call has a label of its own.
+-- A macro with a repeat in it that is called twice, worked by hand. (MACRO-11 Language Reference Manual, "Automatic creation of
+-- local symbols" and "Repeat block directive".) In a loop that is written so, each call has a label of its own.
 use Rattle.std.specs.Prelude.{ℕ, Bool, true, false, List, [], ◌∷◌, codes, map, Option, Some, None}
 use Rattle.m11_base.specs.Devices.{Bytes}
 use Rattle.m11_base.specs.Names.{name_in_words}
@@ -8,7 +8,7 @@ use Rattle.m11_lines.specs.Line.{SourceLine, line_of}
 use Rattle.m11_scan.specs.declared.radix.Radix.TheVariants.{Octal}
 use Rattle.m11_values.specs.declared.names.Symbol.{Symbol}
 use Rattle.m11_values.specs.Quantities.{Quantity}
-use Rattle.m11_arguments.specs.Expressions.{Known, known_by}
+use Rattle.m11_arguments.specs.Expressions.{known_by}
 use Rattle.m11_arguments.specs.Notes.{no_notes}
 use Rattle.m11_arguments.specs.declared.macros.MacroFormal.{MacroFormal}
 use Rattle.m11_unfolding.specs.Unfolding.{Given}

@@ -1,5 +1,5 @@
-//! Cases of shapes: blocks without others in them, and a source that was worked by hand. Each law is the contract of a function that does
-//! nothing.
+//! Cases of shapes: blocks without others in them, and a source that was worked by hand. Each law is the contract of a function
+//! that does nothing.
 
 ghost use Rattle.std.specs.Prelude.{◌≡◌, ◌+◌, ◌++◌, ◌∷◌, ℕ, List, [], true, false, None, Some, length, map};
 ghost use Rattle.m11_arguments.specs.Actuals.{actuals_from};
@@ -27,14 +27,16 @@ ghost use Rattle.m11_shape_laws.specs.Worked.{worked_end, worked_lines, worked_s
 
 /// Lines whose operators are none of unfolding's have a shape: they become live as they are.
 pub fn other_lines_have_a_shape()
-    ensures { (known : Known) (place : Place) (lines : List SourceLine) (before : Situation) → AreForeign (stage_of place before []) lines
+    ensures { (known : Known) (place : Place) (lines : List SourceLine) (before : Situation)
+        → AreForeign (stage_of place before []) lines
         → Shape place before lines (map (other_line place known) lines) (counting (length lines) before) GoesOn }
 {}
 
 /// A block of a repeat has a shape in which its own line becomes live, and then the lines of its rounds, where none of these is
 /// unfolding's; `.REPT`, `.IRP` and `.IRPC` alike.
 pub fn repeats_have_a_shape()
-    ensures { (known : Known) (place : Place) (before : Situation) (first close : SourceLine) (lines : List SourceLine) (notes : Notes)
+    ensures { (known : Known) (place : Place) (before : Situation) (first close : SourceLine) (lines : List SourceLine)
+        (notes : Notes)
         (formals : List Name) (rounds : List (List Bytes))
         → Opens known first.text (operation_at place before first) notes (Repeats formals rounds)
         → IsPlainBody (texts_of lines) → nesting close.text ≡ Closes
@@ -47,21 +49,23 @@ pub fn repeats_have_a_shape()
         (counting (length lines + 2 + length (lines_of_rounds formals rounds (texts_of lines))) before) GoesOn }
 {}
 
-/// A call of a macro without formals has a shape in which its own line becomes live, and then the lines of the body, where none of these
-/// is unfolding's.
+/// A call of a macro without formals has a shape in which its own line becomes live, and then the lines of the body, where none
+/// of these is unfolding's.
 pub fn calls_have_a_shape()
     ensures { (known : Known) (place : Place) (before : Situation) (line : SourceLine) (body : List Bytes) (at : ℕ)
         → operation_at place before line ≡ Calls (record { formals = []; body = body }) at
         → AreForeign (stage_of (within_expansion (Some 0) 0 place) before []) (map line_of body)
         → Shape place before (line ∷ []) (own_line place known line (actuals_from known line.text 0 at).notes
-        ∷ map (other_line (within_expansion (Some (length (actuals_from known line.text 0 at).texts)) 0 place) known) (map line_of body))
+        ∷ map (other_line (within_expansion (Some (length (actuals_from known line.text 0 at).texts)) 0 place) known)
+        (map line_of body))
         (counting (length body + 1) before) GoesOn }
 {}
 
-/// A condition has a shape in which its own line, the lines inside and the `.ENDC` become live where it holds, and the first and the last
-/// alone where it doesn't; none of the lines inside is unfolding's.
+/// A condition has a shape in which its own line, the lines inside and the `.ENDC` become live where it holds, and the first and
+/// the last alone where it doesn't; none of the lines inside is unfolding's.
 pub fn conditions_have_a_shape()
-    ensures holds { (known : Known) (place : Place) (before : Situation) (first close : SourceLine) (lines : List SourceLine) (at end : ℕ)
+    ensures holds { (known : Known) (place : Place) (before : Situation) (first close : SourceLine) (lines : List SourceLine)
+        (at end : ℕ)
         → operation_at place before first ≡ Directs If at → has_condition_left place ≡ true
         → (condition known first.text at).holds ≡ true → AreForeign (stage_of (within_condition true true place) before []) lines
         → operation_at (within_condition true true place) before close ≡ Directs EndCondition end
@@ -69,7 +73,8 @@ pub fn conditions_have_a_shape()
         (own_line place known first (condition_notes known first.text at) ∷ map (other_line place known) lines
         ++ own_line place known close (flagged 0 close.text end) ∷ [])
         (counting (length lines + 2) before) GoesOn }
-    ensures fails { (known : Known) (place : Place) (before : Situation) (first close : SourceLine) (lines : List SourceLine) (at end : ℕ)
+    ensures fails { (known : Known) (place : Place) (before : Situation) (first close : SourceLine) (lines : List SourceLine)
+        (at end : ℕ)
         → operation_at place before first ≡ Directs If at → has_condition_left place ≡ true
         → (condition known first.text at).holds ≡ false → AreForeign (stage_of place before []) lines
         → operation_at (within_condition false false place) before close ≡ Directs EndCondition end
@@ -79,8 +84,8 @@ pub fn conditions_have_a_shape()
         (counting (length lines + 2) before) GoesOn }
 {}
 
-/// A source whose macro has a label for each call and a repeat in it, and that calls it twice, has the shape and the live lines that were
-/// worked by hand.
+/// A source whose macro has a label for each call and a repeat in it, and that calls it twice, has the shape and the live lines
+/// that were worked by hand.
 pub fn two_calls_with_a_repeat_are_as_worked()
     ensures shape { (stands_for : Symbol → Quantity)
         → Shape source_place beginning worked_source (worked_lines stands_for) worked_end GoesOn }
