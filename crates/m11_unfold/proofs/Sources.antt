@@ -76,7 +76,8 @@ rests_without left stage none going =
     ap (λ (b : Bool). if b then taking.Rests else taking.move_from left stage) going
     ∙ ap (λ (l : List Left). taking.move_from l stage) none
 
-all_taken : (source : List SourceLine) (done : List Given) (before after : Stage) → Unfolds source done before → Leads before [] after
+all_taken : (source : List SourceLine) (done : List Given) (before after : Stage) → Unfolds source done before
+    → Leads before [] after
     → after.left ≡ [] → after.has_ended ≡ false → IsAllTaken source done after
 all_taken source done before after stands leads none going = record {
   unfolds = passes_on source done before after stands leads;
@@ -94,7 +95,8 @@ over source done before after stands leads ended = record {
 
 pub reaches : (source : List SourceLine) (done : List Given) (before after : Stage) (line : SourceLine) (result : Result Step UnfoldFault)
     → Unfolds source done before → Steps before after line result → Reaches source done after line result
-reaches source done before after line (Ok NeedLine) stands stepped = all_taken source done before after stands stepped.0 stepped.1 stepped.2
+reaches source done before after line (Ok NeedLine) stands stepped
+    = all_taken source done before after stands stepped.0 stepped.1 stepped.2
 reaches source done before after line (Ok End) stands stepped = over source done before after stands stepped.0 stepped.1
 reaches source done before after line (Ok (Line is_expanded)) stands stepped =
     λ known acts. comes source done before after (live_of line is_expanded) known stands stepped acts
@@ -127,8 +129,11 @@ module _ (source : List SourceLine) (done : List Given) (before live_stage after
   reaches_on (Err TooManyMacros) acts = exceeds_at TooManyMacros acts
   reaches_on (Err NoMemory) acts = tt
 
-pub acts_on : (source : List SourceLine) (done : List Given) (before live_stage after : Stage) (line : SourceLine) (is_expanded : Bool)
-    (known : Known) (result : Result Act UnfoldFault) → Unfolds source done before → Steps before live_stage line (Ok (Line is_expanded))
-    → Acts known line.text live_stage after result → ReachesOn source done known (live_of line is_expanded) live_stage after result
+pub acts_on : (source : List SourceLine) (done : List Given) (before live_stage after : Stage) (line : SourceLine)
+    (is_expanded : Bool)
+    (known : Known) (result : Result Act UnfoldFault) → Unfolds source done before
+    → Steps before live_stage line (Ok (Line is_expanded))
+    → Acts known line.text live_stage after result
+    → ReachesOn source done known (live_of line is_expanded) live_stage after result
 acts_on source done before live_stage after line is_expanded known result stands came acts =
     reaches_on source done before live_stage after line is_expanded known stands came result acts

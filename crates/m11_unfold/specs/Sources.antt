@@ -35,9 +35,11 @@ pub record IsAllTaken (source : List SourceLine) (done : List Given) (after : St
 pub record IsOver (source : List SourceLine) (done : List Given) (after : Stage) : Type 0 where
   pub unfolds : Unfolds source done after
   pub rests : (more : List SourceLine) → move (with_more more after) ≡ Rests
-  pub no_more : (more : List SourceLine) (later : List Given) (stage : Stage) → Leads (with_more more after) later stage → later ≡ []
+  pub no_more : (more : List SourceLine) (later : List Given) (stage : Stage) → Leads (with_more more after) later stage
+      → later ≡ []
 
--- after a step: the lines so far are those of the unfolding, and a line that became live is the next one of it, once its operator is done
+-- after a step: the lines so far are those of the unfolding, and a line that became live is the next one of it, once its operator
+-- is done
 abbrev pub Reaches : List SourceLine → List Given → Stage → SourceLine → Result Step UnfoldFault → Type 0
 Reaches source done after line (Ok NeedLine) = IsAllTaken source done after
 Reaches source done after line (Ok End) = IsOver source done after

@@ -14,11 +14,11 @@ ghost use Rattle.m11_unfold.specs.declared.steps.Act.{Act};
 ghost use Rattle.m11_unfold.specs.declared.steps.Step.{Step};
 ghost use Rattle.m11_unfold.specs.declared.steps.Step.TheVariants as step;
 
-/// The stage of a new unfolder stands for no line of a source; `feed` keeps what stands, for a source of one line more; and after `next`
-/// the lines so far, and the one that it gives once its operator is done, are those of the source, or its unfolding passes the limit of
-/// the fault there. Where `next` needs a line, none that was fed is left, and nothing is taken; after `End` none becomes live, whatever
-/// follows. After `act` the live line is the next one of the source, or its operator passes the limit of the fault. Whatever lines
-/// follow in a longer source, the same lines became live.
+/// The stage of a new unfolder stands for no line of a source; `feed` keeps what stands, for a source of one line more; and after
+/// `next` the lines so far, and the one that it gives once its operator is done, are those of the source, or its unfolding passes
+/// the limit of the fault there. Where `next` needs a line, none that was fed is left, and nothing is taken; after `End` none
+/// becomes live, whatever follows. After `act` the live line is the next one of the source, or its operator passes the limit of
+/// the fault. Whatever lines follow in a longer source, the same lines became live.
 pub fn the_calls_unfold_the_source()
     ensures begins { Unfolds [] [] (start []) }
     ensures feeds { (source : List SourceLine) (line : SourceLine) (done : List Given) (stage : Stage) → Unfolds source done stage
