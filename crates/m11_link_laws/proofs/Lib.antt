@@ -13,6 +13,7 @@ pub mod TextsFit
 pub mod TapesOfObjects
 pub mod RunsBegun
 pub mod RunsDecided
+pub mod RunsLeft
 pub mod JoiningBytes
 pub mod MovingNumbers
 pub mod MovingFindings

@@ -7,3 +7,4 @@ pub mod Moving
 pub mod Order
 pub mod Tables
 pub mod Runs
+pub mod Left

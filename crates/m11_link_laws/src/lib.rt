@@ -27,6 +27,6 @@ pub use places::{
     contributions_lie_in_order, overlaid_contributions_begin_together,
     relocatable_sections_lie_in_order,
 };
-pub use runs::known_objects_decide_the_run;
+pub use runs::{known_objects_decide_the_run, known_objects_leave_their_texts};
 pub use tables::tables_grow_with_names_alone;
 pub use texts::unrelocated_texts_are_the_tape;

@@ -1,11 +1,13 @@
 //! Whole runs over known objects.
 
-ghost use Rattle.std.specs.Prelude.{List, ℕ, Result};
+ghost use Rattle.std.specs.Prelude.{◌≡◌, List, ℕ, Result, Ok};
+ghost use Rattle.m11_modules.specs.Parts.{Part};
 ghost use Rattle.m11_layout.specs.declared.fault.LinkFault.{LinkFault};
 ghost use Rattle.m11_link.specs.Objects.{AreItems, Item, outcome};
 ghost use Rattle.m11_link.specs.Outputs.{Outputs};
 ghost use Rattle.m11_link.specs.SecondPass.{LinkRuns};
 ghost use Rattle.m11_link.specs.declared.emit.LinkDone.{LinkDone};
+ghost use Rattle.m11_link_laws.specs.Left.{Leaves};
 ghost use Rattle.m11_link_laws.specs.Runs.{AreKnown, IsDecided};
 ghost use Rattle.m11_link.specs.FirstPass.{pass_of};
 
@@ -22,4 +24,14 @@ pub fn known_objects_decide_the_run<F: Feed>()
         → AreKnown F.text second sources
         → LinkRuns (pass_of F.text F.faults first again) (pass_of F.text F.faults second later) bottom old new returned
         → IsDecided bottom (outcome bottom items) old new returned }
+{}
+
+/// What a run that is Ok has left, where both passes got the same known bytes: after what they held, the tape holds the
+/// blocks of the objects' texts and the transfer block, the map its lines, and the messages theirs, which it has counted.
+pub fn known_objects_leave_their_texts<F: Feed>()
+    ensures { (first again second later : List F) (bottom : ℕ) (sources : List (List ℕ)) (items : List Item)
+        (parts : List Part) (old new : Outputs) (done : LinkDone) → AreItems sources items → AreKnown F.text first sources
+        → AreKnown F.text second sources → outcome bottom items ≡ Ok parts
+        → LinkRuns (pass_of F.text F.faults first again) (pass_of F.text F.faults second later) bottom old new (Ok done)
+        → Leaves bottom parts old new done }
 {}

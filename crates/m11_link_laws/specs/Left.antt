@@ -1,0 +1,36 @@
+-- What a link of objects without a fault leaves in its outputs. (RT-11 Volume and File Formats Manual, "Absolute binary
+-- file format", for the tape; the map and the messages are this project's own.)
+use Rattle.std.specs.Prelude.{◌≡◌, ℕ, List, [], ◌++◌, length, min}
+use Rattle.std.specs.Io.KnownBytes.{Appends}
+use Rattle.std.specs.List.{concat, flat_map}
+use Rattle.m11_base.specs.Devices.{Bytes}
+use Rattle.m11_blocks.specs.Tapes.{IsTape, tape_block}
+use Rattle.m11_modules.specs.Parts.{Part}
+use Rattle.m11_layout.specs.Transfers.{transfer_address}
+use Rattle.m11_layout.specs.declared.fault.LinkOutput.TheVariants.{Tape, Map, Messages}
+use Rattle.m11_link_text.specs.Findings.{findings_of}
+use Rattle.m11_link.specs.Outputs.{Outputs}
+use Rattle.m11_link.specs.Written.{most_messages}
+use Rattle.m11_link.specs.declared.emit.LinkDone.{LinkDone}
+use Rattle.m11_link_laws.specs.LinkedTexts.{linked_texts, tape_blocks}
+use Rattle.m11_link_laws.specs.Lines.{map_lines, message_lines}
+use Rattle.m11_link_laws.specs.Texts.{block_of}
+
+-- a block for each text, and the transfer block
+abbrev pub tape_text : ℕ → List Part → Bytes
+tape_text bottom parts =
+    flat_map block_of (linked_texts (findings_of bottom parts) parts) ++ tape_block (transfer_address bottom parts) []
+
+abbrev pub map_text : ℕ → List Part → Bytes
+map_text bottom parts = concat (map_lines (findings_of bottom parts))
+
+abbrev pub messages_of : ℕ → List Part → List Bytes
+messages_of bottom parts = message_lines (findings_of bottom parts) parts
+
+-- each output has its text after what it had before, the tape can be read again, and the messages are counted
+pub record Leaves (bottom : ℕ) (parts : List Part) (old new : Outputs) (done : LinkDone) : Type 0 where
+  pub tape : Appends (old Tape).text (new Tape).text (tape_text bottom parts)
+  pub again : IsTape (tape_blocks (findings_of bottom parts) parts) (transfer_address bottom parts) (tape_text bottom parts)
+  pub map : Appends (old Map).text (new Map).text (map_text bottom parts)
+  pub messages : Appends (old Messages).text (new Messages).text (concat (messages_of bottom parts))
+  pub count : done.messages ≡ min (length (messages_of bottom parts)) most_messages
