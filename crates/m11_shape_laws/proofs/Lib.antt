@@ -1,8 +1,13 @@
 pub mod Bodies
+pub mod Parsing
 pub mod PlainBlocks
 pub mod Lines
+pub mod ReadLines
+pub mod ReadParts
+pub mod Resting
 pub mod Runs
 pub mod Shaped
+pub mod Splits
 pub mod Texts
 pub mod Walks
 pub mod Wholes

@@ -57,7 +57,7 @@ module _ (place : Place) (before : Situation) (purpose : Purpose) (lines others 
   abbrev open_body : Stage
   open_body = opens purpose (stage_of place (counting 1 before) (map line_left lines ++ left))
 
-  body_used : HasBody lines body others
+  pub body_used : HasBody lines body others
       → Runs open_body [] (λ s. s
       ≡ used purpose body (stage_of place (counting (length body + 2) before) (map line_left others ++ left)))
   body_used has =
@@ -78,7 +78,7 @@ module _ (place : Place) (before : Situation) (purpose : Purpose) (lines others 
       (λ s is. is ∙ there) (closes purpose stage all nothing_taken (before.taken + 1) shut')
 
 module _ (place : Place) (before : Situation) (purpose : Purpose) (lines : List SourceLine) (left : List Left) where
-  body_open : HasNoClose lines → after_mark left ≡ left
+  pub body_open : HasNoClose lines → after_mark left ≡ left
       → Runs (opens purpose (stage_of place (counting 1 before) (map line_left lines ++ left))) []
       (IsStopped (counting (length lines + 1) before) left)
   body_open shut ends =
@@ -114,7 +114,7 @@ module _ (place : Place) (before : Situation) (known : Known) (line : SourceLine
     here = stage_of place (counting 1 before) rest
 
     -- what is put there, and the expansion's end
-    abbrev put_there : Put → Stage
+    abbrev pub put_there : Put → Stage
     put_there put = stage_of (within_expansion put.arguments put.bytes place) put.situation
         (map line_left put.lines ++ End (mark_at place put.arguments put.bytes) ∷ (map line_left put.others ++ left))
 
@@ -123,10 +123,11 @@ module _ (place : Place) (before : Situation) (known : Known) (line : SourceLine
     Stands put = Runs (stage_of place before (Line line ∷ rest)) (own_line place known line put.notes ∷ []) (λ s. s
         ≡ put_there put)
 
-    call_stands : (macro : Macro) (at : ℕ) → operation_at place before line ≡ Calls macro at
-        → marks left ≡ place.around → is_live_inside place.entered ≡ true
-        → Stands (putting.put_by_call macro (actuals_from known line.text (length macro.formals) at) before lines)
-    call_stands macro at is around taking =
+    pub call_acts : (macro : Macro) (at : ℕ) → operation_at place before line ≡ Calls macro at
+        → acted_by known line.text here (operation_at place before line)
+        ≡ own (actuals_from known line.text (length macro.formals) at).notes
+        (put_there (putting.put_by_call macro (actuals_from known line.text (length macro.formals) at) before lines))
+    call_acts macro at is =
         let given : actuals.Given = actuals_from known line.text (length macro.formals) at in
         let put : Put = putting.put_by_call macro given before lines in
         let formals : List Name = map formal_name macro.formals in
@@ -135,14 +136,19 @@ module _ (place : Place) (before : Situation) (known : Known) (line : SourceLine
         let inside : List Left → Stage = λ l. stage_of (within_expansion put.arguments put.bytes place) put.situation l in
         let lefts : expanded formals (texts ∷ []) macro.body mark rest ≡ map line_left put.lines ++ End mark ∷ rest
         = as_lines formals (texts ∷ []) macro.body mark rest
-        ∙ ap (λ (ls : List SourceLine). map line_left ls ++ End mark ∷ rest) (append-nil (round_lines formals macro.body texts))
-        in
-        let acted : Acted = own given.notes (put_there put) in
-        let acts : acted_by known line.text here (operation_at place before line) ≡ acted
-        = ap (acted_by known line.text here) is ∙ ap (λ (l : List Left). own given.notes (inside l)) lefts in
+        ∙ ap (λ (ls : List SourceLine). map line_left ls ++ End mark ∷ rest)
+        (append-nil (round_lines formals macro.body texts)) in
+        ap (acted_by known line.text here) is ∙ ap (λ (l : List Left). own given.notes (inside l)) lefts
+
+    call_stands : (macro : Macro) (at : ℕ) → operation_at place before line ≡ Calls macro at
+        → marks left ≡ place.around → is_live_inside place.entered ≡ true
+        → Stands (putting.put_by_call macro (actuals_from known line.text (length macro.formals) at) before lines)
+    call_stands macro at is around taking =
+        let given : actuals.Given = actuals_from known line.text (length macro.formals) at in
+        let put : Put = putting.put_by_call macro given before lines in
         let P : Stage → Type 0 = λ s. s ≡ put_there put in
-        line_then P place before known line rest acted [] (same_marks lines left
-        ∙ around) taking acts (stays P (put_there put) refl)
+        line_then P place before known line rest (own given.notes (put_there put)) [] (same_marks lines left ∙ around) taking
+        (call_acts macro at is) (stays P (put_there put) refl)
 
     repeat_stands : (notes : Notes) (formals : List Name) (rounds : List (List Bytes)) (body : List Bytes)
         (others : List SourceLine)
@@ -200,7 +206,7 @@ unclosed_end GoesOn left at = tt
 unclosed_end Stops left at = at
 unclosed_end Ends left at = tt
 
-unclosed_arrived : (ending : Ending) (place : Place) (holds is_live : Bool) (after : Situation) (left : List Left) (stage : Stage)
+pub unclosed_arrived : (ending : Ending) (place : Place) (holds is_live : Bool) (after : Situation) (left : List Left) (stage : Stage)
     → Arrived ending (within_condition holds is_live place) after left stage → Arrived (unclosed ending) place after left stage
 unclosed_arrived GoesOn place holds is_live after left stage there = record {
   conditions = only_entered (within_condition holds is_live place).entered;
@@ -214,7 +220,7 @@ module _ (place : Place) (before : Situation) (known : Known) (line : SourceLine
   abbrev if_here : Stage
   if_here = stage_of place (counting 1 before) left
 
-  if_acts : (room : Bool) → operation_at place before line ≡ Directs word.If at → marks left ≡ place.around
+  pub if_acts : (room : Bool) → operation_at place before line ≡ Directs word.If at → marks left ≡ place.around
       → has_condition_left place ≡ room
       → acted_by known line.text if_here (operation_at place before line)
       ≡ (if room then condition_opened line.text (condition known line.text at) if_here
@@ -228,7 +234,7 @@ module _ (place : Place) (before : Situation) (known : Known) (line : SourceLine
 
 -- ---- `.IIF`
 
-with_next : (place : Place) (situation : Situation) (text : Bytes) (holds : Bool) (at : Option ℕ) (lines : List SourceLine)
+pub with_next : (place : Place) (situation : Situation) (text : Bytes) (holds : Bool) (at : Option ℕ) (lines : List SourceLine)
     (left : List Left)
     → with_statement text holds at (stage_of place situation (map line_left lines ++ left))
     ≡ stage_of place situation (map line_left (statement_of text holds at ++ lines) ++ left)

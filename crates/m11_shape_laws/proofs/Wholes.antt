@@ -70,7 +70,7 @@ source_ends shapes.Ending.GoesOn = tt
 source_ends shapes.Ending.Stops = refl
 source_ends shapes.Ending.Ends = tt
 
-nothing_left : (ending : Ending) (after : Situation) (stage : Stage) → Arrived ending source_place after [] stage
+pub nothing_left : (ending : Ending) (after : Situation) (stage : Stage) → Arrived ending source_place after [] stage
     → move stage ≡ Rests
 nothing_left shapes.Ending.GoesOn after stage there = ap move there
 nothing_left shapes.Ending.Stops after stage there = ap move there.is
@@ -94,12 +94,12 @@ whole source gives after ending shaped =
 -- ---- where a limit is passed
 
 module _ (before : Stage) where
-  no_pass : (after : Stage) → PassesLimit before → next_fault before ≡ None → move before ≡ Passes after → ⊥
+  pub no_pass : (after : Stage) → PassesLimit before → next_fault before ≡ None → move before ≡ Passes after → ⊥
   no_pass after (limits.PassesLimit.Taking fault is) none moves = absurd (let bad : Some fault ≡ None = sym is ∙ none in cc)
   no_pass after (limits.PassesLimit.Acting fault live there is gives acts) none moves =
       absurd (let bad : Gives live there ≡ Passes after = sym gives ∙ moves in cc)
 
-  no_line : (after : Stage) (live : Live) → PassesLimit before → next_fault before ≡ None → move before ≡ Gives live after
+  pub no_line : (after : Stage) (live : Live) → PassesLimit before → next_fault before ≡ None → move before ≡ Gives live after
       → act_fault after live.line.text ≡ None → ⊥
   no_line after live (limits.PassesLimit.Taking fault is) none moves acts
       = absurd (let bad : Some fault ≡ None = sym is ∙ none in cc)
@@ -125,7 +125,7 @@ module _ (before : Stage) where
       (subst (λ (s : Stage). move s ≡ Gives live after) earlier.1 moves) acts)
 
 -- where nothing is taken any more, no limit is passed
-no_limit_at_rest : (stage : Stage) → move stage ≡ Rests → PassesLimit stage → ⊥
+pub no_limit_at_rest : (stage : Stage) → move stage ≡ Rests → PassesLimit stage → ⊥
 no_limit_at_rest stage rests (limits.PassesLimit.Acting fault live there is gives acts) =
     absurd (let bad : Gives live there ≡ Rests = sym gives ∙ rests in cc)
 no_limit_at_rest stage rests (limits.PassesLimit.Taking fault is) = by_end stage.has_ended stage.left rests is where

@@ -7,8 +7,8 @@ use Rattle.m11_expansions.specs.Left.{Left, marks}
 use Rattle.m11_unfolding.specs.Stages.{Opening, Stage, line_left}
 use Rattle.m11_unfolding.specs.Taking.{Rests, move}
 use Rattle.m11_unfolding.specs.Unfolding.{Given, Leads, Unfolds}
-use Rattle.m11_shape_laws.specs.Places.{Place, Situation, stage_of}
-use Rattle.m11_shape_laws.specs.Shapes.{Ending, GoesOn, Stops, Ends}
+use Rattle.m11_shape_laws.specs.Places.{Place, Situation, beginning, source_place, stage_of}
+use Rattle.m11_shape_laws.specs.Shapes.{Ending, GoesOn, Stops, Ends, Shape}
 
 -- what is left after lines is so at their place: these expansions are open, and the lines are live in all conditions
 pub record StandsIn (place : Place) (left : List Left) : Type 0 where
@@ -56,3 +56,9 @@ pub record HasLiveLines (source : List SourceLine) (gives : List Given) : Type 0
 pub record BeginWith (gives done : List Given) : Type 0 where
   pub more : List Given
   pub whole : gives ≡ done ++ more
+
+-- a source has a shape with these live lines
+pub record HasShape (source : List SourceLine) (gives : List Given) : Type 0 where
+  pub after : Situation
+  pub ending : Ending
+  pub shape : Shape source_place beginning source gives after ending

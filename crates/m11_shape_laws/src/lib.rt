@@ -11,5 +11,5 @@ pub use cases::{
 };
 pub use laws::{
     a_body_ends_at_its_close_by_nesting_alone, a_source_has_just_the_live_lines_of_its_shape,
-    lines_give_the_live_lines_of_their_shape,
+    each_source_has_a_shape, lines_give_the_live_lines_of_their_shape,
 };
