@@ -1,5 +1,5 @@
 -- Lines that were read up to their end, or up to a word of the condition around them.
-use Rattle.std.proofs.Common.{◌≡◌, ◌∙◌, ℕ, zero, suc, Bool, true, false, List, [], ◌∷◌, ◌++◌, map, append_assoc, append-nil, refl, sym, ap, subst}
+use Rattle.std.proofs.Common.{◌≡◌, ◌∙◌, ℕ, suc, Bool, true, List, [], ◌∷◌, ◌++◌, append_assoc, append-nil, refl, sym, ap, subst}
 use Rattle.m11_lines.specs.Line.{SourceLine}
 use Rattle.m11_arguments.specs.Expressions.{Known}
 use Rattle.m11_arguments.specs.Immediate as immediate
@@ -26,7 +26,8 @@ pub data Breaks (place : Place) : ℕ → Situation → SourceLine → List Sour
   ByWord : (n : ℕ) (situation : Situation) (line : SourceLine) (others : List SourceLine) (left : List Left) (later : List Given)
       → IsOwn (operation_at place situation line) → Rested n (before_lines place situation (line ∷ others) left) later
       → Breaks place n situation line others left later
-  ByStatement : (n : ℕ) (situation : Situation) (line : SourceLine) (others : List SourceLine) (left : List Left) (later : List Given)
+  ByStatement : (n : ℕ) (situation : Situation) (line : SourceLine) (others : List SourceLine) (left : List Left)
+      (later : List Given)
       (known : Known) (at : ℕ) (next : SourceLine) → operation_at place situation line ≡ Directs word.ImmediateIf at
       → statement known line.text at ≡ next ∷ [] → Breaks place n (counting 1 situation) next others left later
       → Breaks place n situation line others left (own_line place known line (immediate.notes known line.text at) ∷ later)
@@ -38,7 +39,8 @@ pub data Stop (place : Place) : ℕ → Situation → Ending → List SourceLine
       → (place.entered ≡ [] → ⊥) → Breaks place n situation line others left later
       → Stop place n situation GoesOn (line ∷ others) left later
 
-pub lifted_breaks : (place : Place) (n : ℕ) (situation : Situation) (line : SourceLine) (others : List SourceLine) (left : List Left)
+pub lifted_breaks : (place : Place) (n : ℕ) (situation : Situation) (line : SourceLine) (others : List SourceLine)
+    (left : List Left)
     (later : List Given) → Breaks place n situation line others left later → Breaks place (suc n) situation line others left later
 lifted_breaks place _ _ _ _ _ _ (Breaks.ByWord n situation line others left later is rested) =
     Breaks.ByWord (suc n) situation line others left later is
@@ -55,7 +57,8 @@ lifted_stop place _ _ _ _ _ _ (Stop.Broken n situation line others left later op
     Stop.Broken (suc n) situation line others left later open' (lifted_breaks place n situation line others left later breaks)
 
 -- the first of some lines have a shape, with the first of the live lines
-pub record Parsed (n : ℕ) (place : Place) (before : Situation) (lines : List SourceLine) (left : List Left) (gives : List Given) : Type 0 where
+pub record Parsed (n : ℕ) (place : Place) (before : Situation) (lines : List SourceLine) (left : List Left)
+    (gives : List Given) : Type 0 where
   pub taken : List SourceLine
   pub others : List SourceLine
   pub lines_are : lines ≡ taken ++ others
@@ -68,7 +71,8 @@ pub record Parsed (n : ℕ) (place : Place) (before : Situation) (lines : List S
   pub stop : Stop place n after ending others left later
 
 -- the same of what is left of a condition
-pub record PartsParsed (n : ℕ) (place : Place) (holds is_live : Bool) (before : Situation) (lines : List SourceLine) (left : List Left)
+pub record PartsParsed (n : ℕ) (place : Place) (holds is_live : Bool) (before : Situation) (lines : List SourceLine)
+    (left : List Left)
     (gives : List Given) : Type 0 where
   pub taken : List SourceLine
   pub others : List SourceLine
@@ -88,16 +92,19 @@ Reads n = (place : Place) (before : Situation) (lines : List SourceLine) (left :
     → Rested n (before_lines place before lines left) gives → Parsed n place before lines left gives
 
 abbrev pub ReadsParts : ℕ → Type 0
-ReadsParts n = (place : Place) (holds is_live : Bool) (before : Situation) (lines : List SourceLine) (left : List Left) (gives : List Given)
+ReadsParts n = (place : Place) (holds is_live : Bool) (before : Situation) (lines : List SourceLine) (left : List Left)
+    (gives : List Given)
     → marks left ≡ place.around → is_live_inside place.entered ≡ true → after_mark left ≡ left
     → Rested n (before_lines (within_condition holds is_live place) before lines left) gives
     → PartsParsed n place holds is_live before lines left gives
 
 -- ---- one construct more in front
 
-module _ (n : ℕ) (place : Place) (start before : Situation) (front lines : List SourceLine) (ones more : List Given) (left : List Left) where
+module _ (n : ℕ) (place : Place) (start before : Situation) (front lines : List SourceLine) (ones more : List Given)
+    (left : List Left) where
   pub grown : Parsed n place before lines left more
-      → ((taken : List SourceLine) (first : List Given) (after : Situation) (ending : Ending) → Shape place before taken first after ending
+      → ((taken : List SourceLine) (first : List Given) (after : Situation) (ending : Ending)
+      → Shape place before taken first after ending
       → Shape place start (front ++ taken) (ones ++ first) after ending)
       → Parsed (suc n) place start (front ++ lines) left (ones ++ more)
   grown p make = record {
@@ -114,7 +121,8 @@ module _ (n : ℕ) (place : Place) (start before : Situation) (front lines : Lis
   }
 
 -- all lines are taken
-pub all_taken : (n : ℕ) (place : Place) (before : Situation) (lines : List SourceLine) (left : List Left) (first later : List Given)
+pub all_taken : (n : ℕ) (place : Place) (before : Situation) (lines : List SourceLine) (left : List Left)
+    (first later : List Given)
     (after : Situation) (ending : Ending) (stage : Stage) → Shape place before lines first after ending
     → Arrived ending place after left stage → Rested n stage later → Parsed n place before lines left (first ++ later)
 all_taken n place before lines left first later after ending stage shaped there rested = record {
@@ -131,16 +139,21 @@ all_taken n place before lines left first later after ending stage shaped there 
 }
 
 -- by equal live lines, and equal lines
-pub of_gives : (n : ℕ) (place : Place) (before : Situation) (lines : List SourceLine) (left : List Left) (gives others : List Given)
+pub of_gives : (n : ℕ) (place : Place) (before : Situation) (lines : List SourceLine) (left : List Left)
+    (gives others : List Given)
     → gives ≡ others → Parsed n place before lines left others → Parsed n place before lines left gives
-of_gives n place before lines left gives others same p = subst (λ (g : List Given). Parsed n place before lines left g) (sym same) p
+of_gives n place before lines left gives others same p
+    = subst (λ (g : List Given). Parsed n place before lines left g) (sym same) p
 
-pub of_lines : (n : ℕ) (place : Place) (before : Situation) (lines others : List SourceLine) (left : List Left) (gives : List Given)
+pub of_lines : (n : ℕ) (place : Place) (before : Situation) (lines others : List SourceLine) (left : List Left)
+    (gives : List Given)
     → lines ≡ others → Parsed n place before others left gives → Parsed n place before lines left gives
-of_lines n place before lines others left gives same p = subst (λ (l : List SourceLine). Parsed n place before l left gives) (sym same) p
+of_lines n place before lines others left gives same p
+    = subst (λ (l : List SourceLine). Parsed n place before l left gives) (sym same) p
 
 -- nothing is read before a word
-pub broken : (n : ℕ) (place : Place) (before : Situation) (line : SourceLine) (lines : List SourceLine) (left : List Left) (gives : List Given)
+pub broken : (n : ℕ) (place : Place) (before : Situation) (line : SourceLine) (lines : List SourceLine) (left : List Left)
+    (gives : List Given)
     → (place.entered ≡ [] → ⊥) → Breaks place n before line lines left gives → Parsed n place before (line ∷ lines) left gives
 broken n place before line lines left gives inside breaks = record {
   taken = [];

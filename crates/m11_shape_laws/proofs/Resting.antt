@@ -1,5 +1,5 @@
 -- An unfolding to where nothing is taken, from its first move on.
-use Rattle.std.proofs.Common.{◌≡◌, ◌∙◌, ℕ, zero, suc, Bool, true, false, List, [], ◌∷◌, ◌++◌, map, append_assoc, append-nil, Option, Some, None, inl, inr, refl, sym, ap, subst}
+use Rattle.std.proofs.Common.{◌≡◌, ◌∙◌, ℕ, zero, suc, Bool, true, List, [], ◌∷◌, ◌++◌, append_assoc, append-nil, None, inl, inr, refl, sym, ap, subst}
 use Rattle.std.specs.Prelude.{not, if◌then◌else◌}
 use Rattle.m11_lines.specs.Line.{SourceLine}
 use Rattle.m11_arguments.specs.Directives.{directive}
@@ -13,7 +13,7 @@ use Rattle.m11_unfolding.specs.Stages.{Stage}
 use Rattle.m11_unfolding.specs.Taking.{Gives, Live, Passes, Rests, live_or_skipped, move, skipped_by}
 use Rattle.m11_unfolding.specs.Unfolding.{Given, Leads, given}
 use Rattle.m11_unfolding.specs.Unfolding as steps
-use Rattle.m11_shape_laws.specs.Limits.{IsCutShort, PassesLimit}
+use Rattle.m11_shape_laws.specs.Limits.{PassesLimit}
 use Rattle.m11_shape_laws.specs.Places.{Place, Situation, counting, only_entered, operation_at, stage_of}
 use Rattle.m11_shape_laws.proofs.Lines.{shown}
 use Rattle.m11_shape_laws.proofs.Runs.{Runs}
@@ -25,7 +25,8 @@ pub data Rested : ℕ → Stage → List Given → Type 0 where
   Passing : (n : ℕ) (stage after : Stage) (gives : List Given) → next_fault stage ≡ None → move stage ≡ Passes after
       → Rested n after gives → Rested (suc n) stage gives
   Giving : (n : ℕ) (stage after : Stage) (live : Live) (known : Known) (gives : List Given) → next_fault stage ≡ None
-      → move stage ≡ Gives live after → act_fault after live.line.text ≡ None → Rested n (act known after live.line.text).after gives
+      → move stage ≡ Gives live after → act_fault after live.line.text ≡ None
+      → Rested n (act known after live.line.text).after gives
       → Rested (suc n) stage (given known live after ∷ gives)
 
 pub lifted : (n : ℕ) (stage : Stage) (gives : List Given) → Rested n stage gives → Rested (suc n) stage gives
@@ -33,7 +34,8 @@ lifted _ _ _ (Rested.AtRest n stage rests) = Rested.AtRest (suc n) stage rests
 lifted _ _ _ (Rested.Passing n stage after gives fault moves next) =
     Rested.Passing (suc n) stage after gives fault moves (lifted n after gives next)
 lifted _ _ _ (Rested.Giving n stage after live known gives fault moves acts next) =
-    Rested.Giving (suc n) stage after live known gives fault moves acts (lifted n (act known after live.line.text).after gives next)
+    Rested.Giving (suc n) stage after live known gives fault moves acts
+    (lifted n (act known after live.line.text).after gives next)
 
 -- ---- each unfolding that is at its end
 
@@ -75,7 +77,8 @@ some_given : (done : List Given) (one : Given) → done ++ one ∷ [] ≡ [] →
 some_given [] one is = absurd (let bad = is in cc)
 some_given (other ∷ done) one is = absurd (let bad = is in cc)
 
-past_leads : (before after : Stage) (done gives : List Given) (n : ℕ) → Leads before done after → done ≡ [] → Rested n before gives
+past_leads : (before after : Stage) (done gives : List Given) (n : ℕ) → Leads before done after → done ≡ []
+    → Rested n before gives
     → Rested n after gives
 past_leads before _ _ gives n steps.Leads.Stays none next = next
 past_leads before _ _ gives n (steps.Leads.Passing done stage after leads fault moves) none next =
@@ -106,7 +109,8 @@ pub record LineGiven (n : ℕ) (one : Known → Given) (after : Known → Stage)
   pub next : Rested n (after known) more
 
 pub no_moves : (stage after : Stage) (live : Live) (gives : List Given) → Rested 0 stage gives → move stage ≡ Gives live after → ⊥
-no_moves _ after live _ (Rested.AtRest n stage rests) moves = absurd (let bad : Rests ≡ Gives live after = sym rests ∙ moves in cc)
+no_moves _ after live _ (Rested.AtRest n stage rests) moves
+    = absurd (let bad : Rests ≡ Gives live after = sym rests ∙ moves in cc)
 
 given_first : (n m : ℕ) (stage : Stage) (gives : List Given) → Rested n stage gives → n ≡ suc m → (after : Stage) (live : Live)
     → move stage ≡ Gives live after
@@ -121,9 +125,11 @@ given_first _ m _ _ (Rested.Giving n stage other live' known gives fault moves' 
     let same_stage : other ≡ after = cc in
     let fewer : n ≡ m = cc in
     let by : Live → Stage → Given = λ l s. given known l s in
-    let told : given known live' other ≡ given known live after = ap (λ (l : Live). by l other) same_live ∙ ap (by live) same_stage in
+    let told : given known live' other ≡ given known live after
+    = ap (λ (l : Live). by l other) same_live ∙ ap (by live) same_stage in
     let end : (act known other live'.line.text).after ≡ (act known after live.line.text).after
-    = ap (λ (l : Live). (act known other l.line.text).after) same_live ∙ ap (λ (s : Stage). (act known s live.line.text).after) same_stage in
+    = ap (λ (l : Live). (act known other l.line.text).after) same_live
+    ∙ ap (λ (s : Stage). (act known s live.line.text).after) same_stage in
     record {
       known = known;
       more = gives;
@@ -140,7 +146,8 @@ module _ (n : ℕ) (place : Place) (situation : Situation) (line : SourceLine) (
   live = record { line = line; is_expanded = is_expanding left }
 
   -- by the move that gives it, and what its operator does
-  pub line_given : (acted : Known → Acted) → marks left ≡ place.around → move (stage_of place situation (Line line ∷ left)) ≡ Gives live here
+  pub line_given : (acted : Known → Acted) → marks left ≡ place.around
+      → move (stage_of place situation (Line line ∷ left)) ≡ Gives live here
       → ((known : Known) → acted_by known line.text here (operation_at place situation line) ≡ acted known)
       → Rested (suc n) (stage_of place situation (Line line ∷ left)) gives
       → LineGiven n (λ known. shown place known line (acted known)) (λ known. (acted known).after) gives
@@ -164,7 +171,8 @@ module _ (n : ℕ) (place : Place) (situation : Situation) (line : SourceLine) (
 
   pub live_moves : is_live_inside place.entered ≡ true → move (stage_of place situation (Line line ∷ left)) ≡ Gives live here
   live_moves taking =
-      ap (λ (b : Bool). live_or_skipped (if not b then skipped_by (only_entered place.entered) (directive line.text) else None) line here) taking
+      ap (λ (b : Bool). live_or_skipped (if not b then skipped_by (only_entered place.entered) (directive line.text) else None)
+      line here) taking
 
 -- the same in any number of moves
 pub given_next : (n : ℕ) (stage : Stage) (gives : List Given) → Rested n stage gives → (after : Stage) (live : Live)

@@ -206,7 +206,8 @@ unclosed_end GoesOn left at = tt
 unclosed_end Stops left at = at
 unclosed_end Ends left at = tt
 
-pub unclosed_arrived : (ending : Ending) (place : Place) (holds is_live : Bool) (after : Situation) (left : List Left) (stage : Stage)
+pub unclosed_arrived : (ending : Ending) (place : Place) (holds is_live : Bool) (after : Situation) (left : List Left)
+    (stage : Stage)
     → Arrived ending (within_condition holds is_live place) after left stage → Arrived (unclosed ending) place after left stage
 unclosed_arrived GoesOn place holds is_live after left stage there = record {
   conditions = only_entered (within_condition holds is_live place).entered;

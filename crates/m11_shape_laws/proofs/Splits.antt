@@ -1,5 +1,5 @@
 -- Where bodies and texts end, and what kinds of operators there are.
-use Rattle.std.proofs.Common.{◌≡◌, ◌∙◌, ◌⊎◌, inl, inr, ℕ, zero, suc, Bool, true, false, List, [], ◌∷◌, ◌++◌, map, Option, Some, None, refl, sym, ap, subst, arith}
+use Rattle.std.proofs.Common.{◌≡◌, ◌∙◌, ℕ, zero, suc, Bool, true, false, List, [], ◌∷◌, ◌++◌, map, Option, Some, None, refl, sym, ap, subst, arith}
 use Rattle.std.specs.Prelude.{◌==◌, ◌||◌, not, if◌then◌else◌}
 use Rattle.std.proofs.lemmas.Bool.Decides.{nat_tests}
 use Rattle.m11_base.specs.Devices.{Bytes}
@@ -13,9 +13,8 @@ use Rattle.m11_arguments.specs.Expressions.{Known}
 use Rattle.m11_arguments.specs.Notes.{Notes}
 use Rattle.m11_arguments.specs.declared.directives.Directive.{Directive}
 use Rattle.m11_arguments.specs.declared.directives.Directive.TheVariants as word
-use Rattle.m11_expansions.specs.Bodies.{Cut, cut_after, cut_at, depth_after, with_line}
+use Rattle.m11_expansions.specs.Bodies.{cut_after, cut_at, depth_after, with_line}
 use Rattle.m11_expansions.specs.Conditions.{OpenConditions, is_skipping}
-use Rattle.m11_expansions.specs.Left.{Left, Line}
 use Rattle.m11_expansions.specs.declared.conditions.Part.{Part}
 use Rattle.m11_unfolding.specs.Acting.{Calls, Directs, Foreign, Operation, called, directed, macro_of, operation, operation_in}
 use Rattle.m11_unfolding.specs.Macros.{macro_named}
@@ -35,7 +34,12 @@ pub record BodySplit (lines : List SourceLine) (depth : ℕ) : Type 0 where
   pub others : List SourceLine
   pub whole : lines ≡ front ++ others
   pub is : (after : List SourceLine)
-      → cut_at nesting depth (map line_left (front ++ after)) ≡ record { body = body; is_closed = true; after = map line_left after }
+      → cut_at nesting depth (map line_left (front ++ after)) ≡ record {
+        body = body;
+        is_closed = true;
+        after
+            = map line_left after;
+      }
 
 body_line : (line : SourceLine) (lines : List SourceLine) (depth : ℕ)
     → ((inner : ℕ) → (cut_at nesting inner (map line_left lines)).is_closed ≡ true → BodySplit lines inner)
@@ -47,7 +51,8 @@ body_line line lines depth more None came closed = record {
   front = line ∷ [];
   others = lines;
   whole = refl;
-  is = λ after. ap (λ (d : Option ℕ). cut_after line.text (map line_left after) (λ i. cut_at nesting i (map line_left after)) d) came;
+  is = λ after. ap (λ (d : Option ℕ). cut_after line.text (map line_left after) (λ i. cut_at nesting i (map line_left after)) d)
+      came;
 }
 body_line line lines depth more (Some inner) came closed =
     let split = more inner closed in
@@ -91,7 +96,8 @@ module _ (is_past : Bool) where
   plain_line _ line _ plain (TextSplit.UpTo inner text other others is own) =
       TextSplit.UpTo inner (line ∷ text) other others (shapes.IsText.Plain inner 0 line text plain is) own
 
-  if_line : (inner deeper : ℕ) (line : SourceLine) (lines : List SourceLine) → deeper ≡ suc inner → directive line.text ≡ Some word.If
+  if_line : (inner deeper : ℕ) (line : SourceLine) (lines : List SourceLine) → deeper ≡ suc inner
+      → directive line.text ≡ Some word.If
       → TextSplit is_past deeper lines → TextSplit is_past inner (line ∷ lines)
   if_line inner _ line _ same is (TextSplit.All deeper last lines text) =
       TextSplit.All inner last (line ∷ lines)
@@ -107,7 +113,8 @@ module _ (is_past : Bool) where
   end_line _ line _ is (TextSplit.UpTo inner text other others skipped own) =
       TextSplit.UpTo (suc inner) (line ∷ text) other others (shapes.IsText.EndCondition inner 0 line text is skipped) own
 
-  own_line : (line : SourceLine) (lines : List SourceLine) → IsOwnWord is_past (directive line.text) → TextSplit is_past 0 (line ∷ lines)
+  own_line : (line : SourceLine) (lines : List SourceLine) → IsOwnWord is_past (directive line.text)
+      → TextSplit is_past 0 (line ∷ lines)
   own_line line lines own = TextSplit.UpTo 0 [] line lines (shapes.IsText.Nothing 0) own
 
   module _ (line : SourceLine) (lines : List SourceLine) (more : (inner : ℕ) → TextSplit is_past inner lines) where
@@ -130,7 +137,8 @@ module _ (is_past : Bool) where
     by_word inner (Some word.If) is = if_line inner (suc inner) line lines refl is (more (suc inner))
     by_word zero (Some word.EndCondition) is = own_line line lines (subst (IsOwnWord is_past) (sym is) IsOwnWord.EndCondition)
     by_word (suc inner) (Some word.EndCondition) is = end_line inner line lines is (more inner)
-    by_word inner (Some word.IfFalse) is = part_by is_past refl inner (Some word.IfFalse) is (λ i. refl) (λ no. IsOwnWord.IfFalse no)
+    by_word inner (Some word.IfFalse) is
+        = part_by is_past refl inner (Some word.IfFalse) is (λ i. refl) (λ no. IsOwnWord.IfFalse no)
     by_word inner (Some word.IfTrue) is = part_by is_past refl inner (Some word.IfTrue) is (λ i. refl) (λ no. IsOwnWord.IfTrue no)
     by_word inner (Some word.IfTrueFalse) is =
         part_by is_past refl inner (Some word.IfTrueFalse) is (λ i. refl) (λ no. IsOwnWord.IfTrueFalse no)
@@ -152,16 +160,19 @@ module _ (is_past : Bool) where
 
 -- ---- a word in skipped lines is a directive
 
-pub record IsDirected (conditions : OpenConditions) (macros : List (Name × Macro)) (text : Bytes) (word : Directive) : Type 0 where
-  pub at : ℕ
-  pub is : operation conditions macros text ≡ Directs word at
+pub record IsDirected (conditions : OpenConditions) (macros : List (Name × Macro)) (text : Bytes) (word : Directive) : Type 0
+  where
+    pub at : ℕ
+    pub is : operation conditions macros text ≡ Directs word at
 
-module _ (conditions : OpenConditions) (macros : List (Name × Macro)) (text : Bytes) (word : Directive) (skips : is_skipping conditions ≡ true) where
+module _ (conditions : OpenConditions) (macros : List (Name × Macro)) (text : Bytes) (word : Directive)
+    (skips : is_skipping conditions ≡ true) where
   no_macro : (name : Option Name) → macro_of conditions macros name ≡ None
   no_macro None = refl
   no_macro (Some name) = ap (λ (b : Bool). if b then None else macro_named macros name) skips
 
-  directed_in : (name : Option Span) → operator text ≡ name → directive_at text name ≡ Some word → IsDirected conditions macros text word
+  directed_in : (name : Option Span) → operator text ≡ name → directive_at text name ≡ Some word
+      → IsDirected conditions macros text word
   directed_in None is none = absurd (let bad = none in cc)
   directed_in (Some name) is has =
       let six : Bytes = six_of (text_between text name.start name.end) in
@@ -211,9 +222,19 @@ kind (Directs word.Repeat at) =
     Kind.Body (Directs word.Repeat at) (λ known text. record { notes = _; purpose = _; opens = putting.Opens.Repeat at })
 kind (Directs word.EndRepeat at) = Kind.EndRepeat at
 kind (Directs word.IndefiniteRepeat at) =
-    Kind.Body (Directs word.IndefiniteRepeat at) (λ known text. record { notes = _; purpose = _; opens = putting.Opens.IndefiniteRepeat at })
+    Kind.Body (Directs word.IndefiniteRepeat at) (λ known text. record {
+      notes = _;
+      purpose = _;
+      opens
+          = putting.Opens.IndefiniteRepeat at;
+    })
 kind (Directs word.CharacterRepeat at) =
-    Kind.Body (Directs word.CharacterRepeat at) (λ known text. record { notes = _; purpose = _; opens = putting.Opens.CharacterRepeat at })
+    Kind.Body (Directs word.CharacterRepeat at) (λ known text. record {
+      notes = _;
+      purpose = _;
+      opens
+          = putting.Opens.CharacterRepeat at;
+    })
 kind (Directs word.MacroExit at) = Kind.Exit at
 kind (Directs word.ArgumentCount at) = Kind.Others (Directs word.ArgumentCount at) (shapes.IsOther.ArgumentCount at)
 kind (Directs word.CharacterCount at) = Kind.Others (Directs word.CharacterCount at) (shapes.IsOther.CharacterCount at)
