@@ -1,10 +1,9 @@
 -- The directives of conditions, repeats and macros, and `.END`, by their names. (MACRO-11 Language Reference Manual, "Conditional
 -- assembly block directives", "Macro definition", "Indefinite repeat block directives" and ".END directive".)
-use Rattle.std.specs.Prelude.{ℕ, Bool, true, ◌==◌, List, [], ◌∷◌, codes, filter, find, Option, Some, None, slice_index}
+use Rattle.std.specs.Prelude.{ℕ, Bool, ◌==◌, List, [], ◌∷◌, codes, filter, find, Option, Some, None, slice_index}
 use Rattle.std.specs.Str.{bytes_eq}
 use Rattle.m11_base.specs.Devices.{Bytes}
 use Rattle.m11_base.specs.Mnemonics.{six_of}
-use Rattle.m11_base.specs.Rad50.{Name}
 use Rattle.m11_scan.specs.Cutting.{text_between}
 use Rattle.m11_statements.specs.declared.bodies.Body.{Body}
 use Rattle.m11_statements.specs.declared.bodies.Body.TheVariants.{Nothing, Assigns, SetsCounter, Operates, Words}
@@ -62,13 +61,9 @@ operator_in (SetsCounter value) = None
 operator_in (Operates name) = Some name
 operator_in (Words start) = None
 
--- any name may be an operator
-abbrev pub every_name : Name → Bool
-every_name name = true
-
 -- the name that stands after a line's labels, where no assignment stands
 abbrev pub operator : Bytes → Option Span
-operator line = operator_in (body_of every_name line)
+operator line = operator_in (body_of line)
 
 abbrev pub directive_at : Bytes → Option Span → Option Directive
 directive_at line (Some name) = directive_named (six_of (text_between line name.start name.end))

@@ -5,11 +5,9 @@ ghost use Rattle.std.specs.Prelude.{◌≡◌, ◌≤◌, ℕ, true, length, IfS
 ghost use Rattle.m11_base.specs.Mnemonics.{six_of};
 ghost use Rattle.m11_statements.specs.Bodies.{end_of};
 ghost use Rattle.m11_arguments.specs.Directives as spec;
-ghost use Rattle.m11_arguments.specs.Directives.{every_name};
 
-use m11_base::Name;
 use m11_scan::{Line, is_same_six, six_characters};
-use m11_statements::{Body, Operators, Span, statement};
+use m11_statements::{Body, Span, statement};
 
 /// A directive whose line does something with lines after it, or ends the source.
 #[derive(Clone, Copy, PartialEq, Eq, Debug)]
@@ -140,27 +138,12 @@ fn rows_with(second: u8) -> &'static [DirectiveRow]
     }
 }
 
-/// Each name is taken for one of an operator: whether it is one is asked where it stands.
-pub struct EveryName;
-
-impl Operators for EveryName {
-    ghost known = { λ _. every_name };
-
-    fn is_known(&self, _name: Name) -> bool {
-        true
-    }
-
-    fn knows_all(&self) -> bool {
-        true
-    }
-}
-
 /// The name that stands after a line's labels, where no assignment stands.
 pub fn operator(line: &Line) -> Option<Span>
     ensures operator { result ≡ spec.operator line.now.text }
     ensures within { IfSome result (λ name. name.end ≤ length line.now.text) }
 {
-    operator_in(statement(line, &EveryName).body)
+    operator_in(statement(line).body)
 }
 
 /// The name of an operator that stands after a line's labels, if one does.

@@ -21,7 +21,7 @@ mod repeats;
 
 pub use actuals::actuals_from;
 pub use conditions::{Verdict, actual_letters, condition};
-pub use directives::{Directive, EveryName, directive_named, directive_of, operator, operator_in};
+pub use directives::{Directive, directive_named, directive_of, operator, operator_in};
 pub use expressions::{note_symbols, value_at, value_by};
 pub use extents::{Extent, extent_at, extent_from, lone_term};
 pub use filling::{FIRST_CREATED, Filled, fill};

@@ -1,11 +1,9 @@
 -- What is noted of a live line is what the line says.
 use Rattle.std.proofs.Common.{◌≡◌, ◌∙◌, ◌<◌, ◌≤◌, ℕ, min, length, Bool, true, false, if◌then◌else◌, Option, Some, None, Result, Ok, Err, IfOk, refl, sym, ap, subst, arith}
 use Rattle.std.proofs.Math.Nat.{min-eq_left}
-use Rattle.m11_arguments.specs.Directives.{every_name}
 use Rattle.m11_arguments.specs.Expressions as expressions
 use Rattle.m11_arguments.specs.Expressions.{value_at}
 use Rattle.m11_base.specs.Devices.{Bytes}
-use Rattle.m11_base.specs.Rad50.{Name}
 use Rattle.m11_statements.specs.Labels.{labels_end}
 use Rattle.m11_statements.specs.Order.{BodyStands}
 use Rattle.m11_statements.specs.Statements.{body_of}
@@ -86,10 +84,10 @@ deed_within line from (body.SetsCounter value) stood = omega arith
 deed_within line from (body.Operates name) stood = operates_within _ name (length line) stood.1 stood.2
 deed_within line from (body.Words start) stood = let before = stood.1 in omega (arith, before)
 
-own_within : (line : Bytes) (is_own : Bool) → BodyStands (labels_end line) (length line) (body_of every_name line)
+own_within : (line : Bytes) (is_own : Bool) → BodyStands (labels_end line) (length line) (body_of line)
     → place_of (deed is_own line) ≤ length line
 own_within line true stood = omega arith
-own_within line false stood = deed_within line (labels_end line) (body_of every_name line) stood
+own_within line false stood = deed_within line (labels_end line) (body_of line) stood
 
 least_first : (start size : ℕ) → start ≤ size → min start size ≡ start
 least_first start size within = min-eq_left within
@@ -114,7 +112,7 @@ ends_so before given start is =
 -- ---- a live line
 
 module _ (before table : Table) (given : Given) (facts : Facts) (alike : Alike table (after_line empty_map before given))
-    (stood : BodyStands (labels_end given.live.line.text) (length given.live.line.text) (body_of every_name given.live.line.text)) where
+    (stood : BodyStands (labels_end given.live.line.text) (length given.live.line.text) (body_of given.live.line.text)) where
   abbrev Is : Deed → Type 0
   Is of = of ≡ deed given.is_own given.live.line.text
 
@@ -151,15 +149,15 @@ module _ (before table : Table) (given : Given) (facts : Facts) (alike : Alike t
       at_deed of is ∙ ap (λ (d : Deed). with_directed (stands before given) given.live.line.text facts (directed_in d)) is
       ∙ by_directed (stands before given) given.live.line.text facts (directed given)
 
-pub noted : ((known : Name → Bool) (line : Bytes) → BodyStands (labels_end line) (length line) (body_of known line))
+pub noted : ((line : Bytes) → BodyStands (labels_end line) (length line) (body_of line))
     → (before table : Table) (given : Given) (live : LiveLine) (old new : Facts)
     → IsLive given live → Alike table (after_line empty_map before given)
     → new ≡ with_deed table live.line.text live.deed old → new ≡ with_line before given old
 noted stand before table given live old new is alike so =
     so ∙ ap (λ (l : Live). with_deed table l.line.text live.deed old) is.live_is
-    ∙ told_so before table given old alike (stand every_name given.live.line.text) live.deed is.deed_is
+    ∙ told_so before table given old alike (stand given.live.line.text) live.deed is.deed_is
 
-pub notes : ((known : Name → Bool) (line : Bytes) → BodyStands (labels_end line) (length line) (body_of known line))
+pub notes : ((line : Bytes) → BodyStands (labels_end line) (length line) (body_of line))
     → (table : Table) (live : LiveLine) (old new : Facts) {E : Type 0} (result : Result (Unit {0}) E)
     → IfOk result (λ _. new ≡ with_deed table live.line.text live.deed old)
     → IfOk result (λ _. (before : Table) (given : Given) → IsLive given live

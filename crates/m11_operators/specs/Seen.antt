@@ -2,7 +2,7 @@
 use Rattle.std.specs.Prelude.{ℕ, List, ◌++◌}
 use Rattle.m11_placement.specs.Strings as spec
 use Rattle.m11_statements.specs.declared.parts.Part.{Part}
-use Rattle.m11_statements.specs.declared.parts.Parts.{Parts}
+use Rattle.m11_operators.specs.declared.parts.Parts.{Parts}
 
 abbrev pub parts_of : List Part → ℕ → spec.Parts
 parts_of list end = record { list = list; end = end }

@@ -11,9 +11,10 @@ ghost use Rattle.m11_statements.specs.Statements.{letter_if};
 ghost use Rattle.m11_statements.specs.declared.parts.Part.{Part};
 ghost use Rattle.m11_operators.specs.Seen.{parts_seen};
 
+use crate::parts::Parts;
 use m11_arguments::{left_over, place_in, skip_letters};
 use m11_scan::{Letters, Line};
-use m11_statements::{Part, PartKind, Parts};
+use m11_statements::{Part, PartKind};
 
 // The letters of a text: A where it has no part; those of its parts; and those of what is left over.
 pub(crate) fn text_letters(line: &Line, start: usize, parts: &Parts) -> Letters

@@ -46,7 +46,7 @@ pub use endings::{transfer, transfer_letters};
 pub use exports::listed_names;
 pub use identifications::identification;
 pub use operators::put_operator;
-pub use parts::parts_at;
+pub use parts::{PART_LIMIT, Parts, parts_at};
 pub use puts::Put;
 pub use reading::{lone_fields, no_fields, operator_fields};
 pub use titles::title;

@@ -7,7 +7,19 @@ ghost use Rattle.m11_operators.specs.Seen.{parts_seen};
 use arrayvec::ArrayVec;
 use m11_arguments::place_in;
 use m11_scan::Line;
-use m11_statements::{Part, PartKind, Parts, next_part};
+use m11_statements::{Part, PartKind, next_part};
+
+/// The most parts of a line: each has two characters or more, but for the last one, which may lack its end.
+pub const PART_LIMIT: usize = 66;
+
+/// The parts that stand one after the other.
+#[derive(Drop)]
+pub struct Parts {
+    /// The parts, in order.
+    pub list: ArrayVec<Part, PART_LIMIT>,
+    /// The place after the last one. What stands after it is left over.
+    pub end: u8,
+}
 
 /// The parts of a text that begins at a place of a line.
 pub fn parts_at(line: &Line, start: usize) -> Parts

@@ -5,7 +5,6 @@ use Rattle.std.specs.Int.RustNames.{bit_or}
 use Rattle.std.specs.Prelude.{false, not, ◌&&◌}
 use Rattle.std.specs.Option.{option_or}
 use Rattle.m11_arguments.specs.Definedness.{letter_U}
-use Rattle.m11_arguments.specs.Directives.{every_name}
 use Rattle.m11_arguments.specs.Expressions as expressions
 use Rattle.m11_arguments.specs.Expressions.{known_by, symbols_at, value_at}
 use Rattle.m11_arguments.specs.LeftOvers.{skip_letters}
@@ -282,7 +281,7 @@ module _ (one other : Map) (same : MapsAgree one other) where
       let text = given.live.line.text in
       ap (λ (p : Put). bit_or
       (bit_or (label_letters given.live.line) (labels_letters text table (labels_at text)))
-      (bit_or (skip_letters text (labels_end text) (known_end text (body_of every_name text))) (bit_or p.letters given.notes.letters)))
+      (bit_or (skip_letters text (labels_end text) (known_end text (body_of text))) (bit_or p.letters given.notes.letters)))
       (line_put_same (stands table given) given)
 
   moved_key_same : (table : Table) (key : Key) → moved_key one table key ≡ moved_key other table key

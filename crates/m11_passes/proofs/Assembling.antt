@@ -4,7 +4,6 @@ use Rattle.std.specs.Prelude.{false}
 use Rattle.std.specs.Int.RustNames.{bit_or}
 use Rattle.std.specs.Option.{option_to_list}
 use Rattle.m11_arguments.specs.Notes.{Notes}
-use Rattle.m11_arguments.specs.Directives.{every_name}
 use Rattle.m11_arguments.specs.Expressions.{Known, known_by, value_at}
 use Rattle.m11_base.specs.Devices.{Bytes}
 use Rattle.m11_scan.specs.Views.{bits_of}
@@ -274,17 +273,17 @@ module _ (map_ : Map) (live : Live) (old middle : Going) (does : code.Deed) (beg
               states.labels_end_is
               ∙ ap (λ (b : Body). bit_or (letters_from text (labels_end text) b (bits_of statement.label_letters)
               (bits_of begun.found.doubled) new.put.letters done.notes.letters) (bits_of begun.found.moved)) states.body_is
-              ∙ ap (λ (n : ℕ). bit_or (letters_from text (labels_end text) (body_of every_name text) n
+              ∙ ap (λ (n : ℕ). bit_or (letters_from text (labels_end text) (body_of text) n
               (bits_of begun.found.doubled) new.put.letters done.notes.letters) (bits_of begun.found.moved))
               states.letters_are
-              ∙ ap (λ (n : ℕ). bit_or (letters_from text (labels_end text) (body_of every_name text) (label_letters live.line)
+              ∙ ap (λ (n : ℕ). bit_or (letters_from text (labels_end text) (body_of text) (label_letters live.line)
               (bits_of begun.found.doubled) new.put.letters done.notes.letters) n) here.moved
               ∙ ap (λ (n : ℕ). bit_or n (moved_letters map_ text table (labels_at text)))
-              (ap (λ (n : ℕ). letters_from text (labels_end text) (body_of every_name text) (label_letters live.line)
+              (ap (λ (n : ℕ). letters_from text (labels_end text) (body_of text) (label_letters live.line)
               n new.put.letters done.notes.letters) here.doubled
-              ∙ ap (λ (p : Put). letters_from text (labels_end text) (body_of every_name text) (label_letters live.line)
+              ∙ ap (λ (p : Put). letters_from text (labels_end text) (body_of text) (label_letters live.line)
               (labels_letters text table (labels_at text)) p.letters done.notes.letters) put_so
-              ∙ ap (λ (n : Notes). letters_from text (labels_end text) (body_of every_name text) (label_letters live.line)
+              ∙ ap (λ (n : Notes). letters_from text (labels_end text) (body_of text) (label_letters live.line)
               (labels_letters text table (labels_at text)) (line_put map_ (stands table line) line).letters n.letters) notes);
           section_is = section_is ∙ section_alike stood.table (labels_stand table text) here.matches.alike;
           place_is = place_is ∙ put_place_alike stood.table (labels_stand table text) here.matches.alike of

@@ -5,7 +5,7 @@ use Rattle.std.specs.Int.Bits.{or_zero_r}
 use Rattle.std.specs.Int.RustNames.{bit_or}
 use Rattle.std.specs.List.{flat_map}
 use Rattle.std.specs.Option.{option_to_list}
-use Rattle.m11_arguments.specs.Directives.{every_name, operator_in}
+use Rattle.m11_arguments.specs.Directives.{operator_in}
 use Rattle.m11_arguments.specs.LeftOvers.{rest_letters, skip_letters}
 use Rattle.m11_base.specs.Devices.{Bytes}
 use Rattle.m11_base.specs.Rad50.{Name}
@@ -122,10 +122,10 @@ module _ (live : Live) (stage : Stage) (blank : IsBlank live.line.text) (table :
   letters_so : (map_ : Map) → all_letters map_ table line ≡ bit_or (label_letters live.line) (rest_letters text 0)
   letters_so map_ =
       ap (λ (p : Put). bit_or (bit_or (bit_or (label_letters live.line) (labels_letters text table (labels_at text)))
-      (bit_or (skip_letters text (labels_end text) (known_end text (body_of every_name text)))
+      (bit_or (skip_letters text (labels_end text) (known_end text (body_of text)))
       (bit_or p.letters line.notes.letters))) (moved_letters map_ text table (labels_at text))) (put_so map_)
       ∙ ap (λ (a : Acted). bit_or (bit_or (bit_or (label_letters live.line) (labels_letters text table (labels_at text)))
-      (bit_or (skip_letters text (labels_end text) (known_end text (body_of every_name text)))
+      (bit_or (skip_letters text (labels_end text) (known_end text (body_of text)))
       (bit_or 0 a.notes.letters))) (moved_letters map_ text table (labels_at text))) acts_so
       ∙ ap (λ (b : Body). bit_or (bit_or (bit_or (label_letters live.line) (labels_letters text table (labels_at text)))
       (bit_or (skip_letters text (labels_end text) (known_end text b))

@@ -1,7 +1,6 @@
 -- Where a pass stands within a live line: its labels stand, and unfolding has done its operator. (This project's own.)
 use Rattle.std.specs.Prelude.{◌≡◌, Option, Result, Ok, Err}
 use Rattle.std.specs.Option.{option_to_list}
-use Rattle.m11_arguments.specs.Directives.{every_name}
 use Rattle.m11_fields.specs.Reads.{fields_seen}
 use Rattle.m11_listing.specs.declared.items.Item.{Item}
 use Rattle.m11_scan.specs.Views.{bits_of}
@@ -31,7 +30,7 @@ use Rattle.m11_passes.specs.declared.fault.PassFault.{PassFault}
 -- what is known of a statement without its labels
 pub record States (live : Live) (statement : Statement) : Type 0 where
   pub labels_end_is : statement.labels_end ≡ labels_end live.line.text
-  pub body_is : statement.body ≡ body_of every_name live.line.text
+  pub body_is : statement.body ≡ body_of live.line.text
   pub letters_are : bits_of statement.label_letters ≡ label_letters live.line
 
 -- from before the line to where its labels stand and unfolding has done its operator

@@ -25,7 +25,6 @@ use crate::operating::{
 };
 use crate::placed::{LiveLine, PlacedLine};
 use crate::turns::Turn;
-use m11_arguments::EveryName;
 use m11_listing::Item;
 use m11_operators::Put;
 use m11_placing::{Deed, Mentioned, Pass, line_letters};
@@ -125,7 +124,7 @@ impl State {
         ensures goes_on { IfOk result (λ _. self.new.unfolder.fault ≡ None) }
         ensures sound { IfOk result (λ _. IsSound self.new.unfolder.stage.taken self.new.pass self.new.mentioned) }
     {
-        let statement = statement(&placed.live.line, &EveryName);
+        let statement = statement(&placed.live.line);
         if is_blank(&statement) {
             place_blank(&self.pass, &mut self.put, &statement, placed);
             return Ok(());
@@ -164,7 +163,7 @@ impl State {
         ensures goes_on { IfOk result (λ _. self.new.unfolder.fault ≡ None) }
         ensures sound { IfOk result (λ _. IsSound self.new.unfolder.stage.taken self.new.pass self.new.mentioned) }
     {
-        let statement = statement(&live.line, &EveryName);
+        let statement = statement(&live.line);
         if is_blank(&statement) {
             live.deed = Deed::Rests;
             return Ok(());

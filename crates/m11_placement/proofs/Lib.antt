@@ -12,3 +12,4 @@ mod LinesFill
 mod PieceSizes
 mod PiecesInOrder
 mod SameLines
+mod TextParts

@@ -3,7 +3,6 @@
 -- project's own.)
 use Rattle.std.specs.Prelude.{ℕ, Bool, if◌then◌else◌, List, length, Option, Some, None}
 use Rattle.std.specs.Int.RustNames.{bit_or}
-use Rattle.m11_arguments.specs.Directives.{every_name}
 use Rattle.m11_arguments.specs.LeftOvers.{skip_letters}
 use Rattle.m11_base.specs.Devices.{Bytes}
 use Rattle.m11_base.specs.Mnemonics.{six_of}
@@ -59,7 +58,7 @@ deed_of line (body.Words start) = implied_words start
 
 -- a line that unfolding has done, a call or an operator of its own, places nothing
 abbrev pub deed : Bool → Bytes → Deed
-deed is_own line = if is_own then Rests else deed_of line (body_of every_name line)
+deed is_own line = if is_own then Rests else deed_of line (body_of line)
 
 -- ---- what changes, by the table once the labels stand, as far as it is firm
 
@@ -131,5 +130,5 @@ letters map table given =
     bit_or
     (bit_or (label_letters given.live.line) (labels_letters given.live.line.text table (labels_at given.live.line.text)))
     (bit_or (skip_letters given.live.line.text (labels_end given.live.line.text)
-    (known_end given.live.line.text (body_of every_name given.live.line.text)))
+    (known_end given.live.line.text (body_of given.live.line.text)))
     (bit_or (line_put map (stands table given) given).letters given.notes.letters))

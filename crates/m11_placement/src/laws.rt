@@ -1,6 +1,6 @@
 //! Laws of placing. Each is the contract of a function that does nothing.
 
-ghost use Rattle.std.specs.Prelude.{◌≡◌, ◌≢◌, ◌+◌, ◌≤◌, ◌%◌, ℕ, false, List, [], ◌∷◌, ◌++◌, map};
+ghost use Rattle.std.specs.Prelude.{◌≡◌, ◌≢◌, ◌+◌, ◌≤◌, ◌%◌, ℕ, true, false, List, [], ◌∷◌, ◌++◌, map};
 ghost use Rattle.m11_arguments.specs.Expressions.{symbols_at, value_at};
 ghost use Rattle.m11_base.specs.Devices.{Bytes};
 ghost use Rattle.m11_lines.specs.Line.{SourceLine};
@@ -17,8 +17,10 @@ ghost use Rattle.m11_placement.specs.Order.{LieFrom, pieces_in};
 ghost use Rattle.m11_placement.specs.Placements.{placement, program_map, table_after};
 ghost use Rattle.m11_placement.specs.Places.{Goes, Move, Moved, Steps, has_set, in_section, moves_in, place_in, sizes_since};
 ghost use Rattle.m11_placement.specs.Shapes.{shapes_in};
+ghost use Rattle.m11_placement.specs.Strings.{parts_at};
 ghost use Rattle.m11_placement.specs.Tables.{Table, firm_table, first_table, place};
 ghost use Rattle.m11_placement.specs.Unfolded.{AreLines};
+ghost use Rattle.m11_statements.specs.Parts.{AreParts};
 ghost use Rattle.m11_unfolding.specs.Stages.{Stage};
 ghost use Rattle.m11_unfolding.specs.Unfolding.{Given};
 
@@ -112,4 +114,10 @@ pub fn pieces_lie_in_the_order_of_lines()
 /// they hold.
 pub fn pieces_lie_alike_under_every_map()
     ensures { (one other : Map) (lines : List Given) → map shapes_in (placement one lines) ≡ map shapes_in (placement other lines) }
+{}
+
+/// The parts of a text stand one after the other, up to where none stands next or one has no end: no bound cuts them off.
+#[tactic(auto, using(crate::proofs::TextParts::text_parts))]
+pub fn the_parts_of_a_text_stand_one_after_the_other()
+    ensures { (line : Bytes) (start : ℕ) → AreParts line true start (parts_at line start).list (parts_at line start).end }
 {}

@@ -21,6 +21,7 @@ pub use laws::{
     pieces_lie_alike_under_every_map, pieces_lie_in_the_order_of_lines,
     placements_are_the_same_under_every_map, solutions_are_alike,
     sources_have_the_same_lines_under_every_map, the_map_of_a_source_solves_it,
+    the_parts_of_a_text_stand_one_after_the_other,
 };
 pub use meanings::Context;
 pub use operands::Form;

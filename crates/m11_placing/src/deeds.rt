@@ -1,7 +1,6 @@
 //! What stands after the labels of a line. (MACRO-11 Language Reference Manual, "Operator field" and ".WORD directive".)
 
 ghost use Rattle.std.specs.Prelude.{◌≡◌, ◌≤◌, IsTrue, length};
-ghost use Rattle.m11_arguments.specs.Directives.{every_name};
 ghost use Rattle.m11_placement.specs.Lines as spec;
 ghost use Rattle.m11_fields.specs.Reads.{fields_seen};
 ghost use Rattle.m11_placing.specs.Deeds as deeds;
@@ -33,7 +32,7 @@ pub enum Deed {
 
 /// What stands after the labels of a line. A line that unfolding has done, a call or an operator of its own, places nothing.
 pub fn deed_after_labels(is_own: bool, line: &Line, body: Body) -> Deed
-    requires { body ≡ body_of every_name line.now.text }
+    requires { body ≡ body_of line.now.text }
     ensures deed { deed_seen result ≡ spec.deed is_own line.now.text }
     ensures within { IsWithin (length line.now.text) result }
     ensures listed { IsTrue (is_listed result) }

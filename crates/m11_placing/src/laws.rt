@@ -1,7 +1,6 @@
 //! Laws of what a pass keeps. Each is the contract of a function that does nothing.
 
 ghost use Rattle.std.specs.Prelude.{◌≡◌, ℕ};
-ghost use Rattle.m11_arguments.specs.Directives.{every_name};
 ghost use Rattle.m11_statements.specs.Labels.{labels_at, labels_end};
 ghost use Rattle.m11_statements.specs.Statements.{body_of, label_letters};
 ghost use Rattle.m11_unfolding.specs.Unfolding.{Given};
@@ -30,7 +29,7 @@ pub fn a_line_goes_through_a_pass()
     ensures mentions { (stood : Kept) (before : Table) (given : Given) → Matches stood (stands before given)
         → mentions_by stood.table given ≡ mentions_by (stands before given) given }
     ensures letters { (map : Map) (before : Table) (given : Given) → letters map before given
-        ≡ letters_from given.live.line.text (labels_end given.live.line.text) (body_of every_name given.live.line.text)
+        ≡ letters_from given.live.line.text (labels_end given.live.line.text) (body_of given.live.line.text)
         (label_letters given.live.line) (labels_letters given.live.line.text before (labels_at given.live.line.text))
         (line_put map (stands before given) given).letters given.notes.letters }
 {}

@@ -4,7 +4,6 @@ mod arguments;
 mod cuts;
 mod expressions;
 mod lines;
-mod operators;
 mod random_lines;
 mod readers;
 mod statements;

@@ -1,10 +1,9 @@
 -- Upper or lower case makes no difference to what a line says.
 use Rattle.std.proofs.Common.{◌≡◌, ℕ, Bool, List, [], ◌∷◌, map, take, Option, Some, None, refl, sym, ap, ◌∙◌, lit<}
-use Rattle.std.specs.Prelude.{◌==◌, if◌then◌else◌}
+use Rattle.std.specs.Prelude.{◌==◌, if◌then◌else◌, not}
 use Rattle.std.specs.List.{prefix_len}
 use Rattle.std.proofs.lemmas.List.{take-map}
 use Rattle.m11_base.specs.Mnemonics.{folded}
-use Rattle.m11_base.specs.Rad50.{name_of}
 use Rattle.m11_scan.specs.Characters.{is_digit}
 use Rattle.m11_scan.specs.Cutting.{Lexeme, tokens_from, tokens_of}
 use Rattle.std.specs.Int.RustNames.{bit_or}
@@ -13,10 +12,11 @@ use Rattle.m11_scan.specs.Numbers.{number_of}
 use Rattle.m11_scan.specs.declared.radix.Radix.TheVariants.{Decimal}
 use Rattle.m11_scan.specs.declared.sort.Sort.{Sort}
 use Rattle.m11_scan.specs.declared.sort.Sort.TheVariants.{Name, LocalSymbol, Colon, TwoColons}
-use Rattle.m11_scan.proofs.Folding.{digit-folded, digits-folded, folded_token, if_cong, mark-folded, run-folded, six_of-folded, skipped_between-folded, tokens_from-folded}
+use Rattle.m11_scan.proofs.Folding.{digit-folded, digits-folded, folded_token, if_cong, mark-folded, run-folded, skipped_between-folded, tokens_from-folded}
 use Rattle.m11_statements.specs.declared.labels.LabelKind.{LabelKind}
-use Rattle.m11_statements.specs.Bodies.{assignment_to, body_in, body_or, is_known_name, operates, operation, set_by}
+use Rattle.m11_statements.specs.Bodies.{assignment_to, body_in, body_or, operation, set_by}
 use Rattle.m11_statements.specs.Labels.{before_labels, end_of, is_counter, kind_of, label_of, labelled, labels_at, labels_end, labels_in, local_kind, local_of, numbered}
+use Rattle.m11_statements.specs.Listed.{names}
 use Rattle.m11_statements.specs.Statements.{body_of, has_outside, letter_if, letters_of, label_letters}
 
 -- labels
@@ -77,34 +77,32 @@ assignment-folded line target [] = refl
 assignment-folded line target (equals ∷ tokens) =
     if_cong (skipped_between-folded line target.end equals.start) refl (set-folded target.sort target equals)
 
-module _ (known : ℕ × ℕ → Bool) where
-  operates-folded : (sort : Sort) (text : List ℕ) → operates known sort (map folded text) ≡ operates known sort text
-  operates-folded Name text =
-      if_cong (counter-folded text) refl (ap (λ six. is_known_name known (name_of six)) (six_of-folded text))
-  operates-folded _ text = refl
+names-folded : (sort : Sort) (text : List ℕ) → names sort (map folded text) ≡ names sort text
+names-folded Name text = ap not (counter-folded text)
+names-folded _ text = refl
 
-  operation-folded : (first : Lexeme) → operation known (folded_token first) ≡ operation known first
-  unfolding folded_token
-  operation-folded first = if_cong (operates-folded first.sort first.text) refl refl
+operation-folded : (first : Lexeme) → operation (folded_token first) ≡ operation first
+unfolding folded_token
+operation-folded first = if_cong (names-folded first.sort first.text) refl refl
 
-  body_in-folded : (line : List ℕ) (tokens : List Lexeme)
-      → body_in known (map folded line) (map folded_token tokens) ≡ body_in known line tokens
-  body_in-folded line [] = refl
-  body_in-folded line (first ∷ tokens) = λ i. body_or (assignment-folded line first tokens i) (operation-folded first i)
+body_in-folded : (line : List ℕ) (tokens : List Lexeme)
+    → body_in (map folded line) (map folded_token tokens) ≡ body_in line tokens
+body_in-folded line [] = refl
+body_in-folded line (first ∷ tokens) = λ i. body_or (assignment-folded line first tokens i) (operation-folded first i)
 
-  body_of-folded : (line : List ℕ) → body_of known (map folded line) ≡ body_of known line
-  body_of-folded line =
-      ap (λ n. body_in known (map folded line) (tokens_from (map folded line) n)) (ap (end_of 0) (labels_at-folded line))
-      ∙ ap (body_in known (map folded line)) (tokens_from-folded line (labels_end line))
-      ∙ body_in-folded line (tokens_from line (labels_end line))
+body_of-folded : (line : List ℕ) → body_of (map folded line) ≡ body_of line
+body_of-folded line =
+    ap (λ n. body_in (map folded line) (tokens_from (map folded line) n)) (ap (end_of 0) (labels_at-folded line))
+    ∙ ap (body_in (map folded line)) (tokens_from-folded line (labels_end line))
+    ∙ body_in-folded line (tokens_from line (labels_end line))
 
 -- lines that are the same but for case
 module _ (a b : List ℕ) (same : map folded a ≡ map folded b) where
   pub same_labels : labels_at a ≡ labels_at b
   same_labels = sym (labels_at-folded a) ∙ ap labels_at same ∙ labels_at-folded b
 
-  pub same_body : (known : ℕ × ℕ → Bool) → body_of known a ≡ body_of known b
-  same_body known = sym (body_of-folded known a) ∙ ap (body_of known) same ∙ body_of-folded known b
+  pub same_body : body_of a ≡ body_of b
+  same_body = sym (body_of-folded a) ∙ ap body_of same ∙ body_of-folded b
 
   label_letters-folded : (line : List ℕ) (is_over_long : Bool)
       → label_letters (record { text = map folded line; is_over_long = is_over_long })

@@ -11,8 +11,9 @@ use Rattle.m11_statements.specs.declared.bodies.Body.{Body}
 use Rattle.m11_statements.specs.declared.bodies.Body.TheVariants.{Operates, Words}
 use Rattle.m11_statements.specs.declared.labels.Label.{Label}
 use Rattle.m11_statements.specs.declared.labels.LabelKind.{LabelKind}
-use Rattle.m11_statements.specs.Bodies.{assigned, body_in, body_or, counter_set, name_set, operates, operation, set_by}
+use Rattle.m11_statements.specs.Bodies.{assigned, body_in, body_or, counter_set, name_set, operation, set_by}
 use Rattle.m11_statements.specs.Labels.{before_labels, end_of, is_counter, kind_of, labelled, labels_at, labels_end, labels_in}
+use Rattle.m11_statements.specs.Listed.{is_name}
 use Rattle.m11_statements.specs.Order.{BodyStands, LabelsStand}
 use Rattle.m11_statements.specs.Statements.{body_of}
 
@@ -89,23 +90,22 @@ module _ (size place : ℕ) (first : Lexeme) (early : place ≤ first.start) (lo
     assigned_stands true = stands
     assigned_stands false = set_stands first.sort
 
-body_stands : (size place : ℕ) (known : ℕ × ℕ → Bool) (line : List ℕ) (tokens : List Lexeme) → AreOrdered size place tokens
-    → BodyStands place size (body_in known line tokens)
-body_stands size place known line [] o = o
-body_stands size place known line (first ∷ []) o =
-    operation_stands size place first o.0 o.1 o.2 (operates known first.sort first.text)
-body_stands size place known line (first ∷ (equals ∷ tokens)) o =
+body_stands : (size place : ℕ) (line : List ℕ) (tokens : List Lexeme) → AreOrdered size place tokens
+    → BodyStands place size (body_in line tokens)
+body_stands size place line [] o = o
+body_stands size place line (first ∷ []) o = operation_stands size place first o.0 o.1 o.2 (is_name first)
+body_stands size place line (first ∷ (equals ∷ tokens)) o =
     let ends = within size equals.end tokens o.2.2 in
     let next = o.2.0 in
     let long = o.2.1 in
     let inside : first.end ≤ size = omega arith in
     assigned_stands size place first o.0 o.1 inside equals next long ends
-    (operation known first) (operation_stands size place first o.0 o.1 inside (operates known first.sort first.text))
+    (operation first) (operation_stands size place first o.0 o.1 inside (is_name first))
     (skipped_between line first.end equals.start)
 
-pub body_of-stands : (known : ℕ × ℕ → Bool) (line : List ℕ) → BodyStands (labels_end line) (length line) (body_of known line)
-body_of-stands known line =
-    body_stands (length line) (labels_end line) known line (tokens_from line (labels_end line))
+pub body_of-stands : (line : List ℕ) → BodyStands (labels_end line) (length line) (body_of line)
+body_of-stands line =
+    body_stands (length line) (labels_end line) line (tokens_from line (labels_end line))
     (tokens_from-ordered line (labels_end line) (end_within (length line) 0 (labels_at line) (labels_at-stand line)))
 
 pub ruleset orders = (labels_at-stand, body_of-stands)

@@ -2,5 +2,4 @@ mod AssignedBodies
 mod Folded
 mod InOrder
 mod NextLabels
-mod NextParts
 mod Operands

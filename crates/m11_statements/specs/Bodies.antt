@@ -1,17 +1,17 @@
 -- What stands after the labels of a line. (MACRO-11 Language Reference Manual, "Operator field", "Direct assignment statements" and
--- ".WORD directive". That `.==` is no form, and that a line which begins with anything else counts as words, is this project's own.)
+-- ".WORD directive". That `.==` is no form, and that a line which begins with anything but a name counts as words, is this project's
+-- own. Whether the name of an operator is one is asked where it stands.)
 use Rattle.std.specs.Prelude.{◌≡◌, ℕ, Bool, true, false, ◌||◌, ◌==◌, if◌then◌else◌, List, [], ◌∷◌, drop, Option, Some, None}
 use Rattle.std.specs.List.{prefix_len}
 use Rattle.m11_base.specs.Devices.{Bytes}
-use Rattle.m11_base.specs.Mnemonics.{is_name_character, six_of}
-use Rattle.m11_base.specs.Rad50.{Name, name_of}
+use Rattle.m11_base.specs.Mnemonics.{is_name_character}
 use Rattle.m11_scan.specs.declared.sort.Sort.{Sort}
 use Rattle.m11_scan.specs.declared.sort.Sort.TheVariants as sorts
 use Rattle.m11_scan.specs.Characters.{is_blank}
 use Rattle.m11_scan.specs.Cutting.{Lexeme}
-use Rattle.m11_scan.specs.Names.{has_name_characters_alone}
 use Rattle.m11_scan.specs.Skipped.{skipped_between}
 use Rattle.m11_statements.specs.Labels.{is_counter}
+use Rattle.m11_statements.specs.Listed.{is_name, span_of}
 use Rattle.m11_statements.specs.declared.bodies.Body.{Body}
 use Rattle.m11_statements.specs.declared.bodies.Body.TheVariants.{Nothing, Assigns, SetsCounter, Operates, Words}
 
@@ -58,45 +58,24 @@ begins_or_ends (byte ∷ text) = is_operand_start byte
 abbrev pub begins_operand : Bytes → Bool
 begins_operand text = begins_or_ends (drop (prefix_len is_blank text) text)
 
-abbrev pub is_known_name : (Name → Bool) → Option Name → Bool
-is_known_name known None = false
-is_known_name known (Some name) = known name
-
--- a text whose first six characters, in upper case, are a known name
-abbrev pub is_known : (Name → Bool) → Bytes → Bool
-is_known known text = is_known_name known (name_of (six_of text))
-
-abbrev pub operates : (Name → Bool) → Sort → Bytes → Bool
-operates known sorts.Name text = if is_counter text then false else is_known known text
-operates known _ text = false
-
--- a known operator
-abbrev pub is_operator : (Name → Bool) → Lexeme → Bool
-is_operator known token = operates known token.sort token.text
-
--- if a token is a name, it has characters of names alone
-abbrev pub IsNamed : Lexeme → Type 0
-IsNamed token = token.sort ≡ sorts.Name → has_name_characters_alone token.text ≡ true
-
--- a known operator, or else words
-abbrev pub operation : (Name → Bool) → Lexeme → Body
-operation known token =
-    if is_operator known token then Operates (record { start = token.start; end = token.end }) else Words token.start
+-- a name is an operator, and anything else is words
+abbrev pub operation : Lexeme → Body
+operation token = if is_name token then Operates (span_of token) else Words token.start
 
 abbrev pub body_or : Option Body → Body → Body
 body_or (Some body) other = body
 body_or None other = other
 
 -- an assignment, or else an operator or words
-abbrev pub begun_body : (Name → Bool) → Bytes → Lexeme → List Lexeme → Body
-begun_body known line first tokens = body_or (assignment_to line first tokens) (operation known first)
+abbrev pub begun_body : Bytes → Lexeme → List Lexeme → Body
+begun_body line first tokens = body_or (assignment_to line first tokens) (operation first)
 
 -- what some tokens of a line say
-abbrev pub body_in : (Name → Bool) → Bytes → List Lexeme → Body
-body_in known line [] = Nothing
-body_in known line (first ∷ tokens) = begun_body known line first tokens
+abbrev pub body_in : Bytes → List Lexeme → Body
+body_in line [] = Nothing
+body_in line (first ∷ tokens) = begun_body line first tokens
 
--- the place after the known operator of a line of a size, or the line's end where none stands
+-- the place after the operator of a line of a size, or the line's end where none stands
 abbrev pub end_of : Body → ℕ → ℕ
 end_of Nothing size = size
 end_of (Assigns assignment) size = size

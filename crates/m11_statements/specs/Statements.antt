@@ -3,7 +3,6 @@ use Rattle.std.specs.Prelude.{ℕ, Bool, true, false, if◌then◌else◌, List}
 use Rattle.std.specs.List.{list_any}
 use Rattle.std.specs.Int.RustNames.{bit_or}
 use Rattle.m11_base.specs.Devices.{Bytes}
-use Rattle.m11_base.specs.Rad50.{Name}
 use Rattle.m11_scan.specs.Cutting.{tokens_from}
 use Rattle.m11_scan.specs.Letters.{letter_A, letter_I, letter_L}
 use Rattle.m11_lines.specs.Line.{SourceLine}
@@ -16,8 +15,8 @@ use Rattle.m11_statements.specs.declared.labels.LabelKind.{LabelKind}
 use Rattle.m11_statements.specs.declared.labels.LabelKind.TheVariants.{Ordinary, Global, Local, Outside}
 
 -- what stands after a line's labels
-abbrev pub body_of : (Name → Bool) → Bytes → Body
-body_of known line = body_in known line (tokens_from line (labels_end line))
+abbrev pub body_of : Bytes → Body
+body_of line = body_in line (tokens_from line (labels_end line))
 
 abbrev pub is_outside : LabelKind → Bool
 is_outside Ordinary = false

@@ -1,32 +1,15 @@
 //! What stands after the labels of a line. (MACRO-11 Language Reference Manual, "Operator field", "Direct assignment statements" and
 //! ".WORD directive".)
 
-ghost use Rattle.std.specs.Prelude.{◌≡◌, ◌<◌, ◌≤◌, ℕ, Bool, true, [], ◌∷◌, drop, length, IfSome, MatchOption};
+ghost use Rattle.std.specs.Prelude.{◌≡◌, ◌≤◌, [], ◌∷◌, drop, length, IfSome, MatchOption};
 ghost use Rattle.m11_scan.specs.Cutting.{tokens_from};
-ghost use Rattle.m11_scan.specs.Names.{has_name_characters_alone};
 ghost use Rattle.m11_scan.specs.Views.{lexeme};
 ghost use Rattle.m11_statements.specs.Bodies as spec;
 
 use crate::labels::is_counter;
+use crate::listed::is_name;
 use crate::spans::Span;
-use m11_base::Name;
-use m11_scan::{
-    Line, Sort, Token, blanks_length, is_name_character, next_token, read_name, skipped_between,
-};
-
-/// The operators that are known: the names of instructions, of directives and of the macros that are defined.
-pub trait Operators {
-    // Whether a name is one of them.
-    ghost known: { Self → ℕ × ℕ → Bool };
-
-    /// Whether a name is one of them.
-    fn is_known(&self, name: Name) -> bool
-        ensures { result ≡ known self.now name };
-
-    /// Whether every name is one of them, so that none need be read.
-    fn knows_all(&self) -> bool
-        ensures { result ≡ true → (name : ℕ × ℕ) → known self.now name ≡ true };
-}
+use m11_scan::{Line, Sort, Token, blanks_length, is_name_character, next_token, skipped_between};
 
 /// An assignment to a name.
 #[derive(Clone, Copy, PartialEq, Eq, Debug)]
@@ -48,43 +31,37 @@ pub enum Body {
     Assigns(Assignment),
     /// `.=e`: the place after the `=`.
     SetsCounter(u8),
-    /// A known operator. What stands after it is the operator's to cut.
+    /// A name, which is that of an operator: whether it is one is asked where it stands. What stands after it is the operator's to cut.
     Operates(Span),
     /// Anything else, which counts as the elements of a `.WORD`: the place where they begin.
     Words(u8),
 }
 
 // What stands in a line from a place on, by the token that stands next there.
-pub(crate) fn body_at<O: Operators>(
-    line: &Line,
-    place: usize,
-    next: Option<Token>,
-    operators: &O,
-) -> Body
+pub(crate) fn body_at(line: &Line, place: usize, next: Option<Token>) -> Body
     requires within { place ≤ length line.now.text }
     requires next { MatchOption next (tokens_from line.now.text place ≡ [])
         (λ token. tokens_from line.now.text place ≡ lexeme line.now.text token ∷ tokens_from line.now.text token.end) }
     requires next_within { IfSome next (λ token. token.end ≤ length line.now.text) }
-    ensures body { result ≡ spec.body_in (O.known operators.now) line.now.text (tokens_from line.now.text place) }
+    ensures body { result ≡ spec.body_in line.now.text (tokens_from line.now.text place) }
     ensures within { spec.end_of result (length line.now.text) ≤ length line.now.text }
 {
     match next {
-        Some(first) => begun_body(line, first, operators),
+        Some(first) => begun_body(line, first),
         None => Body::Nothing,
     }
 }
 
 // What begins with a token.
-fn begun_body<O: Operators>(line: &Line, first: Token, operators: &O) -> Body
-    requires within { first.end ≤ length line.now.text }
-    requires named { spec.IsNamed (lexeme line.now.text first) }
-    ensures body { result ≡ spec.begun_body (O.known operators.now) line.now.text (lexeme line.now.text first)
+fn begun_body(line: &Line, first: Token) -> Body
+    requires { first.end ≤ length line.now.text }
+    ensures body { result ≡ spec.begun_body line.now.text (lexeme line.now.text first)
         (tokens_from line.now.text first.end) }
     ensures within { spec.end_of result (length line.now.text) ≤ length line.now.text }
 {
     match assignment_to(line, first) {
         Some(body) => body,
-        None => operation(line, first, operators),
+        None => operation(line, first),
     }
 }
 
@@ -165,42 +142,16 @@ fn name_set(name: Token, equals: Token) -> Option<Body>
     }))
 }
 
-// What begins with a token that isn't assigned to.
-fn operation<O: Operators>(line: &Line, first: Token, operators: &O) -> Body
-    requires named { spec.IsNamed (lexeme line.now.text first) }
-    ensures { result ≡ spec.operation (O.known operators.now) (lexeme line.now.text first) }
+// What begins with a token that isn't assigned to: an operator where it is a name, but for the counter.
+fn operation(line: &Line, first: Token) -> Body
+    ensures { result ≡ spec.operation (lexeme line.now.text first) }
 {
-    if is_operator(line, first, operators) {
+    if is_name(line, first) {
         Body::Operates(Span {
             start: first.start,
             end: first.end,
         })
     } else {
         Body::Words(first.start)
-    }
-}
-
-fn is_operator<O: Operators>(line: &Line, token: Token, operators: &O) -> bool
-    requires named { spec.IsNamed (lexeme line.now.text token) }
-    ensures { result ≡ spec.is_operator (O.known operators.now) (lexeme line.now.text token) }
-{
-    match token.sort {
-        Sort::Name if is_counter(token.text(line)) => false,
-        Sort::Name => is_known(token.text(line), operators),
-        _ => false,
-    }
-}
-
-// Whether a name is an operator that is known.
-fn is_known<O: Operators>(text: &[u8], operators: &O) -> bool
-    requires named { has_name_characters_alone text.now ≡ true }
-    ensures { result ≡ spec.is_known (O.known operators.now) text.now }
-{
-    if operators.knows_all() {
-        return true;
-    }
-    match read_name(text) {
-        Some(name) => operators.is_known(name),
-        None => false,
     }
 }

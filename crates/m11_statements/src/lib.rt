@@ -15,12 +15,12 @@ mod spans;
 mod statements;
 
 pub use actuals::{Actual, ActualKind, Separator, next_actual, separator_at};
-pub use bodies::{Assignment, Body, Operators};
+pub use bodies::{Assignment, Body};
 pub use formals::{Formal, NextFormal, next_formal};
 pub use labels::{LABEL_LIMIT, Label, LabelKind, labels_of};
 pub use laws::{case_makes_no_difference, labels_and_body_stand_in_order};
 pub use listed::{ListedName, listed_name};
-pub use parts::{PART_LIMIT, Part, PartKind, Parts, next_part, parts_from};
+pub use parts::{Part, PartKind, next_part};
 pub use reading::statement;
 pub use spans::Span;
 pub use statements::Statement;

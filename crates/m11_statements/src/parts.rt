@@ -7,11 +7,7 @@ ghost use Rattle.m11_scan.specs.Views.{bits_of};
 ghost use Rattle.m11_statements.specs.Parts as spec;
 
 use crate::spans::{Span, text_from};
-use arrayvec::ArrayVec;
 use m11_scan::{Enclosed, Letters, Line, Sort, delimited, expression_end, next_token};
-
-/// The most parts of a line: each has two characters or more, but for the last one, which may lack its end.
-pub const PART_LIMIT: usize = 66;
 
 /// How a part is written.
 #[derive(Clone, Copy, PartialEq, Eq, Debug, Default)]
@@ -46,42 +42,6 @@ impl Part {
             PartKind::Expression => Letters::Q,
         };
         letters.when(!self.is_closed)
-    }
-}
-
-/// The parts that stand one after the other.
-#[derive(Drop)]
-pub struct Parts {
-    /// The parts, in order.
-    pub list: ArrayVec<Part, PART_LIMIT>,
-    /// The place after the last one. What stands after it is left over.
-    pub end: u8,
-}
-
-/// The parts of a text that begins at a place of a line.
-pub fn parts_from(line: &Line, place: usize) -> Parts
-    requires { place ≤ length line.now.text }
-    ensures parts { spec.AreParts line.now.text true place result.list.items result.end }
-    ensures least { place ≤ result.end }
-    ensures most { result.end ≤ length line.now.text }
-{
-    let mut list = ArrayVec::new();
-    let mut is_first = true;
-    let mut end = place;
-    'parts: while let Some(part) = next_part(line, end, is_first) {
-        list.push(part);
-        end = usize::from(part.end);
-        is_first = false;
-        if !part.is_closed {
-            return Parts {
-                list,
-                end: part.end,
-            };
-        }
-    }
-    Parts {
-        list,
-        end: end as u8,
     }
 }
 

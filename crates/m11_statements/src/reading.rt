@@ -6,22 +6,22 @@ ghost use Rattle.m11_statements.specs.Bodies.{end_of};
 ghost use Rattle.m11_statements.specs.Labels.{labels_at, labels_end};
 ghost use Rattle.m11_statements.specs.Statements as spec;
 
-use crate::bodies::{Operators, body_at};
+use crate::bodies::body_at;
 use crate::labels::{LabelField, label_field};
 use crate::statements::Statement;
 use m11_scan::{Letters, Line, skipped_between};
 
-/// What a line says, where some operators are known.
-pub fn statement<O: Operators>(line: &Line, operators: &O) -> Statement
+/// What a line says.
+pub fn statement(line: &Line) -> Statement
     ensures unlabelled { result.labels_end ≡ 0 → labels_at line.now.text ≡ [] }
     ensures lone_label { IfSome result.lone_label (λ label. labels_at line.now.text ≡ label ∷ []) }
     ensures labels_end { result.labels_end ≡ labels_end line.now.text }
-    ensures body { result.body ≡ spec.body_of (O.known operators.now) line.now.text }
+    ensures body { result.body ≡ spec.body_of line.now.text }
     ensures within { end_of result.body (length line.now.text) ≤ length line.now.text }
     ensures label_letters { bits_of result.label_letters ≡ spec.label_letters line.now }
 {
     let labels = label_field(line);
-    let body = body_at(line, labels.end, labels.next, operators);
+    let body = body_at(line, labels.end, labels.next);
     Statement {
         labels_end: labels.end as u8,
         lone_label: labels.lone,

@@ -2,7 +2,7 @@
 use Rattle.std.proofs.Common.{◌≡◌, ◌≤◌, ℕ, length, Some, subst}
 use Rattle.std.proofs.lemmas.Option.{none-some, same_Some}
 use Rattle.m11_base.specs.Devices.{Bytes}
-use Rattle.m11_arguments.specs.Directives.{every_name, operator, operator_in}
+use Rattle.m11_arguments.specs.Directives.{operator, operator_in}
 use Rattle.m11_statements.specs.Labels.{labels_end}
 use Rattle.m11_statements.specs.Order.{BodyStands}
 use Rattle.m11_statements.specs.Statements.{body_of}
@@ -18,6 +18,6 @@ in_body place size (Operates other) name stands is = subst (λ (s : Span). s.end
 in_body place size (Words start) name stands is = absurd (none-some name is)
 
 -- the operator of a line lies in it
-pub operator_within : (line : Bytes) (name : Span) → BodyStands (labels_end line) (length line) (body_of every_name line)
+pub operator_within : (line : Bytes) (name : Span) → BodyStands (labels_end line) (length line) (body_of line)
     → operator line ≡ Some name → name.end ≤ length line
-operator_within line name stands is = in_body (labels_end line) (length line) (body_of every_name line) name stands is
+operator_within line name stands is = in_body (labels_end line) (length line) (body_of line) name stands is

@@ -5,7 +5,7 @@ use super::same;
 use m11_scan::{Letters, Line};
 use m11_statements::{
     Actual, ActualKind, ListedName, NextFormal, PartKind, listed_name, next_actual, next_formal,
-    parts_from, separator_at,
+    next_part, separator_at,
 };
 use std::process::Abort;
 
@@ -138,28 +138,44 @@ static PARTS: [PartsRow; 18] = [
 #[test]
 fn parts_end_at_their_delimiters(rt: HostRuntime) {
     for row in &PARTS {
-        let line = Line::from_bytes(row.text);
-        let found = parts_from(&line, 0);
-        same(&rt, &row.letters, &found.list.len(), &row.parts.len());
-        let mut letters = Letters::none();
-        for (part, wanted) in found.list.iter().zip(row.parts) {
-            let got = (
-                part.kind,
-                part.inside.start,
-                part.inside.end,
-                part.is_closed,
-            );
-            same(&rt, &row.end, &got, wanted);
-            letters = part.letters();
-        }
-        same(
-            &rt,
-            &row.end,
-            &letters.text().as_slice(),
-            &row.letters.as_bytes(),
-        );
-        same(&rt, &row.letters, &found.end, &row.end);
+        check_parts(&rt, row);
     }
+}
+
+// The parts that stand one after the other, and after the last one nothing.
+fn check_parts(rt: &impl Abort, row: &PartsRow) {
+    let line = Line::from_bytes(row.text);
+    let mut place: u8 = 0;
+    let mut letters = Letters::none();
+    let mut left = row.parts.len();
+    let mut is_first = true;
+    while let Some(part) = next_part(&line, usize::from(place), is_first) {
+        let Some(wanted) = row.parts.get(row.parts.len() - left) else {
+            break;
+        };
+        let got = (
+            part.kind,
+            part.inside.start,
+            part.inside.end,
+            part.is_closed,
+        );
+        same(rt, &row.end, &got, wanted);
+        letters = part.letters();
+        place = part.end;
+        is_first = false;
+        left -= 1;
+        if !part.is_closed {
+            break;
+        }
+    }
+    same(rt, &row.letters, &left, &0);
+    same(rt, &row.letters, &place, &row.end);
+    same(
+        rt,
+        &row.end,
+        &letters.text().as_slice(),
+        &row.letters.as_bytes(),
+    );
 }
 
 // A list, its names with their places, where nothing stands for what is no name, and the place after it.

@@ -1,11 +1,8 @@
 //! Lines of awkward characters from a fixed sequence: what is read from them lies in them in order, and nothing is lost.
 
-use super::statements::Known;
 use super::{same, token_after};
 use m11_scan::{Line, Token, blanks_length, skipped_between};
-use m11_statements::{
-    Body, Statement, labels_of, next_actual, parts_from, separator_at, statement,
-};
+use m11_statements::{Body, Statement, labels_of, next_actual, next_part, separator_at, statement};
 use std::process::Abort;
 
 const CHARACTERS: &[u8; 32] = b"'\"<>^\\;:=?AaR$.18,+ \tBD%#(-/!@.:";
@@ -132,26 +129,33 @@ fn check_actuals(rt: &impl Abort, line: &Line) {
 
 fn check_line(rt: &impl Abort, line: &Line) {
     check_tokens(rt, line);
-    check_statement(rt, line, &statement(line, &Known::new()));
+    check_statement(rt, line, &statement(line));
     check_actuals(rt, line);
-    let parts = parts_from(line, 0);
+    check_parts(rt, line);
+}
+
+// A part ends after it begins, and the next one begins no earlier.
+fn check_parts(rt: &impl Abort, line: &Line) {
     let mut place = 0;
-    for part in parts.list.iter() {
+    let mut is_first = true;
+    for _ in 0..line.text().len() + 1 {
+        let Some(part) = next_part(line, usize::from(place), is_first) else {
+            return;
+        };
         same(
             rt,
             &"a part",
             &(place < part.inside.start && part.inside.start <= part.inside.end),
             &true,
         );
-        same(
-            rt,
-            &"its end",
-            &(part.inside.end <= part.end && part.end <= parts.end),
-            &true,
-        );
+        same(rt, &"its end", &(part.inside.end <= part.end), &true);
+        if !part.is_closed {
+            return;
+        }
         place = part.end;
+        is_first = false;
     }
-    same(rt, &"the parts' end", &parts.end, &place);
+    same(rt, &"the parts", &place, &0);
 }
 
 #[test]

@@ -1,43 +1,9 @@
 //! What lines say: labels, assignments, operators and words. (MACRO-11 Language Reference Manual, "Source program format".)
 
 use super::same;
-use m11_base::Name;
 use m11_scan::{Line, skipped_between};
-use m11_statements::{Body, Label, LabelKind, Operators, labels_of, statement};
+use m11_statements::{Body, Label, LabelKind, labels_of, statement};
 use std::process::Abort;
-
-/// Operators that are known by the first three characters of their names: MOV, NOP, RET, and .AS, .EN, .EV, .RA, .TI, .WO.
-#[derive(Drop)]
-pub(crate) struct Known {
-    words: [u16; 9],
-}
-
-impl Known {
-    pub(crate) fn new() -> Known {
-        Known {
-            words: [
-                0o51656, 0o54750, 0o70534, 0o127473, 0o127726, 0o127736, 0o130721, 0o131051,
-                0o131247,
-            ],
-        }
-    }
-}
-
-impl Operators for Known {
-    ghost use Rattle.std.specs.List.{list_any};
-    ghost use Rattle.std.specs.Prelude.{◌==◌};
-
-    ghost known = { λ s name. list_any (λ word. word == name.0) s.words };
-
-    fn is_known(&self, name: Name) -> bool {
-        let (first, _) = name.words();
-        self.words.iter().any(|word| *word == first)
-    }
-
-    fn knows_all(&self) -> bool {
-        false
-    }
-}
 
 // What stands after the labels.
 #[derive(Clone, Copy, PartialEq, Eq, Debug)]
@@ -88,7 +54,7 @@ static LABELS: [Row; 16] = [
     Row {
         line: "A : NOP",
         labels: &[],
-        body: (Words, 0, 0, 0),
+        body: (Operates, 0, 1, 0),
         letters: "",
     },
     Row {
@@ -118,7 +84,7 @@ static LABELS: [Row; 16] = [
     Row {
         line: "L'A: .ENDM",
         labels: &[],
-        body: (Words, 0, 0, 0),
+        body: (Operates, 0, 1, 0),
         letters: "",
     },
     Row {
@@ -266,7 +232,7 @@ static BODIES: [Row; 21] = [
     Row {
         line: "FOO 5",
         labels: &[],
-        body: (Words, 0, 0, 0),
+        body: (Operates, 0, 3, 0),
         letters: "",
     },
     Row {
@@ -324,7 +290,7 @@ static SKIPPED: [Row; 16] = [
     Row {
         line: "A?: NOP",
         labels: &[],
-        body: (Words, 0, 0, 0),
+        body: (Operates, 0, 1, 0),
         letters: "",
     },
     Row {
@@ -360,7 +326,7 @@ static SKIPPED: [Row; 16] = [
     Row {
         line: "X ?= 5",
         labels: &[],
-        body: (Words, 0, 0, 0),
+        body: (Operates, 0, 1, 0),
         letters: "",
     },
     Row {
@@ -424,7 +390,7 @@ fn label_of(label: &Label) -> (LabelKind, u8, u8) {
 fn check(rt: &impl Abort, rows: &[Row]) {
     for row in rows {
         let line = Line::from_bytes(row.line.as_bytes());
-        let found = statement(&line, &Known::new());
+        let found = statement(&line);
         let labels = labels_of(&line);
         same(rt, &row.line, &labels.len(), &row.labels.len());
         for (label, wanted) in labels.iter().zip(row.labels) {
@@ -442,7 +408,7 @@ fn labels_have_their_colon_directly_after_them(rt: HostRuntime) {
 }
 
 #[test]
-fn what_is_no_assignment_and_no_operator_is_words(rt: HostRuntime) {
+fn what_is_no_assignment_and_no_name_is_words(rt: HostRuntime) {
     check(&rt, &BODIES);
 }
 
@@ -456,7 +422,7 @@ fn a_line_over_132_characters_has_l(rt: HostRuntime) {
     let blanks = [b' '; 133];
     for (length, letters) in [(131, 0), (132, 0), (133, 1)] {
         let line = Line::from_bytes(&blanks[..length]);
-        let found = statement(&line, &Known::new());
+        let found = statement(&line);
         same(&rt, &length, &found.label_letters.text().len(), &letters);
     }
 }
