@@ -1,3 +1,4 @@
+mod Beginning
 mod Calls
 mod Created
 mod Fillings

@@ -1,29 +1,25 @@
 -- What is noted of a formal and its list, one thing after the other.
 use Rattle.std.proofs.Common.{◌≡◌, ℕ, List, [], Option, Some, None, ap, ◌∙◌}
-use Rattle.std.specs.Int.RustNames.{bit_or}
 use Rattle.m11_lines.specs.Line.{line_limit}
-use Rattle.m11_scan.specs.Letters.{letter_A}
 use Rattle.m11_statements.specs.declared.actuals.Actual.{Actual}
 use Rattle.m11_arguments.specs.Actuals.{Given, actuals_from}
 use Rattle.m11_arguments.specs.Conditions.{actual_letters, text_of}
 use Rattle.m11_arguments.specs.Expressions.{Known}
 use Rattle.m11_arguments.specs.Indefinite.{listed_in, repeated}
-use Rattle.m11_arguments.specs.LeftOvers.{left_over, letters_before}
+use Rattle.m11_arguments.specs.LeftOvers.{bad_letters, left_over, letters_before}
 use Rattle.m11_arguments.specs.Notes.{Notes, joined, noting, with_letters}
 use Rattle.m11_arguments.specs.declared.indefinite.Begun.{Begun}
-use Rattle.m11_arguments.proofs.Joining.{joined_joins, joined_letters, or_joins}
+use Rattle.m11_arguments.proofs.Joining.{joined_joins, joined_letters}
+
+pub missing_noted : (line : List ℕ) (place : ℕ) (texts : Actual → Given) (begin after : Notes) (letters : ℕ)
+    (found : Option Begun) → None ≡ found → after ≡ with_letters begin letters → letters ≡ bad_letters line place
+    → after ≡ joined begin (repeated line place texts found).notes
+missing_noted line place texts begin after letters found none added letter =
+    added ∙ joined_letters begin letters ∙ ap (λ (l : ℕ). joined begin (noting l [])) letter
+    ∙ ap (λ (b : Option Begun). joined begin (repeated line place texts b).notes) none
 
 module _ (line : List ℕ) (place : ℕ) (texts : Actual → Given) (begin middle after : Notes) (before last : ℕ)
     (first : middle ≡ with_letters begin before) (is : before ≡ letters_before line place) where
-  pub missing_noted : (found : Option Begun) → None ≡ found → after ≡ with_letters middle last → last ≡ letter_A
-      → after ≡ joined begin (repeated line place texts found).notes
-  missing_noted found none added letter =
-      added ∙ ap (λ (l : ℕ). with_letters middle l) letter ∙ ap (λ (n : Notes). with_letters n letter_A) first
-      ∙ ap (λ (l : ℕ). noting l begin.symbols) (or_joins begin.letters before letter_A)
-      ∙ joined_letters begin (bit_or before letter_A)
-      ∙ ap (λ (l : ℕ). joined begin (noting (bit_or l letter_A) [])) is
-      ∙ ap (λ (b : Option Begun). joined begin (repeated line place texts b).notes) none
-
   pub rounds_noted : (found : Option Begun) (begun : Begun) (further : Notes) → Some begun ≡ found
       → further ≡ joined middle (texts begun.list).notes → after ≡ with_letters further last
       → last ≡ left_over line begun.list.end → after ≡ joined begin (repeated line place texts found).notes

@@ -24,8 +24,8 @@ use Rattle.m11_values.specs.declared.names.Symbol.{Symbol}
 use Rattle.m11_arguments.specs.declared.conditions.Verdict.{Verdict}
 use Rattle.m11_arguments.specs.declared.conditions.Finding.{Finding}
 use Rattle.m11_arguments.specs.Definedness.{Tested, is_as, names_at}
-use Rattle.m11_arguments.specs.Expressions.{Known, number_at, number_letters, symbols_at}
-use Rattle.m11_arguments.specs.LeftOvers.{has_token, letters_before, skip_letters}
+use Rattle.m11_arguments.specs.Expressions.{Known, has_expression, number_at, number_letters, symbols_at}
+use Rattle.m11_arguments.specs.LeftOvers.{letters_before, skip_letters}
 use Rattle.m11_arguments.specs.Notes.{Notes, noting}
 
 -- whether a condition holds, the place after it, its letters, and the symbols that it read
@@ -63,7 +63,7 @@ passes NotNegative number = not (is_negative number)
 passes NotPositive number = number == 0 || is_negative number
 passes condition number = false
 
--- EQ NE GT LT GE LE: the number at a place
+-- EQ NE GT LT GE LE: the number of the expression at a place
 abbrev pub compared : Known → Bytes → ℕ → Condition → Asked
 compared known line place condition = record {
   holds = passes condition (number_at known line place);
@@ -74,7 +74,7 @@ compared known line place condition = record {
 
 abbrev pub numeric : Known → Bytes → ℕ → Condition → Asked
 numeric known line place condition =
-    if has_token (tokens_from line place) then compared known line place condition else refused place
+    if has_expression line place then compared known line place condition else refused place
 
 -- DF NDF: the verdict of names
 abbrev pub named : Bytes → ℕ → Option Bool → Tested → Asked

@@ -17,7 +17,7 @@ use Rattle.m11_values.specs.Quantities.{Quantity}
 use Rattle.m11_values.specs.Symbols.{with_symbol}
 use Rattle.m11_values.specs.Terms.{item, symbol_in}
 use Rattle.m11_values.specs.Values.{value_of}
-use Rattle.m11_arguments.specs.LeftOvers.{skip_letters}
+use Rattle.m11_arguments.specs.LeftOvers.{has_token, skip_letters}
 
 -- what names say: the radix, and what each symbol stands for
 pub record Known : Type 0 where
@@ -30,6 +30,10 @@ known_by radix stands_for = record { radix = radix; stands_for = stands_for }
 -- the expression that tokens begin with
 abbrev pub expression_in : List Lexeme → List Lexeme
 expression_in tokens = take (expression_length (map sort_in tokens)) tokens
+
+-- an expression stands at a place: a token with which one can begin
+abbrev pub has_expression : Bytes → ℕ → Bool
+has_expression line place = has_token (expression_in (tokens_from line place))
 
 abbrev pub value_in : Known → List Lexeme → Quantity
 value_in known tokens = value_of known.radix (map (item known.stands_for) (expression_in tokens))

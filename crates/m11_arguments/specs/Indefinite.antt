@@ -1,12 +1,10 @@
 -- What `.IRP` and `.IRPC` repeat. (MACRO-11 Language Reference Manual, "Indefinite repeat block directives". That a list without
 -- brackets is one actual, and that a missing one has A, is this project's own.)
 use Rattle.std.specs.Prelude.{ℕ, Bool, true, false, List, [], ◌∷◌, map, Option, Some, None}
-use Rattle.std.specs.Int.RustNames.{bit_or}
 use Rattle.m11_base.specs.Devices.{Bytes}
 use Rattle.m11_base.specs.Rad50.{Name}
 use Rattle.m11_lines.specs.Line.{line_limit}
 use Rattle.m11_scan.specs.Cutting.{tokens_from}
-use Rattle.m11_scan.specs.Letters.{letter_A}
 use Rattle.m11_statements.specs.Actuals.{next_actual, separator_at}
 use Rattle.m11_statements.specs.declared.actuals.Actual.{Actual}
 use Rattle.m11_statements.specs.declared.actuals.ActualKind.{ActualKind}
@@ -14,7 +12,7 @@ use Rattle.m11_statements.specs.declared.actuals.ActualKind.TheVariants.{Bare, B
 use Rattle.m11_arguments.specs.Actuals.{Given, actuals_from, followed_by, given_by, texts_of}
 use Rattle.m11_arguments.specs.Conditions.{actual_letters, text_of}
 use Rattle.m11_arguments.specs.Expressions.{Known}
-use Rattle.m11_arguments.specs.LeftOvers.{left_over, letters_before}
+use Rattle.m11_arguments.specs.LeftOvers.{bad_letters, left_over, letters_before}
 use Rattle.m11_arguments.specs.Macros.{name_at}
 use Rattle.m11_arguments.specs.declared.macros.NameAt.{NameAt}
 use Rattle.m11_arguments.specs.Notes.{Notes, joined, noting}
@@ -69,10 +67,9 @@ begun_by line gives_digits (Some name) =
 abbrev pub begun_at : Bytes → ℕ → Bool → Option Begun
 begun_at line place gives_digits = begun_by line gives_digits (name_at (tokens_from line place))
 
--- where one is, nothing more is looked at
+-- where one is, nothing is repeated
 abbrev pub missing : Bytes → ℕ → Repeated
-missing line place =
-    record { rounds = None; notes = noting (bit_or (letters_before line place) letter_A) [] }
+missing line place = record { rounds = None; notes = noting (bad_letters line place) [] }
 
 -- the rounds of some texts, with what is left over after the list
 abbrev pub with_rounds : Bytes → ℕ → Begun → Given → Repeated

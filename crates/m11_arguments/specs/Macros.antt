@@ -7,7 +7,6 @@ use Rattle.m11_base.specs.Mnemonics.{six_of}
 use Rattle.m11_base.specs.Rad50.{Name, name_of}
 use Rattle.m11_lines.specs.Line.{line_limit}
 use Rattle.m11_scan.specs.Cutting.{Lexeme, text_between, tokens_from}
-use Rattle.m11_scan.specs.Letters.{letter_A}
 use Rattle.m11_scan.specs.Views.{bits_of}
 use Rattle.m11_scan.specs.declared.sort.Sort.{Sort}
 use Rattle.m11_scan.specs.declared.sort.Sort.TheVariants as sorts
@@ -22,7 +21,7 @@ use Rattle.m11_arguments.specs.declared.macros.Listed.{Listed}
 use Rattle.m11_arguments.specs.declared.macros.Listed.TheVariants.{Last, More}
 use Rattle.m11_arguments.specs.declared.macros.MacroFormal.{MacroFormal}
 use Rattle.m11_arguments.specs.declared.macros.NameAt.{NameAt}
-use Rattle.m11_arguments.specs.LeftOvers.{letters_before, rest_letters, skip_letters}
+use Rattle.m11_arguments.specs.LeftOvers.{bad_letters, letters_before, rest_letters, skip_letters}
 
 -- the name that a token is, if it is one that a line can define
 abbrev pub name_in : Sort → Bytes → Option Name
@@ -43,10 +42,6 @@ name_at (token ∷ tokens) = name_before token.end (name_in token.sort token.tex
 pub data NextListed : Type 0 where
   Ending : ℕ → NextListed
   Formally : MacroFormal → ℕ → ℕ → NextListed
-
--- what is no formal has A; what stands from there on isn't looked at, but for I
-abbrev pub bad_letters : Bytes → ℕ → ℕ
-bad_letters line place = bit_or letter_A (rest_letters line place)
 
 -- the place where a formal begins, with the `?` directly before it
 abbrev pub formal_start : Formal → ℕ
@@ -101,7 +96,7 @@ pub record MacroHeader : Type 0 where
   pub letters : ℕ
 
 abbrev pub without_name : Bytes → ℕ → MacroHeader
-without_name line place = record { named = None; letters = bit_or letter_A (rest_letters line place) }
+without_name line place = record { named = None; letters = bad_letters line place }
 
 abbrev pub with_name : Bytes → ℕ → Name → FormalList → MacroHeader
 with_name line place name formals = record {

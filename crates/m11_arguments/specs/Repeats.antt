@@ -3,12 +3,11 @@
 use Rattle.std.specs.Prelude.{ℕ, if◌then◌else◌, []}
 use Rattle.std.specs.Int.RustNames.{bit_or}
 use Rattle.m11_base.specs.Devices.{Bytes}
-use Rattle.m11_scan.specs.Cutting.{tokens_from}
 use Rattle.m11_scan.specs.Ends.{expression_end}
 use Rattle.m11_scan.specs.Letters.{letter_A}
 use Rattle.m11_arguments.specs.Conditions.{is_negative}
-use Rattle.m11_arguments.specs.Expressions.{Known, number_at, number_letters, symbols_at}
-use Rattle.m11_arguments.specs.LeftOvers.{has_token, left_over, rest_letters}
+use Rattle.m11_arguments.specs.Expressions.{Known, has_expression, number_at, number_letters, symbols_at}
+use Rattle.m11_arguments.specs.LeftOvers.{left_over}
 use Rattle.m11_arguments.specs.Notes.{Notes, noting}
 
 -- a negative number of rounds is none
@@ -17,10 +16,10 @@ rounds_of number = if is_negative number then 0 else number
 
 abbrev pub repeat_count : Known → Bytes → ℕ → ℕ
 repeat_count known line place =
-    if has_token (tokens_from line place) then rounds_of (number_at known line place) else 0
+    if has_expression line place then rounds_of (number_at known line place) else 0
 
 abbrev pub notes : Known → Bytes → ℕ → Notes
 notes known line place =
-    if has_token (tokens_from line place) then
+    if has_expression line place then
     noting (bit_or (number_letters known line place) (left_over line (expression_end line place))) (symbols_at line place)
-    else noting (bit_or letter_A (rest_letters line place)) []
+    else noting (bit_or letter_A (left_over line place)) []

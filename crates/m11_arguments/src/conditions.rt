@@ -11,6 +11,7 @@ ghost use Rattle.m11_arguments.specs.Notes.{joined, with_symbols};
 
 use crate::definedness::{is_as, names_at};
 use crate::expressions::number_from;
+use crate::extents::begins_expression;
 use crate::left_overs::{place_in, rest_letters, skip_letters};
 use crate::notes::Notes;
 use m11_scan::{Condition, Letters, Line, Sort, Token, blanks_length, next_token, read_condition};
@@ -160,6 +161,7 @@ fn refused(end: u8) -> Finding
 }
 
 // EQ NE GT LT GE LE.
+#[tactic(auto, using(crate::proofs::Beginning::begins))]
 fn numeric<N: Names>(
     line: &Line,
     place: usize,
@@ -175,7 +177,7 @@ fn numeric<N: Names>(
     ensures most { IfOk result (λ finding. finding.end ≤ length line.now.text) }
 {
     match next_token(line, place) {
-        Some(token) => {
+        Some(token) if begins_expression(token.sort) => {
             let number = number_from(line, place, token, names, notes)?;
             Ok(Finding {
                 holds: passes(condition, number.value),
@@ -183,7 +185,7 @@ fn numeric<N: Names>(
                 letters: number.letters,
             })
         }
-        None => Ok(refused(place_in(line, place))),
+        _ => Ok(refused(place_in(line, place))),
     }
 }
 

@@ -1,16 +1,38 @@
-//! How far an expression of a line reaches, and whether it is one term. (MACRO-11 Language Reference Manual, "Expressions".)
+//! Whether an expression stands in a line, how far it reaches, and whether it is one term. (MACRO-11 Language Reference Manual, "Expressions".)
 
 ghost use Rattle.std.specs.Prelude.{◌≡◌, ◌≤◌, ◌∷◌, [], length, IfSome, MatchOption};
 ghost use Rattle.std.specs.Option.{is_some};
 ghost use Rattle.m11_scan.specs.Cutting.{tokens_from};
 ghost use Rattle.m11_scan.specs.Ends.{expression_end};
-ghost use Rattle.m11_scan.specs.Expressions.{role_of};
+ghost use Rattle.m11_scan.specs.Expressions.{begin, goes_on, role_of};
 ghost use Rattle.m11_scan.specs.Views.{lexeme};
 ghost use Rattle.m11_arguments.specs.Expressions as spec;
 ghost use Rattle.m11_arguments.specs.Expressions.{IsAlone, IsNext};
 
 use crate::left_overs::place_in;
 use m11_scan::{Line, Role, Sort, Token, expression_end, next_token, role_of};
+
+/// Whether an expression stands in a line from a place on: a token with which one can begin.
+#[tactic(auto, using(crate::proofs::Beginning::begins))]
+pub fn has_expression(line: &Line, place: usize) -> bool
+    requires { place ≤ length line.now.text }
+    ensures { result ≡ spec.has_expression line.now.text place }
+{
+    match next_token(line, place) {
+        Some(token) => begins_expression(token.sort),
+        None => false,
+    }
+}
+
+// Whether an expression can begin with a token.
+pub(crate) fn begins_expression(sort: Sort) -> bool
+    ensures { result ≡ is_some (goes_on (role_of sort) begin) }
+{
+    match role_of(sort) {
+        Role::Closes | Role::Foreign => false,
+        _ => true,
+    }
+}
 
 /// How far the expression at a place reaches.
 #[derive(Clone, Copy)]

@@ -10,11 +10,11 @@ ghost use Rattle.m11_arguments.specs.Notes.{joined};
 
 use crate::actuals::{actuals_from, text_of};
 use crate::conditions::actual_letters;
-use crate::left_overs::{left_over, letters_before};
+use crate::left_overs::{bad_letters, left_over, letters_before};
 use crate::macros::name_at;
 use crate::notes::Notes;
 use m11_base::Name;
-use m11_scan::{LINE_LIMIT, Letters, Line};
+use m11_scan::{LINE_LIMIT, Line};
 use m11_statements::{Actual, ActualKind, next_actual, separator_at};
 use m11_values::Names;
 use std::alloc::{AllocError, Global};
@@ -36,7 +36,7 @@ pub struct Begun {
 }
 
 /// The formal and the list of an `.IRP` that stand in a line from a place on: in brackets a list of actuals, else one actual. Where
-/// either is bad or missing the line has A, and nothing is repeated. What is left over has Q and I. Error: memory may be refused.
+/// either is bad or missing the line has A, and nothing is repeated nor read. What is left over has Q and I. Error: memory may be refused.
 pub fn indefinite_repeat<N: Names>(
     alloc: Global,
     line: &Line,
@@ -50,11 +50,11 @@ pub fn indefinite_repeat<N: Names>(
     ensures notes { IfOk result (λ _. notes.new ≡ joined notes.old (spec.indefinite_repeat
         (known_by (N.base names.now) (N.stands_for names.now)) line.now.text place).notes) }
 {
-    notes.add_letters(letters_before(line, place));
     let Some(begun) = begun_at(line, place, true) else {
-        notes.add_letters(Letters::A);
+        notes.add_letters(bad_letters(line, place));
         return Ok(None);
     };
+    notes.add_letters(letters_before(line, place));
     let texts = listed(alloc, line, &begun.list, names, notes)?;
     notes.add_letters(left_over(line, usize::from(begun.list.end)));
     Ok(Some(Rounds {
@@ -64,7 +64,7 @@ pub fn indefinite_repeat<N: Names>(
 }
 
 /// The formal and the text of an `.IRPC` that stand in a line from a place on: each character of the text is the actual of a round.
-/// Where either is bad or missing the line has A, and nothing is repeated. What is left over has Q and I. Error: memory may be refused.
+/// Where either is bad or missing the line has A, and nothing is repeated nor read. What is left over has Q and I. Error: memory may be refused.
 pub fn character_repeat(
     alloc: Global,
     line: &Line,
@@ -77,11 +77,11 @@ pub fn character_repeat(
     ensures notes { IfOk result (λ _. notes.new
         ≡ joined notes.old (spec.character_repeat line.now.text place).notes) }
 {
-    notes.add_letters(letters_before(line, place));
     let Some(begun) = begun_at(line, place, false) else {
-        notes.add_letters(Letters::A);
+        notes.add_letters(bad_letters(line, place));
         return Ok(None);
     };
+    notes.add_letters(letters_before(line, place));
     let texts = spelled(alloc, line, &begun.list, notes)?;
     notes.add_letters(left_over(line, usize::from(begun.list.end)));
     Ok(Some(Rounds {

@@ -36,6 +36,15 @@ pub fn rest_letters(line: &Line, place: usize) -> Letters
     skip_letters(line, place, line.text().len())
 }
 
+/// A for an argument that is bad or missing at a place of a line. Nothing more is read there: I for a skipped character in all of the
+/// rest.
+pub fn bad_letters(line: &Line, place: usize) -> Letters
+    requires { place ≤ length line.now.text }
+    ensures { bits_of result ≡ spec.bad_letters line.now.text place }
+{
+    Letters::A.with(rest_letters(line, place))
+}
+
 /// I for a skipped character before the token that stands next from a place on, or before the line's end.
 pub fn letters_before(line: &Line, place: usize) -> Letters
     requires { place ≤ length line.now.text }

@@ -23,12 +23,14 @@ pub use actuals::actuals_from;
 pub use conditions::{Verdict, actual_letters, condition};
 pub use directives::{Directive, directive_named, directive_of, operator, operator_in};
 pub use expressions::{note_symbols, value_at, value_by};
-pub use extents::{Extent, extent_at, extent_from, lone_term};
+pub use extents::{Extent, extent_at, extent_from, has_expression, lone_term};
 pub use filling::{FIRST_CREATED, Filled, fill};
 pub use immediate::{Immediate, after_comma, immediate_condition};
 pub use indefinite::{Rounds, character_repeat, indefinite_repeat};
 pub use laws::created_symbols_differ;
-pub use left_overs::{has_token, left_over, letters_before, place_in, rest_letters, skip_letters};
+pub use left_overs::{
+    bad_letters, has_token, left_over, letters_before, place_in, rest_letters, skip_letters,
+};
 pub use macros::{Header, MacroFormal, NameAt, header_at, name_at};
 pub use notes::Notes;
 pub use repeats::repeat_count;

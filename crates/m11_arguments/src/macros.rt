@@ -9,7 +9,7 @@ ghost use Rattle.m11_arguments.specs.Macros as spec;
 ghost use Rattle.m11_arguments.specs.Macros.{header_seen, listed_seen};
 ghost use Rattle.m11_arguments.specs.Notes.{joined, noting};
 
-use crate::left_overs::{letters_before, rest_letters, skip_letters};
+use crate::left_overs::{bad_letters, letters_before, rest_letters, skip_letters};
 use crate::notes::Notes;
 use m11_base::Name;
 use m11_scan::{LINE_LIMIT, Letters, Line, Sort, next_token, read_name};
@@ -48,7 +48,7 @@ pub fn header_at(
         ≡ joined notes.old (noting (spec.header line.now.text place).letters [])) }
 {
     let Some(name) = name_at(line, place) else {
-        notes.add_letters(Letters::A.with(rest_letters(line, place)));
+        notes.add_letters(bad_letters(line, place));
         return Ok(None);
     };
     let formals = formals_within(alloc, line, usize::from(name.end), LINE_LIMIT)?;
@@ -192,12 +192,4 @@ fn formal_start(formal: Formal) -> usize
     } else {
         start
     }
-}
-
-// What is no formal has A; what stands from there on isn't looked at, but for I.
-fn bad_letters(line: &Line, place: usize) -> Letters
-    requires { place ≤ length line.now.text }
-    ensures { bits_of result ≡ spec.bad_letters line.now.text place }
-{
-    Letters::A.with(rest_letters(line, place))
 }

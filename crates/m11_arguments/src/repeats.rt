@@ -7,7 +7,8 @@ ghost use Rattle.m11_arguments.specs.Repeats as spec;
 
 use crate::conditions::is_negative;
 use crate::expressions::number_at;
-use crate::left_overs::{has_token, left_over, rest_letters};
+use crate::extents::has_expression;
+use crate::left_overs::left_over;
 use crate::notes::Notes;
 use m11_scan::{Letters, Line};
 use m11_values::Names;
@@ -28,8 +29,8 @@ pub fn repeat_count<N: Names>(
         (spec.notes (known_by (N.base names.now) (N.stands_for names.now)) line.now.text place)) }
     ensures most { IfOk result (λ count. count < 32768) }
 {
-    if !has_token(line, place) {
-        notes.add_letters(Letters::A.with(rest_letters(line, place)));
+    if !has_expression(line, place) {
+        notes.add_letters(Letters::A.with(left_over(line, place)));
         return Ok(0);
     }
     let number = number_at(line, place, names, notes)?;

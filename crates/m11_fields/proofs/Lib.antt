@@ -1,5 +1,4 @@
 mod Alone
-mod Beginning
 mod Listing
 mod NamedOperations
 mod Naming

@@ -1,14 +1,11 @@
 //! Lists of expressions and of names. (MACRO-11 Language Reference Manual, ".WORD directive", ".BYTE directive" and ".GLOBL directive".)
 
 ghost use Rattle.std.specs.Prelude.{◌≡◌, ◌≤◌, length};
-ghost use Rattle.std.specs.Option.{is_some};
-ghost use Rattle.m11_placement.specs.Contents.{has_expression};
 ghost use Rattle.m11_placement.specs.Elements as spec;
-ghost use Rattle.m11_scan.specs.Expressions.{begin, goes_on, role_of};
 
 use arrayvec::ArrayVec;
 use m11_arguments::{after_comma, place_in};
-use m11_scan::{LINE_LIMIT, Line, Role, Sort, expression_end, next_token, role_of};
+use m11_scan::{LINE_LIMIT, Line, expression_end};
 use m11_statements::{Span, listed_name};
 
 /// The most elements of a list: a line has no more of them than characters, and one.
@@ -30,28 +27,6 @@ pub struct ListedNames {
     pub list: ArrayVec<Option<Span>, ELEMENT_LIMIT>,
     /// The place after the last one.
     pub end: u8,
-}
-
-/// Whether some expression stands in a line from a place on.
-#[tactic(auto, using(crate::proofs::Beginning::begins))]
-pub fn has_expression(line: &Line, place: usize) -> bool
-    requires { place ≤ length line.now.text }
-    ensures { result ≡ has_expression line.now.text place }
-{
-    match next_token(line, place) {
-        Some(token) => begins_expression(token.sort),
-        None => false,
-    }
-}
-
-// Whether an expression can begin with a token.
-fn begins_expression(sort: Sort) -> bool
-    ensures { result ≡ is_some (goes_on (role_of sort) begin) }
-{
-    match role_of(sort) {
-        Role::Closes | Role::Foreign => false,
-        _ => true,
-    }
 }
 
 /// The elements of a list that begins at a place of a line: one at least. It ends where no comma stands next.

@@ -2,20 +2,18 @@
 //! Manual, "Operand field".)
 
 ghost use Rattle.std.specs.Prelude.{◌≡◌, ◌≤◌, ◌*◌, ◌∷◌, [], length, IfSome, List, None};
-ghost use Rattle.m11_arguments.specs.Expressions.{IsAlone, known_by};
+ghost use Rattle.m11_arguments.specs.Expressions.{IsAlone, has_expression, known_by};
 ghost use Rattle.m11_base.specs.Devices.{Bytes};
 ghost use Rattle.m11_fields.specs.Reads.{alone, bytes_in, field_seen, fields_seen, places_in};
 ghost use Rattle.m11_fields.specs.Terms.{AreTerms, IsFieldTerm};
 ghost use Rattle.m11_placement.specs.Codes.{others};
-ghost use Rattle.m11_placement.specs.Contents.{has_expression};
 ghost use Rattle.m11_placement.specs.Fields as spec;
 ghost use Rattle.m11_placement.specs.Operands as operand;
 ghost use Rattle.m11_scan.specs.Views.{bits_of};
 
-use crate::elements::has_expression;
 use crate::operands::operand_at;
 use arrayvec::ArrayVec;
-use m11_arguments::{after_comma, extent_at, place_in};
+use m11_arguments::{after_comma, extent_at, has_expression, place_in};
 use m11_base::Op;
 use m11_placement::{Field, FieldPlace, Form};
 use m11_scan::{Letters, Line, Token};

@@ -8,7 +8,7 @@ mod operands;
 mod operations;
 mod operators;
 
-pub use elements::{Elements, ListedNames, elements_at, has_expression, names_at};
+pub use elements::{Elements, ListedNames, elements_at, names_at};
 pub use fields::{FieldTerms, Fields, fields_at, instruction_size, words_of};
 pub use operands::{OperandRead, operand_at};
 pub use operators::{is_even, operator_named};

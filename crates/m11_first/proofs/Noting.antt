@@ -2,7 +2,7 @@
 use Rattle.std.proofs.Common.{◌≡◌, ◌∙◌, ◌<◌, ◌≤◌, ℕ, min, length, Bool, true, false, if◌then◌else◌, Option, Some, None, Result, Ok, Err, IfOk, refl, sym, ap, subst, arith}
 use Rattle.std.proofs.Math.Nat.{min-eq_left}
 use Rattle.m11_arguments.specs.Expressions as expressions
-use Rattle.m11_arguments.specs.Expressions.{value_at}
+use Rattle.m11_arguments.specs.Expressions.{has_expression, value_at}
 use Rattle.m11_base.specs.Devices.{Bytes}
 use Rattle.m11_statements.specs.Labels.{labels_end}
 use Rattle.m11_statements.specs.Order.{BodyStands}
@@ -14,7 +14,6 @@ use Rattle.m11_unfolding.specs.Taking.{Live}
 use Rattle.m11_unfolding.specs.Unfolding.{Given}
 use Rattle.m11_values.specs.Quantities.{Quantity}
 use Rattle.m11_placement.specs.Changes.{changed}
-use Rattle.m11_placement.specs.Contents.{has_expression}
 use Rattle.m11_placement.specs.Exports.{transfer}
 use Rattle.m11_placement.specs.Lines.{Assigning, Deed, Operating, Rests, Setting, after_line, change_of, deed, deed_of, line_change, operating, stands}
 use Rattle.m11_placement.specs.Meanings.{empty_map, known_at}

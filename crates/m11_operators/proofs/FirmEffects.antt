@@ -1,10 +1,9 @@
 -- What an operator changes is the same by a table and by its firm part.
 use Rattle.std.proofs.Common.{◌≡◌, ℕ, ◌*◌, List, Option, refl, ap}
 use Rattle.std.specs.Prelude.{if◌then◌else◌}
-use Rattle.m11_arguments.specs.Expressions.{Known, number_at}
+use Rattle.m11_arguments.specs.Expressions.{Known, has_expression, number_at}
 use Rattle.m11_placement.proofs.FilledSizes.{table_twice}
 use Rattle.m11_placement.specs.Alignment.{gap, place_for}
-use Rattle.m11_placement.specs.Contents.{has_expression}
 use Rattle.m11_placement.specs.Effects.{change_by, directive_change, operator_change, steps}
 use Rattle.m11_placement.specs.Fields.{fields_at, forms_of}
 use Rattle.m11_placement.specs.Meanings.{empty_map, firm_known, known_at}

@@ -1,9 +1,9 @@
 -- Elements of lists are put one after the other.
 use Rattle.std.proofs.Common.{◌≡◌, ℕ, List, ◌∷◌, Bool, true, false, sym, ap, ◌∙◌}
 use Rattle.std.specs.Prelude.{if◌then◌else◌}
-use Rattle.m11_arguments.specs.Expressions.{Known, value_at}
+use Rattle.m11_arguments.specs.Expressions.{Known, has_expression, value_at}
 use Rattle.m11_operators.proofs.Joining.{followed_joins}
-use Rattle.m11_placement.specs.Contents.{Put, byte, element_value, followed_by, further, has_expression, word}
+use Rattle.m11_placement.specs.Contents.{Put, byte, element_value, followed_by, further, word}
 use Rattle.m11_placement.specs.Meanings.{Map, known_at}
 use Rattle.m11_placement.specs.Storage.{bytes_from, words_from}
 use Rattle.m11_placement.specs.Tables.{Table}

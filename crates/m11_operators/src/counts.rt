@@ -7,7 +7,7 @@ ghost use Rattle.m11_placement.specs.Counts as spec;
 ghost use Rattle.m11_operators.specs.Changes.{change_seen};
 
 use crate::changes::Change;
-use m11_arguments::{actual_letters, left_over, letters_before, name_at, rest_letters};
+use m11_arguments::{actual_letters, bad_letters, left_over, letters_before, name_at};
 use m11_scan::{Letters, Line};
 use m11_statements::{Actual, Separator, next_actual, separator_at};
 
@@ -41,14 +41,6 @@ fn argument_name_letters(line: &Line, start: usize) -> Letters
         Some(name) => letters_before(line, start).with(left_over(line, usize::from(name.end))),
         None => bad_letters(line, start),
     }
-}
-
-// A bad name: nothing more is looked at, but for I.
-fn bad_letters(line: &Line, start: usize) -> Letters
-    requires { start ≤ length line.now.text }
-    ensures { bits_of result ≡ spec.bad_letters line.now.text start }
-{
-    Letters::A.with(rest_letters(line, start))
 }
 
 /// What a `.NCHR` assigns its name: the number of characters of its text. Without a name it changes nothing.

@@ -6,8 +6,7 @@ ghost use Rattle.m11_values.specs.Quantities.{quantity};
 ghost use Rattle.m11_placement.specs.Exports as spec;
 
 use crate::assigning::known_value;
-use m11_arguments::{left_over, skip_letters};
-use m11_fields::has_expression;
+use m11_arguments::{has_expression, left_over, skip_letters};
 use m11_scan::{Letters, Line, expression_end};
 use m11_table::{Map, Table, register_letters};
 use m11_values::Value;

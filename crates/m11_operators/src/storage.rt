@@ -2,8 +2,8 @@
 //! directive", ".BYTE directive", ".LIMIT directive" and ".BLKB and .BLKW directives".)
 
 ghost use Rattle.std.specs.Prelude.{◌≡◌, ◌≤◌, ℕ, ◌∷◌, length, List, IfOk};
-ghost use Rattle.m11_arguments.specs.Expressions.{number_letters, value_at};
-ghost use Rattle.m11_placement.specs.Contents.{element_value, followed_by, has_expression};
+ghost use Rattle.m11_arguments.specs.Expressions.{has_expression, number_letters, value_at};
+ghost use Rattle.m11_placement.specs.Contents.{element_value, followed_by};
 ghost use Rattle.m11_placement.specs.Elements as elements;
 ghost use Rattle.m11_placement.specs.Meanings.{firm_known, known_at};
 ghost use Rattle.m11_placement.specs.Storage as spec;
@@ -14,8 +14,8 @@ ghost use Rattle.m11_values.specs.Quantities.{quantity};
 use crate::puts::Put;
 use crate::settings::Setting;
 use crate::values::{further, put_byte, put_word};
-use m11_arguments::{left_over, skip_letters, value_at};
-use m11_fields::{elements_at, has_expression};
+use m11_arguments::{has_expression, left_over, skip_letters, value_at};
+use m11_fields::elements_at;
 use m11_scan::{Letters, Line, expression_end};
 use m11_table::{FirmNames, Table};
 use m11_values::Value;

@@ -2,15 +2,13 @@
 -- "Diagnostic error message summary", R and T.)
 use Rattle.std.specs.Prelude.{ℕ, ◌+◌, ◌/◌, ◌%◌, ◌==◌, ◌||◌, not, Bool, false, if◌then◌else◌, List, [], ◌∷◌, ◌++◌, length}
 use Rattle.std.specs.Int.RustNames.{bit_or}
-use Rattle.m11_arguments.specs.Expressions.{Known, expression_in, value_at}
-use Rattle.m11_arguments.specs.LeftOvers.{has_token}
+use Rattle.m11_arguments.specs.Expressions.{Known, has_expression, value_at}
 use Rattle.m11_base.specs.Devices.{Bytes}
 use Rattle.m11_base.specs.Rad50.{Name}
 use Rattle.m11_object_text.specs.declared.pieces.Piece.{Piece}
 use Rattle.m11_object_text.specs.declared.pieces.PieceContent.{PieceContent}
 use Rattle.m11_object_text.specs.declared.pieces.PieceContent.TheVariants.{Byte, Word}
 use Rattle.m11_object_text.specs.Pieces.{content_bytes}
-use Rattle.m11_scan.specs.Cutting.{tokens_from}
 use Rattle.m11_scan.specs.Letters.{letter_T}
 use Rattle.m11_statements.specs.Statements.{letter_if}
 use Rattle.m11_values.specs.declared.kinds.Kind.{Kind}
@@ -62,10 +60,6 @@ pieces_from section place (content ∷ contents) =
     piece section place content ∷ pieces_from section (further place (content_size content)) contents
 
 -- ---- values
-
--- some expression stands at a place
-abbrev pub has_expression : Bytes → ℕ → Bool
-has_expression line place = has_token (expression_in (tokens_from line place))
 
 -- an empty element counts as 0
 abbrev pub element_value : Known → Bytes → ℕ → Quantity

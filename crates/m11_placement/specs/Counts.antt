@@ -3,7 +3,7 @@
 use Rattle.std.specs.Prelude.{ℕ, false, if◌then◌else◌, length, Option, Some, None}
 use Rattle.std.specs.Int.RustNames.{bit_or}
 use Rattle.m11_arguments.specs.Conditions.{actual_letters, text_of}
-use Rattle.m11_arguments.specs.LeftOvers.{left_over, letters_before, rest_letters}
+use Rattle.m11_arguments.specs.LeftOvers.{bad_letters, left_over, letters_before}
 use Rattle.m11_arguments.specs.Macros.{name_at}
 use Rattle.m11_arguments.specs.declared.macros.NameAt.{NameAt}
 use Rattle.m11_base.specs.Devices.{Bytes}
@@ -17,10 +17,6 @@ use Rattle.m11_placement.specs.Changes.{Change, Keeps, Numbers}
 
 abbrev pub name_in : Bytes → ℕ → Option NameAt
 name_in line start = name_at (tokens_from line start)
-
--- a bad name: nothing more is looked at, but for I
-abbrev pub bad_letters : Bytes → ℕ → ℕ
-bad_letters line start = bit_or letter_A (rest_letters line start)
 
 -- ---- .NARG s: the number of actuals of the innermost macro
 

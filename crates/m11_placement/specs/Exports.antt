@@ -3,7 +3,7 @@
 -- identification is none, is this project's own.)
 use Rattle.std.specs.Prelude.{ℕ, ◌+◌, ◌-◌, ◌*◌, true, if◌then◌else◌, List, [], ◌∷◌, take, Option, Some, None}
 use Rattle.std.specs.Int.RustNames.{bit_or}
-use Rattle.m11_arguments.specs.Expressions.{value_at}
+use Rattle.m11_arguments.specs.Expressions.{has_expression, value_at}
 use Rattle.m11_arguments.specs.LeftOvers.{left_over, letters_before, rest_letters, skip_letters}
 use Rattle.m11_base.specs.Devices.{Bytes}
 use Rattle.m11_base.specs.Mnemonics.{six_of}
@@ -18,7 +18,7 @@ use Rattle.m11_statements.specs.declared.parts.Part.{Part}
 use Rattle.m11_statements.specs.declared.parts.PartKind.{PartKind}
 use Rattle.m11_statements.specs.declared.parts.PartKind.TheVariants.{Text, Expression}
 use Rattle.m11_values.specs.Quantities.{Quantity}
-use Rattle.m11_placement.specs.Contents.{has_expression, register_letters}
+use Rattle.m11_placement.specs.Contents.{register_letters}
 use Rattle.m11_placement.specs.Elements.{Names, bad_letters, names_at}
 use Rattle.m11_placement.specs.Meanings.{Knows, Map, known_at}
 use Rattle.m11_placement.specs.Strings.{character_letters, part_text, six_codes}

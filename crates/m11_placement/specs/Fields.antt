@@ -3,13 +3,12 @@
 -- project's own.)
 use Rattle.std.specs.Prelude.{ℕ, if◌then◌else◌, List, [], ◌∷◌, Option, Some, None}
 use Rattle.std.specs.Int.RustNames.{bit_or}
-use Rattle.m11_arguments.specs.Expressions.{Known}
+use Rattle.m11_arguments.specs.Expressions.{Known, has_expression}
 use Rattle.m11_base.specs.Devices.{Bytes}
 use Rattle.m11_base.specs.declared.instruction.Op.{Op}
 use Rattle.m11_base.specs.declared.instruction.Op.TheVariants as op
 use Rattle.m11_scan.specs.Ends.{expression_end}
 use Rattle.m11_scan.specs.Letters.{letter_A}
-use Rattle.m11_placement.specs.Contents.{has_expression}
 use Rattle.m11_placement.specs.Elements.{next_element}
 use Rattle.m11_placement.specs.declared.fields.Field.{Field}
 use Rattle.m11_placement.specs.declared.fields.Field.TheVariants.{Formed, Registered, Targeted, Numbered, Missing}

@@ -3,12 +3,12 @@
 -- follows an element without a comma is left over, is this project's own.)
 use Rattle.std.specs.Prelude.{ℕ, ◌*◌, false, if◌then◌else◌, List, [], ◌∷◌, length}
 use Rattle.std.specs.Int.RustNames.{bit_or}
-use Rattle.m11_arguments.specs.Expressions.{number_at, number_letters}
+use Rattle.m11_arguments.specs.Expressions.{has_expression, number_at, number_letters}
 use Rattle.m11_arguments.specs.LeftOvers.{left_over, skip_letters}
 use Rattle.m11_base.specs.Devices.{Bytes}
 use Rattle.m11_object_text.specs.declared.pieces.PieceContent.TheVariants.{Limits}
 use Rattle.m11_scan.specs.Ends.{expression_end}
-use Rattle.m11_placement.specs.Contents.{Put, byte, element_value, followed_by, further, has_expression, nothing, put, with_letters, word}
+use Rattle.m11_placement.specs.Contents.{Put, byte, element_value, followed_by, further, nothing, put, with_letters, word}
 use Rattle.m11_placement.specs.Elements.{Elements, elements_at}
 use Rattle.m11_placement.specs.Meanings.{Map, Refers, firm_known, known_at}
 use Rattle.m11_placement.specs.Tables.{Table}

@@ -2,7 +2,7 @@
 use Rattle.std.proofs.Common.{◌≡◌, ◌∙◌, ℕ, ◌*◌, Bool, true, false, if◌then◌else◌, List, [], ◌∷◌, Option, Some, None, refl, sym, ap}
 use Rattle.std.specs.Int.RustNames.{bit_or}
 use Rattle.m11_arguments.specs.Expressions as expressions
-use Rattle.m11_arguments.specs.Expressions.{number_at, value_at}
+use Rattle.m11_arguments.specs.Expressions.{has_expression, number_at, value_at}
 use Rattle.m11_arguments.specs.LeftOvers.{left_over}
 use Rattle.m11_base.specs.Devices.{Bytes}
 use Rattle.m11_base.specs.Rad50.{Name}
@@ -19,7 +19,7 @@ use Rattle.m11_placement.specs.Alignment.{gap, gap_letters, place_for}
 use Rattle.m11_placement.specs.Assigning as assigning
 use Rattle.m11_placement.specs.Changes.{Change, Numbers}
 use Rattle.m11_placement.specs.Counts as counts
-use Rattle.m11_placement.specs.Contents.{Put, byte, element_value, fixed_byte, followed_by, further, has_expression, nothing, put, with_letters, word}
+use Rattle.m11_placement.specs.Contents.{Put, byte, element_value, fixed_byte, followed_by, further, nothing, put, with_letters, word}
 use Rattle.m11_placement.specs.Effects.{change_by, directive_change, directive_put, operator_change, operator_put, steps}
 use Rattle.m11_placement.specs.Elements.{elements_at}
 use Rattle.m11_placement.specs.Fields.{Fields, fields_at, forms_of}

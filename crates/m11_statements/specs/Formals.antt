@@ -1,9 +1,8 @@
 -- The formals of a macro. (MACRO-11 Language Reference Manual, "Arguments in macro definitions and macro calls" and "Automatic creation
--- of local symbols". That a `?` counts only directly before a name is this project's own.)
-use Rattle.std.specs.Prelude.{ℕ, ◌+◌, ◌<◌, ◌≤◌, Bool, true, false, ◌&&◌, ◌==◌, if◌then◌else◌, List, [], ◌∷◌, drop}
+-- of local symbols". That a `?` counts only directly before a name, and any other is skipped, is this project's own.)
+use Rattle.std.specs.Prelude.{ℕ, ◌-◌, ◌<◌, ◌≤◌, nat_lt, Bool, ◌&&◌, ◌==◌, if◌then◌else◌, List, [], ◌∷◌, slice_index}
 use Rattle.m11_base.specs.Devices.{Bytes}
 use Rattle.m11_scan.specs.Cutting.{Lexeme, tokens_from}
-use Rattle.m11_statements.specs.Actuals.{after_blanks}
 use Rattle.m11_statements.specs.Listed.{is_name}
 use Rattle.m11_statements.specs.declared.formals.NextFormal.{NextFormal}
 use Rattle.m11_statements.specs.declared.formals.NextFormal.TheVariants.{Ends, Bad, Named}
@@ -11,28 +10,19 @@ use Rattle.m11_statements.specs.declared.formals.NextFormal.TheVariants.{Ends, B
 abbrev pub named : ℕ → ℕ → Bool → NextFormal
 named start end is_created = Named (record { name = record { start = start; end = end }; is_created = is_created })
 
--- a name, or what is none
-abbrev pub plain_formal : List Lexeme → NextFormal
-plain_formal [] = Ends
-plain_formal (token ∷ tokens) = if is_name token then named token.start token.end false else Bad
+-- a `?` stands directly before a place
+abbrev pub follows_question : Bytes → ℕ → Bool
+follows_question line place = nat_lt 0 place && slice_index line (place - 1) == 0o77
 
--- a `?`, with some tokens from the place after it on: it counts where a name stands directly after it, and else is skipped
-abbrev pub created_by : Bytes → ℕ → ℕ → List Lexeme → NextFormal
-created_by line mark after [] = plain_formal (tokens_from line mark)
-created_by line mark after (token ∷ tokens) =
-    if token.start == after && is_name token then named token.start token.end true else plain_formal (tokens_from line mark)
+-- a name, for which symbols are created where a `?` stands directly before it; or what is none
+abbrev pub formal_in : Bytes → List Lexeme → NextFormal
+formal_in line [] = Ends
+formal_in line (token ∷ tokens) =
+    if is_name token then named token.start token.end (follows_question line token.start) else Bad
 
-abbrev pub created_formal : Bytes → ℕ → ℕ → NextFormal
-created_formal line mark after = created_by line mark after (tokens_from line after)
-
-abbrev pub formal_in : Bytes → ℕ → Bytes → NextFormal
-formal_in line start [] = plain_formal (tokens_from line start)
-formal_in line start (byte ∷ text) =
-    if byte == 0o77 then created_formal line start (start + 1) else plain_formal (tokens_from line start)
-
--- what stands next from a place on, after blanks
+-- what stands next from a place on
 abbrev pub next_formal : Bytes → ℕ → NextFormal
-next_formal line place = formal_in line (after_blanks line place) (drop (after_blanks line place) line)
+next_formal line place = formal_in line (tokens_from line place)
 
 -- a formal ends after a place, and no later than another
 abbrev pub EndsAfter : ℕ → NextFormal → Type 0

@@ -1,8 +1,7 @@
 use Rattle.std.proofs.Common.{List, ℕ, ap, ◌∙◌}
-use Rattle.m11_arguments.specs.Expressions.{value_at}
+use Rattle.m11_arguments.specs.Expressions.{has_expression, value_at}
 use Rattle.m11_operators.proofs.Stepping.{of_element}
 use Rattle.m11_operators.specs.Settings.{Standpoint, setting_of}
-use Rattle.m11_placement.specs.Contents.{has_expression}
 use Rattle.m11_operators.proofs.storage.element_value.Goals as goal
 
 pub returns-then-has_element : goal.returns-then-has_element
