@@ -1,0 +1,8 @@
+//! Laws of what a line says and of the arguments of its operator, in the words of the language: what is written so is read as that. Each
+//! is the contract of a function that does nothing; no other crate names them. (MACRO-11 Language Reference Manual, "Source program
+//! format", "Conditional assembly block directives" and "Arguments in macro definitions and macro calls".)
+#![tactic(auto)]
+
+mod digits;
+
+pub use digits::{written_numbers_are_read_back, written_numbers_begin_without_a_zero};
