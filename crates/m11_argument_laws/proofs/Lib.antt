@@ -1,1 +1,2 @@
 mod ReadBack
+mod Refused

@@ -3,6 +3,8 @@
 //! format", "Conditional assembly block directives" and "Arguments in macro definitions and macro calls".)
 #![tactic(auto)]
 
+mod conditions;
 mod digits;
 
+pub use conditions::{a_repeat_without_a_number_has_no_round, refused_conditions_do_not_hold};
 pub use digits::{written_numbers_are_read_back, written_numbers_begin_without_a_zero};
