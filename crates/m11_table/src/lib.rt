@@ -3,12 +3,10 @@
 #![tactic(auto)]
 
 mod entries;
-mod index_guesses;
 mod map;
 mod names;
 mod table;
 
-pub use index_guesses::IndexGuesses;
 pub use map::Map;
 pub use names::{FirmNames, NamesAt, register_letters};
 pub use table::Table;

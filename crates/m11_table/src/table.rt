@@ -20,7 +20,6 @@ ghost use Rattle.m11_table.specs.Entries as entries;
 ghost use Rattle.m11_table.specs.Entries.{counter_or, defined_as, empty_table, with_new_section, with_registers};
 
 use crate::entries::Entry;
-use crate::index_guesses::IndexGuesses;
 use indexmap::{IndexMap, IndexSet};
 use m11_base::{Name, absolute_section, blank_name};
 use m11_placement::{Definition, Key, Section, Settings, Standing};
@@ -42,8 +41,6 @@ const RELOCATABLE: u8 = 0o040;
 #[derive(Drop)]
 pub struct Table {
     names: IndexMap<Name, Entry>,
-    // Where names stand among them.
-    guesses: IndexGuesses,
     local_symbols: IndexMap<(u64, u16), Entry>,
     doubled_names: IndexSet<Name>,
     doubled_symbols: IndexSet<(u64, u16)>,
@@ -108,7 +105,6 @@ impl Table {
     {
         Table {
             names: IndexMap::new(alloc),
-            guesses: IndexGuesses::new(),
             local_symbols: IndexMap::new(alloc),
             doubled_names: IndexSet::new(alloc),
             doubled_symbols: IndexSet::new(alloc),
@@ -264,17 +260,6 @@ impl Table {
     fn name_entry(&self, name: Name) -> Option<&Entry>
         ensures { defined_as (Named name) (option_copied result) ≡ last_definition (Named name) self.now.definitions }
     {
-        match self.names.get_index(self.guesses.guess(name)) {
-            Some((found, entry)) if *found == name => Some(entry),
-            _ => self.searched_entry(name),
-        }
-    }
-
-    // The same by the hash of the name, by a call: most names stand where it is guessed.
-    #[inline(never)]
-    fn searched_entry(&self, name: Name) -> Option<&Entry>
-        ensures { defined_as (Named name) (option_copied result) ≡ last_definition (Named name) self.now.definitions }
-    {
         self.names.get(&name)
     }
 
@@ -412,8 +397,7 @@ impl Table {
             is_firm: definition.is_firm,
             is_label: definition.is_label,
         };
-        let (index, _) = self.names.insert_full(name, entry)?;
-        self.guesses.note(name, index);
+        self.names.insert(name, entry)?;
         Ok(())
     }
 
