@@ -1,5 +1,7 @@
 #!/usr/bin/env python3
-"""fuzz.py PROGRAM SEED COUNT FOLDER: random sources on the program and on pasm. Those that differ go to the folder."""
+"""fuzz.py PROGRAM SEED COUNT FOLDER: random sources on the program and on pasm. Those that differ go to the folder.
+
+Of three sources one has a second text, which the program finds when it opens the source again."""
 import os, random, subprocess, sys, tempfile
 sys.path.insert(0, os.path.dirname(os.path.abspath(__file__)))
 import pasm
@@ -85,6 +87,18 @@ def attrs():
     return "".join("," + choice("RO", "RW", "I", "D", "GBL", "LCL", "ABS", "REL", "CON", "OVR", "SAV", "FOO", "") for _ in range(rng.randint(0, 2)))
 
 
+def numeric():
+    """An expression, or what stands where one is wanted and is none."""
+    return expr() if rng.random() < .7 else choice("", ",", ",5", ",,5", ")", "#1", "(R1)", "@A", ">", "?5", "?,5", "?", "*5", "&", "\\5", "^", "<", "-", ":5", "=1", ";5")
+
+
+def formals():
+    if rng.random() < .6:
+        return choice("F,G,H", "F G ?H", "F,?L", "", "F", "?H F", "F,5,G")
+    mark = lambda: choice("", "", "?", "??", "\\?", "?\\", "? ", "^?", "\x01", "?,")
+    return choice("", ",").join(mark() + choice("F", "G", "H", "5", "", "<F>", "(", ".", "F.", "#") + choice("", " ", ",", "?") for _ in range(rng.randint(1, 3)))
+
+
 def cond():
     c = choice("EQ", "NE", "GT", "LT", "GE", "LE", "DF", "NDF", "B", "NB", "IDN", "DIF", "XX", "")
     sep = choice(" ", ",", " , ", "")
@@ -97,7 +111,7 @@ def cond():
         a = choice("A,A", "<A B>,<A B>", "A A", "A,", "A", "<a>b", "\\5,\\5")
         sep = choice(" ", ",")
     else:
-        a = expr()
+        a = numeric()
         if sep == "" and a[:1].isalnum() or a[:1] in "$.":
             sep = " "
     return c + sep + a
@@ -185,6 +199,10 @@ def line(depth=0):
     return lab + s
 
 
+def formal():
+    return choice("F,", "F ", "F,", "F ", "?F,", "5?,", "? F ", "<F>", "", ",", "?", "\\F,", "F?")
+
+
 def block():
     r = rng.random()
     n = rng.randint(0, 4)
@@ -195,13 +213,13 @@ def block():
         return "\n".join(out + [".ENDC"])
     body = [body_line() for _ in range(n)]
     if r < .65:
-        head = ".MACRO " + choice("M", "N", "M", "MOV", ".WORD" if rng.random() < .05 else "M") + choice(" ", ", ") + choice("F,G,H", "F G ?H", "F,?L", "", "F", "?H F", "F,5,G")
+        head = ".MACRO " + choice("M", "N", "M", "MOV", ".WORD" if rng.random() < .05 else "M") + choice(" ", ", ") + formals()
     elif r < .8:
-        head = ".REPT " + choice("0", "1", "2", "3", "X", "-1", expr() if rng.random() < .3 else "2", "")
+        head = ".REPT " + choice("0", "1", "2", "3", "X", "-1", numeric() if rng.random() < .5 else "2", "")
     elif r < .92:
-        head = ".IRP " + choice("F,", "F ", "?F,") + choice("<1,2>", "<A,<1,2>,\\X>", "5", "<>", "", "<1", "<a;b>")
+        head = ".IRP " + formal() + choice("<1,2>", "<A,<1,2>,\\X>", "5", "<>", "", "<1", "<a;b>", ",", "?", "<1>?", "<1>x")
     else:
-        head = ".IRPC " + choice("F,", "F ") + choice("<12>", "<a,;>", "xy", "<>", "")
+        head = ".IRPC " + formal() + choice("<12>", "<a,;>", "xy", "<>", "", ",", "<1>?")
     return "\n".join([head] + body + [choice(".ENDM", ".ENDR", ".ENDM M", ".ENDR")])
 
 
@@ -213,42 +231,96 @@ def source():
     return ("\n".join(out) + end).encode("latin-1")
 
 
-def mine(src):
+def section():
+    return choice(".PSECT P", ".PSECT Q", ".PSECT", ".CSECT S", ".ASECT", ".PSECT Z,ABS", ".PSECT W,ABS,OVR")
+
+
+def sectioned(src):
+    """A source with sections in it."""
+    out = []
+    for text in src.split(b"\n"):
+        if rng.random() < .25:
+            out.append(section().encode())
+        out.append(text)
+    return b"\n".join(out)
+
+
+def changed(src):
+    """A second text of a source: most of it is the same."""
+    lines = src.split(b"\n")
+    for _ in range(rng.randint(1, 3)):
+        i, j = rng.randrange(len(lines)), rng.randrange(len(lines))
+        r = rng.random()
+        if r < .3:
+            lines.insert(i, section().encode())
+        elif r < .5:
+            lines[i], lines[j] = lines[j], lines[i]
+        elif r < .65:
+            del lines[i]
+            lines = lines or [b""]
+        elif r < .8:
+            lines.insert(i, line(1).encode("latin-1"))
+        elif r < .9:
+            lines[i] = choice(*NAMES).encode() + b"=" + expr().encode("latin-1")
+        elif lines[-1].startswith(b".END") or len(lines) > 1 and lines[-2].startswith(b".END"):
+            k = -1 if lines[-1].startswith(b".END") else -2
+            lines[k] = b".END " + numeric().encode("latin-1")
+    return b"\n".join(lines)
+
+
+def mine(src, again):
     try:
-        o, l, m, n, _ = pasm.assemble([src])
+        o, l, m, n, _ = pasm.assemble([src], [again])
         return (1 if n else 0), ("\n".join(m) + "\n").encode(), o
     except pasm.Fault as f:
         return 6, f"?M11 ASM {f}\n".encode(), b""
 
 
-def theirs(src, d):
+def theirs(src, again, d):
     p = os.path.join(d, "S.MAC")
     o = os.path.join(d, "P.OBJ")
     open(p, "wb").write(src)
-    r = subprocess.run([prog, "asm", "-o", o, p], capture_output=True, timeout=60)
+    open(p + ".again", "wb").write(again)
+    env = dict(os.environ, LD_PRELOAD=twice, OPENED_TWICE=p) if src != again else None
+    r = subprocess.run([prog, "asm", "-o", o, p], capture_output=True, timeout=60, env=env)
     return r.returncode, r.stderr, open(o, "rb").read()
 
 
+def opened_twice(d):
+    """Builds what lets the program find another text when it opens a source again."""
+    library = os.path.join(d, "opened_twice.so")
+    here = os.path.dirname(os.path.abspath(__file__))
+    subprocess.run(["cc", "-O1", "-shared", "-fPIC", "-o", library, os.path.join(here, "opened_twice.c"), "-ldl"], check=True)
+    return library
+
+
 def main():
+    global twice
     d = tempfile.mkdtemp()
+    twice = opened_twice(d)
     bad = 0
     for i in range(count):
-        src = source()
+        src = again = source()
+        if rng.random() < .33:
+            src = sectioned(src)
+            again = changed(src)
         try:
-            a = mine(src)
+            a = mine(src, again)
         except Exception as e:
             a = (99, repr(e).encode(), b"")
         if prog == "-":
             if a[0] == 99:
                 bad += 1
-                print(f"--- {seed}/{i}: {a[1].decode()}\n{src.decode('latin-1')}", flush=True)
+                print(f"--- {seed}/{i}: {a[1].decode()}\n{src.decode('latin-1')}\n{again.decode('latin-1')}", flush=True)
                 if bad > 5:
                     break
             continue
-        b = theirs(src, d)
+        b = theirs(src, again, d)
         if a != b:
             bad += 1
             open(os.path.join(found, f"{seed}-{i}.MAC"), "wb").write(src)
+            if again != src:
+                open(os.path.join(found, f"{seed}-{i}.MAC.again"), "wb").write(again)
             print(f"--- {seed}/{i}: {[x == y for x, y in zip(a, b)]}", flush=True)
             if bad > 40:
                 break

@@ -49,8 +49,8 @@ ops()
 DIRECTIVES = set(""".WORD .BYTE .ASCII .ASCIZ .RAD50 .BLKB .BLKW .EVEN .ODD .LIMIT .RADIX .ASECT .CSECT .PSECT .GLOBL .WEAK
 .TITLE .IDENT .LIST .NLIST .ENABL .DSABL .SBTTL .PAGE .END .NARG .NCHR""".split())
 UNFOLD = set(".IF .IFF .IFT .IFTF .ENDC .IIF .MACRO .REPT .IRP .IRPC .ENDM .ENDR .MEXIT".split())
-# What no expression begins with: a register or a target is then missing.
-NO_EXPRESSION = (",", "end", "(", ")", "@", "#", ">")
+# What no expression begins with: an argument that is one is then missing.
+NO_EXPRESSION = (",", "end", "(", ")", "@", "#", ">", ":", "::", "=", "==")
 OPENERS = {".MACRO", ".REPT", ".IRP", ".IRPC"}
 CLOSERS = {".ENDM", ".ENDR"}
 
@@ -166,7 +166,7 @@ def tokens(text, start=0, stop_comment=True):
 
 
 class Val:
-    """A value: kind abs, rel (section), ref (name) or reg."""
+    """A value: kind abs, rel (a section by its name), ref (name) or reg."""
     __slots__ = ("k", "s", "v")
 
     def __init__(self, k, v, s=None):
@@ -185,8 +185,10 @@ class Section:
 
 
 class Sym:
-    def __init__(self, val, firm, label, doubled=False):
-        self.val, self.firm, self.label, self.doubled = val, firm, label, doubled
+    """A definition; that of a label has a place, which is a section and a counter."""
+
+    def __init__(self, val, firm, place, doubled=False):
+        self.val, self.firm, self.place, self.doubled = val, firm, place, doubled
 
 
 class Expansion:
@@ -208,9 +210,9 @@ class Pass:
         self.block = 0
         self.names = {}
         for i in range(6):
-            self.names[f"R{i}"] = Sym(Val("reg", i), True, False)
-        self.names["SP"] = Sym(Val("reg", 6), True, False)
-        self.names["PC"] = Sym(Val("reg", 7), True, False)
+            self.names[f"R{i}"] = Sym(Val("reg", i), True, None)
+        self.names["SP"] = Sym(Val("reg", 6), True, None)
+        self.names["PC"] = Sym(Val("reg", 7), True, None)
         self.locals = {}
         self.globals = set()
         self.weak = set()
@@ -280,7 +282,7 @@ class Pass:
     def dot(self):
         at = self.dot_at
         if self.sec.flags & 0o40:
-            return Val("rel", at, self.secnum)
+            return Val("rel", at, self.sec.name)
         return Val("abs", at)
 
     @property
@@ -665,7 +667,8 @@ class Pass:
     # --- definitions ---
     def label(self, tok, colon):
         at = self.sec.at
-        val = Val("rel", at, self.secnum) if self.sec.flags & 0o40 else Val("abs", at)
+        val = Val("rel", at, self.sec.name) if self.sec.flags & 0o40 else Val("abs", at)
+        place = (self.sec.name, at)
         if tok.k == "local":
             n = int(tok.t[:-1])
             if not 1 <= n <= 65535:
@@ -676,10 +679,10 @@ class Pass:
                 self.flags.add("M")
                 self.locals[key].doubled = True
                 return
-            self.locals[key] = Sym(val, True, True)
+            self.locals[key] = Sym(val, True, place)
             if len(self.locals) > 16384:
                 raise Fault("3 TooManySymbols")
-            self.moved(key, self.first and self.first.locals.get(key), val)
+            self.moved(self.first and self.first.locals.get(key), place)
             return
         key = six(tok.t)
         self.mention(key)
@@ -687,28 +690,26 @@ class Pass:
             self.flags.add("M")
             self.names[key].doubled = True
             return
-        self.names[key] = Sym(val, True, True)
+        self.names[key] = Sym(val, True, place)
         self.defined.add(key)
         self.block += 1
         if colon == "::":
             self.globals.add(key)
-        self.moved(key, self.first and self.first.names.get(key), val)
+        self.moved(self.first and self.first.names.get(key), place)
 
-    def moved(self, key, old, val):
-        if self.first is None:
-            return
-        if old is None or old.val is None or (old.val.k, old.val.s, old.val.v) != (val.k, val.s, val.v):
+    def moved(self, old, place):
+        if self.first is not None and (old is None or old.place != place):
             self.flags.add("P")
 
     def assign(self, key, val, firm, is_global):
         """Defines a name by an assignment; val None is unknown."""
         self.mention(key)
         old = self.names.get(key)
-        if old is not None and old.label:
+        if old is not None and old.place is not None:
             self.flags.add("M")
             old.doubled = True
             return
-        self.names[key] = Sym(val, firm, False, old.doubled if old else False)
+        self.names[key] = Sym(val, firm, None, old.doubled if old else False)
         self.defined.add(key)
         if is_global:
             self.globals.add(key)
@@ -777,7 +778,7 @@ class Pass:
             if v.k == "reg":
                 flags.add("R")
                 v = Val("abs", v.v)
-            if (rel and v.k == "rel" and v.s == self.secnum) or (not rel and v.k == "abs"):
+            if (rel and v.k == "rel" and v.s == self.sec.name) or (not rel and v.k == "abs"):
                 self.sec.at = v.v
             else:
                 flags.add("A")
@@ -842,10 +843,10 @@ class Pass:
                 self.put(size, 0, (2 | b, name6(v.s)), 0, "G")
             else:
                 self.put(size, 0, (5 | b, name6(v.s) + w(v.v)), v.v, "G")
-        elif v.s == self.secnum:
+        elif v.s == self.sec.name:
             self.put(size, 0, (1 | b, w(v.v)), v.v, "'")
         else:
-            n = name6((self.first or self).sections[v.s].name if v.s < len((self.first or self).sections) else '')
+            n = name6(v.s)
             if v.v == 0:
                 self.put(size, 0, (0o12 | b, n), 0, "'")
             else:
@@ -868,10 +869,10 @@ class Pass:
                 self.put(2, 0, (4, name6(v.s)), 0, "G")
             else:
                 self.put(2, 0, (6, name6(v.s) + w(v.v)), v.v, "G")
-        elif v.s == self.secnum:
+        elif v.s == self.sec.name:
             self.put(2, off)
         else:
-            n = name6((self.first or self).sections[v.s].name if v.s < len((self.first or self).sections) else '')
+            n = name6(v.s)
             if v.v == 0:
                 self.put(2, 0, (0o14, n), 0, "'")
             else:
@@ -1336,7 +1337,7 @@ class Pass:
                 f.add("A")
                 return 0, i
             v, i = self.expr(toks, i, "real", f)
-            here = Val("rel", 0, self.secnum) if self.sec.flags & 0o40 else ABS0
+            here = Val("rel", 0, self.sec.name) if self.sec.flags & 0o40 else ABS0
             if v.k == "reg":
                 f.add("R")
                 v = Val("abs", v.v)
@@ -1530,8 +1531,9 @@ class Pass:
         body = {"nest": 0, "lines": [], "depth": len(self.stack), "op": op, "kind": "drop"}
         if op == ".REPT":
             self.bad_in(rest)
-            if rest[0].k == "end":
+            if rest[0].k in NO_EXPRESSION:
                 f.add("A")
+                self.left(rest, 0)
                 n = 0
             else:
                 n, i = self.firm_number(rest, 0, f)
@@ -1547,11 +1549,12 @@ class Pass:
                     f.add("I")
                 body.update(kind="macro", name=six(rest[0].t), formals=self.formals(text, rest[0].b))
         else:
-            if rest[0].bad:
-                f.add("I")
             if rest[0].k != "name":
+                self.bad_in(rest)
                 f.add("A")
             else:
+                if rest[0].bad:
+                    f.add("I")
                 i, comma = self.gap(text, rest[0].b)
                 if i >= len(text) or text[i] == ";":
                     f.add("A")
@@ -1571,29 +1574,22 @@ class Pass:
         self.taking = body
 
     def formals(self, text, i):
+        """The formals from a place on: each is a name, and its symbols are created where `?` stands directly before it."""
         out = []
-        n = len(text)
         while True:
             i, _ = self.gap(text, i)
-            if i >= n or text[i] == ";":
+            toks = tokens(text, i)
+            t = toks[0]
+            if t.k != "name":
+                self.bad_in(toks)
+                if t.k != "end":
+                    self.flags.add("A")
                 return out
-            created = False
-            if text[i] == "?" and i + 1 < n and text[i + 1] in NAMECH and text[i + 1] not in DIG:
-                created = True
-                i += 1
-            if text[i] in NAMECH and text[i] not in DIG:
-                j = i
-                while j < n and text[j] in NAMECH:
-                    j += 1
-                out.append((six(text[i:j]), created))
-                i = j
-                continue
-            if not 33 <= ord(text[i]) <= 126 or text[i] in "?\\^":
+            created = text[t.a - 1] == "?"
+            if text[i:t.a - created].strip(" \t"):
                 self.flags.add("I")
-                i += 1
-                continue
-            self.flags.add("A")
-            return out
+            out.append((six(t.t), created))
+            i = t.b
 
     def condition(self, text, at, iif):
         """Whether the condition holds, and for .IIF where its statement begins (None without a comma)."""
@@ -1610,10 +1606,10 @@ class Pass:
         i, comma = self.gap(text, toks[0].b)
         none = i >= len(text) or text[i] == ";"
         if c in ("EQ", "NE", "GT", "LT", "GE", "LE"):
-            if none or text[i] == ",":
-                f.add("A")
-                return False, self.statement_at(text, tokens(text, i), 0, iif)
             ts = tokens(text, i)
+            if ts[0].k in NO_EXPRESSION:
+                f.add("A")
+                return False, self.statement_at(text, ts, 0, iif)
             v, j = self.firm_number(ts, 0, f)
             s = v - 65536 if v > 32767 else v
             truth = {"EQ": s == 0, "NE": s != 0, "GT": s > 0, "LT": s < 0, "GE": s >= 0, "LE": s <= 0}[c]
@@ -1702,9 +1698,10 @@ def name_key(name):
     return (r50(name[:3]), r50(name[3:]))
 
 
-def assemble(sources):
+def assemble(sources, again=None):
+    """The object, the listing and the messages; the second reading may give other texts."""
     one = Pass(sources, None).run()
-    two = Pass(sources, one).run()
+    two = Pass(sources if again is None else again, one).run()
     # the directory
     defined = one.defined
     used = set(one.used_refs) - defined
@@ -1731,13 +1728,13 @@ def assemble(sources):
             entries += [define(g, one.names[g].val.v, False) for g in sorted(absolute, key=name_key)]
             entries += [refer(g, g in one.weak) for g in sorted(refs, key=name_key)]
         else:
-            entries += [define(g, one.names[g].val.v, True) for g in sorted(under.get(i, []), key=name_key)]
+            entries += [define(g, one.names[g].val.v, True) for g in sorted(under.get(s.name, []), key=name_key)]
     if one.end is None:
         entries.append(NO_START)
     else:
         v = one.end[0]
         if v.k == "rel":
-            entries.append(transfer(one.sections[v.s].name, v.v))
+            entries.append(transfer(v.s, v.v))
         else:
             entries.append(transfer(". ABS.", v.v))
     out = gsd(entries) + [END_GSD]
@@ -1745,16 +1742,17 @@ def assemble(sources):
     out.append(END_MODULE)
     obj = b"".join(out)
     table = []
+    numbers = {s.name: i for i, s in enumerate(one.sections)}
     for n in sorted(two.mentioned if False else {**one.mentioned, **two.mentioned}, key=name_key):
         s = one.names.get(n)
-        eq = " = " if s is not None and not s.label else "   "
+        eq = " = " if s is not None and s.place is None else "   "
         val = "******"
         r = g = " "
         sec = ""
         if s is not None and s.val is not None:
             val = f"{s.val.v:06o}"
             if s.val.k == "rel":
-                r, sec = "R", f" {s.val.s:>3}"
+                r, sec = "R", f" {numbers[s.val.s]:>3}"
             elif s.val.k == "reg":
                 r = "%"
         if n in globs or n in refs:
