@@ -90,7 +90,7 @@ fn define_all(
     ensures refuses { IfErr result (λ fault. (before : LineTable) → Matches pass.old before
         → Fails (labels_fault mentioned.old.names before line.now.text) fault) }
 {
-    let letters = pass.define_labels(map, line, labels)?;
+    // the limit on names is asked first, so that want of memory for a label hides no limit
     mentioned.add_labels(line, labels)?;
-    Ok(letters)
+    Ok(pass.define_labels(map, line, labels)?)
 }
