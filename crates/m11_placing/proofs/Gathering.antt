@@ -50,28 +50,6 @@ pub noted_other : (name : Name) (old : Gathered) → is_register name ≡ false
     → record old { names = with_name name old.names } ≡ noted name old
 noted_other name old is = rw is refl
 
-or_true : (b : Bool) → (b || true) ≡ true
-or_true true = refl
-or_true false = refl
-
--- a name that stands at an index is among them
-is_among : (name found : Name) (names : List Name) (index : ℕ) → slice_get names index ≡ Some found
-    → is_same_name found name ≡ true → list_any (λ other. is_same_name other name) names ≡ true
-is_among name found [] index at same = absurd (none-some found at)
-is_among name found (first ∷ names) zero at same =
-    ap (λ (n : Name). is_same_name n name || list_any (λ other. is_same_name other name) names)
-    (ap (λ (o : Option Name). unwrap_or o first) at)
-    ∙ ap (λ (b : Bool). b || list_any (λ other. is_same_name other name) names) same
-is_among name found (first ∷ names) (suc index) at same =
-    ap (λ (b : Bool). is_same_name first name || b) (is_among name found names index at same)
-    ∙ or_true (is_same_name first name)
-
--- and isn't put in again
-pub stays_with : (name found : Name) (names : List Name) (index : ℕ) → slice_get names index ≡ Some found
-    → is_same_name found name ≡ true → with_name name names ≡ names
-stays_with name found names index at same =
-    ap (λ (b : Bool). if b then names else names ++ name ∷ []) (is_among name found names index at same)
-
 -- ---- names don't become fewer
 
 one_more : (names : List Name) (name : Name) → length names ≤ length (names ++ name ∷ [])

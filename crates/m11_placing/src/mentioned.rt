@@ -11,7 +11,6 @@ use crate::fault::PlacingFault;
 use indexmap::IndexSet;
 use m11_base::Name;
 use m11_placement::Context;
-use m11_table::IndexGuesses;
 use m11_values::Symbol;
 use std::alloc::{AllocError, Global};
 use std::marker::Model;
@@ -28,8 +27,6 @@ pub struct Mentioned {
     registers: IndexSet<Name>,
     // Where a name without a definition is a reference to another object.
     referred: IndexSet<Name>,
-    // Where names stand among those of the first two.
-    guesses: IndexGuesses,
 }
 
 impl Model for Mentioned {
@@ -50,7 +47,6 @@ impl Mentioned {
             names: IndexSet::new(alloc),
             registers: IndexSet::new(alloc),
             referred: IndexSet::new(alloc),
-            guesses: IndexGuesses::new(),
         }
     }
 
@@ -154,10 +150,7 @@ impl Mentioned {
     fn note_register(&mut self, name: Name) -> Result<(), AllocError>
         ensures { IfOk result (λ _. self.new ≡ record self.old { registers = spec.with_name name self.old.registers }) }
     {
-        if !stands_at(&self.registers, self.guesses.guess(name), name) {
-            let (index, _) = self.registers.insert_full(name)?;
-            self.guesses.note(name, index);
-        }
+        self.registers.insert(name)?;
         Ok(())
     }
 
@@ -168,26 +161,12 @@ impl Mentioned {
         ensures refuses { IfErr result (λ fault. Refuses fault
             (most_names < length (spec.with_name name self.old.names)) ⊥) }
     {
-        if stands_at(&self.names, self.guesses.guess(name), name) {
-            return Ok(());
-        }
         // most sources have far fewer, and then it is looked for once, as it is put in
         if self.names.len() >= MOST_NAMES && !self.names.contains(&name) {
             return Err(PlacingFault::TooManySymbols);
         }
-        let (index, _) = self.names.insert_full(name)?;
-        self.guesses.note(name, index);
+        self.names.insert(name)?;
         Ok(())
-    }
-}
-
-// Whether a name stands at an index of a set.
-fn stands_at(names: &IndexSet<Name>, index: usize, name: Name) -> bool
-    ensures { result ≡ true → spec.with_name name names.now.keys ≡ names.now.keys }
-{
-    match names.get_index(index) {
-        Some(found) => *found == name,
-        None => false,
     }
 }
 
