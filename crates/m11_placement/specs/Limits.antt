@@ -8,10 +8,9 @@ use Rattle.m11_values.specs.declared.names.Symbol.{Symbol}
 use Rattle.m11_values.specs.declared.names.Symbol.TheVariants.{Ordinary, Local, Counter}
 use Rattle.m11_placement.specs.Definitions.{Definition, Key, Named, Numbered, is_defined, registers}
 use Rattle.m11_placement.specs.Lines.{after_line}
-use Rattle.m11_placement.specs.Meanings.{Map, empty_map}
+use Rattle.m11_placement.specs.Meanings.{Map}
 use Rattle.m11_placement.specs.Mentions.{Mention, mentions}
-use Rattle.m11_placement.specs.Placements.{program_map}
-use Rattle.m11_placement.specs.Tables.{Table, first_table}
+use Rattle.m11_placement.specs.Tables.{Table}
 
 -- the names of the registers don't count
 abbrev pub most_names : ℕ
@@ -65,22 +64,3 @@ abbrev pub limit_fault : List Name → Table → Option LimitFault
 limit_fault names table =
     if nat_lt most_names (length names) || nat_lt most_local_symbols (local_count table) then Some TooManySymbols
     else (if nat_lt most_sections (length table.sections) then Some TooManySections else None)
-
-abbrev pub first_fault : Option LimitFault → Option LimitFault → Option LimitFault
-first_fault (Some fault) later = Some fault
-first_fault None later = later
-
-abbrev pub fault_from : Map → Table → List Given → List Name → Option LimitFault
-fault_from map table [] names = None
-fault_from map table (given ∷ lines) names =
-    first_fault (limit_fault (with_mentions (mentions table given) names) (after_line map table given))
-    (fault_from map (after_line map table given) lines (with_mentions (mentions table given) names))
-
--- the first line past a limit, in the first pass
-abbrev pub first_pass_fault : List Given → Option LimitFault
-first_pass_fault lines = fault_from empty_map first_table lines []
-
--- names of both passes count together, and sections for each alone
-abbrev pub second_pass_fault : List Given → Option LimitFault
-second_pass_fault lines =
-    fault_from (program_map lines) first_table lines (names_after empty_map first_table lines [])

@@ -1,6 +1,6 @@
 -- The symbols that a line defines or reads, in the order in which they stand. (MACRO-11 Language Reference Manual, "Symbols", "Table of
 -- contents and symbol table" and ".GLOBL directive". That what is left over of a line mentions nothing is this project's own.)
-use Rattle.std.specs.Prelude.{ℕ, ◌&&◌, Bool, true, false, List, [], ◌∷◌, ◌++◌, map, Option, Some, None, is_none}
+use Rattle.std.specs.Prelude.{ℕ, true, List, [], ◌∷◌, ◌++◌, map, Option, Some, None}
 use Rattle.std.specs.List.{flat_map}
 use Rattle.m11_arguments.specs.Expressions.{symbols_at}
 use Rattle.m11_base.specs.Devices.{Bytes}
@@ -19,14 +19,13 @@ use Rattle.m11_placement.specs.Alignment.{place_for}
 use Rattle.m11_placement.specs.Assigning.{target}
 use Rattle.m11_placement.specs.Changes.{Change, Numbers}
 use Rattle.m11_placement.specs.Counts as counts
-use Rattle.m11_placement.specs.Definitions.{Named, last_definition}
 use Rattle.m11_placement.specs.Elements.{elements_at, listed_names}
 use Rattle.m11_placement.specs.declared.fields.Field.{Field}
 use Rattle.m11_placement.specs.declared.fields.Field.TheVariants.{Formed, Registered, Targeted, Numbered, Missing}
 use Rattle.m11_placement.specs.Instructions as instructions
 use Rattle.m11_placement.specs.Labels.{label_name}
 use Rattle.m11_placement.specs.Lines.{Assigning, Deed, Operating, Rests, Setting, deed, stands}
-use Rattle.m11_placement.specs.Meanings.{Context, Knows, Map, Refers}
+use Rattle.m11_placement.specs.Meanings.{Context, Knows, Refers}
 use Rattle.m11_placement.specs.declared.operands.Form.{Form}
 use Rattle.m11_placement.specs.declared.operands.Form.TheVariants.{Absent, InRegister, Indexed, Unindexed, AfterCounter}
 use Rattle.m11_placement.specs.declared.operators.Directive.{Directive}
@@ -135,24 +134,3 @@ mentions table given =
     flat_map (label_mentions given.live.line.text) (labels_at given.live.line.text)
     ++ map (mention Knows) given.notes.symbols
     ++ deed_mentions (stands table given) given.live.line.text given.arguments (deed given.is_own given.live.line.text)
-
--- ---- references to other objects: names of such places that neither the lines before nor the map define
-
-abbrev pub is_undefined : Map → Table → Name → Bool
-is_undefined map table name =
-    is_none (last_definition (Named name) table.definitions) && is_none (last_definition (Named name) map.definitions)
-
-abbrev pub name_if : Bool → Name → List Name
-name_if true name = name ∷ []
-name_if false name = []
-
-abbrev pub reference_by : Map → Table → Symbol → Context → List Name
-reference_by map table (Ordinary name) Refers = name_if (is_undefined map table name) name
-reference_by map table symbol context = []
-
-abbrev pub reference_in : Map → Table → Mention → List Name
-reference_in map table mention = reference_by map table mention.symbol mention.context
-
--- the names that a line refers to
-abbrev pub references : Map → Table → Given → List Name
-references known table given = flat_map (reference_in known (stands table given)) (mentions table given)

@@ -1,22 +1,20 @@
--- What a source gives beside its pieces: title, identification, weak names, where its program begins, and the letters of its lines.
+-- What a source gives beside its pieces: title, identification, weak names, and where its program begins.
 -- (MACRO-11 Language Reference Manual, ".TITLE directive", ".IDENT directive", ".WEAK directive" and ".END directive". That the last title
 -- and the last identification hold, and that the address is the first pass's, is this project's own.)
 use Rattle.std.specs.Prelude.{ℕ, List, [], ◌∷◌, map, Option, Some, None}
 use Rattle.std.specs.List.{flat_map}
-use Rattle.std.specs.Int.RustNames.{bit_or}
 use Rattle.m11_base.specs.Devices.{Bytes}
 use Rattle.m11_base.specs.Rad50.{Name}
 use Rattle.m11_unfolding.specs.Unfolding.{Given}
 use Rattle.m11_values.specs.Quantities.{Quantity}
 use Rattle.m11_placement.specs.Elements.{listed_names}
-use Rattle.m11_placement.specs.Exports.{identification, title, transfer, transfer_letters}
+use Rattle.m11_placement.specs.Exports.{identification, title, transfer}
 use Rattle.m11_placement.specs.Lines.{Deed, Operating, after_line, deed, stands}
 use Rattle.m11_placement.specs.Meanings.{Map, empty_map}
 use Rattle.m11_placement.specs.declared.operators.Directive.{Directive}
 use Rattle.m11_placement.specs.declared.operators.Operator.{Operator}
 use Rattle.m11_placement.specs.declared.operators.Operator.TheVariants.{Instruction, Directs}
 use Rattle.m11_placement.specs.declared.operators.Directive.TheVariants as word
-use Rattle.m11_placement.specs.Placements.{Placed, placement, program_map}
 use Rattle.m11_placement.specs.Tables.{Table, first_table}
 
 -- a directive, and the place after its name
@@ -112,7 +110,7 @@ transfer_after map table (given ∷ lines) =
 abbrev pub source_transfer : List Given → Option Quantity
 source_transfer lines = transfer_after empty_map first_table lines
 
--- ---- the letters of each line, as the second pass reports them: those of an address are the first pass's
+-- ---- letters of an address, which are the first pass's, at the line of `.END`
 
 abbrev pub end_by : ℕ → Directive → ℕ
 end_by letters word.End = letters
@@ -121,13 +119,3 @@ end_by letters other = 0
 abbrev pub end_in : ℕ → Option Directed → ℕ
 end_in letters (Some found) = end_by letters found.directive
 end_in letters None = 0
-
-abbrev pub reported_from : ℕ → List Given → List Placed → List ℕ
-reported_from letters [] lines = []
-reported_from letters (given ∷ more) [] = []
-reported_from letters (given ∷ more) (line ∷ lines) =
-    bit_or line.letters (end_in letters (directed given)) ∷ reported_from letters more lines
-
-abbrev pub reported : List Given → List ℕ
-reported lines =
-    reported_from (transfer_letters (source_transfer lines)) lines (placement (program_map lines) lines)

@@ -9,9 +9,8 @@ use Rattle.m11_placement.specs.Items.{is_listed, items}
 use Rattle.m11_placement.specs.Lines.{after_line}
 use Rattle.m11_placement.specs.Meanings.{Map}
 use Rattle.m11_placement.specs.Placements.{program_map}
-use Rattle.m11_placement.specs.Sources.{reported}
 use Rattle.m11_placement.specs.Tables.{Table, first_table}
-use Rattle.m11_placements.specs.Worked.{plain}
+use Rattle.m11_placements.specs.Worked.{plain, reported}
 use Rattle.m11_unfolding.specs.Unfolding.{Given}
 
 abbrev pub items_from : Map → Table → List Given → List (List Item)

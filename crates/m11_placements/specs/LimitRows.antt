@@ -1,8 +1,15 @@
 -- Sources at a limit and one past it. (MACRO-11 Language Reference Manual, "Program section directives".)
 use Rattle.std.specs.Prelude.{ℕ, zero, suc, ◌+◌, ◌/◌, ◌%◌, List, [], ◌∷◌, ◌++◌, codes, map, Option, Some, None}
 use Rattle.m11_base.specs.Devices.{Bytes}
-use Rattle.m11_placement.specs.Limits.{LimitFault, TooManySections, first_pass_fault, second_pass_fault}
+use Rattle.m11_passes.specs.Refusals.{placing_fault}
+use Rattle.m11_passes.specs.declared.fault.PassFault.{PassFault}
+use Rattle.m11_passes.specs.declared.fault.PassFault.TheVariants.{TooManySections}
+use Rattle.m11_placement.specs.Limits.{names_after}
+use Rattle.m11_placement.specs.Meanings.{Map, empty_map}
+use Rattle.m11_placement.specs.Placements.{program_map, table_after}
+use Rattle.m11_placement.specs.Tables.{first_table}
 use Rattle.m11_placements.specs.Worked.{plain}
+use Rattle.m11_unfolding.specs.Unfolding.{Given}
 
 -- a section whose name no other number gives
 abbrev pub section_line : ℕ → Bytes
@@ -13,14 +20,24 @@ abbrev pub sections : ℕ → List Bytes
 sections zero = []
 sections (suc number) = section_line number ∷ sections number
 
-abbrev pub first_fault : List Bytes → Option LimitFault
-first_fault lines = first_pass_fault (map plain lines)
+-- a line after others, each of which passes no limit
+abbrev pub fault_after : Map → List Given → Given → Option PassFault
+fault_after map lines line = placing_fault map (table_after map lines) (names_after map first_table lines []) line
 
-abbrev pub second_fault : List Bytes → Option LimitFault
-second_fault lines = second_pass_fault (map plain lines)
+-- in the first pass, and in the second
+abbrev pub first_fault : List Bytes → Bytes → Option PassFault
+first_fault lines line = fault_after empty_map (map plain lines) (plain line)
 
-abbrev pub faults : List (Option LimitFault)
-faults = first_fault (sections 62) ∷ first_fault (sections 63) ∷ second_fault (sections 62) ∷ second_fault (sections 63) ∷ []
+abbrev pub second_fault : List Bytes → Bytes → Option PassFault
+second_fault lines line = fault_after (program_map (map plain (line ∷ lines))) (map plain lines) (plain line)
 
-abbrev pub worked_faults : List (Option LimitFault)
+abbrev pub faults : List (Option PassFault)
+faults =
+    first_fault (sections 61) (section_line 61)
+    ∷ first_fault (sections 62) (section_line 62)
+    ∷ second_fault (sections 61) (section_line 61)
+    ∷ second_fault (sections 62) (section_line 62)
+    ∷ []
+
+abbrev pub worked_faults : List (Option PassFault)
 worked_faults = None ∷ Some TooManySections ∷ None ∷ Some TooManySections ∷ []

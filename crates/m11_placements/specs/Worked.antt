@@ -1,5 +1,5 @@
 -- Sources of a few lines, with what they put at their places. (MACRO-11 Language Reference Manual, "Source program format".)
-use Rattle.std.specs.Prelude.{ℕ, false, List, map, None}
+use Rattle.std.specs.Prelude.{ℕ, false, List, [], map, None}
 use Rattle.std.specs.List.{flat_map}
 use Rattle.m11_arguments.specs.Notes.{no_notes}
 use Rattle.m11_base.specs.Names.{blank_name}
@@ -11,8 +11,10 @@ use Rattle.m11_object_text.specs.declared.pieces.RelocationKind.{RelocationKind}
 use Rattle.m11_placement.specs.Contents.{fixed_byte, fixed_word, piece}
 use Rattle.m11_placement.specs.Meanings.{firm_known}
 use Rattle.m11_placement.specs.Placements.{Placed, placement, program_map}
-use Rattle.m11_placement.specs.Sources.{reported}
 use Rattle.m11_placement.specs.Tables.{first_table}
+use Rattle.m11_asm.specs.Program.{program_of}
+use Rattle.m11_asm.specs.Written.{letters_after}
+use Rattle.m11_passes.specs.Lines.{Numbered, numbered}
 use Rattle.m11_scan.specs.Letters.{letters_text}
 use Rattle.m11_unfolding.specs.Unfolding.{Given}
 
@@ -33,6 +35,14 @@ pub record Shown : Type 0 where
 
 abbrev pub pieces_of : List Placed → List Piece
 pieces_of lines = flat_map (λ line. line.pieces) lines
+
+-- what number a line has decides none of its letters
+abbrev pub unnumbered : Given → Numbered
+unnumbered given = numbered 0 given
+
+-- the letters that an assembly reports of each line
+abbrev pub reported : List Given → List ℕ
+reported lines = letters_after (program_of lines) [] (map unnumbered lines)
 
 -- what the second pass of a source gives, under the map of the first
 abbrev pub assembled : List Given → Shown
