@@ -1,7 +1,8 @@
 -- What values count from, and which of them operators may join. (MACRO-11 Language Reference Manual, "Evaluating relocatable and
 -- absolute expressions". That registers may be joined with absolute numbers, and what becomes of a pair that may not stand
 -- together, is this project's own.)
-use Rattle.std.specs.Prelude.{ℕ, ◌==◌, Bool, true, false, if◌then◌else◌, Option, Some, None}
+use Rattle.std.specs.Prelude.{ℕ, Bool, true, false, if◌then◌else◌, Option, Some, None}
+use Rattle.m11_base.specs.Rad50.{is_same_name}
 use Rattle.m11_scan.specs.Letters.{letter_A}
 use Rattle.m11_values.specs.declared.kinds.Kind.{Kind}
 use Rattle.m11_values.specs.declared.kinds.Kind.TheVariants.{Absolute, Section, Register, Reference}
@@ -17,19 +18,19 @@ abbrev pub kind_of : Operator → Kind → Kind → Option Kind
 kind_of Add kind Absolute = Some kind
 kind_of Add Absolute kind = Some kind
 kind_of Subtract kind Absolute = Some kind
-kind_of Subtract (Section a) (Section b) = if a == b then Some Absolute else None
+kind_of Subtract (Section one) (Section other) = if is_same_name one other then Some Absolute else None
 kind_of operator Absolute Absolute = Some Absolute
 kind_of operator left right = None
 
 abbrev pub is_absolute : Kind → Bool
 is_absolute Absolute = true
-is_absolute (Section number) = false
+is_absolute (Section name) = false
 is_absolute Register = false
 is_absolute (Reference name) = false
 
 abbrev pub is_register : Kind → Bool
 is_register Absolute = false
-is_register (Section number) = false
+is_register (Section name) = false
 is_register Register = true
 is_register (Reference name) = false
 

@@ -1,6 +1,7 @@
 //! What a value counts from. (MACRO-11 Language Reference Manual, "Evaluating relocatable and absolute expressions".)
 
-ghost use Rattle.std.specs.Prelude.{◌≡◌};
+ghost use Rattle.std.specs.Prelude.{◌≡◌, if◌then◌else◌, Some, None};
+ghost use Rattle.m11_base.specs.Rad50.{is_same_name};
 ghost use Rattle.m11_values.specs.Kinds.{is_register, kind_of, refusal};
 ghost use Rattle.m11_scan.specs.Views.{bits_of};
 ghost use Rattle.m11_values.specs.Operations.{absence};
@@ -14,8 +15,8 @@ use m11_scan::Letters;
 pub enum Kind {
     /// From 0: the number is the value.
     Absolute,
-    /// From the beginning of the section with this number.
-    Section(u16),
+    /// From the beginning of the section with this name.
+    Section(Name),
     /// The number is that of a register.
     Register,
     /// From the place that this name has in another object.
@@ -46,13 +47,24 @@ impl Kind {
 pub(crate) fn kind_of(operator: Operator, left: Kind, right: Kind) -> Option<Kind>
     ensures { result ≡ kind_of operator left right }
 {
-    match (operator, left, right) {
+    match (operator, &left, &right) {
         (_, Kind::Absolute, Kind::Absolute) => Some(Kind::Absolute),
-        (Operator::Add, kind, Kind::Absolute) => Some(kind),
-        (Operator::Add, Kind::Absolute, kind) => Some(kind),
-        (Operator::Subtract, kind, Kind::Absolute) => Some(kind),
-        (Operator::Subtract, Kind::Section(a), Kind::Section(b)) if a == b => Some(Kind::Absolute),
+        (Operator::Add, kind, Kind::Absolute) => Some(*kind),
+        (Operator::Add, Kind::Absolute, kind) => Some(*kind),
+        (Operator::Subtract, kind, Kind::Absolute) => Some(*kind),
+        (Operator::Subtract, Kind::Section(one), Kind::Section(other)) => apart(*one, *other),
         _ => None,
+    }
+}
+
+// What is between two places: a number, where both lie in one section.
+fn apart(one: Name, other: Name) -> Option<Kind>
+    ensures { result ≡ (if is_same_name one other then Some Kind.Absolute else None) }
+{
+    if one == other {
+        Some(Kind::Absolute)
+    } else {
+        None
     }
 }
 
