@@ -48,7 +48,7 @@ kept firm key value = record {
   key = key;
   standing = firm_standing firm (standing_of value);
   is_firm = firm;
-  is_label = false;
+  label = None;
 }
 
 kept_alike : (firm : Bool) (key : Key) (one other : Quantity) → (firm ≡ true → one ≡ other) → kept firm key one ≡ kept firm key other

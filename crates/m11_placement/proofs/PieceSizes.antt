@@ -17,7 +17,7 @@ use Rattle.m11_placement.specs.Effects.{directive_put, operator_put}
 use Rattle.m11_placement.specs.Elements.{elements_at}
 use Rattle.m11_placement.specs.Fields.{fields_at, forms_of}
 use Rattle.m11_placement.specs.Instructions as instructions
-use Rattle.m11_placement.specs.Lines.{Assigning, Deed, Operating, Rests, Setting, after_line, deed, line_put, pieces, put_by, put_place, section_name, stands}
+use Rattle.m11_placement.specs.Lines.{Assigning, Deed, Operating, Rests, Setting, after_line, deed, line_put, pieces, put_by, put_place, stands}
 use Rattle.m11_placement.specs.Meanings.{Knows, Map, empty_map, known_at}
 use Rattle.m11_placement.specs.declared.operands.Form.{Form}
 use Rattle.m11_placement.specs.declared.operands.Form.TheVariants.{Absent, InRegister, Indexed, Unindexed, AfterCounter}
@@ -31,7 +31,7 @@ use Rattle.m11_placement.specs.Placements.{placed_from, placement}
 use Rattle.m11_placement.specs.Shapes.{Shape, shape_of, shapes_in}
 use Rattle.m11_placement.specs.Storage as storage
 use Rattle.m11_placement.specs.Strings as strings
-use Rattle.m11_placement.specs.Tables.{Table, first_table, firm_table, place}
+use Rattle.m11_placement.specs.Tables.{Table, firm_table, first_table, place, section_name}
 
 abbrev sizes : List PieceContent → List ℕ
 sizes contents = map content_size contents

@@ -16,12 +16,12 @@ use Rattle.m11_placement.specs.Contents.{content_size, contents_size, further, p
 use Rattle.m11_placement.specs.Definitions.{Definition, Named, is_labelled}
 use Rattle.m11_placement.specs.Filling.{Fills, gap_before}
 use Rattle.m11_placement.specs.Labels.{global_if, with_definition, with_doubled}
-use Rattle.m11_placement.specs.Lines.{Assigning, Deed, Operating, Rests, Setting, after_line, deed, line_change, line_put, pieces, put_place, section_name, stands}
+use Rattle.m11_placement.specs.Lines.{Assigning, Deed, Operating, Rests, Setting, after_line, deed, line_change, line_put, pieces, put_place, stands}
 use Rattle.m11_placement.specs.Meanings.{Map}
 use Rattle.m11_placement.specs.Order.{LieFrom, pieces_if, pieces_in}
 use Rattle.m11_placement.specs.Placements.{after_lines}
 use Rattle.m11_placement.specs.Places.{Goes, Move, Moved, Steps, has_set, in_section, last_set, moves_in, sizes_since}
-use Rattle.m11_placement.specs.Tables.{Table, firm_table, first_table, place}
+use Rattle.m11_placement.specs.Tables.{Table, firm_table, first_table, place, section_name}
 
 -- ---- moves of one section without a set place
 

@@ -1,6 +1,6 @@
 -- What an assignment defines. (MACRO-11 Language Reference Manual, "Direct assignment statements". That a label's name can't be assigned,
 -- and that an assignment is firm where all its names are, is this project's own.)
-use Rattle.std.specs.Prelude.{ℕ, Bool, true, false, ◌&&◌, if◌then◌else◌, List, [], ◌∷◌}
+use Rattle.std.specs.Prelude.{ℕ, Bool, true, false, ◌&&◌, if◌then◌else◌, List, [], ◌∷◌, None}
 use Rattle.m11_arguments.specs.Definedness.{is_defined}
 use Rattle.m11_arguments.specs.Expressions.{symbols_at, value_at}
 use Rattle.m11_base.specs.Devices.{Bytes}
@@ -25,7 +25,7 @@ assigned map table key line start = record {
   key = key;
   standing = standing_of (value_at (known_at map Knows table (place table)) line start);
   is_firm = all_firm table (symbols_at line start);
-  is_label = false;
+  label = None;
 }
 
 -- the table after an assignment: a label's name becomes doubled

@@ -71,7 +71,7 @@ numbered name number = record {
   key = Named name;
   standing = Known number Absolute;
   is_firm = true;
-  is_label = false;
+  label = None;
 }
 
 abbrev pub with_number : Name → ℕ → Table → Table

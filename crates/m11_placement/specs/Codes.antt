@@ -32,13 +32,11 @@ use Rattle.m11_placement.specs.declared.fields.Field.TheVariants.{Formed, Regist
 use Rattle.m11_placement.specs.declared.operands.Form.{Form}
 use Rattle.m11_placement.specs.declared.operands.Form.TheVariants.{Absent, InRegister, Indexed, Unindexed, AfterCounter}
 use Rattle.m11_placement.specs.Operands.{words_of}
-use Rattle.m11_placement.specs.Sections.{Section}
 use Rattle.m11_placement.specs.Tables.{Table}
 
 -- where an instruction stands, and what is known there: of registers, targets and numbers; and of words, which may refer to other
 -- objects
 pub record Setting : Type 0 where
-  pub whole : List Section
   pub table : Table
   pub place : ℕ
   pub known : Known
@@ -87,10 +85,10 @@ abbrev pub form_words : Setting → ℕ → Form → Put
 form_words setting place Absent = nothing 0
 form_words setting place (InRegister kind start) = nothing 0
 form_words setting place (Indexed kind start index) =
-    word setting.whole setting.table false place (value_at setting.refers setting.line index)
+    word setting.table false place (value_at setting.refers setting.line index)
 form_words setting place (Unindexed start) = put (fixed_word 0 ∷ []) 0
 form_words setting place (AfterCounter kind start) =
-    word setting.whole setting.table (is_relative kind) place (value_at setting.refers setting.line start)
+    word setting.table (is_relative kind) place (value_at setting.refers setting.line start)
 
 -- ---- fields
 

@@ -15,7 +15,6 @@ use Rattle.m11_values.specs.declared.kinds.Kind.{Kind}
 use Rattle.m11_values.specs.Kinds.{is_register, letter_R}
 use Rattle.m11_values.specs.Quantities.{Quantity, absolute}
 use Rattle.m11_placement.specs.Relocations.{fixed, stored}
-use Rattle.m11_placement.specs.Sections.{Section}
 use Rattle.m11_placement.specs.Tables.{Table}
 
 -- what is put, and letters
@@ -77,15 +76,15 @@ is_byte_high number = number == 0 || number == 0o377
 abbrev pub byte_letters : ℕ → ℕ
 byte_letters number = letter_if (not (is_byte_high (number / 256))) letter_T
 
--- a value as a word, relative to the place after it or not, among the sections of the whole source
-abbrev pub word : List Section → Table → Bool → ℕ → Quantity → Put
-word whole table is_relative place value =
-    put (Word (stored whole table is_relative place value) ∷ []) (bit_or value.letters (register_letters value.kind))
+-- a value as a word, relative to the place after it or not
+abbrev pub word : Table → Bool → ℕ → Quantity → Put
+word table is_relative place value =
+    put (Word (stored table is_relative place value) ∷ []) (bit_or value.letters (register_letters value.kind))
 
 -- a value as a byte: its number is asked, whatever it counts from
-abbrev pub byte : List Section → Table → ℕ → Quantity → Put
-byte whole table place value =
-    put (Byte (stored whole table false place value) ∷ [])
+abbrev pub byte : Table → ℕ → Quantity → Put
+byte table place value =
+    put (Byte (stored table false place value) ∷ [])
     (bit_or (bit_or value.letters (register_letters value.kind)) (byte_letters value.number))
 
 abbrev pub fixed_word : ℕ → PieceContent

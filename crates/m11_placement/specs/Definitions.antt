@@ -2,6 +2,7 @@
 -- That a further definition of a label's name only makes the name doubled, and which definitions are firm, is this project's own.)
 use Rattle.std.specs.Prelude.{ℕ, ◌==◌, ◌&&◌, Bool, true, false, if◌then◌else◌, List, [], ◌∷◌, map, codes, Option, Some, None}
 use Rattle.std.specs.List.{list_any}
+use Rattle.std.specs.Option.{is_some}
 use Rattle.m11_base.specs.Devices.{Bytes}
 use Rattle.m11_base.specs.Names.{name_in_words}
 use Rattle.m11_base.specs.Rad50.{Name, is_same_name}
@@ -28,7 +29,7 @@ firm_part definition = record {
   key = definition.key;
   standing = firm_standing definition.is_firm definition.standing;
   is_firm = definition.is_firm;
-  is_label = definition.is_label;
+  label = definition.label;
 }
 
 abbrev pub firm_parts : List Definition → List Definition
@@ -50,7 +51,7 @@ is_defined key definitions = list_any (λ definition. is_same definition.key key
 
 -- a definition is that of a label
 abbrev pub is_of_label : Option Definition → Bool
-is_of_label (Some definition) = definition.is_label
+is_of_label (Some definition) = is_some definition.label
 is_of_label None = false
 
 -- a key whose last definition is that of a label; no line after it gives it another one
@@ -67,7 +68,7 @@ register_named name number = record {
   key = Named (name_in_words name);
   standing = Known number Register;
   is_firm = true;
-  is_label = false;
+  label = None;
 }
 
 abbrev pub registers : List Definition

@@ -108,7 +108,7 @@ directive_put map table here line start arguments word.ArgumentCount =
     (number_letters map table (counts.argument_count arguments line start)))
 directive_put map table here line start arguments word.CharacterCount =
     nothing (bit_or (counts.character_letters line start) (number_letters map table (counts.character_count line start)))
-directive_put map table here line start arguments word.End = nothing (exports.end_letters line start)
+directive_put map table here line start arguments word.End = nothing (exports.end_letters map table line start)
 
 -- what an operator puts at a place, whose name ends at a place of its line
 abbrev pub operator_put : Map → Table → ℕ → Bytes → ℕ → Option ℕ → Operator → Put

@@ -2,7 +2,7 @@
 -- directive", ".IDENT directive" and ".END directive". That a bad element of a list is passed over, and that a bad title or
 -- identification is none, is this project's own.)
 use Rattle.std.specs.Prelude.{ℕ, ◌+◌, ◌-◌, ◌*◌, true, if◌then◌else◌, List, [], ◌∷◌, take, Option, Some, None}
-use Rattle.std.specs.Int.RustNames.{bit_or}
+use Rattle.std.specs.Int.RustNames.{bit_and, bit_or}
 use Rattle.m11_arguments.specs.Expressions.{has_expression, value_at}
 use Rattle.m11_arguments.specs.LeftOvers.{left_over, letters_before, rest_letters, skip_letters}
 use Rattle.m11_base.specs.Devices.{Bytes}
@@ -86,17 +86,31 @@ identification_letters_of line start None = bit_or letter_A (rest_letters line s
 abbrev pub identification_letters : Bytes → ℕ → ℕ
 identification_letters line start = identification_letters_of line start (next_part line start true)
 
--- ---- .END e: the address where the program begins. Its value and the letters of that are asked of the first pass, for the whole source
+-- ---- .END e: the address where the program begins. Its value is asked of the first pass, for the whole source, and with it the letters
+-- that names decide; those that the text decides are asked of the line itself, in each pass
 
 abbrev pub transfer : Map → Table → Bytes → ℕ → Option Quantity
 transfer map table line start =
     if has_expression line start then Some (value_at (known_at map Knows table (place table)) line start) else None
 
+-- A, D, R and U
+abbrev pub decided_by_names : ℕ
+decided_by_names = 0o24005
+
+-- N, Q and T: whatever names stand for, the value of an expression has the same ones
+abbrev pub decided_by_text : ℕ
+decided_by_text = 0o12200
+
 abbrev pub transfer_letters : Option Quantity → ℕ
-transfer_letters (Some value) = bit_or value.letters (register_letters value.kind)
+transfer_letters (Some value) = bit_and (bit_or value.letters (register_letters value.kind)) decided_by_names
 transfer_letters None = 0
 
--- what is skipped, and what is left over
-abbrev pub end_letters : Bytes → ℕ → ℕ
-end_letters line start =
-    bit_or (skip_letters line start (expression_end line start)) (left_over line (expression_end line start))
+abbrev pub expression_letters : Option Quantity → ℕ
+expression_letters (Some value) = bit_and value.letters decided_by_text
+expression_letters None = 0
+
+-- of the text: its expression, what is skipped, and what is left over
+abbrev pub end_letters : Map → Table → Bytes → ℕ → ℕ
+end_letters map table line start =
+    bit_or (expression_letters (transfer map table line start))
+    (bit_or (skip_letters line start (expression_end line start)) (left_over line (expression_end line start)))

@@ -21,7 +21,6 @@ size table place line start operation = instruction_size (forms_of (fields table
 
 abbrev pub setting : Map → Table → ℕ → Bytes → Setting
 setting map table place line = record {
-  whole = map.sections;
   table = table;
   place = place;
   known = known_at map Knows table place;

@@ -43,7 +43,7 @@ content_items Limits = InWord 0 Unmarked ∷ InWord 0 Unmarked ∷ []
 
 abbrev pub mark_by : Kind → Mark
 mark_by kind.Absolute = Unmarked
-mark_by (kind.Section number) = OfSection
+mark_by (kind.Section name) = OfSection
 mark_by kind.Register = OfRegister
 mark_by (kind.Reference name) = OfObject
 

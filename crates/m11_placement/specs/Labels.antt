@@ -11,19 +11,19 @@ use Rattle.m11_statements.specs.declared.labels.Label.{Label}
 use Rattle.m11_statements.specs.declared.labels.LabelKind.{LabelKind}
 use Rattle.m11_statements.specs.declared.labels.LabelKind.TheVariants as label
 use Rattle.m11_placement.specs.Definitions.{Definition, Key, Named, Numbered, Known, is_defined}
-use Rattle.m11_placement.specs.Tables.{Settings, Table, kind_here, place}
+use Rattle.m11_placement.specs.Tables.{Settings, Table, kind_here, place, section_name}
 
 -- the set of the letter M
 abbrev pub letter_M : ℕ
 letter_M = 0o100
 
--- a place is firm as soon as its label stands
+-- a label keeps its section. Its place is firm as soon as it stands
 abbrev pub labelled : Table → Key → Definition
 labelled table key = record {
   key = key;
   standing = Known (place table) (kind_here table);
   is_firm = true;
-  is_label = true;
+  label = Some (section_name table);
 }
 
 abbrev pub with_definition : Definition → Table → Table

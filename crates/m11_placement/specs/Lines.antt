@@ -6,7 +6,6 @@ use Rattle.std.specs.Int.RustNames.{bit_or}
 use Rattle.m11_arguments.specs.LeftOvers.{skip_letters}
 use Rattle.m11_base.specs.Devices.{Bytes}
 use Rattle.m11_base.specs.Mnemonics.{six_of}
-use Rattle.m11_base.specs.Rad50.{Name}
 use Rattle.m11_object_text.specs.declared.pieces.Piece.{Piece}
 use Rattle.m11_scan.specs.Cutting.{text_between}
 use Rattle.m11_statements.specs.Labels.{labels_at, labels_end}
@@ -26,8 +25,7 @@ use Rattle.m11_placement.specs.declared.operators.Operator.{Operator}
 use Rattle.m11_placement.specs.declared.operators.Operator.TheVariants.{Directs}
 use Rattle.m11_placement.specs.Operators.{is_even, operator_named}
 use Rattle.m11_placement.specs.declared.operators.Directive.TheVariants as word
-use Rattle.m11_placement.specs.Sections.{numbered}
-use Rattle.m11_placement.specs.Tables.{Table, firm_table, place}
+use Rattle.m11_placement.specs.Tables.{Table, firm_table, place, section_name}
 
 -- ---- what stands after the labels of a line
 
@@ -106,9 +104,6 @@ put_place table Rests = place table
 put_place table (Assigning name is_global start) = place table
 put_place table (Setting start) = place table
 put_place table (Operating operator start) = place_for (is_even operator) (place table)
-
-abbrev pub section_name : Table → Name
-section_name table = (numbered table.settings.section table.sections).name
 
 -- the pieces of a line
 abbrev pub pieces : Map → Table → Given → List Piece

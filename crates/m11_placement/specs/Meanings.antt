@@ -13,27 +13,20 @@ use Rattle.m11_values.specs.Quantities.{Quantity, absolute}
 pub use Rattle.m11_placement.specs.declared.meanings.Context.{Context}
 pub use Rattle.m11_placement.specs.declared.meanings.Context.TheVariants.{Refers, Knows}
 use Rattle.m11_placement.specs.Definitions.{Definition, Key, Named, Numbered, Standing, Known, Unknown, has_key, last_definition}
-use Rattle.m11_placement.specs.Sections.{Section}
 use Rattle.m11_placement.specs.Tables.{Table, firm_table, kind_here}
 
--- what a whole source gives its names in the end, and its sections
+-- what a whole source gives its names in the end
 pub record Map : Type 0 where
   pub definitions : List Definition
   pub doubled : List Key
   pub globals : List Name
-  pub sections : List Section
 
 abbrev pub empty_map : Map
-empty_map = record { definitions = []; doubled = []; globals = []; sections = [] }
+empty_map = record { definitions = []; doubled = []; globals = [] }
 
--- the map of a source is what its lines define, with the sections that they begin
+-- the map of a source is what its lines define
 abbrev pub map_of : Table → Map
-map_of table = record {
-  definitions = table.definitions;
-  doubled = table.doubled;
-  globals = table.globals;
-  sections = table.sections;
-}
+map_of table = record { definitions = table.definitions; doubled = table.doubled; globals = table.globals }
 
 -- the set of the letter D
 abbrev pub letter_D : ℕ

@@ -1,15 +1,15 @@
 -- What a linker does to the values that a line puts at its places. (MACRO-11 Language Reference Manual, "Relocation and linking"; RT-11
 -- Volume and File Formats Manual, "Object file format", RLD block. Which command stands for which value is this project's own.)
-use Rattle.std.specs.Prelude.{ℕ, ◌+◌, ◌-◌, ◌%◌, ◌==◌, nat_lt, not, Bool, true, false, if◌then◌else◌, List, length}
-use Rattle.m11_base.specs.Rad50.{Name}
+use Rattle.std.specs.Prelude.{ℕ, ◌+◌, ◌-◌, ◌%◌, not, Bool, true, false, if◌then◌else◌}
+use Rattle.m11_base.specs.Rad50.{Name, is_same_name}
 use Rattle.m11_object_text.specs.declared.pieces.RelocationKind.{RelocationKind}
 use Rattle.m11_object_text.specs.declared.pieces.RelocationKind.TheVariants as relocation
 use Rattle.m11_object_text.specs.declared.pieces.Stored.{Stored}
 use Rattle.m11_values.specs.declared.kinds.Kind.{Kind}
 use Rattle.m11_values.specs.declared.kinds.Kind.TheVariants as kind
 use Rattle.m11_values.specs.Quantities.{Quantity}
-use Rattle.m11_placement.specs.Sections.{Section, is_relocatable, numbered}
-use Rattle.m11_placement.specs.Tables.{Table}
+use Rattle.m11_placement.specs.Sections.{is_relocatable, numbered}
+use Rattle.m11_placement.specs.Tables.{Table, section_name}
 
 -- what a value counts from, as a line sees it
 pub data Origin : Type 0 where
@@ -22,18 +22,12 @@ pub data Origin : Type 0 where
   -- a name of another object
   InObject : Name → Origin
 
--- the section of a number: one that the lines before have, or else one that the whole source has
-abbrev pub section_of : List Section → Table → ℕ → Section
-section_of whole table number =
-    if nat_lt number (length table.sections) then numbered number table.sections else numbered number whole
-
 -- a register counts as a number where it may not stand
-abbrev pub origin_of : List Section → Table → Kind → Origin
-origin_of whole table kind.Absolute = Zero
-origin_of whole table kind.Register = Zero
-origin_of whole table (kind.Section number) =
-    if number == table.settings.section then Here else InSection (section_of whole table number).name
-origin_of whole table (kind.Reference name) = InObject name
+abbrev pub origin_of : Table → Kind → Origin
+origin_of table kind.Absolute = Zero
+origin_of table kind.Register = Zero
+origin_of table (kind.Section name) = if is_same_name name (section_name table) then Here else InSection name
+origin_of table (kind.Reference name) = InObject name
 
 -- what a linker does to a value in a word or a byte; in a relative operand of a section with REL; and in one of a section with ABS
 pub record Row : Type 0 where
@@ -60,9 +54,8 @@ abbrev pub relocation_by : Bool → Bool → Row → RelocationKind
 relocation_by is_relative is_moved row =
     if is_relative then (if is_moved then row.in_relocatable else row.in_absolute) else row.in_word
 
-abbrev pub relocation_of : List Section → Table → Bool → Kind → RelocationKind
-relocation_of whole table is_relative kind =
-    relocation_by is_relative (is_moved table) (row_of (origin_of whole table kind))
+abbrev pub relocation_of : Table → Bool → Kind → RelocationKind
+relocation_of table is_relative kind = relocation_by is_relative (is_moved table) (row_of (origin_of table kind))
 
 -- how far a target lies from the place after a word, modulo 65536
 abbrev pub distance : ℕ → ℕ → ℕ
@@ -78,9 +71,9 @@ stored_as is_relative kind place number =
     record { constant = constant is_relative kind place number; kind = kind }
 
 -- what stands at a place for a value
-abbrev pub stored : List Section → Table → Bool → ℕ → Quantity → Stored
-stored whole table is_relative place value =
-    stored_as is_relative (relocation_of whole table is_relative value.kind) place value.number
+abbrev pub stored : Table → Bool → ℕ → Quantity → Stored
+stored table is_relative place value =
+    stored_as is_relative (relocation_of table is_relative value.kind) place value.number
 
 -- a number that stands as it is
 abbrev pub fixed : ℕ → Stored
@@ -90,5 +83,5 @@ fixed number = record { constant = number; kind = relocation.Fixed }
 abbrev pub is_here : Table → Kind → Bool
 is_here table kind.Absolute = not (is_moved table)
 is_here table kind.Register = not (is_moved table)
-is_here table (kind.Section number) = number == table.settings.section
+is_here table (kind.Section name) = is_same_name name (section_name table)
 is_here table (kind.Reference name) = false

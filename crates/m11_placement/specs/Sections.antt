@@ -41,4 +41,4 @@ is_relocatable known = not (bit_and known.attributes 0o040 == 0)
 -- what a place of a section counts from: a place of one with ABS is absolute
 abbrev pub place_kind : ℕ → List Section → Kind
 place_kind number sections =
-    if is_relocatable (numbered number sections) then kind.Section number else kind.Absolute
+    if is_relocatable (numbered number sections) then kind.Section (numbered number sections).name else kind.Absolute

@@ -110,7 +110,7 @@ transfer_after map table (given ∷ lines) =
 abbrev pub source_transfer : List Given → Option Quantity
 source_transfer lines = transfer_after empty_map first_table lines
 
--- ---- letters of an address, which are the first pass's, at the line of `.END`
+-- ---- letters of an address that names decide, which are the first pass's, at the line of `.END`
 
 abbrev pub end_by : ℕ → Directive → ℕ
 end_by letters word.End = letters

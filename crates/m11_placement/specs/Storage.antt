@@ -26,7 +26,7 @@ word_size line start = length (elements_at line start).places * 2
 abbrev pub words_from : Map → Table → Bytes → ℕ → List ℕ → Put
 words_from map table line place [] = nothing 0
 words_from map table line place (start ∷ starts) =
-    followed_by (word map.sections table false place (element_value (known_at map Refers table place) line start))
+    followed_by (word table false place (element_value (known_at map Refers table place) line start))
     (words_from map table line (further place 2) starts)
 
 abbrev pub words_of : Map → Table → ℕ → Bytes → ℕ → Elements → Put
@@ -44,7 +44,7 @@ byte_size line start = length (elements_at line start).places
 abbrev pub bytes_from : Map → Table → Bytes → ℕ → List ℕ → Put
 bytes_from map table line place [] = nothing 0
 bytes_from map table line place (start ∷ starts) =
-    followed_by (byte map.sections table place (element_value (known_at map Refers table place) line start))
+    followed_by (byte table place (element_value (known_at map Refers table place) line start))
     (bytes_from map table line (further place 1) starts)
 
 abbrev pub bytes_of : Map → Table → ℕ → Bytes → ℕ → Elements → Put

@@ -97,7 +97,7 @@ asciz_size line start = ascii_size line start + 1
 abbrev pub part_bytes : Map → Table → ℕ → Bytes → Part → PartKind → Put
 part_bytes known table place line part Text = put (map fixed_byte (part_text line part)) 0
 part_bytes known table place line part Expression =
-    byte known.sections table place (value_at (known_at known Refers table place) line part.inside.start)
+    byte table place (value_at (known_at known Refers table place) line part.inside.start)
 
 abbrev pub parts_bytes : Map → Table → ℕ → Bytes → List Part → Put
 parts_bytes known table place line [] = nothing 0

@@ -7,7 +7,7 @@ use Rattle.m11_values.specs.declared.kinds.Kind.{Kind}
 pub use Rattle.m11_placement.specs.declared.settings.Settings.{Settings}
 use Rattle.m11_placement.specs.Definitions.{Definition, Key, firm_parts, registers}
 use Rattle.m11_placement.specs.Places.{Moved, place_in}
-use Rattle.m11_placement.specs.Sections.{Section, first_number, first_sections, place_kind}
+use Rattle.m11_placement.specs.Sections.{Section, first_number, first_sections, numbered, place_kind}
 
 abbrev pub first_settings : Settings
 first_settings = record {
@@ -40,6 +40,10 @@ first_table = record {
   moves = [];
   settings = first_settings;
 }
+
+-- the section of the next line
+abbrev pub section_name : Table → Name
+section_name table = (numbered table.settings.section table.sections).name
 
 -- where the counter stands
 abbrev pub place : Table → ℕ
