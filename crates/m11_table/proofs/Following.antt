@@ -106,11 +106,11 @@ with_definitions old new found last doubled globals sections moves settings tabl
 }
 
 abbrev kept : Definition → Entry
-kept found = record { standing = found.standing; is_firm = found.is_firm; is_label = found.is_label }
+kept found = record { standing = found.standing; is_firm = found.is_firm; label = found.label }
 
 with_key : (key : Key) (found : Definition) → found.key ≡ key → definition key (kept found) ≡ found
 with_key key found e =
-    let keyed : Key → Definition = λ k. record { key = k; standing = found.standing; is_firm = found.is_firm; is_label = found.is_label } in
+    let keyed : Key → Definition = λ k. record { key = k; standing = found.standing; is_firm = found.is_firm; label = found.label } in
     ap keyed (sym e)
 
 -- ---- doubled keys

@@ -27,7 +27,7 @@ definition key entry = record {
   key = key;
   standing = entry.standing;
   is_firm = entry.is_firm;
-  is_label = entry.is_label;
+  label = entry.label;
 }
 
 -- the definition of a key of which something is kept

@@ -1,5 +1,6 @@
 //! What a table keeps of a name or a local symbol.
 
+use m11_base::Name;
 use m11_placement::Standing;
 
 // The last definition of a name or a local symbol.
@@ -7,5 +8,5 @@ use m11_placement::Standing;
 pub(crate) struct Entry {
     pub(crate) standing: Standing,
     pub(crate) is_firm: bool,
-    pub(crate) is_label: bool,
+    pub(crate) label: Option<Name>,
 }

@@ -1,16 +1,15 @@
-//! What a whole source gives its names in the end, and its sections, as a second pass knows it. (MACRO-11 Language Reference Manual, "Symbols".)
+//! What a whole source gives its names in the end, as a second pass knows it. (MACRO-11 Language Reference Manual, "Symbols".)
 
 ghost use Rattle.std.specs.Prelude.{◌≡◌, option_copied};
 ghost use Rattle.m11_placement.specs.Assigning.{is_exported};
 ghost use Rattle.m11_placement.specs.Definitions.{has_key, last_definition};
 ghost use Rattle.m11_placement.specs.Meanings.{empty_map, map_of};
-ghost use Rattle.m11_placement.specs.Sections.{numbered};
 ghost use Rattle.m11_table.specs.Entries.{defined_as};
 
 use crate::entries::Entry;
-use crate::table::{Table, blank_section};
+use crate::table::Table;
 use m11_base::Name;
-use m11_placement::{Definition, Key, Section};
+use m11_placement::{Definition, Key};
 use std::marker::Model;
 
 /// What a whole source gives its names: nothing in the first pass, the table after the first one in the second.
@@ -65,16 +64,6 @@ impl<'a> Map<'a> {
         match self.table {
             Some(table) => table.is_doubled(key),
             None => false,
-        }
-    }
-
-    /// The section of a number; the blank one where there is none.
-    pub fn section(&self, number: u16) -> Section
-        ensures { result ≡ numbered number self.now.sections }
-    {
-        match self.table {
-            Some(table) => table.section(number),
-            None => blank_section(),
         }
     }
 

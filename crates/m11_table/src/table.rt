@@ -13,7 +13,7 @@ ghost use Rattle.m11_placement.specs.Places.{Goes, Steps};
 ghost use Rattle.m11_placement.specs.ProgramSections.{known_section};
 ghost use Rattle.m11_placement.specs.Relocations.{is_here, is_moved};
 ghost use Rattle.m11_placement.specs.Sections.{number_of, numbered, of_program, section};
-ghost use Rattle.m11_placement.specs.Tables.{first_table, kind_here, place};
+ghost use Rattle.m11_placement.specs.Tables.{first_table, kind_here, place, section_name};
 ghost use Rattle.m11_placement.specs.declared.definitions.Key.TheVariants.{Named, Numbered};
 ghost use Rattle.m11_table.specs.Alike.{Alike, Follows};
 ghost use Rattle.m11_table.specs.Entries as entries;
@@ -172,6 +172,13 @@ impl Table {
         }
     }
 
+    /// The name of the section of the line.
+    pub fn section_name(&self) -> Name
+        ensures { result ≡ section_name self.now }
+    {
+        self.section(self.settings.section).name
+    }
+
     /// How many sections there are.
     pub fn section_count(&self) -> usize
         ensures { result ≡ length self.now.sections }
@@ -211,7 +218,7 @@ impl Table {
     {
         match kind {
             Kind::Absolute | Kind::Register => !self.is_moved(),
-            Kind::Section(number) => number == self.settings.section,
+            Kind::Section(name) => name == self.section_name(),
             Kind::Reference(_) => false,
         }
     }
@@ -227,11 +234,11 @@ impl Table {
     pub fn kind_here(&self) -> Kind
         ensures { result ≡ kind_here self.now }
     {
-        let number = self.settings.section;
-        if self.section(number).attributes & RELOCATABLE == 0 {
+        let section = self.section(self.settings.section);
+        if section.attributes & RELOCATABLE == 0 {
             Kind::Absolute
         } else {
-            Kind::Section(number)
+            Kind::Section(section.name)
         }
     }
 
@@ -286,7 +293,7 @@ impl Table {
         ensures { result ≡ is_labelled key.now self.now.definitions }
     {
         match self.entry(key) {
-            Some(entry) => entry.is_label,
+            Some(entry) => entry.label.is_some(),
             None => false,
         }
     }
@@ -395,7 +402,7 @@ impl Table {
         let entry = Entry {
             standing: definition.standing,
             is_firm: definition.is_firm,
-            is_label: definition.is_label,
+            label: definition.label,
         };
         self.names.insert(name, entry)?;
         Ok(())
@@ -413,7 +420,7 @@ impl Table {
         let entry = Entry {
             standing: definition.standing,
             is_firm: definition.is_firm,
-            is_label: definition.is_label,
+            label: definition.label,
         };
         self.local_symbols.insert((block, number), entry)?;
         Ok(())
@@ -514,7 +521,7 @@ fn definition(key: Key, entry: Entry) -> Definition
         key,
         standing: entry.standing,
         is_firm: entry.is_firm,
-        is_label: entry.is_label,
+        label: entry.label,
     }
 }
 
@@ -526,12 +533,12 @@ fn register_named(name: &[u8; 6], number: u16) -> Definition
         key: Key::Named(name_in_words(name)),
         standing: Standing::Known(number, Kind::Register),
         is_firm: true,
-        is_label: false,
+        label: None,
     }
 }
 
 // A section that there isn't counts as the blank one.
-pub(crate) fn blank_section() -> Section
+fn blank_section() -> Section
     ensures { result ≡ section blank_name of_program }
 {
     Section {
