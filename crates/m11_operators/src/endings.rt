@@ -1,11 +1,13 @@
 //! `.END`. (MACRO-11 Language Reference Manual, ".END directive".)
 
 ghost use Rattle.std.specs.Prelude.{◌≡◌, ◌≤◌, length, option_map};
+ghost use Rattle.std.specs.Int.RustNames.{bit_and};
 ghost use Rattle.m11_scan.specs.Views.{bits_of};
 ghost use Rattle.m11_values.specs.Quantities.{quantity};
 ghost use Rattle.m11_placement.specs.Exports as spec;
 
 use crate::assigning::known_value;
+use bitflags::Flags;
 use m11_arguments::{has_expression, left_over, skip_letters};
 use m11_scan::{Letters, Line, expression_end};
 use m11_table::{Map, Table, register_letters};
@@ -23,21 +25,47 @@ pub fn transfer(map: &Map<'_>, table: &Table, line: &Line, start: usize) -> Opti
     }
 }
 
-/// The letters of that address: those of its value, and R for a register.
+// A, D, R and U: names decide them.
+const DECIDED_BY_NAMES: u16 = 0o24005;
+
+// N, Q and T: whatever names stand for, the value of an expression has the same ones.
+const DECIDED_BY_TEXT: u16 = 0o12200;
+
+/// The letters of that address which names decide, and R for a register.
 pub fn transfer_letters(address: Option<Value>) -> Letters
     ensures { bits_of result ≡ spec.transfer_letters (option_map quantity address) }
 {
     match address {
-        Some(value) => value.letters.with(register_letters(value.kind)),
+        Some(value) => among(
+            value.letters.with(register_letters(value.kind)),
+            DECIDED_BY_NAMES,
+        ),
         None => Letters::none(),
     }
 }
 
-/// The letters of a `.END`: of what is skipped, and what is left over.
-pub fn end_letters(line: &Line, start: usize) -> Letters
+// The letters of an expression that its text decides.
+fn expression_letters(address: Option<Value>) -> Letters
+    ensures { bits_of result ≡ spec.expression_letters (option_map quantity address) }
+{
+    match address {
+        Some(value) => among(value.letters, DECIDED_BY_TEXT),
+        None => Letters::none(),
+    }
+}
+
+fn among(letters: Letters, set: u16) -> Letters
+    ensures { bits_of result ≡ bit_and (bits_of letters) set }
+{
+    Letters::from_bits_retain(letters.bits() & set)
+}
+
+/// The letters of the text of a `.END`: those of its expression that names don't decide, of what is skipped, and of what is left over.
+pub fn end_letters(map: &Map<'_>, table: &Table, line: &Line, start: usize) -> Letters
     requires { start ≤ length line.now.text }
-    ensures { bits_of result ≡ spec.end_letters line.now.text start }
+    ensures { bits_of result ≡ spec.end_letters map.now table.now line.now.text start }
 {
     let end = expression_end(line, start);
-    skip_letters(line, start, end).with(left_over(line, end))
+    let rest = skip_letters(line, start, end).with(left_over(line, end));
+    expression_letters(transfer(map, table, line, start)).with(rest)
 }

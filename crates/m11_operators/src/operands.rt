@@ -118,7 +118,7 @@ fn put_reference(
     term: Option<Token>,
 ) -> Result<(), AllocError>
     requires { IfSome term (λ term. IsAlone setting.now.line start term) }
-    ensures { IfOk result (λ _. put.new ≡ followed_by put.old (word setting.now.map.sections setting.now.table is_relative
+    ensures { IfOk result (λ _. put.new ≡ followed_by put.old (word setting.now.table is_relative
         place (value_at (setting_of setting.now).refers setting.now.line start))) }
 {
     let value = setting.reference_by(start, term);

@@ -11,6 +11,7 @@ ghost use Rattle.m11_placement.specs.Assigning.{number_letters};
 ghost use Rattle.m11_placement.specs.Contents.{followed_by, nothing};
 ghost use Rattle.m11_placement.specs.Counts as counts;
 ghost use Rattle.m11_placement.specs.Effects as effects;
+ghost use Rattle.m11_placement.specs.Exports as exports;
 ghost use Rattle.m11_placement.specs.Instructions as instructions;
 ghost use Rattle.m11_placement.specs.Lines as lines;
 ghost use Rattle.m11_placement.specs.ProgramSections as sections;
@@ -161,7 +162,7 @@ fn put_directive(
         Directive::Disable => put_letters(put, disable_letters(line, start)),
         Directive::ArgumentCount => put_letters(put, actuals_letters(setting, start, arguments)),
         Directive::CharacterCount => put_letters(put, characters_letters(setting, start)),
-        Directive::End => put_letters(put, end_letters(line, start)),
+        Directive::End => put_letters(put, ending_letters(setting, start)),
     }
 }
 
@@ -188,6 +189,14 @@ fn section_letters(setting: &Setting, start: usize) -> Letters
     ensures { bits_of result ≡ sections.program_letters setting.now.table.sections setting.now.line start }
 {
     program_letters(setting.table(), setting.line(), start)
+}
+
+// The letters of a `.END`.
+fn ending_letters(setting: &Setting, start: usize) -> Letters
+    requires { start ≤ length setting.now.line }
+    ensures { bits_of result ≡ exports.end_letters setting.now.map setting.now.table setting.now.line start }
+{
+    end_letters(setting.map(), setting.table(), setting.line(), start)
 }
 
 // The letters of a `.NARG`, and of the name that it defines.

@@ -8,8 +8,7 @@ ghost use Rattle.m11_placement.specs.Relocations as spec;
 use crate::settings::Setting;
 use m11_base::Name;
 use m11_object_text::{RelocationKind, Stored};
-use m11_placement::Section;
-use m11_table::{Map, Table};
+use m11_table::Table;
 use m11_values::{Kind, Value};
 use std::marker::Model;
 
@@ -89,57 +88,39 @@ impl Row {
 }
 
 // The row of a value, as a line sees it. A register counts as a number where it may not stand.
-fn row_of(map: &Map, table: &Table, kind: &Kind) -> Row
-    ensures { result ≡ spec.row_of (spec.origin_of map.now.sections table.now kind.now) }
+fn row_of(table: &Table, kind: &Kind) -> Row
+    ensures { result ≡ spec.row_of (spec.origin_of table.now kind.now) }
 {
     match kind {
         Kind::Absolute | Kind::Register => Row::zero(),
-        Kind::Section(number) => section_row(map, table, *number),
+        Kind::Section(name) => section_row(table, *name),
         Kind::Reference(name) => Row::in_object(*name),
     }
 }
 
 // The row of a value of a section.
-fn section_row(map: &Map, table: &Table, number: u16) -> Row
-    ensures { result ≡ spec.row_of (spec.origin_of map.now.sections table.now (Kind.Section number)) }
+fn section_row(table: &Table, name: Name) -> Row
+    ensures { result ≡ spec.row_of (spec.origin_of table.now (Kind.Section name)) }
 {
-    if number == table.settings().section {
+    if name == table.section_name() {
         Row::here()
     } else {
-        row_in(&section_of(map, table, number))
+        Row::in_section(name)
     }
-}
-
-// The section of a number: a line may refer to one that only a line after it begins.
-fn section_of(map: &Map, table: &Table, number: u16) -> Section
-    ensures { result ≡ spec.section_of map.now.sections table.now number }
-{
-    if usize::from(number) < table.section_count() {
-        table.section(number)
-    } else {
-        map.section(number)
-    }
-}
-
-// The row of a value of another section.
-fn row_in(section: &Section) -> Row
-    ensures { result ≡ spec.row_of (spec.InSection section.now.name) }
-{
-    Row::in_section(section.name)
 }
 
 // What a linker does to a value of a kind.
-fn relocation_of(map: &Map, table: &Table, is_relative: bool, kind: Kind) -> RelocationKind
-    ensures { result ≡ spec.relocation_of map.now.sections table.now is_relative kind }
+fn relocation_of(table: &Table, is_relative: bool, kind: Kind) -> RelocationKind
+    ensures { result ≡ spec.relocation_of table.now is_relative kind }
 {
-    row_of(map, table, &kind).relocation(is_relative, table.is_moved())
+    row_of(table, &kind).relocation(is_relative, table.is_moved())
 }
 
 // What stands at a place for a value.
 pub(crate) fn stored(setting: &Setting, is_relative: bool, place: u16, value: Value) -> Stored
-    ensures { result ≡ spec.stored setting.now.map.sections setting.now.table is_relative place (quantity value) }
+    ensures { result ≡ spec.stored setting.now.table is_relative place (quantity value) }
 {
-    let kind = relocation_of(setting.map(), setting.table(), is_relative, value.kind);
+    let kind = relocation_of(setting.table(), is_relative, value.kind);
     stored_as(is_relative, kind, place, value.number)
 }
 

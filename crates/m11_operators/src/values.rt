@@ -43,7 +43,7 @@ pub fn put_word(
     value: Value,
 ) -> Result<(), AllocError>
     ensures { IfOk result (λ _. put.new ≡ followed_by put.old
-        (spec.word setting.now.map.sections setting.now.table is_relative place (quantity value))) }
+        (spec.word setting.now.table is_relative place (quantity value))) }
 {
     let letters = value.letters.with(register_letters(value.kind));
     put.add_word(stored(setting, is_relative, place, value), letters)
@@ -57,7 +57,7 @@ pub fn put_byte(
     value: Value,
 ) -> Result<(), AllocError>
     ensures { IfOk result (λ _. put.new ≡ followed_by put.old
-        (spec.byte setting.now.map.sections setting.now.table place (quantity value))) }
+        (spec.byte setting.now.table place (quantity value))) }
 {
     let letters = value
         .letters

@@ -13,7 +13,7 @@ returns-in-Expression c =
     let done = c.args.put.now in
     let P : Put → Type 0 = λ p. IfOk c.put_byte.result (λ x. c.put_byte.new.put ≡ p) in
     subst P
-    (ap (λ (q : Quantity). followed_by done (byte here.map.sections here.table c.args.place q))
+    (ap (λ (q : Quantity). followed_by done (byte here.table c.args.place q))
     (c.reference-value.ensures
     ∙ ap (λ (s : Standpoint). value_at (setting_of s).refers s.line c.args.part.inside.start) c.at.ensures)
     ∙ ap (λ (k : PartKind). followed_by done (part_bytes here.map here.table c.args.place here.line c.args.part k))
