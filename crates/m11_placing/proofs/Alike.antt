@@ -5,19 +5,21 @@ use Rattle.std.specs.Option.{is_some}
 use Rattle.m11_arguments.specs.Expressions as expressions
 use Rattle.m11_arguments.specs.Expressions.{known_by, symbols_at, value_at}
 use Rattle.m11_base.specs.Devices.{Bytes}
+use Rattle.m11_base.specs.Rad50.{Name}
 use Rattle.m11_placement.specs.Assignments.{all_firm, assigned, standing_of}
 use Rattle.m11_placement.specs.Definitions.{has_key, is_defined, is_labelled, is_of_label, last_definition}
 use Rattle.m11_placement.specs.Labels.{labelled}
 use Rattle.m11_placement.specs.Meanings.{Map, defined_or, is_firm, is_firm_in, known_at, letter_D, meaning_of, quantity_of, stands_for, undefined}
 use Rattle.m11_placement.specs.Places.{place_in}
-use Rattle.m11_placement.specs.Sections.{place_kind}
-use Rattle.m11_placement.specs.Tables.{Table, kind_here, place}
+use Rattle.m11_placement.specs.Sections.{numbered, place_kind}
+use Rattle.m11_placement.specs.Tables.{Table, kind_here, place, section_name}
 use Rattle.m11_placement.specs.declared.definitions.Definition.{Definition}
 use Rattle.m11_placement.specs.declared.definitions.Key.{Key}
 use Rattle.m11_placement.specs.declared.definitions.Key.TheVariants.{Named, Numbered}
 use Rattle.m11_placement.specs.declared.definitions.Standing.TheVariants.{Known}
 use Rattle.m11_placement.specs.declared.meanings.Context.{Context}
 use Rattle.m11_placement.specs.declared.meanings.Context.TheVariants.{Knows}
+use Rattle.m11_placement.specs.declared.sections.Section.{Section}
 use Rattle.m11_placement.specs.declared.settings.Settings.{Settings}
 use Rattle.m11_statements.specs.Statements.{letter_if}
 use Rattle.m11_table.specs.Alike.{Alike}
@@ -58,6 +60,11 @@ module _ (one other : Table) (alike : Alike one other) where
       ap (λ (s : Settings). place_kind s.section one.sections) alike.settings
       ∙ ap (place_kind other.settings.section) alike.sections
 
+  pub alike_section : section_name one ≡ section_name other
+  alike_section =
+      ap (λ (s : Settings). (numbered s.section one.sections).name) alike.settings
+      ∙ ap (λ (l : List Section). (numbered other.settings.section l).name) alike.sections
+
   -- ---- keys
 
   pub alike_defined : (key : Key) → is_defined key one.definitions ≡ is_defined key other.definitions
@@ -69,8 +76,11 @@ module _ (one other : Table) (alike : Alike one other) where
 
   pub same_labelled : (key : Key) → labelled one key ≡ labelled other key
   same_labelled key =
-      let at : ℕ → Kind → Definition = λ p k. record { key = key; standing = Known p k; is_firm = true; is_label = true } in
-      ap (λ (p : ℕ). at p (kind_here one)) alike_place ∙ ap (at (place other)) alike_kind
+      let at : ℕ → Kind → Name → Definition = λ p k section.
+      record { key = key; standing = Known p k; is_firm = true; label = Some section } in
+      ap (λ (p : ℕ). at p (kind_here one) (section_name one)) alike_place
+      ∙ ap (λ (k : Kind). at (place other) k (section_name one)) alike_kind
+      ∙ ap (at (place other) (kind_here other)) alike_section
 
   -- ---- symbols
 
@@ -109,9 +119,9 @@ module _ (one other : Table) (alike : Alike one other) where
   all_alike [] = refl
   all_alike (symbol ∷ symbols) = rw (firm_alike symbol, all_alike symbols) refl
 
-  value_alike : (map : Map) (line : Bytes) (start : ℕ)
+  pub alike_value : (map : Map) (line : Bytes) (start : ℕ)
       → value_at (known_at map Knows one (place one)) line start ≡ value_at (known_at map Knows other (place other)) line start
-  value_alike map line start =
+  alike_value map line start =
       ap (λ (p : ℕ). value_at (known_at map Knows one p) line start) alike_place
       ∙ ap (λ (k : expressions.Known). value_at k line start) (alike_known map Knows (place other))
 
@@ -119,6 +129,6 @@ module _ (one other : Table) (alike : Alike one other) where
       → assigned map one key line start ≡ assigned map other key line start
   alike_assigned map key line start =
       let of : Quantity → Bool → Definition = λ value firm.
-      record { key = key; standing = standing_of value; is_firm = firm; is_label = false } in
-      ap (λ (v : Quantity). of v (all_firm one (symbols_at line start))) (value_alike map line start)
+      record { key = key; standing = standing_of value; is_firm = firm; label = None } in
+      ap (λ (v : Quantity). of v (all_firm one (symbols_at line start))) (alike_value map line start)
       ∙ ap (of (value_at (known_at map Knows other (place other)) line start)) (all_alike (symbols_at line start))

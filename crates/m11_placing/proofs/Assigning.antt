@@ -25,7 +25,7 @@ use Rattle.m11_placing.specs.declared.fault.PlacingFault.{PlacingFault}
 -- ---- assignments
 
 abbrev given : Name → Quantity → Bool → Definition
-given name value firm = record { key = Named name; standing = standing_of value; is_firm = firm; is_label = false }
+given name value firm = record { key = Named name; standing = standing_of value; is_firm = firm; label = None }
 
 -- a value that is found, and whether its symbols are firm, are those of the definition
 pub gives : (map : Map) (name : Name) (line : Bytes) (start : ℕ) (table : Table) (value : Quantity) (firm : Bool)

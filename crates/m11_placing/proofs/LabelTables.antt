@@ -7,7 +7,7 @@ use Rattle.m11_base.specs.Rad50.{Name}
 use Rattle.m11_placement.specs.Definitions.{is_defined, last_definition}
 use Rattle.m11_placement.specs.Labels.{global_if, kind_letters, label_name, labelled, with_block, with_definition, with_doubled, with_key, with_label, with_labels, with_name}
 use Rattle.m11_placement.specs.Meanings.{Map}
-use Rattle.m11_placement.specs.Tables.{Table, kind_here, place}
+use Rattle.m11_placement.specs.Tables.{Table, place, section_name}
 use Rattle.m11_placement.specs.declared.definitions.Definition.{Definition}
 use Rattle.m11_placement.specs.declared.definitions.Key.{Key}
 use Rattle.m11_placement.specs.declared.definitions.Key.TheVariants.{Named, Numbered}
@@ -16,11 +16,10 @@ use Rattle.m11_statements.specs.Statements.{letter_if}
 use Rattle.m11_statements.specs.declared.labels.Label.{Label}
 use Rattle.m11_statements.specs.declared.labels.LabelKind.{LabelKind}
 use Rattle.m11_statements.specs.declared.labels.LabelKind.TheVariants as kind
-use Rattle.m11_values.specs.declared.kinds.Kind.{Kind}
 use Rattle.m11_table.specs.Alike.{Alike, Follows}
-use Rattle.m11_placing.proofs.Alike.{alike_defined, alike_kind, alike_place, same_labelled}
+use Rattle.m11_placing.proofs.Alike.{alike_defined, alike_place, alike_section, same_labelled}
 use Rattle.m11_placing.specs.Labels.{Defines}
-use Rattle.m11_placing.specs.Moved.{is_place_of, letter_P, moved_key, moved_kind, moved_letters, moved_name, stands_at}
+use Rattle.m11_placing.specs.Moved.{is_at, is_in, is_place_of, letter_P, moved_key, moved_kind, moved_letters, moved_name}
 use Rattle.m11_placing.specs.Passes.{Kept, Matches}
 
 -- ---- one key
@@ -89,8 +88,8 @@ module _ (old new : Table) (block number : ℕ) (is : block ≡ old.settings.blo
 module _ (one other : Table) (alike : Alike one other) (map : Map) where
   places_alike : (found : Option Definition) → is_place_of one found ≡ is_place_of other found
   places_alike (Some definition) =
-      ap (λ (p : ℕ). stands_at p (kind_here one) definition.standing) (alike_place one other alike)
-      ∙ ap (λ (k : Kind). stands_at (place other) k definition.standing) (alike_kind one other alike)
+      ap (λ (p : ℕ). is_in (section_name one) definition.label && is_at p definition.standing) (alike_place one other alike)
+      ∙ ap (λ (n : Name). is_in n definition.label && is_at (place other) definition.standing) (alike_section one other alike)
   places_alike None = refl
 
   key_alike : (key : Key) → moved_key map one key ≡ moved_key map other key

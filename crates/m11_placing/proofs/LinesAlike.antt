@@ -3,7 +3,7 @@ use Rattle.std.proofs.Common.{◌≡◌, ◌∙◌, ℕ, ◌*◌, Bool, true, fa
 use Rattle.std.specs.Int.RustNames.{bit_or}
 use Rattle.m11_arguments.specs.Expressions as expressions
 use Rattle.m11_arguments.specs.Expressions.{has_expression, number_at, value_at}
-use Rattle.m11_arguments.specs.LeftOvers.{left_over}
+use Rattle.m11_arguments.specs.LeftOvers.{left_over, skip_letters}
 use Rattle.m11_base.specs.Devices.{Bytes}
 use Rattle.m11_base.specs.Rad50.{Name}
 use Rattle.m11_base.specs.declared.instruction.Op.{Op}
@@ -22,6 +22,7 @@ use Rattle.m11_placement.specs.Counts as counts
 use Rattle.m11_placement.specs.Contents.{Put, byte, element_value, fixed_byte, followed_by, further, nothing, put, with_letters, word}
 use Rattle.m11_placement.specs.Effects.{change_by, directive_change, directive_put, operator_change, operator_put, steps}
 use Rattle.m11_placement.specs.Elements.{elements_at}
+use Rattle.m11_placement.specs.Exports as exports
 use Rattle.m11_placement.specs.Fields.{Fields, fields_at, forms_of}
 use Rattle.m11_placement.specs.Instructions.{assembled, fields}
 use Rattle.m11_placement.specs.Lines.{Assigning, Deed, Operating, Rests, Setting as SetsPlace, change_of, operation_put, put_by}
@@ -46,7 +47,7 @@ use Rattle.m11_placement.specs.declared.operators.Operator.TheVariants.{Instruct
 use Rattle.m11_placement.specs.declared.settings.Settings.{Settings}
 use Rattle.m11_placement.proofs.FirmNames.{firm_option, last_firm}
 use Rattle.m11_table.specs.Alike.{Alike}
-use Rattle.m11_placing.proofs.Alike.{alike_known, alike_labelled, alike_place}
+use Rattle.m11_placing.proofs.Alike.{alike_known, alike_labelled, alike_place, alike_value}
 
 -- ---- as far as they are firm they are alike too
 
@@ -133,25 +134,25 @@ module _ (one : Table) (definitions : List Definition) (doubled : List Key) (glo
         → storage.words_from map one line here starts ≡ storage.words_from map other line here starts
     words_alike [] here = refl
     words_alike (start ∷ starts) here =
-        ap (λ (k : expressions.Known). followed_by (word map.sections one false here (element_value k line start))
+        ap (λ (k : expressions.Known). followed_by (word one false here (element_value k line start))
         (storage.words_from map one line (further here 2) starts)) (alike_known one other alike map Refers here)
-        ∙ ap (λ (p : Put). followed_by (word map.sections other false here (element_value (known_at map Refers other here) line start)) p)
+        ∙ ap (λ (p : Put). followed_by (word other false here (element_value (known_at map Refers other here) line start)) p)
         (words_alike starts (further here 2))
 
     bytes_alike : (starts : List ℕ) (here : ℕ)
         → storage.bytes_from map one line here starts ≡ storage.bytes_from map other line here starts
     bytes_alike [] here = refl
     bytes_alike (start ∷ starts) here =
-        ap (λ (k : expressions.Known). followed_by (byte map.sections one here (element_value k line start))
+        ap (λ (k : expressions.Known). followed_by (byte one here (element_value k line start))
         (storage.bytes_from map one line (further here 1) starts)) (alike_known one other alike map Refers here)
-        ∙ ap (λ (p : Put). followed_by (byte map.sections other here (element_value (known_at map Refers other here) line start)) p)
+        ∙ ap (λ (p : Put). followed_by (byte other here (element_value (known_at map Refers other here) line start)) p)
         (bytes_alike starts (further here 1))
 
     part_alike : (here : ℕ) (part : Part) (of : PartKind)
         → strings.part_bytes map one here line part of ≡ strings.part_bytes map other here line part of
     part_alike here part Text = refl
     part_alike here part Expression =
-        ap (λ (k : expressions.Known). byte map.sections one here (value_at k line part.inside.start)) (alike_known one other alike map Refers here)
+        ap (λ (k : expressions.Known). byte one here (value_at k line part.inside.start)) (alike_known one other alike map Refers here)
 
     parts_alike : (parts : List Part) (here : ℕ)
         → strings.parts_bytes map one here line parts ≡ strings.parts_bytes map other here line parts
@@ -183,6 +184,10 @@ module _ (one : Table) (definitions : List Definition) (doubled : List Key) (glo
         bit_or (expressions.number_letters k line start) (left_over line (expression_end line start)) else left_over line start))
         (known_alike here)
 
+    transfer_alike : (start : ℕ) → exports.transfer map one line start ≡ exports.transfer map other line start
+    transfer_alike start =
+        ap (λ (q : Quantity). if has_expression line start then Some q else None) (alike_value one other alike map line start)
+
     put_directive_alike : (here start : ℕ) (arguments : Option ℕ) (of : Directive)
         → directive_put map one here line start arguments of ≡ directive_put map other here line start arguments of
     put_directive_alike here start arguments directive.Words =
@@ -204,13 +209,17 @@ module _ (one : Table) (definitions : List Definition) (doubled : List Key) (glo
         (number_alike (counts.argument_count arguments line start))
     put_directive_alike here start arguments directive.CharacterCount =
         ap (λ (n : ℕ). nothing (bit_or (counts.character_letters line start) n)) (number_alike (counts.character_count line start))
+    put_directive_alike here start arguments directive.End =
+        ap (λ (q : Option Quantity). nothing (bit_or (exports.expression_letters q)
+        (bit_or (skip_letters line start (expression_end line start)) (left_over line (expression_end line start)))))
+        (transfer_alike start)
     put_directive_alike here start arguments of = refl
 
     put_operator_alike : (here start : ℕ) (arguments : Option ℕ) (operator : Operator)
         → operator_put map one here line start arguments operator ≡ operator_put map other here line start arguments operator
     put_operator_alike here start arguments (Instruction operation) =
         let at : expressions.Known → expressions.Known → Fields → Put = λ known refers found.
-        assembled (record { whole = map.sections; table = one; place = here; known = known; refers = refers; line = line }) start operation found in
+        assembled (record { table = one; place = here; known = known; refers = refers; line = line }) start operation found in
         ap (λ (k : expressions.Known). at k (known_at map Refers one here) (fields one here line start operation))
         (alike_known one other alike map Knows here)
         ∙ ap (λ (k : expressions.Known). at (known_at map Knows other here) k (fields one here line start operation))

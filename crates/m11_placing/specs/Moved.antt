@@ -1,19 +1,18 @@
 -- Labels that stand elsewhere than a map has them. (MACRO-11 Language Reference Manual, "Diagnostic error message summary", P: phase
--- error. That place and section are compared is this project's own.)
+-- error. That the sections of two readings are the same where their names are, and that what is assigned has no place, is this project's
+-- own.)
 use Rattle.std.specs.Prelude.{ℕ, ◌==◌, ◌&&◌, not, Bool, false, true, List, [], ◌∷◌, Option, Some, None}
 use Rattle.std.specs.Int.RustNames.{bit_or}
 use Rattle.m11_base.specs.Devices.{Bytes}
-use Rattle.m11_base.specs.Rad50.{Name}
+use Rattle.m11_base.specs.Rad50.{Name, is_same_name}
 use Rattle.m11_statements.specs.Statements.{letter_if}
 use Rattle.m11_statements.specs.declared.labels.Label.{Label}
 use Rattle.m11_statements.specs.declared.labels.LabelKind.{LabelKind}
 use Rattle.m11_statements.specs.declared.labels.LabelKind.TheVariants as label
-use Rattle.m11_values.specs.declared.kinds.Kind.{Kind}
-use Rattle.m11_values.specs.declared.kinds.Kind.TheVariants.{Absolute, Section}
 use Rattle.m11_placement.specs.Definitions.{is_defined, last_definition}
 use Rattle.m11_placement.specs.Labels.{label_name, with_label}
 use Rattle.m11_placement.specs.Meanings.{Map}
-use Rattle.m11_placement.specs.Tables.{Table, kind_here, place}
+use Rattle.m11_placement.specs.Tables.{Table, place, section_name}
 use Rattle.m11_placement.specs.declared.definitions.Definition.{Definition}
 use Rattle.m11_placement.specs.declared.definitions.Key.{Key}
 use Rattle.m11_placement.specs.declared.definitions.Key.TheVariants.{Named, Numbered}
@@ -24,23 +23,22 @@ use Rattle.m11_placement.specs.declared.definitions.Standing.TheVariants.{Known,
 abbrev pub letter_P : ℕ
 letter_P = 0o1000
 
--- both count from 0, or from the beginning of one section
-abbrev pub is_same_kind : Kind → Kind → Bool
-is_same_kind Absolute Absolute = true
-is_same_kind (Section one) (Section other) = one == other
-is_same_kind one other = false
+-- a label stands in a section; what is assigned stands in none
+abbrev pub is_in : Name → Option Name → Bool
+is_in section (Some other) = is_same_name other section
+is_in section None = false
 
--- what is known is the place of a section
-abbrev pub stands_at : ℕ → Kind → Standing → Bool
-stands_at place kind (Known number other) = (number == place) && is_same_kind other kind
-stands_at place kind Unknown = false
+-- what is known has a number
+abbrev pub is_at : ℕ → Standing → Bool
+is_at place (Known number kind) = number == place
+is_at place Unknown = false
 
--- a definition gives the place where the counter stands
+-- a definition is that of a label which stands where the counter does: in the section of the line, and at its place there
 abbrev pub is_place_of : Table → Option Definition → Bool
-is_place_of table (Some definition) = stands_at (place table) (kind_here table) definition.standing
+is_place_of table (Some definition) = is_in (section_name table) definition.label && is_at (place table) definition.standing
 is_place_of table None = false
 
--- P where the map doesn't have the place of a key. One that is defined before has no place of its own
+-- P where the map doesn't have the place of a label. A key that is defined before has no place of its own
 abbrev pub moved_key : Map → Table → Key → ℕ
 moved_key map table key =
     letter_if (not (is_defined key table.definitions) && not (is_place_of table (last_definition key map.definitions))) letter_P

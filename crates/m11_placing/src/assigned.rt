@@ -155,14 +155,14 @@ fn definition_of(name: Name, value: &Value, is_firm: bool) -> Definition
       key = Named name;
       standing = assignments.standing_of (quantity value.now);
       is_firm = is_firm;
-      is_label = false;
+      label = None;
     } }
 {
     Definition {
         key: Key::Named(name),
         standing: standing_of(value),
         is_firm,
-        is_label: false,
+        label: None,
     }
 }
 

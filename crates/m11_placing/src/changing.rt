@@ -257,6 +257,6 @@ fn numbered(name: Name, number: u16) -> Definition
         key: Key::Named(name),
         standing: Standing::Known(number, Kind::Absolute),
         is_firm: true,
-        is_label: false,
+        label: None,
     }
 }

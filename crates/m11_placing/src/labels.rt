@@ -219,6 +219,6 @@ fn labelled(table: &Table, key: Key) -> Definition
         key,
         standing: Standing::Known(table.place(), table.kind_here()),
         is_firm: true,
-        is_label: true,
+        label: Some(table.section_name()),
     }
 }

@@ -6,10 +6,10 @@ ghost use Rattle.m11_placing.specs.Moved as spec;
 ghost use Rattle.m11_scan.specs.Views.{bits_of};
 
 use bitflags::Flags;
+use m11_base::Name;
 use m11_placement::{Definition, Key, Standing};
 use m11_scan::Letters;
 use m11_table::{Map, Table};
-use m11_values::Kind;
 
 // The letter of a label whose key no line before it defines.
 pub(crate) fn moved_letter(map: &Map<'_>, table: &Table, key: &Key) -> Letters
@@ -19,32 +19,34 @@ pub(crate) fn moved_letter(map: &Map<'_>, table: &Table, key: &Key) -> Letters
     Letters::P.when(!is_place_of(table, map.definition(key)))
 }
 
-// Whether a definition gives the place where the counter stands.
+// Whether a definition is that of a label which stands where the counter does.
 fn is_place_of(table: &Table, found: Option<Definition>) -> bool
     ensures { result ≡ spec.is_place_of table.now found }
 {
     match found {
-        Some(definition) => stands_at(table.place(), table.kind_here(), definition.standing),
+        Some(definition) => {
+            is_in(table.section_name(), definition.label)
+                && is_at(table.place(), definition.standing)
+        }
         None => false,
     }
 }
 
-fn stands_at(place: u16, kind: Kind, standing: Standing) -> bool
-    ensures { result ≡ spec.stands_at place kind standing }
+// Whether a label stands in a section. What is assigned stands in none.
+fn is_in(section: Name, label: Option<Name>) -> bool
+    ensures { result ≡ spec.is_in section label }
 {
-    match standing {
-        Standing::Known(number, other) => number == place && is_same_kind(other, kind),
-        Standing::Unknown => false,
+    match label {
+        Some(other) => other == section,
+        None => false,
     }
 }
 
-// Both count from 0, or from the beginning of one section.
-fn is_same_kind(one: Kind, other: Kind) -> bool
-    ensures { result ≡ spec.is_same_kind one other }
+fn is_at(place: u16, standing: Standing) -> bool
+    ensures { result ≡ spec.is_at place standing }
 {
-    match (one, other) {
-        (Kind::Absolute, Kind::Absolute) => true,
-        (Kind::Section(one), Kind::Section(other)) => one == other,
-        _ => false,
+    match standing {
+        Standing::Known(number, _) => number == place,
+        Standing::Unknown => false,
     }
 }
