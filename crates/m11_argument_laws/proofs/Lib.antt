@@ -1,2 +1,3 @@
+mod Listed
 mod ReadBack
 mod Refused
