@@ -1,3 +1,4 @@
 mod Listed
+mod ReadAsWritten
 mod ReadBack
 mod Refused

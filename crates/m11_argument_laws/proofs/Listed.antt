@@ -1,18 +1,15 @@
 -- Formals and actuals are read one after the other.
-use Rattle.std.proofs.Common.{◌≡◌, ℕ, zero, suc, ◌+◌, ◌<◌, ◌≤◌, Bool, true, false, List, [], ◌∷◌, ◌++◌, length, map, take, drop, Option, Some, None, refl, sym, ap, ◌∙◌, subst, arith, inl, inr, lit≤}
+use Rattle.std.proofs.Common.{◌≡◌, ℕ, zero, suc, ◌+◌, ◌<◌, ◌≤◌, Bool, true, false, List, [], ◌∷◌, ◌++◌, length, map, take, drop, Option, Some, None, refl, sym, ap, ◌∙◌, subst, arith, inl, inr}
 use Rattle.std.specs.Prelude.{◌-◌, ◌==◌, ◌&&◌, ◌||◌, if◌then◌else◌, nat_le, not}
-use Rattle.std.specs.Int.RustNames.{bit_or}
 use Rattle.std.specs.List.{prefix_len}
 use Rattle.std.proofs.lemmas.Bool.{cases_lt, eqb-true}
 use Rattle.std.proofs.lemmas.List.{drop-drop, drop_all, length-drop}
-use Rattle.m11_arguments.specs.Actuals.{Given, actuals_from, followed_by, given_as, given_by, nothing_given, unwanted, wanted_by}
+use Rattle.m11_arguments.specs.Actuals.{Given, actuals_from, followed_by, given_as, given_by, unwanted, wanted_by}
 use Rattle.m11_arguments.specs.Conditions.{text_of}
 use Rattle.m11_arguments.specs.Digits.{digits_of}
 use Rattle.m11_arguments.specs.Expressions.{Known, number_at}
-use Rattle.m11_arguments.specs.LeftOvers.{bad_letters, rest_letters, skip_letters}
-use Rattle.m11_arguments.specs.Macros.{FormalList, NextListed, formal_name, formals_after, formals_by, formals_within, listed_at, listed_by, listed_named}
+use Rattle.m11_arguments.specs.Macros.{NextListed, formal_name, formals_after, formals_by, formals_within, listed_at, listed_by, listed_named}
 use Rattle.m11_arguments.specs.Macros.NextListed.{Ending, Formally}
-use Rattle.m11_arguments.specs.declared.macros.MacroFormal.{MacroFormal}
 use Rattle.m11_base.specs.Devices.{Bytes}
 use Rattle.m11_base.specs.Rad50.{Name}
 use Rattle.m11_lines.specs.Line.{line_limit}
@@ -24,7 +21,7 @@ use Rattle.m11_scan.specs.Ends.{place_after, sort_in}
 use Rattle.m11_scan.specs.Expressions.{begin, taken}
 use Rattle.m11_scan.specs.Letters.{letter_I}
 use Rattle.m11_scan.specs.Numbers.{base_of}
-use Rattle.m11_scan.specs.Skipped.{has_skipped, skipped_between}
+use Rattle.m11_scan.specs.Skipped.{has_skipped}
 use Rattle.m11_scan.specs.Texts.{bracketed, is_bare, separator_length}
 use Rattle.m11_statements.specs.Actuals.{actual_in, after_blanks, bare_actual, bracketed_actual, digits_actual, next_actual, separator_at}
 use Rattle.m11_statements.specs.Formals.{follows_question, formal_in, named, next_formal}

@@ -1,16 +1,16 @@
 -- The digits of a number spell it.
-use Rattle.std.proofs.Common.{◌≡◌, ℕ, zero, suc, ◌+◌, ◌-◌, ◌*◌, ◌/◌, ◌%◌, ◌^◌, ◌<◌, ◌≤◌, Bool, true, false, List, [], ◌∷◌, ◌++◌, length, Some, refl, sym, ap, ◌∙◌, subst, arith, inl, inr, ltb, lit≤, lit<}
+use Rattle.std.proofs.Common.{◌≡◌, ℕ, zero, suc, ◌+◌, ◌-◌, ◌*◌, ◌/◌, ◌%◌, ◌^◌, ◌<◌, ◌≤◌, Bool, true, false, List, [], ◌∷◌, ◌++◌, length, Some, refl, sym, ap, ◌∙◌, subst, arith, ltb, lit≤}
 use Rattle.std.specs.Prelude.{if◌then◌else◌, slice_index}
 use Rattle.std.specs.Int.RustNames.{bit_or}
 use Rattle.std.proofs.Math.Nat.{div-add-mod, div-lt_iff_lt-mul, mod-lt, pow-suc, pow-zero}
 use Rattle.std.proofs.lemmas.Bool.{le-leb, le-ltb, lt-leb, ltb-false, ltb-true}
 use Rattle.std.proofs.lemmas.List.{length-append}
-use Rattle.std.proofs.lemmas.Nat.{div-add-mod', pow-add}
+use Rattle.std.proofs.lemmas.Nat.{pow-add}
 use Rattle.m11_arguments.specs.Digits.{digits_of, last_digits}
 use Rattle.m11_scan.specs.Characters.{is_digit}
 use Rattle.m11_scan.specs.Cuts.{form_of, number_form}
 use Rattle.m11_scan.specs.Letters.{letter_N, letter_T}
-use Rattle.m11_scan.specs.Numbers.{base_of, base_in, has_digit_outside, number_letters, number_of, spelled}
+use Rattle.m11_scan.specs.Numbers.{base_of, has_digit_outside, number_letters, number_of, spelled}
 use Rattle.m11_scan.specs.declared.radix.Radix.{Radix}
 use Rattle.m11_scan.specs.declared.radix.Radix.TheVariants.{Binary, Octal, Decimal}
 use Rattle.m11_scan.specs.declared.sort.Form.TheVariants.{Cut}

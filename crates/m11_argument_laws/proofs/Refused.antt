@@ -3,11 +3,11 @@ use Rattle.std.proofs.Common.{◌≡◌, ℕ, Bool, true, false, List, [], ◌�
 use Rattle.std.specs.Prelude.{if◌then◌else◌}
 use Rattle.std.specs.Int.RustNames.{bit_or}
 use Rattle.std.proofs.lemmas.Bool.{false≢true}
-use Rattle.m11_arguments.specs.Conditions.{Asked, actual_letters, asked, asked_at, asked_by, compared, condition, condition_of, defined, first_by, matched, named, named_by, numeric, refused, same, second_at, second_by, text_of, with_earlier}
+use Rattle.m11_arguments.specs.Conditions.{Asked, actual_letters, asked, asked_by, compared, condition, defined, first_by, matched, named, named_by, numeric, refused, same, second_by, text_of}
 use Rattle.m11_arguments.specs.Definedness.{Tested, after_joint, after_symbol, joined_to, joining, names_at, names_in, tested}
 use Rattle.m11_arguments.specs.Expressions.{Known, has_expression, number_at, number_letters, symbols_at}
 use Rattle.m11_arguments.specs.LeftOvers.{has_token, left_over, start_of}
-use Rattle.m11_arguments.specs.Notes.{Notes, noting}
+use Rattle.m11_arguments.specs.Notes.{noting}
 use Rattle.m11_arguments.specs.Repeats.{notes, repeat_count, rounds_of}
 use Rattle.m11_arguments.specs.declared.definedness.Joint.{Joint}
 use Rattle.m11_arguments.specs.declared.definedness.SoFar.{SoFar}
@@ -17,12 +17,11 @@ use Rattle.m11_scan.specs.Ends.{expression_end}
 use Rattle.m11_scan.specs.Letters.{letter_A, letter_I, letter_Q}
 use Rattle.m11_scan.specs.Skipped.{skipped_between}
 use Rattle.m11_scan.specs.declared.conditions.Condition.{Condition}
-use Rattle.m11_scan.specs.declared.conditions.Condition.TheVariants.{Zero, NotZero, Positive, Negative, NotNegative, NotPositive, Defined, NotDefined, Blank, NotBlank, Identical, Different}
+use Rattle.m11_scan.specs.declared.conditions.Condition.TheVariants.{Zero, NotZero, Positive, Negative, NotNegative, NotPositive, Defined, NotDefined, Identical, Different}
 use Rattle.m11_statements.specs.Actuals.{next_actual, separator_at}
 use Rattle.m11_statements.specs.Statements.{letter_if}
 use Rattle.m11_statements.specs.declared.actuals.Actual.{Actual}
 use Rattle.m11_values.specs.declared.names.Symbol.{Symbol}
-use Rattle.m11_values.specs.Terms.{symbol_in}
 use Rattle.m11_argument_laws.specs.Refusals.{HasBadName, HasLetter, IsLoneText, IsRefused, LacksArgument, asks_names, asks_number, asks_texts}
 use Rattle.m11_argument_laws.specs.Refusals.HasBadName.{LaterName, MissingName, NoName}
 use Rattle.m11_argument_laws.specs.Refusals.IsRefused.{Lacking, Unknown, Unnamed}

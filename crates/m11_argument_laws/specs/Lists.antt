@@ -1,6 +1,6 @@
 -- Lists of formals and of actuals, as they are written. (MACRO-11 Language Reference Manual, "Arguments in macro definitions and macro
 -- calls".)
-use Rattle.std.specs.Prelude.{◌≡◌, ℕ, true, List, [], ◌∷◌, Option, Some, None}
+use Rattle.std.specs.Prelude.{◌≡◌, ℕ, true, List, [], ◌∷◌, Some, None}
 use Rattle.std.specs.Int.RustNames.{bit_or}
 use Rattle.m11_arguments.specs.Actuals.{Given, followed_by, given_by, nothing_given}
 use Rattle.m11_arguments.specs.Expressions.{Known}

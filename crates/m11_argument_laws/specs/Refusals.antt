@@ -1,6 +1,6 @@
 -- Conditions that are refused, since their name is unknown, or an argument of theirs bad or missing. (MACRO-11 Language Reference Manual,
 -- "Conditional assembly block directives". What becomes of missing and bad arguments is this project's own.)
-use Rattle.std.specs.Prelude.{◌≡◌, ℕ, Bool, true, false, List, [], ◌∷◌, Option, Some, None}
+use Rattle.std.specs.Prelude.{◌≡◌, ℕ, Bool, true, false, List, [], ◌∷◌, Some, None}
 use Rattle.std.specs.Int.RustNames.{bit_and}
 use Rattle.m11_arguments.specs.Conditions.{condition_of}
 use Rattle.m11_arguments.specs.Definedness.{joining}
@@ -9,7 +9,7 @@ use Rattle.m11_arguments.specs.declared.definedness.Joint.{Joint}
 use Rattle.m11_base.specs.Devices.{Bytes}
 use Rattle.m11_scan.specs.Cutting.{Lexeme, tokens_from}
 use Rattle.m11_scan.specs.declared.conditions.Condition.{Condition}
-use Rattle.m11_scan.specs.declared.conditions.Condition.TheVariants.{Zero, NotZero, Positive, Negative, NotNegative, NotPositive, Defined, NotDefined, Blank, NotBlank, Identical, Different}
+use Rattle.m11_scan.specs.declared.conditions.Condition.TheVariants.{Zero, NotZero, Positive, Negative, NotNegative, NotPositive, Defined, NotDefined, Identical, Different}
 use Rattle.m11_statements.specs.Actuals.{next_actual, separator_at}
 use Rattle.m11_statements.specs.declared.actuals.Actual.{Actual}
 use Rattle.m11_values.specs.declared.names.Symbol.{Symbol}

@@ -6,7 +6,9 @@
 mod conditions;
 mod digits;
 mod lists;
+mod statements;
 
 pub use conditions::{a_repeat_without_a_number_has_no_round, refused_conditions_do_not_hold};
 pub use digits::{written_numbers_are_read_back, written_numbers_begin_without_a_zero};
 pub use lists::{actuals_stand_one_after_the_other, formals_stand_one_after_the_other};
+pub use statements::{bodies_are_read_as_they_are_written, labels_are_read_as_they_are_written};
