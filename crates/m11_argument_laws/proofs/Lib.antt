@@ -1,4 +1,5 @@
 mod Listed
+mod NamesListed
 mod ReadAsWritten
 mod ReadBack
 mod Refused

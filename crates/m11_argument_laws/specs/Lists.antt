@@ -1,6 +1,6 @@
--- Lists of formals and of actuals, as they are written. (MACRO-11 Language Reference Manual, "Arguments in macro definitions and macro
--- calls".)
-use Rattle.std.specs.Prelude.{◌≡◌, ℕ, true, List, [], ◌∷◌, Some, None}
+-- Lists of formals, of actuals and of names, as they are written. (MACRO-11 Language Reference Manual, "Arguments in macro
+-- definitions and macro calls" and ".GLOBL directive".)
+use Rattle.std.specs.Prelude.{◌≡◌, ℕ, true, false, List, [], ◌∷◌, Option, Some, None}
 use Rattle.std.specs.Int.RustNames.{bit_or}
 use Rattle.m11_arguments.specs.Actuals.{Given, followed_by, given_by, nothing_given}
 use Rattle.m11_arguments.specs.Expressions.{Known}
@@ -8,19 +8,26 @@ use Rattle.m11_arguments.specs.Macros.{listed_at}
 use Rattle.m11_arguments.specs.Macros.NextListed.{Ending, Formally}
 use Rattle.m11_arguments.specs.declared.macros.MacroFormal.{MacroFormal}
 use Rattle.m11_base.specs.Devices.{Bytes}
+use Rattle.m11_scan.specs.Cutting.{tokens_from}
 use Rattle.m11_statements.specs.Actuals.{next_actual, separator_at}
+use Rattle.m11_statements.specs.Listed.{listed_name}
 use Rattle.m11_statements.specs.declared.actuals.Actual.{Actual}
+use Rattle.m11_statements.specs.declared.listed.ListedName.{ListedName}
+use Rattle.m11_statements.specs.declared.spans.Span.{Span}
 
--- formals that stand one after the other behind a place, with the letters of their list: blanks, a comma or both stand before each
+-- formals that stand one after the other behind a place, with the letters of their list: blanks, a comma or both stand before
+-- each
 pub data AreFormals (line : Bytes) : ℕ → List MacroFormal → ℕ → Type 0 where
   -- where none stands next, the list ends
-  NoFormal : (place letters : ℕ) → listed_at line (separator_at line place).end ≡ Ending letters → AreFormals line place [] letters
+  NoFormal : (place letters : ℕ) → listed_at line (separator_at line place).end ≡ Ending letters
+      → AreFormals line place [] letters
   -- where one stands next, the list goes on behind it
   OneFormal : (place : ℕ) (formal : MacroFormal) (letters end : ℕ) (formals : List MacroFormal) (further : ℕ)
       → listed_at line (separator_at line place).end ≡ Formally formal letters end → AreFormals line end formals further
       → AreFormals line place (formal ∷ formals) (bit_or letters further)
 
--- actuals that stand one after the other from a place on, with what reading them leaves: blanks, a comma or both stand between two
+-- actuals that stand one after the other from a place on, with what reading them leaves: blanks, a comma or both stand between
+-- two
 pub data AreActuals (known : Known) (line : Bytes) : ℕ → Given → Type 0 where
   -- where none stands next, they end
   NoActual : (place : ℕ) → next_actual line place true ≡ None → AreActuals known line place nothing_given
@@ -28,3 +35,14 @@ pub data AreActuals (known : Known) (line : Bytes) : ℕ → Given → Type 0 wh
   OneActual : (place : ℕ) (actual : Actual) (more : Given) → next_actual line place true ≡ Some actual
       → AreActuals known line (separator_at line actual.end).end more
       → AreActuals known line place (followed_by (given_by known line actual) more)
+
+-- elements of a list of names that stand one after the other from a place on, and the place after them; one that is no name is
+-- none
+pub data AreNames (line : Bytes) : ℕ → List (Option Span) → ℕ → Type 0 where
+  -- where no comma stands after an element, it is the last
+  LastName : (place : ℕ) (element : ListedName) → listed_name place (tokens_from line place) ≡ element → element.goes_on ≡ false
+      → AreNames line place (element.name ∷ []) element.end
+  -- after a comma the next one stands
+  NextName : (place : ℕ) (element : ListedName) (names : List (Option Span)) (end : ℕ)
+      → listed_name place (tokens_from line place) ≡ element → element.goes_on ≡ true → AreNames line element.end names end
+      → AreNames line place (element.name ∷ names) end

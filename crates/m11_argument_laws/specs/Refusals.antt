@@ -1,5 +1,5 @@
--- Conditions that are refused, since their name is unknown, or an argument of theirs bad or missing. (MACRO-11 Language Reference Manual,
--- "Conditional assembly block directives". What becomes of missing and bad arguments is this project's own.)
+-- Conditions that are refused, since their name is unknown, or an argument of theirs bad or missing. (MACRO-11 Language Reference
+-- Manual, "Conditional assembly block directives". What becomes of missing and bad arguments is this project's own.)
 use Rattle.std.specs.Prelude.{◌≡◌, ℕ, Bool, true, false, List, [], ◌∷◌, Some, None}
 use Rattle.std.specs.Int.RustNames.{bit_and}
 use Rattle.m11_arguments.specs.Conditions.{condition_of}

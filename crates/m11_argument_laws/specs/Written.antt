@@ -1,5 +1,5 @@
--- What a line is written as: labels, and then an assignment, an operator or words. (MACRO-11 Language Reference Manual, "Label field",
--- "Operator field" and "Direct assignment statements".)
+-- What a line is written as: labels, and then an assignment, an operator or words. (MACRO-11 Language Reference Manual, "Label
+-- field", "Operator field" and "Direct assignment statements".)
 use Rattle.std.specs.Prelude.{◌≡◌, Bool, true, false, List, [], ◌∷◌}
 use Rattle.m11_base.specs.Devices.{Bytes}
 use Rattle.m11_scan.specs.Cutting.{Lexeme}

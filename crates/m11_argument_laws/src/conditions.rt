@@ -1,5 +1,5 @@
-//! Arguments that are bad or missing. (MACRO-11 Language Reference Manual, "Conditional assembly block directives" and "Repeat block
-//! directive".)
+//! Arguments that are bad or missing. (MACRO-11 Language Reference Manual, "Conditional assembly block directives" and "Repeat
+//! block directive".)
 
 ghost use Rattle.std.specs.Prelude.{◌≡◌, ℕ, false};
 ghost use Rattle.m11_argument_laws.specs.Refusals.{HasLetter, IsRefused};
@@ -9,8 +9,8 @@ ghost use Rattle.m11_arguments.specs.Repeats.{notes, repeat_count};
 ghost use Rattle.m11_base.specs.Devices.{Bytes};
 ghost use Rattle.m11_scan.specs.Letters.{letter_A};
 
-/// A condition that is refused, since its name is unknown or an argument of it bad or missing, doesn't hold and has A, whatever names
-/// stand for.
+/// A condition that is refused, since its name is unknown or an argument of it bad or missing, doesn't hold and has A, whatever
+/// names stand for.
 pub fn refused_conditions_do_not_hold()
     ensures off { (known : Known) (line : Bytes) (place : ℕ) → IsRefused line place
         → (condition known line place).holds ≡ false }

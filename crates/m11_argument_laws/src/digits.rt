@@ -1,4 +1,5 @@
-//! Numbers that are written as arguments. (MACRO-11 Language Reference Manual, "Numeric arguments passed as symbols" and "Numbers".)
+//! Numbers that are written as arguments. (MACRO-11 Language Reference Manual, "Numeric arguments passed as symbols" and
+//! "Numbers".)
 
 ghost use Rattle.std.specs.Prelude.{◌≡◌, ◌≢◌, ◌<◌, ◌∷◌, ℕ, [], Some, slice_index};
 ghost use Rattle.m11_arguments.specs.Digits.{digits_of};
@@ -8,8 +9,8 @@ ghost use Rattle.m11_scan.specs.declared.radix.Radix.{Radix};
 ghost use Rattle.m11_scan.specs.declared.sort.Form.TheVariants.{Cut};
 ghost use Rattle.m11_scan.specs.declared.sort.Sort.TheVariants.{Number};
 
-/// What `\e` and a created symbol write of a word is read back: in the radix in which it is written it is one number, that word, without
-/// a letter.
+/// What `\e` and a created symbol write of a word is read back: in the radix in which it is written it is one number, that word,
+/// without a letter.
 pub fn written_numbers_are_read_back()
     ensures token { (radix : Radix) (number : ℕ) → number < 65536
         → form_of (digits_of (base_of radix) number) ≡ Some (Cut Number) }

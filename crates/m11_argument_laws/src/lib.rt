@@ -1,6 +1,6 @@
-//! Laws of what a line says and of the arguments of its operator, in the words of the language: what is written so is read as that. Each
-//! is the contract of a function that does nothing; no other crate names them. (MACRO-11 Language Reference Manual, "Source program
-//! format", "Conditional assembly block directives" and "Arguments in macro definitions and macro calls".)
+//! Laws of what a line says and of the arguments of its operator, in the words of the language: what is written so is read as
+//! that. Each is the contract of a function that does nothing; no other crate names them. (MACRO-11 Language Reference Manual,
+//! "Source program format", "Conditional assembly block directives" and "Arguments in macro definitions and macro calls".)
 #![tactic(auto)]
 
 mod conditions;
@@ -10,5 +10,8 @@ mod statements;
 
 pub use conditions::{a_repeat_without_a_number_has_no_round, refused_conditions_do_not_hold};
 pub use digits::{written_numbers_are_read_back, written_numbers_begin_without_a_zero};
-pub use lists::{actuals_stand_one_after_the_other, formals_stand_one_after_the_other};
+pub use lists::{
+    actuals_stand_one_after_the_other, formals_stand_one_after_the_other,
+    names_stand_one_after_the_other,
+};
 pub use statements::{bodies_are_read_as_they_are_written, labels_are_read_as_they_are_written};

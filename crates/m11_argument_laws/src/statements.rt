@@ -15,8 +15,8 @@ pub fn labels_are_read_as_they_are_written()
     ensures exists { (line : Bytes) → AreLabelled (tokens_of line) (labels_at line) }
 {}
 
-/// What is written after the labels as an assignment, as a setting of the counter, as an operator or as words is read as that, and each
-/// line is so written.
+/// What is written after the labels as an assignment, as a setting of the counter, as an operator or as words is read as that,
+/// and each line is so written.
 pub fn bodies_are_read_as_they_are_written()
     ensures written { (line : Bytes) (body : Body) → Says line (tokens_from line (labels_end line)) body → body_of line ≡ body }
     ensures exists { (line : Bytes) → Says line (tokens_from line (labels_end line)) (body_of line) }
