@@ -23,16 +23,15 @@ use Rattle.m11_placement.specs.Contents.{Put}
 use Rattle.m11_placement.specs.Labels.{labels_letters, labels_stand}
 use Rattle.m11_placement.specs.Limits.{most_local_symbols, most_names, most_sections}
 use Rattle.m11_placement.specs.Items.{assigned_items, deed_items, is_shown, value_items}
-use Rattle.m11_placement.specs.Lines.{Deed, Rests, Assigning, Setting, Operating, after_line, deed, line_change, line_put, put_by, put_place, section_name, stands}
+use Rattle.m11_placement.specs.Lines.{Deed, Rests, Assigning, Setting, Operating, after_line, deed, line_change, line_put, put_by, put_place, stands}
 use Rattle.m11_placement.specs.Meanings.{Map, empty_map, known_at, stands_for}
 use Rattle.m11_placement.specs.declared.meanings.Context.TheVariants.{Knows}
 use Rattle.m11_placement.specs.Operators.{is_even}
-use Rattle.m11_placement.specs.Sections.{numbered}
-use Rattle.m11_placement.specs.Tables.{Table, firm_table, first_table, place}
+use Rattle.m11_placement.specs.Tables.{Table, firm_table, first_table, place, section_name}
 use Rattle.m11_placement.specs.Unfolded.{known_after_labels}
 use Rattle.m11_placement.specs.declared.sections.Section.{Section}
 use Rattle.m11_placement.specs.declared.settings.Settings.{Settings}
-use Rattle.m11_placing.proofs.Alike.{alike_itself, alike_known, alike_place}
+use Rattle.m11_placing.proofs.Alike.{alike_itself, alike_known, alike_place, alike_section}
 use Rattle.m11_placing.specs.Deeds.{deed_seen}
 use Rattle.m11_placing.specs.Lines.{letters_from}
 use Rattle.m11_placing.specs.Mentioned.{Gathered, with_all}
@@ -97,11 +96,6 @@ acts_told names table at text before after result is there acts =
     subst Q there (subst P is acts)
 
 -- ---- what is told of tables that are alike
-
-pub section_alike : (one other : Table) → Alike one other → section_name one ≡ section_name other
-section_alike one other alike =
-    ap (λ (s : Settings). (numbered s.section one.sections).name) alike.settings
-    ∙ ap (λ (l : List Section). (numbered other.settings.section l).name) alike.sections
 
 put_place_alike : (one other : Table) → Alike one other → (of : Deed) → put_place one of ≡ put_place other of
 put_place_alike one other alike Rests = alike_place one other alike
@@ -285,7 +279,7 @@ module _ (map_ : Map) (live : Live) (old middle : Going) (does : code.Deed) (beg
               (labels_letters text table (labels_at text)) p.letters done.notes.letters) put_so
               ∙ ap (λ (n : Notes). letters_from text (labels_end text) (body_of text) (label_letters live.line)
               (labels_letters text table (labels_at text)) (line_put map_ (stands table line) line).letters n.letters) notes);
-          section_is = section_is ∙ section_alike stood.table (labels_stand table text) here.matches.alike;
+          section_is = section_is ∙ alike_section stood.table (labels_stand table text) here.matches.alike;
           place_is = place_is ∙ put_place_alike stood.table (labels_stand table text) here.matches.alike of
               ∙ ap (put_place (labels_stand table text)) (begins.deed_is ∙ own);
           contents_are = ap (λ (p : Put). p.contents) put_so;

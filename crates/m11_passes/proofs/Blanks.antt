@@ -24,20 +24,19 @@ use Rattle.m11_placement.specs.Contents.{Put, nothing}
 use Rattle.m11_placement.specs.Items.{deed_items, is_shown}
 use Rattle.m11_placement.specs.Labels.{labels_letters, with_labels}
 use Rattle.m11_placement.specs.Limits.{limit_fault, local_count, most_local_symbols, most_names, most_sections, with_mentions}
-use Rattle.m11_placement.specs.Lines.{Rests, after_line, change_of, deed, deed_of, known_end, line_change, line_put, put_by, put_place, section_name, stands}
+use Rattle.m11_placement.specs.Lines.{Rests, after_line, change_of, deed, deed_of, known_end, line_change, line_put, put_by, put_place, stands}
 use Rattle.m11_placement.specs.Meanings.{Map}
 use Rattle.m11_placement.specs.declared.meanings.Context.TheVariants.{Knows}
 use Rattle.m11_placement.specs.Mentions.{Mention, deed_mentions, label_mentions, mention, mentions}
-use Rattle.m11_placement.specs.Tables.{Table, firm_table, place}
+use Rattle.m11_placement.specs.Tables.{Table, firm_table, place, section_name}
 use Rattle.m11_placement.specs.declared.sections.Section.{Section}
 use Rattle.m11_placement.specs.declared.settings.Settings.{Settings}
-use Rattle.m11_placing.proofs.Alike.{alike_place}
+use Rattle.m11_placing.proofs.Alike.{alike_place, alike_section}
 use Rattle.m11_placing.specs.Deeds.{deed_seen}
 use Rattle.m11_placing.specs.Mentioned.{Gathered, with_all}
 use Rattle.m11_placing.specs.Moved.{moved_letters}
 use Rattle.m11_placing.specs.Passes.{Kept, Matches}
 use Rattle.m11_placing.specs.declared.deeds.Deed.TheVariants as code
-use Rattle.m11_passes.proofs.Assembling.{section_alike}
 use Rattle.m11_passes.proofs.Placing.{fits_limits, within}
 use Rattle.m11_passes.specs.Blank.{IsBlank}
 use Rattle.m11_passes.specs.Bounds.{IsFew}
@@ -154,7 +153,7 @@ module _ (live : Live) (stage : Stage) (blank : IsBlank live.line.text) (table :
       record {
         is_live = live_so placed.live same rests;
         letters_are = letters_are ∙ sym (letters_so map_);
-        section_is = section_is ∙ section_alike pass.table table matches.alike ∙ ap section_name (sym stands_so);
+        section_is = section_is ∙ alike_section pass.table table matches.alike ∙ ap section_name (sym stands_so);
         place_is = place_is ∙ there ∙ ap (put_place (stands table line)) (sym deed_so);
         contents_are = ap (λ (p : Put). p.contents) (put_is ∙ sym (put_so map_));
         counter_is = counter_is ∙ there;

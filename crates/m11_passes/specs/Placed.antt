@@ -8,9 +8,9 @@ use Rattle.m11_unfolding.specs.Taking.{Live}
 use Rattle.m11_unfolding.specs.Unfolding.{Given}
 use Rattle.m11_placement.specs.Contents.{Put}
 use Rattle.m11_placement.specs.Items.{assigned_items, is_shown}
-use Rattle.m11_placement.specs.Lines.{after_line, deed, letters, line_put, put_place, section_name, stands}
+use Rattle.m11_placement.specs.Lines.{after_line, deed, letters, line_put, put_place, stands}
 use Rattle.m11_placement.specs.Meanings.{Map}
-use Rattle.m11_placement.specs.Tables.{Table, place}
+use Rattle.m11_placement.specs.Tables.{Table, place, section_name}
 use Rattle.m11_placing.specs.Deeds.{deed_seen}
 use Rattle.m11_placing.specs.Moved.{moved_letters}
 use Rattle.m11_passes.specs.declared.placed.LiveLine.{LiveLine}
