@@ -65,7 +65,7 @@ stands_now key label table same =
 
 -- ---- what stays
 
-module _ (key : Key) (label : Definition) (is_label : label.is_label ≡ true) where
+module _ (key : Key) (label : Definition) (is_label : is_some label.label ≡ true) where
   abbrev Stands : Table → Type 0
   Stands table = StandsIn key label table
 

@@ -7,10 +7,11 @@ use Rattle.std.specs.Option.{option_or}
 use Rattle.m11_arguments.specs.Definedness.{letter_U}
 use Rattle.m11_arguments.specs.Expressions as expressions
 use Rattle.m11_arguments.specs.Expressions.{known_by, symbols_at, value_at}
-use Rattle.m11_arguments.specs.LeftOvers.{skip_letters}
+use Rattle.m11_arguments.specs.LeftOvers.{left_over, skip_letters}
 use Rattle.m11_base.specs.Devices.{Bytes}
 use Rattle.m11_base.specs.Rad50.{Name}
 use Rattle.m11_listing.specs.declared.items.Item.{Item}
+use Rattle.m11_scan.specs.Ends.{expression_end}
 use Rattle.m11_statements.specs.Labels.{labels_at, labels_end}
 use Rattle.m11_statements.specs.Statements.{body_of, label_letters, letter_if}
 use Rattle.m11_statements.specs.declared.labels.Label.{Label}
@@ -32,23 +33,23 @@ use Rattle.m11_placement.specs.Assigning as assigning
 use Rattle.m11_placement.specs.Assignments.{all_firm, assigned, standing_of}
 use Rattle.m11_placement.specs.Changes.{Assigns, Change, Numbers, becomes_global, changed}
 use Rattle.m11_placement.specs.Codes.{Setting}
-use Rattle.m11_placement.specs.Contents.{Put, byte, element_value, fixed_byte, followed_by, further, nothing, pieces_from, put, with_letters, word}
+use Rattle.m11_placement.specs.Contents.{Put, byte, element_value, fixed_byte, followed_by, further, has_expression, nothing, pieces_from, put, with_letters, word}
 use Rattle.m11_placement.specs.Counts as counts
 use Rattle.m11_placement.specs.Definitions.{has_key, is_defined, is_labelled, last_definition}
 use Rattle.m11_placement.specs.Effects.{directive_put, operator_put}
 use Rattle.m11_placement.specs.Elements.{elements_at}
+use Rattle.m11_placement.specs.Exports as exports
 use Rattle.m11_placement.specs.Instructions.{assembled, fields, setting}
 use Rattle.m11_placement.specs.Items.{assigned_items, deed_items, items, items_of, value_items}
 use Rattle.m11_placement.specs.Labels.{global_if, label_name, labels_letters, with_definition, with_doubled, with_label}
 use Rattle.m11_placement.specs.Limits.{limit_fault, with_mentions}
-use Rattle.m11_placement.specs.Lines.{Assigning, Deed, Operating, Rests, Setting as SetsPlace, after_line, deed, known_end, letters, line_change, line_put, pieces, put_by, put_place, section_name, stands}
+use Rattle.m11_placement.specs.Lines.{Assigning, Deed, Operating, Rests, Setting as SetsPlace, after_line, deed, known_end, letters, line_change, line_put, pieces, put_by, put_place, stands}
 use Rattle.m11_placement.specs.Meanings.{Map, defined_or, known_at, letter_D, map_of, meaning_of, quantity_of, stands_for, undefined}
 use Rattle.m11_placement.specs.Mentions.{mentions}
 use Rattle.m11_placement.specs.Operators.{is_even}
-use Rattle.m11_placement.specs.declared.sections.Section.{Section}
 use Rattle.m11_placement.specs.Storage as storage
 use Rattle.m11_placement.specs.Strings as strings
-use Rattle.m11_placement.specs.Tables.{Table, firm_table, place}
+use Rattle.m11_placement.specs.Tables.{Table, firm_table, place, section_name}
 use Rattle.m11_placement.specs.declared.definitions.Definition.{Definition}
 use Rattle.m11_placement.specs.declared.definitions.Key.{Key}
 use Rattle.m11_placement.specs.declared.definitions.Key.TheVariants.{Named, Numbered}
@@ -71,7 +72,6 @@ maps_same one other alike = record {
   definitions = alike.definitions;
   doubled = alike.doubled;
   globals = alike.globals;
-  sections = alike.sections;
 }
 
 -- ---- what a key stands for
@@ -113,7 +113,7 @@ module _ (one other : Map) (same : MapsAgree one other) where
         key = key;
         standing = standing_of (value_at known line start);
         is_firm = all_firm table (symbols_at line start);
-        is_label = false;
+        label = None;
       } in
       ap of (known_same Knows table (place table))
 
@@ -165,30 +165,25 @@ module _ (one other : Map) (same : MapsAgree one other) where
         → storage.words_from one table line here starts ≡ storage.words_from other table line here starts
     words_same [] here = refl
     words_same (start ∷ starts) here =
-        ap (λ (k : expressions.Known). followed_by (word one.sections table false here (element_value k line start))
+        ap (λ (k : expressions.Known). followed_by (word table false here (element_value k line start))
         (storage.words_from one table line (further here 2) starts)) (known_same Refers table here)
-        ∙ ap (λ (l : List Section). followed_by (word l table false here (element_value (known_at other Refers table here) line start))
-        (storage.words_from one table line (further here 2) starts)) same.sections
-        ∙ ap (followed_by (word other.sections table false here (element_value (known_at other Refers table here) line start)))
+        ∙ ap (followed_by (word table false here (element_value (known_at other Refers table here) line start)))
         (words_same starts (further here 2))
 
     bytes_same : (starts : List ℕ) (here : ℕ)
         → storage.bytes_from one table line here starts ≡ storage.bytes_from other table line here starts
     bytes_same [] here = refl
     bytes_same (start ∷ starts) here =
-        ap (λ (k : expressions.Known). followed_by (byte one.sections table here (element_value k line start))
+        ap (λ (k : expressions.Known). followed_by (byte table here (element_value k line start))
         (storage.bytes_from one table line (further here 1) starts)) (known_same Refers table here)
-        ∙ ap (λ (l : List Section). followed_by (byte l table here (element_value (known_at other Refers table here) line start))
-        (storage.bytes_from one table line (further here 1) starts)) same.sections
-        ∙ ap (followed_by (byte other.sections table here (element_value (known_at other Refers table here) line start)))
+        ∙ ap (followed_by (byte table here (element_value (known_at other Refers table here) line start)))
         (bytes_same starts (further here 1))
 
     part_same : (here : ℕ) (part : Part) (of : PartKind)
         → strings.part_bytes one table here line part of ≡ strings.part_bytes other table here line part of
     part_same here part Text = refl
     part_same here part Expression =
-        ap (λ (k : expressions.Known). byte one.sections table here (value_at k line part.inside.start)) (known_same Refers table here)
-        ∙ ap (λ (l : List Section). byte l table here (value_at (known_at other Refers table here) line part.inside.start)) same.sections
+        ap (λ (k : expressions.Known). byte table here (value_at k line part.inside.start)) (known_same Refers table here)
 
     parts_same : (parts : List Part) (here : ℕ)
         → strings.parts_bytes one table here line parts ≡ strings.parts_bytes other table here line parts
@@ -221,15 +216,19 @@ module _ (one other : Map) (same : MapsAgree one other) where
         (number_same table (counts.argument_count arguments line start))
     directive_same here start arguments directive.CharacterCount =
         ap (λ (n : ℕ). nothing (bit_or (counts.character_letters line start) n)) (number_same table (counts.character_count line start))
+    directive_same here start arguments directive.End =
+        ap (λ (k : expressions.Known). nothing (bit_or
+        (exports.expression_letters (if has_expression line start then Some (value_at k line start) else None))
+        (bit_or (skip_letters line start (expression_end line start)) (left_over line (expression_end line start)))))
+        (known_same Knows table (place table))
     directive_same here start arguments of = refl
 
     setting_same : (here : ℕ) → setting one table here line ≡ setting other table here line
     setting_same here =
-        let at : List Section → expressions.Known → expressions.Known → Setting = λ whole known refers.
-        record { whole = whole; table = table; place = here; known = known; refers = refers; line = line } in
-        ap (λ (l : List Section). at l (known_at one Knows table here) (known_at one Refers table here)) same.sections
-        ∙ ap (λ (k : expressions.Known). at other.sections k (known_at one Refers table here)) (known_same Knows table here)
-        ∙ ap (at other.sections (known_at other Knows table here)) (known_same Refers table here)
+        let at : expressions.Known → expressions.Known → Setting = λ known refers.
+        record { table = table; place = here; known = known; refers = refers; line = line } in
+        ap (λ (k : expressions.Known). at k (known_at one Refers table here)) (known_same Knows table here)
+        ∙ ap (at (known_at other Knows table here)) (known_same Refers table here)
 
     operator_same : (here start : ℕ) (arguments : Option ℕ) (operator : Operator)
         → operator_put one table here line start arguments operator ≡ operator_put other table here line start arguments operator

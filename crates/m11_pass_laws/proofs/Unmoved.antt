@@ -3,9 +3,11 @@ use Rattle.std.proofs.Common.{◌≡◌, ◌∙◌, ℕ, ◌&&◌, not, Bool, tr
 use Rattle.std.proofs.lemmas.Bool.{eq-eqb}
 use Rattle.std.proofs.lemmas.List.{map-append}
 use Rattle.std.specs.Int.RustNames.{bit_or}
-use Rattle.std.specs.Prelude.{if◌then◌else◌}
+use Rattle.std.specs.Option.{is_some}
+use Rattle.std.specs.Prelude.{if◌then◌else◌, ◌==◌}
 use Rattle.m11_base.specs.Devices.{Bytes}
-use Rattle.m11_base.specs.Rad50.{Name}
+use Rattle.m11_base.proofs.SameNames.{same_name_itself}
+use Rattle.m11_base.specs.Rad50.{Name, is_same_name}
 use Rattle.m11_lines.specs.Line.{SourceLine}
 use Rattle.m11_passes.specs.Lines.{Numbered, PassLines, givens}
 use Rattle.m11_passes.specs.Lines as lines
@@ -15,15 +17,14 @@ use Rattle.m11_placement.specs.Labels.{global_if, label_name, labelled, with_blo
 use Rattle.m11_placement.specs.Lines.{after_line, line_change, stands}
 use Rattle.m11_placement.specs.Meanings.{Map}
 use Rattle.m11_placement.specs.Placements.{after_lines, program_map, table_after}
-use Rattle.m11_placement.specs.Sections.{is_relocatable, numbered}
-use Rattle.m11_placement.specs.Tables.{Table, firm_table, first_table, kind_here, place}
+use Rattle.m11_placement.specs.Tables.{Table, firm_table, first_table, kind_here, place, section_name}
 use Rattle.m11_placement.specs.declared.definitions.Definition.{Definition}
 use Rattle.m11_placement.specs.declared.definitions.Key.{Key}
 use Rattle.m11_placement.specs.declared.definitions.Key.TheVariants.{Named}
 use Rattle.m11_placement.specs.declared.definitions.Key.TheVariants as of_key
 use Rattle.m11_placement.specs.declared.definitions.Standing.{Standing}
 use Rattle.m11_placement.specs.declared.definitions.Standing.TheVariants.{Known}
-use Rattle.m11_placing.specs.Moved.{is_place_of, is_same_kind, letter_P, moved_key, moved_kind, moved_letters, moved_name, stands_at}
+use Rattle.m11_placing.specs.Moved.{is_at, is_in, is_place_of, letter_P, moved_key, moved_kind, moved_letters, moved_name}
 use Rattle.m11_statements.specs.Labels.{labels_at}
 use Rattle.m11_statements.specs.Statements.{letter_if}
 use Rattle.m11_statements.specs.declared.labels.Label.{Label}
@@ -31,7 +32,6 @@ use Rattle.m11_statements.specs.declared.labels.LabelKind.{LabelKind}
 use Rattle.m11_statements.specs.declared.labels.LabelKind.TheVariants as kind
 use Rattle.m11_unfolding.specs.Stages.{Stage}
 use Rattle.m11_unfolding.specs.Unfolding.{Given}
-use Rattle.m11_values.specs.declared.kinds.Kind.TheVariants as values
 use Rattle.m11_pass_laws.proofs.Freely.{begins_with}
 use Rattle.m11_pass_laws.proofs.Labelled.{StandsIn, change_stays, labels_stay, lines_stay, stands_now}
 use Rattle.m11_pass_laws.proofs.KnownAlike.{PlaceAlike, after_both}
@@ -41,20 +41,14 @@ use Rattle.m11_pass_laws.specs.Second.{map_from, moved_after}
 
 -- labels of the first table stand in the second
 abbrev Keeps : Table → Table → Type 0
-Keeps table final = (key : Key) (label : Definition) → label.is_label ≡ true → StandsIn key label table → StandsIn key label final
+Keeps table final = (key : Key) (label : Definition) → is_some label.label ≡ true → StandsIn key label table → StandsIn key label final
 
 -- ---- a place is the place of itself
 
-kind_by : (relocatable : Bool) (number : ℕ)
-    → is_same_kind (if relocatable then values.Section number else values.Absolute)
-    (if relocatable then values.Section number else values.Absolute) ≡ true
-kind_by true number = eq-eqb number number refl
-kind_by false number = refl
-
-same_place : (table : Table) → stands_at (place table) (kind_here table) (Known (place table) (kind_here table)) ≡ true
+same_place : (table : Table) → (is_same_name (section_name table) (section_name table) && (place table == place table)) ≡ true
 same_place table =
-    ap (λ (b : Bool). b && is_same_kind (kind_here table) (kind_here table)) (eq-eqb (place table) (place table) refl)
-    ∙ kind_by (is_relocatable (numbered table.settings.section table.sections)) table.settings.section
+    ap (λ (b : Bool). b && (place table == place table)) (same_name_itself (section_name table))
+    ∙ eq-eqb (place table) (place table) refl
 
 standing_by : (is_firm : Bool) (standing known : Standing) → is_firm ≡ true → firm_standing is_firm standing ≡ known → standing ≡ known
 standing_by true standing known firm same = same
@@ -65,7 +59,9 @@ found_place : (table : Table) (key : Key) (found : Option Definition) → firm_i
 found_place table key None same = absurd (cc)
 found_place table key (Some definition) same =
     let part : firm_part definition ≡ labelled table key = cc in
-    ap (stands_at (place table) (kind_here table))
+    ap (λ (label : Option Name). is_in (section_name table) label && is_at (place table) definition.standing)
+    (ap (λ (d : Definition). d.label) part)
+    ∙ ap (λ (standing : Standing). is_in (section_name table) (Some (section_name table)) && is_at (place table) standing)
     (standing_by definition.is_firm definition.standing (Known (place table) (kind_here table))
     (ap (λ (d : Definition). d.is_firm) part) (ap (λ (d : Definition). d.standing) part))
     ∙ same_place table
