@@ -57,10 +57,10 @@ module _ (facts : DirectoryFacts) where
   -- the rows of a directory, one part after another
   pub parts_joined : (start named identified filled all : List DirectoryRow) → start ≡ [] → named ≡ start ++ module_row facts.title ∷ []
       → identified ≡ named ++ identification_rows facts.identification → filled ≡ identified ++ all_section_rows facts
-      → all ≡ filled ++ transfer_row facts.table.sections facts.transfer ∷ [] → all ≡ directory_rows facts
+      → all ≡ filled ++ transfer_row facts.transfer ∷ [] → all ≡ directory_rows facts
   unfolding directory_rows
   parts_joined start named identified filled all e f g h k =
-      let last = transfer_row facts.table.sections facts.transfer ∷ [] in
+      let last = transfer_row facts.transfer ∷ [] in
       let first : named ≡ module_row facts.title ∷ [] = f ∙ ap (λ (r : List DirectoryRow). r ++ module_row facts.title ∷ []) e in
       k ∙ ap (λ (r : List DirectoryRow). r ++ last) h
       ∙ ap (λ (r : List DirectoryRow). r ++ all_section_rows facts ++ last) g

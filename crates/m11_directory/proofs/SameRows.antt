@@ -42,16 +42,16 @@ both {A} {B} {C} f a b c d e h = ap (λ (x : A). f x c) e ∙ ap (λ (y : B). f 
 
 -- ---- definitions
 
-definition_same : (one other : Table) → Alike one other → (number : ℕ) (name : Name)
-    → definition_row one number name ≡ definition_row other number name
-definition_same one other alike number name = ap (row_by number name) (alike.definitions (Named name))
+definition_same : (one other : Table) → Alike one other → (section name : Name)
+    → definition_row one section name ≡ definition_row other section name
+definition_same one other alike section name = ap (row_by section name) (alike.definitions (Named name))
 
-definitions_same : (one other : Table) → Alike one other → (number : ℕ)
-    → definition_rows one number (ordered one.globals) ≡ definition_rows other number (ordered other.globals)
-definitions_same one other alike number =
-    filter_map_agree (definition_row one number) (definition_row other number) (definition_same one other alike number)
+definitions_same : (one other : Table) → Alike one other → (section : Name)
+    → definition_rows one section (ordered one.globals) ≡ definition_rows other section (ordered other.globals)
+definitions_same one other alike section =
+    filter_map_agree (definition_row one section) (definition_row other section) (definition_same one other alike section)
     (ordered one.globals)
-    ∙ ap (λ (names : List Name). definition_rows other number names) (ordered_same one.globals other.globals alike.globals)
+    ∙ ap (λ (names : List Name). definition_rows other section names) (ordered_same one.globals other.globals alike.globals)
 
 -- ---- references
 
@@ -99,12 +99,12 @@ module _ (one other : DirectoryFacts) (same : FirstPassesAgree one other) where
 
   -- ---- sections
 
-  under_same : (number : ℕ) → rows_under one number ≡ rows_under other number
-  under_same number =
+  under_same : (number : ℕ) (section : Name) → rows_under one number section ≡ rows_under other number section
+  under_same number section =
       both (λ (a b : List DirectoryRow). a ++ references_under number b)
-      (definition_rows one.table number (ordered one.table.globals)) (definition_rows other.table number (ordered other.table.globals))
+      (definition_rows one.table section (ordered one.table.globals)) (definition_rows other.table section (ordered other.table.globals))
       (reference_rows one.weak (references one)) (reference_rows other.weak (references other))
-      (definitions_same one.table other.table same.tables number) reference_rows_same
+      (definitions_same one.table other.table same.tables section) reference_rows_same
 
   sections_same : (number : ℕ) (sections : List Section) → number + length sections ≤ length one.table.sections
       → flat_map (section_rows one) (enumerate_from number sections) ≡ flat_map (section_rows other) (enumerate_from number sections)
@@ -116,7 +116,8 @@ module _ (one other : DirectoryFacts) (same : FirstPassesAgree one other) where
       (flat_map (section_rows one) (enumerate_from (number + 1) sections))
       (flat_map (section_rows other) (enumerate_from (number + 1) sections))
       (both (λ (size : ℕ) (rows : List DirectoryRow). section_row section size ∷ rows) (one.size_of number) (other.size_of number)
-      (rows_under one number) (rows_under other number) (same.sizes number here) (under_same number))
+      (rows_under one number section.name) (rows_under other number section.name) (same.sizes number here)
+      (under_same number section.name))
       (sections_same (number + 1) sections after)
 
   all_same : all_section_rows one ≡ all_section_rows other
@@ -131,11 +132,10 @@ module _ (one other : DirectoryFacts) (same : FirstPassesAgree one other) where
       both (λ (a b : List DirectoryRow). a ++ b)
       (module_row one.title ∷ [] ++ identification_rows one.identification ++ all_section_rows one)
       (module_row other.title ∷ [] ++ identification_rows other.identification ++ all_section_rows other)
-      (transfer_row one.table.sections one.transfer ∷ []) (transfer_row other.table.sections other.transfer ∷ [])
+      (transfer_row one.transfer ∷ []) (transfer_row other.transfer ∷ [])
       (both (λ (a b : List DirectoryRow). a ++ b) (module_row one.title ∷ [] ++ identification_rows one.identification)
       (module_row other.title ∷ [] ++ identification_rows other.identification) (all_section_rows one) (all_section_rows other)
       (both (λ (title identification : Option Name). module_row title ∷ [] ++ identification_rows identification)
       one.title other.title one.identification other.identification same.title same.identification)
       all_same)
-      (both (λ (sections : List Section) (transfer : Option Quantity). transfer_row sections transfer ∷ []) one.table.sections
-      other.table.sections one.transfer other.transfer same.tables.sections same.transfer)
+      (ap (λ (transfer : Option Quantity). transfer_row transfer ∷ []) same.transfer)

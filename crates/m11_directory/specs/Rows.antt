@@ -35,13 +35,14 @@ section_row section size = row.Section section.name (record { 0 = section.attrib
 abbrev pub references_under : ℕ → List DirectoryRow → List DirectoryRow
 references_under number rows = if number == 0 then rows else []
 
-abbrev pub rows_under : DirectoryFacts → ℕ → List DirectoryRow
-rows_under facts number =
-    definition_rows facts.table number (ordered facts.table.globals)
+abbrev pub rows_under : DirectoryFacts → ℕ → Name → List DirectoryRow
+rows_under facts number section =
+    definition_rows facts.table section (ordered facts.table.globals)
     ++ references_under number (reference_rows facts.weak (references facts))
 
 abbrev pub section_rows : DirectoryFacts → ℕ × Section → List DirectoryRow
-section_rows facts numbered = section_row numbered.1 (facts.size_of numbered.0) ∷ rows_under facts numbered.0
+section_rows facts numbered =
+    section_row numbered.1 (facts.size_of numbered.0) ∷ rows_under facts numbered.0 numbered.1.name
 
 -- ---- the directory
 
@@ -54,4 +55,4 @@ directory_rows facts =
     module_row facts.title ∷ []
     ++ identification_rows facts.identification
     ++ all_section_rows facts
-    ++ transfer_row facts.table.sections facts.transfer ∷ []
+    ++ transfer_row facts.transfer ∷ []

@@ -1,22 +1,20 @@
 -- The address where a program begins. (RT-11 Volume and File Formats Manual, "Object file format", transfer address entry; MACRO-11 Language
 -- Reference Manual, ".END directive". That a register counts as its number is this project's own.)
-use Rattle.std.specs.Prelude.{List, Option, Some, None}
+use Rattle.std.specs.Prelude.{Option, Some, None}
 use Rattle.m11_base.specs.Names.{absolute_name}
 use Rattle.m11_base.specs.Rad50.{Name}
 use Rattle.m11_object_text.specs.declared.directory.DirectoryRow.{DirectoryRow}
 use Rattle.m11_object_text.specs.declared.directory.DirectoryRow.TheVariants as row
-use Rattle.m11_placement.specs.declared.sections.Section.{Section}
-use Rattle.m11_placement.specs.Sections.{numbered}
 use Rattle.m11_values.specs.declared.kinds.Kind.{Kind}
 use Rattle.m11_values.specs.declared.kinds.Kind.TheVariants as kind
 use Rattle.m11_values.specs.Quantities.{Quantity}
 
 -- what counts from no section of this object is absolute
-abbrev pub home : List Section → Kind → Name
-home sections (kind.Section number) = (numbered number sections).name
-home sections other = absolute_name
+abbrev pub home : Kind → Name
+home (kind.Section name) = name
+home other = absolute_name
 
 -- no program begins at 1, so that is the address of a source that gives none
-abbrev pub transfer_row : List Section → Option Quantity → DirectoryRow
-transfer_row sections (Some value) = row.Transfer (home sections value.kind) value.number
-transfer_row sections None = row.Transfer absolute_name 1
+abbrev pub transfer_row : Option Quantity → DirectoryRow
+transfer_row (Some value) = row.Transfer (home value.kind) value.number
+transfer_row None = row.Transfer absolute_name 1

@@ -64,8 +64,10 @@ fn push_section(
         ++ section_rows (directory_facts first.now) (number, numbered number first.now.table.now.sections)) }
 {
     let size = first.sizes[usize::from(number)];
-    rows.push(section_row(first.table.section(number), size))?;
-    push_definitions(rows, first.table, number, globals)?;
+    let section = first.table.section(number);
+    let name = section.name;
+    rows.push(section_row(section, size))?;
+    push_definitions(rows, first.table, name, globals)?;
     if number == 0 {
         push_references(rows, first.weak, needed)?;
     }
@@ -115,6 +117,6 @@ pub fn directory_rows(alloc: Global, first: &FirstPass<'_>) -> Result<Vec<Direct
     rows.push(module_row(first.title))?;
     push_identification(&mut rows, first.identification)?;
     push_sections(&mut rows, first, globals.as_slice(), needed.as_slice())?;
-    rows.push(transfer_row(first.table, first.transfer))?;
+    rows.push(transfer_row(first.transfer))?;
     Ok(rows)
 }

@@ -7,26 +7,25 @@ ghost use Rattle.m11_values.specs.Quantities.{quantity};
 
 use m11_base::{Name, absolute_section};
 use m11_object_text::DirectoryRow;
-use m11_table::Table;
 use m11_values::{Kind, Value};
 
 // The section that a value counts from. What counts from none of this object is absolute.
-fn home(table: &Table, kind: Kind) -> Name
-    ensures { result ≡ home table.now.sections kind }
+fn home(kind: Kind) -> Name
+    ensures { result ≡ home kind }
 {
     match kind {
-        Kind::Section(number) => table.section(number).name,
+        Kind::Section(name) => name,
         Kind::Absolute | Kind::Register | Kind::Reference(_) => absolute_section(),
     }
 }
 
 /// The row of the transfer address. Without one it is 1, where no program begins.
-pub(crate) fn transfer_row(table: &Table, transfer: Option<Value>) -> DirectoryRow
-    ensures { result ≡ transfer_row table.now.sections (option_map quantity transfer) }
+pub(crate) fn transfer_row(transfer: Option<Value>) -> DirectoryRow
+    ensures { result ≡ transfer_row (option_map quantity transfer) }
 {
     match transfer {
         Some(value) => DirectoryRow::Transfer {
-            section: home(table, value.kind),
+            section: home(value.kind),
             value: value.number,
         },
         None => DirectoryRow::Transfer {

@@ -4,7 +4,7 @@ use Rattle.m11_directory.proofs.definitions.push_definitions.Given as goal
 
 abbrev pub invariant-names : goal.invariant-names
 invariant-names l =
-    l.rows.items ++ definition_rows l.table l.number l.rest ≡ l.initial.rows.items ++ definition_rows l.table l.number l.names
+    l.rows.items ++ definition_rows l.table l.section l.rest ≡ l.initial.rows.items ++ definition_rows l.table l.section l.names
 
 abbrev pub decreases-names : goal.decreases-names
 decreases-names l = length l.rest
