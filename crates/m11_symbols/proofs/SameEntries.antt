@@ -65,8 +65,10 @@ module _ (in_order : (names : List Name) → AreInOrder (ordered names) names) w
 
     entry_same : (name : Name) → symbol_entry one name ≡ symbol_entry other name
     entry_same name =
-        both (λ (definition : Option Definition) (is_global : Bool). entry_by name definition is_global) (definition_of one name)
-        (definition_of other name) (is_global one name) (is_global other name) (same.tables.definitions (Named name)) (global_same name)
+        ap (λ (sections : List Section). entry_by sections name (definition_of one name) (is_global one name)) same.tables.sections
+        ∙ both (λ (definition : Option Definition) (is_global : Bool). entry_by other.table.sections name definition is_global)
+        (definition_of one name) (definition_of other name) (is_global one name) (is_global other name)
+        (same.tables.definitions (Named name)) (global_same name)
 
     pub symbols_same : ((list names : List Name) → AreInOrder list names → list ≡ ordered names)
         → (names others : List Name) → HaveTheSame names others → symbol_entries one names ≡ symbol_entries other others

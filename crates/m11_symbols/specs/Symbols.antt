@@ -9,6 +9,7 @@ use Rattle.m11_listing.specs.declared.symbol_table.SymbolEntry.{SymbolEntry}
 use Rattle.m11_placement.specs.declared.definitions.Definition.{Definition}
 use Rattle.m11_placement.specs.declared.definitions.Key.TheVariants.{Named}
 use Rattle.m11_placement.specs.Definitions.{last_definition}
+use Rattle.m11_placement.specs.declared.sections.Section.{Section}
 use Rattle.m11_symbols.specs.Values.{is_assigned, symbol_value}
 
 -- its last definition, if it has one
@@ -23,16 +24,16 @@ is_global facts name = has_name name facts.table.globals || has_name name (refer
 abbrev pub is_needed : DirectoryFacts → Name → Bool
 is_needed facts name = has_name name facts.referred && is_none (definition_of facts name)
 
-abbrev pub entry_by : Name → Option Definition → Bool → SymbolEntry
-entry_by name definition is_global = record {
+abbrev pub entry_by : List Section → Name → Option Definition → Bool → SymbolEntry
+entry_by sections name definition is_global = record {
   name = name;
   is_assigned = is_assigned definition;
-  value = symbol_value definition;
+  value = symbol_value sections definition;
   is_global = is_global;
 }
 
 abbrev pub symbol_entry : DirectoryFacts → Name → SymbolEntry
-symbol_entry facts name = entry_by name (definition_of facts name) (is_global facts name)
+symbol_entry facts name = entry_by facts.table.sections name (definition_of facts name) (is_global facts name)
 
 -- names in order, each once
 unfoldable pub symbol_entries : DirectoryFacts → List Name → List SymbolEntry

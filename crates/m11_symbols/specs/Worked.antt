@@ -5,9 +5,9 @@
 --     CLR R1
 --     .BLKB Z
 --     Y=Z
-use Rattle.std.specs.Prelude.{◌==◌, Bool, true, false, if◌then◌else◌, List, [], ◌∷◌, ◌++◌, codes, None}
+use Rattle.std.specs.Prelude.{◌==◌, true, if◌then◌else◌, List, [], ◌∷◌, ◌++◌, codes, Option, Some, None}
 use Rattle.m11_base.specs.Devices.{Bytes}
-use Rattle.m11_base.specs.Names.{name_in_words}
+use Rattle.m11_base.specs.Names.{blank_name, name_in_words}
 use Rattle.m11_base.specs.Rad50.{Name}
 use Rattle.m11_directory.specs.FirstPass.{DirectoryFacts}
 use Rattle.m11_listing.specs.SymbolTable.{last_lines}
@@ -23,20 +23,20 @@ use Rattle.m11_values.specs.declared.kinds.Kind.TheVariants as kind
 abbrev pub name : Bytes → Name
 name characters = name_in_words characters
 
-abbrev pub defined : Bytes → Standing → Bool → Definition
-defined characters standing is_label = record {
+abbrev pub defined : Bytes → Standing → Option Name → Definition
+defined characters standing label = record {
   key = Named (name characters);
   standing = standing;
   is_firm = true;
-  is_label = is_label;
+  label = label;
 }
 
 abbrev pub table : Table
 table = record first_table {
   definitions = first_table.definitions
-      ++ defined (codes "X     ") (Known 5 kind.Absolute) false
-      ∷ defined (codes "A     ") (Known 0 (kind.Section 1)) true
-      ∷ defined (codes "Y     ") Unknown false
+      ++ defined (codes "X     ") (Known 5 kind.Absolute) None
+      ∷ defined (codes "A     ") (Known 0 (kind.Section blank_name)) (Some blank_name)
+      ∷ defined (codes "Y     ") Unknown None
       ∷ [];
   globals = name (codes "A     ") ∷ [];
 }

@@ -1,45 +1,47 @@
 //! The values that the symbol table shows. (MACRO-11 Language Reference Manual, "Table of contents and symbol table".)
 
-ghost use Rattle.std.specs.Prelude.{◌≡◌};
+ghost use Rattle.std.specs.Prelude.{◌≡◌, ◌≤◌, length};
+ghost use Rattle.m11_placement.specs.Sections.{number_of};
 ghost use Rattle.m11_symbols.specs.Values as spec;
 
+use m11_base::Name;
 use m11_listing::SymbolValue;
 use m11_placement::Standing;
+use m11_table::Table;
 use m11_values::Kind;
 
-/// The most sections of a source.
-const MOST_SECTIONS: u16 = 64;
-
-// A section that no source can have counts as the blank one, whose number is 1.
-fn section_number(number: u16) -> u8
-    ensures { result ≡ spec.section_number number }
+// A place, with the number of its section.
+fn place_value(table: &Table, number: u16, name: Name) -> SymbolValue
+    requires { length table.now.sections ≤ 64 }
+    ensures { result ≡ spec.place_value number (number_of name table.now.sections) }
 {
-    if number < MOST_SECTIONS {
-        number as u8
-    } else {
-        1
+    match table.section_number(name) {
+        Some(section) => SymbolValue::Relocatable {
+            place: number,
+            section: section as u8,
+        },
+        None => SymbolValue::Absolute(number),
     }
 }
 
-fn known_value(number: u16, kind: Kind) -> SymbolValue
-    ensures { result ≡ spec.known_value number kind }
+fn known_value(table: &Table, number: u16, kind: Kind) -> SymbolValue
+    requires { length table.now.sections ≤ 64 }
+    ensures { result ≡ spec.known_value table.now.sections number kind }
 {
     match kind {
-        Kind::Section(section) => SymbolValue::Relocatable {
-            place: number,
-            section: section_number(section),
-        },
+        Kind::Section(name) => place_value(table, number, name),
         Kind::Register => SymbolValue::Register(number),
         Kind::Absolute | Kind::Reference(_) => SymbolValue::Absolute(number),
     }
 }
 
-/// The value that a definition gives.
-pub(crate) fn value_of(standing: Standing) -> SymbolValue
-    ensures { result ≡ spec.value_of standing }
+/// The value that a definition gives. A table has 64 sections at most.
+pub(crate) fn value_of(table: &Table, standing: Standing) -> SymbolValue
+    requires { length table.now.sections ≤ 64 }
+    ensures { result ≡ spec.value_of table.now.sections standing }
 {
     match standing {
-        Standing::Known(number, kind) => known_value(number, kind),
+        Standing::Known(number, kind) => known_value(table, number, kind),
         Standing::Unknown => SymbolValue::Unknown,
     }
 }
