@@ -5,6 +5,7 @@ mod faults;
 mod limits;
 mod readings;
 mod streaming;
+mod two_texts;
 
 use m11_asm::{AsmDone, AsmFault, asm_run};
 use m11_base::{MemoryFeed, MemorySink, WriterSink};
@@ -51,7 +52,7 @@ impl Assembled {
     }
 
     // Whether these lines were reported.
-    fn reports(&self, lines: &[&str]) -> bool {
+    pub(crate) fn reports(&self, lines: &[&str]) -> bool {
         rest_after_lines(self.messages.as_slice(), lines).is_some_and(<[u8]>::is_empty)
     }
 
