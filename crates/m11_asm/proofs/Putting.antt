@@ -24,9 +24,9 @@ use Rattle.m11_passes.specs.Placed.{IsPlaced, all_letters}
 use Rattle.m11_passes.specs.declared.placed.PlacedLine.{PlacedLine}
 use Rattle.m11_placement.specs.Contents.{Put, pieces_from}
 use Rattle.m11_placement.specs.Exports.{transfer_letters}
-use Rattle.m11_placement.specs.Lines.{Deed, deed, pieces, put_place, section_name, stands}
+use Rattle.m11_placement.specs.Lines.{Deed, deed, pieces, put_place, stands}
 use Rattle.m11_placement.specs.Sources.{directed_in, end_in}
-use Rattle.m11_placement.specs.Tables.{Table}
+use Rattle.m11_placement.specs.Tables.{Table, section_name}
 use Rattle.m11_placing.specs.Deeds.{deed_seen}
 use Rattle.m11_placing.specs.Mentioned.{Gathered}
 use Rattle.m11_placing.specs.Passes.{Kept}

@@ -29,7 +29,7 @@ use Rattle.m11_asm.specs.Program.{Program}
 
 -- ---- messages
 
--- the letters that a line reports: its own, and at `.END` those of the expression as the first pass found it
+-- the letters that a line reports: its own, and at `.END` those of the expression that names decide, as the first pass found them
 abbrev pub reported_letters : Program → Table → Given → ℕ
 reported_letters program table given =
     bit_or (all_letters program.map table given) (end_in (transfer_letters program.transfer) (directed given))

@@ -319,7 +319,7 @@ fn first_pass_of<'a>(first: &'a Pass, mentioned: &'a Mentioned, facts: &'a Facts
     }
 }
 
-// At a `.END` the letters of its expression, as the first pass found it.
+// At a `.END` the letters of its expression that names decide, as the first pass found them.
 fn end_letters(deed: &Deed, transfer: Option<Value>) -> Letters
     ensures { bits_of result
         ≡ end_in (exports.transfer_letters (option_map quantity transfer)) (directed_in (deed_seen deed.now)) }
