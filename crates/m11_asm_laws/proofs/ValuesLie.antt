@@ -1,11 +1,10 @@
 -- Each word of a value says where its target lies.
-use Rattle.std.proofs.Common.{◌≡◌, ℕ, List, ◌+◌, ◌-◌, ◌<◌, ◌%◌, Bool, true, false, refl, ap, arith}
+use Rattle.std.proofs.Common.{◌≡◌, ℕ, ◌+◌, ◌-◌, ◌<◌, ◌%◌, Bool, true, false, refl, ap, arith}
 use Rattle.m11_blocks.specs.Frames.{word_bytes}
 use Rattle.m11_link_text.specs.Findings.{Findings}
 use Rattle.m11_link_text.specs.Relocation.{following, less, modulo}
 use Rattle.m11_object_text.specs.declared.pieces.PieceContent.TheVariants.{Word}
 use Rattle.m11_placement.specs.Relocations.{Here, InObject, InSection, Origin, Zero, is_moved, origin_of, relocation_by, row_of, stored, stored_as}
-use Rattle.m11_placement.specs.declared.sections.Section.{Section}
 use Rattle.m11_placement.specs.Tables.{Table}
 use Rattle.m11_values.specs.Quantities.{Quantity}
 use Rattle.m11_asm_laws.specs.Linked.{linked_bytes}
@@ -42,10 +41,10 @@ module _ (found : Findings) (index own location place number : ℕ) (words : Are
   tells (InObject name) true true absolute = displaced_global_row found index own location false name number words
   tells (InObject name) true false absolute = displaced_global_row found index own location false name number words
 
-pub values_lie : (found : Findings) (index own location place : ℕ) (whole : List Section) (table : Table) (is_relative : Bool)
+pub values_lie : (found : Findings) (index own location place : ℕ) (table : Table) (is_relative : Bool)
     (value : Quantity) → AreWords found → LiesAt table own place location → value.number < 65536
-    → linked_bytes found index own location (Word (stored whole table is_relative place value))
-    ≡ word_bytes (stored_address is_relative location (address_of found index own (origin_of whole table value.kind) value.number))
-values_lie found index own location place whole table is_relative value words lies known =
-    tells found index own location place value.number words lies.within known lies.moved (origin_of whole table value.kind)
+    → linked_bytes found index own location (Word (stored table is_relative place value))
+    ≡ word_bytes (stored_address is_relative location (address_of found index own (origin_of table value.kind) value.number))
+values_lie found index own location place table is_relative value words lies known =
+    tells found index own location place value.number words lies.within known lies.moved (origin_of table value.kind)
     is_relative (is_moved table) lies.absolute

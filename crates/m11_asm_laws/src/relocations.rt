@@ -1,6 +1,6 @@
 //! What a linker stores for the values of a source, row by row. (RT-11 Volume and File Formats Manual, "Object file format", RLD block.)
 
-ghost use Rattle.std.specs.Prelude.{◌≡◌, ℕ, ◌+◌, ◌<◌, ◌%◌, Bool, List, [], ◌∷◌};
+ghost use Rattle.std.specs.Prelude.{◌≡◌, ℕ, ◌+◌, ◌<◌, ◌%◌, Bool, [], ◌∷◌};
 ghost use Rattle.m11_base.specs.Rad50.{Name};
 ghost use Rattle.m11_blocks.specs.Frames.{word_bytes};
 ghost use Rattle.m11_link_text.specs.Findings.{Findings};
@@ -8,7 +8,6 @@ ghost use Rattle.m11_link_text.specs.Relocation.{following, less, modulo, symbol
 ghost use Rattle.m11_object_text.specs.declared.pieces.PieceContent.TheVariants.{Word};
 ghost use Rattle.m11_object_text.specs.declared.pieces.RelocationKind.TheVariants as kind;
 ghost use Rattle.m11_placement.specs.Relocations.{origin_of, stored};
-ghost use Rattle.m11_placement.specs.declared.sections.Section.{Section};
 ghost use Rattle.m11_placement.specs.Tables.{Table};
 ghost use Rattle.m11_values.specs.Quantities.{Quantity};
 ghost use Rattle.m11_asm_laws.specs.Linked.{linked_byte, linked_bytes, linked_word};
@@ -72,8 +71,8 @@ pub fn displaced_globals_are_counted_from_the_word()
 /// Whatever a value of a line counts from, the word of it in the linked program is the address of its target, or, in a relative operand, how far
 /// that address is from the place after the word.
 pub fn linked_values_say_where_their_targets_lie()
-    ensures { (found : Findings) (index own location place : ℕ) (whole : List Section) (table : Table)
+    ensures { (found : Findings) (index own location place : ℕ) (table : Table)
         (is_relative : Bool) (value : Quantity) → AreWords found → LiesAt table own place location → value.number < 65536
-        → linked_bytes found index own location (Word (stored whole table is_relative place value))
-        ≡ word_bytes (stored_address is_relative location (address_of found index own (origin_of whole table value.kind) value.number)) }
+        → linked_bytes found index own location (Word (stored table is_relative place value))
+        ≡ word_bytes (stored_address is_relative location (address_of found index own (origin_of table value.kind) value.number)) }
 {}

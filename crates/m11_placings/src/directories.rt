@@ -57,7 +57,7 @@ fn transfer(section: Name, value: u16) -> DirectoryRow {
 fn in_blank(number: u16) -> Value {
     Value {
         number,
-        kind: Kind::Section(1),
+        kind: Kind::Section(blank_name()),
         letters: Letters::none(),
     }
 }
@@ -104,7 +104,7 @@ fn insert(table: &mut Table, name: Name, standing: Standing) -> Result<(), Alloc
         key: Key::Named(name),
         standing,
         is_firm: true,
-        is_label: false,
+        label: None,
     };
     table.insert(&definition)?;
     Ok(())
@@ -204,7 +204,7 @@ fn table_of_globals(alloc: Global, names: &SourceNames) -> Result<Table, AllocEr
 {
     let assigned = [
         (names.z, Standing::Known(5, Kind::Absolute)),
-        (names.a, Standing::Known(0, Kind::Section(1))),
+        (names.a, Standing::Known(0, Kind::Section(blank_name()))),
         (names.x, Standing::Unknown),
         (names.b, Standing::Known(2, Kind::Register)),
     ];

@@ -1,5 +1,6 @@
 -- What symbols stand for in the tests of expressions.
 use Rattle.std.specs.Prelude.{ℕ, ◌==◌, if◌then◌else◌}
+use Rattle.m11_base.specs.Names.{absolute_name, blank_name}
 use Rattle.m11_base.specs.Rad50.{Name}
 use Rattle.m11_values.specs.declared.kinds.Kind.{Kind}
 use Rattle.m11_values.specs.declared.kinds.Kind.TheVariants.{Absolute, Section, Register, Reference}
@@ -10,12 +11,12 @@ use Rattle.m11_values.specs.Quantities.{Quantity}
 abbrev pub of_kind : ℕ → Kind → Quantity
 of_kind number kind = record { number = number; kind = kind; letters = 0 }
 
--- A and B stand in section 1, C in section 2, R1 is a register, X another object's; other names are unknown
+-- A and B stand in one section, C in another one, R1 is a register, X another object's; other names are unknown
 abbrev pub of_name : Name → Quantity
 of_name name =
-    if name.0 == 0o3100 then of_kind 0o10 (Section 1)
-    else (if name.0 == 0o6200 then of_kind 4 (Section 1)
-    else (if name.0 == 0o11300 then of_kind 4 (Section 2)
+    if name.0 == 0o3100 then of_kind 0o10 (Section blank_name)
+    else (if name.0 == 0o6200 then of_kind 4 (Section blank_name)
+    else (if name.0 == 0o11300 then of_kind 4 (Section absolute_name)
     else (if name.0 == 0o72530 then of_kind 1 Register
     else (if name.0 == 0o113000 then of_kind 0 (Reference name)
     else record { number = 0; kind = Absolute; letters = 0o20000 }))))
@@ -23,4 +24,4 @@ of_name name =
 abbrev pub known : Symbol → Quantity
 known (Ordinary name) = of_name name
 known (Local number) = of_kind number Absolute
-known Counter = of_kind 0o100 (Section 1)
+known Counter = of_kind 0o100 (Section blank_name)

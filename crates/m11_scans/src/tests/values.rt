@@ -5,12 +5,12 @@ ghost use Rattle.m11_values.specs.Quantities.{quantity};
 ghost use Rattle.m11_scans.specs.Known.{of_kind, of_name};
 
 use super::same;
-use m11_base::Name;
+use m11_base::{Name, absolute_section, blank_name};
 use m11_scan::{Letters, Line, expression_at, read_name};
 use m11_values::{Kind, Names, Radix, Symbol, Value, expression_value};
 use std::process::Abort;
 
-// A and B stand in section 1, C in section 2, R1 is a register, X another object's; other names are unknown.
+// A and B stand in one section, C in another one, R1 is a register, X another object's; other names are unknown.
 #[derive(Clone, Copy)]
 struct Known {
     radix: Radix,
@@ -31,7 +31,7 @@ impl Names for Known {
         match symbol {
             Symbol::Ordinary(name) => of_name(name),
             Symbol::Local(number) => of_kind(number, Kind::Absolute),
-            Symbol::Counter => of_kind(0o100, Kind::Section(1)),
+            Symbol::Counter => of_kind(0o100, Kind::Section(blank_name())),
         }
     }
 }
@@ -50,9 +50,9 @@ fn of_name(name: Name) -> Value
     ensures { quantity result ≡ of_name name }
 {
     match name.words().0 {
-        0o3100 => of_kind(8, Kind::Section(1)),
-        0o6200 => of_kind(4, Kind::Section(1)),
-        0o11300 => of_kind(4, Kind::Section(2)),
+        0o3100 => of_kind(8, Kind::Section(blank_name())),
+        0o6200 => of_kind(4, Kind::Section(blank_name())),
+        0o11300 => of_kind(4, Kind::Section(absolute_section())),
         0o72530 => of_kind(1, Kind::Register),
         0o113000 => of_kind(0, Kind::Reference(name)),
         _ => Value::absolute(0, Letters::U),
@@ -74,8 +74,8 @@ type Row = (&'static str, u16, From, &'static str);
 fn kind_of(from: From) -> Kind {
     match from {
         From::Zero => Kind::Absolute,
-        From::First => Kind::Section(1),
-        From::Second => Kind::Section(2),
+        From::First => Kind::Section(blank_name()),
+        From::Second => Kind::Section(absolute_section()),
         From::Register => Kind::Register,
     }
 }
