@@ -317,7 +317,14 @@ pub taken_after : (before : List Part) (old new : Known) (parts : List Part) (re
 unfolding RulesTake
 taken_after before old new parts (Ok done) is h =
     (fault_after before old parts None is h.0, all_after before old new parts is h.0 h.1)
-taken_after before old new parts (Err NoMemory) is h = tt
+taken_after before old new parts (Err NoMemory) is h = record {
+  taken = h.taken;
+  part = h.part;
+  left = h.left;
+  split = h.split;
+  sound = fault_after before old (h.taken ++ h.part ∷ []) None is h.sound;
+  adds = h.adds;
+}
 taken_after before old new parts (Err BadOrder) is h = fault_after before old parts (Some BadOrder) is h
 taken_after before old new parts (Err NoText) is h = fault_after before old parts (Some NoText) is h
 taken_after before old new parts (Err BadDisplacement) is h = fault_after before old parts (Some BadDisplacement) is h

@@ -1,4 +1,5 @@
-pub mod Indexing
-pub mod Taking
-pub mod KnownAfter
 pub mod GrammarOrder
+pub mod Indexing
+pub mod KnownAfter
+pub mod Refusals
+pub mod Taking

@@ -1,5 +1,5 @@
 -- Parts that are taken one after another.
-use Rattle.std.proofs.Common.{◌≡◌, ℕ, ◌+◌, ◌≤◌, List, [], ◌∷◌, length, map, drop, slice_get, Option, Some, None, Result, Ok, Err, refl, sym, subst}
+use Rattle.std.proofs.Common.{◌≡◌, ℕ, ◌+◌, ◌≤◌, List, [], ◌∷◌, length, map, drop, slice_get, ap, ◌++◌, Option, Some, None, Result, Ok, Err, refl, sym, subst}
 use Rattle.std.proofs.lemmas.List.{drop_all}
 use Rattle.std.specs.Option.{option_or}
 use Rattle.m11_modules.specs.declared.fault.ModuleFault.{ModuleFault}
@@ -10,6 +10,7 @@ use Rattle.m11_modules.specs.Places.{Known}
 use Rattle.m11_modules.specs.Rules.{returned, fault_known, relocation_fault}
 use Rattle.m11_modules.specs.Steps.{RulesTake, TakesOne, known_after, known_after_all, first_known_fault}
 use Rattle.m11_modules.proofs.Indexing.{drop_at}
+use Rattle.m11_modules.proofs.Refusals.{no_memory}
 
 abbrev pub Outcome : Type 0
 Outcome = Result (Unit {0}) ModuleFault
@@ -22,7 +23,14 @@ none_taken known done = (refl, refl)
 pub refused_first : (old new other : Known) (part : Part) (parts : List Part) (fault : ModuleFault)
     → TakesOne old other part (Err fault) → RulesTake old new (part ∷ parts) (Err fault)
 unfolding RulesTake TakesOne
-refused_first old new other part parts NoMemory h = tt
+refused_first old new other part parts NoMemory h = record {
+  taken = [];
+  part = part;
+  left = parts;
+  split = refl;
+  sound = rw h.0;
+  adds = h.1;
+}
 refused_first old new other part parts BadOrder h = rw h
 refused_first old new other part parts NoText h = rw h
 refused_first old new other part parts BadDisplacement h = rw h
@@ -48,7 +56,14 @@ unfolding RulesTake TakesOne
 taken_then old middle new part parts done (Ok x) h k =
     let P : Known → Type 0 = λ m. new ≡ known_after_all m parts in
     (then_fault old middle part parts None h.0 h.1 k.0, subst P h.1 k.1)
-taken_then old middle new part parts done (Err NoMemory) h k = tt
+taken_then old middle new part parts done (Err NoMemory) h k = record {
+  taken = part ∷ k.taken;
+  part = k.part;
+  left = k.left;
+  split = ap (λ all. part ∷ all) k.split;
+  sound = then_fault old middle part (k.taken ++ k.part ∷ []) None h.0 h.1 k.sound;
+  adds = k.adds;
+}
 taken_then old middle new part parts done (Err BadOrder) h k = then_fault old middle part parts (Some BadOrder) h.0 h.1 k
 taken_then old middle new part parts done (Err NoText) h k = then_fault old middle part parts (Some NoText) h.0 h.1 k
 taken_then old middle new part parts done (Err BadDisplacement) h k = then_fault old middle part parts (Some BadDisplacement) h.0 h.1 k
@@ -92,7 +107,7 @@ returned_some (Some fault) said e = search
 pub refused : (old new : Known) (part : Part) (fault : ModuleFault) → returned (fault_known old part) ≡ Err fault
     → TakesOne old new part (Err fault)
 unfolding TakesOne
-refused old new part NoMemory e = tt
+refused old new part NoMemory e = absurd (no_memory old part (returned_some (fault_known old part) NoMemory e))
 refused old new part BadOrder e = returned_some (fault_known old part) BadOrder e
 refused old new part NoText e = returned_some (fault_known old part) NoText e
 refused old new part BadDisplacement e = returned_some (fault_known old part) BadDisplacement e

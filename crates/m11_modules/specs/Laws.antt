@@ -1,16 +1,17 @@
 -- What the rules yield over whole lists of parts, in the words of the format. (This project's own.)
-use Rattle.std.specs.Prelude.{◌≡◌, true, List, ◌∷◌, ◌++◌, ⊤, Some, None, Result, Ok, Err}
+use Rattle.std.specs.Prelude.{◌≡◌, true, List, ◌∷◌, ◌++◌, Some, None, Result, Ok, Err}
 use Rattle.m11_modules.specs.declared.fault.ModuleFault.{ModuleFault}
 use Rattle.m11_modules.specs.declared.fault.ModuleFault.TheVariants.{NoMemory}
 use Rattle.m11_modules.specs.Grammar.{Module, files_parts}
 use Rattle.m11_modules.specs.Parts.{Part}
 use Rattle.m11_modules.specs.Places.{Known, known_of, stage_after}
-use Rattle.m11_modules.specs.Rules.{first_fault, may_stand}
+use Rattle.m11_modules.specs.Rules.{StopsAtName, first_fault, may_stand}
 
--- parts that come after others are taken, and then stand after them; or their first fault is returned
+-- parts that come after others are taken, and then stand after them; or their first fault is returned; or memory was
+-- refused at a part that adds a name, up to which there is no fault
 abbrev pub TakesAfter : List Part → Known → List Part → Result (Unit {0}) ModuleFault → Type 0
 TakesAfter before new parts (Ok done) = (first_fault before parts ≡ None) × (new ≡ known_of (before ++ parts))
-TakesAfter before new parts (Err NoMemory) = ⊤
+TakesAfter before new parts (Err NoMemory) = StopsAtName (first_fault before) parts
 TakesAfter before new parts (Err fault) = first_fault before parts ≡ Some fault
 
 -- each part stands where it may, by the parts before it

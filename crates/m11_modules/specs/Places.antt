@@ -1,10 +1,10 @@
 -- What stands before a place in objects: the module so far, the sections that it entered, the section that texts go
 -- to, the text that is relocated; and over all modules the names so far. (RT-11 Volume and File Formats Manual,
 -- "Object file format", GSD, TXT and RLD blocks.)
-use Rattle.std.specs.Prelude.{ℕ, ◌+◌, Bool, true, false, List, [], ◌∷◌, length, Option, Some, None, if◌then◌else◌}
+use Rattle.std.specs.Prelude.{ℕ, ◌+◌, ◌||◌, Bool, true, false, List, [], ◌∷◌, length, Option, Some, None, if◌then◌else◌}
 use Rattle.std.specs.List.{filter_map, list_any}
 use Rattle.std.specs.Map.{keys_of, lookup}
-use Rattle.std.specs.Option.{option_or}
+use Rattle.std.specs.Option.{is_some, option_or}
 use Rattle.indexmap.specs.IndexSet.{insert_key}
 use Rattle.m11_base.specs.Rad50.{Name, is_same_name}
 use Rattle.m11_base.specs.Names.{absolute_name}
@@ -118,6 +118,10 @@ abbrev pub global_in : Part → Option Name
 global_in (Entry entry) = global_by entry.kind entry
 global_in (Relocated relocation) = global_of relocation.target
 global_in part = None
+
+-- whether a part enters a section or names a global: such a name is kept
+abbrev pub adds_name : Part → Bool
+adds_name part = is_some (section_in part) || is_some (global_in part)
 
 unfoldable pub global_names : List Part → List Name
 global_names parts = distinct (filter_map global_in parts)

@@ -1,7 +1,7 @@
 -- Which records, in which order, are modules, and which are refused: each part is judged by what stands before it.
 -- (RT-11 Volume and File Formats Manual, "Object file format". The faults, their order and the limits are this
 -- project's own.)
-use Rattle.std.specs.Prelude.{ℕ, ◌+◌, ◌<◌, ◌≤◌, ◌&&◌, not, nat_lt, nat_le, nat_eq, Bool, true, false, List, [], ◌∷◌, ◌++◌, length, Option, Some, None, Result, Ok, Err, if◌then◌else◌}
+use Rattle.std.specs.Prelude.{◌≡◌, ℕ, ◌+◌, ◌<◌, ◌≤◌, ◌&&◌, not, nat_lt, nat_le, nat_eq, Bool, true, false, List, [], ◌∷◌, ◌++◌, length, Option, Some, None, Result, Ok, Err, if◌then◌else◌}
 use Rattle.std.specs.Option.{is_none, is_some, option_or, unwrap_or}
 use Rattle.std.specs.Map.{lookup}
 use Rattle.m11_base.specs.Rad50.{Name, is_same_name}
@@ -16,7 +16,7 @@ use Rattle.m11_modules.specs.declared.fault.ModuleFault.{ModuleFault}
 use Rattle.m11_modules.specs.declared.fault.ModuleFault.TheVariants.{BadOrder, NoText, BadDisplacement, UnknownSection, TextOutside, TooManyGlobals, TooManySections, TooManyModules}
 use Rattle.m11_modules.specs.Names.{is_among}
 use Rattle.m11_modules.specs.Parts.{Part, Directory, Entry, EndOfDirectory, Text, Relocations, Relocated, EndOfModule, EndOfFile}
-use Rattle.m11_modules.specs.Places.{Known, known_of, size_known}
+use Rattle.m11_modules.specs.Places.{Known, adds_name, known_of, size_known}
 use Rattle.m11_modules.specs.declared.stage.Stage.{Stage}
 use Rattle.m11_modules.specs.declared.stage.Stage.TheVariants.{Between, InBody}
 
@@ -165,6 +165,16 @@ fault_of before part = fault_known (known_of before) part
 unfoldable pub first_fault : List Part → List Part → Option ModuleFault
 first_fault before [] = None
 first_fault before (part ∷ parts) = option_or (fault_of before part) (first_fault (before ++ part ∷ []) parts)
+
+-- memory was refused at one of these parts: at one that adds a name, up to which none has a fault. So a limit is asked
+-- before anything grows
+pub record StopsAtName (fault_in : List Part → Option ModuleFault) (parts : List Part) : Type 0 where
+  pub taken : List Part
+  pub part : Part
+  pub left : List Part
+  pub split : parts ≡ taken ++ part ∷ left
+  pub sound : fault_in (taken ++ part ∷ []) ≡ None
+  pub adds : adds_name part ≡ true
 
 -- the result of a check
 abbrev pub returned : Option ModuleFault → Result (Unit {0}) ModuleFault

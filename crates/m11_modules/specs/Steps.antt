@@ -1,6 +1,6 @@
 -- What is known after a part, from what was known before it. (This project's own: how the rules are kept while records
 -- come. That it is what Places.antt says of all parts is proved.)
-use Rattle.std.specs.Prelude.{◌≡◌, ◌+◌, List, [], ◌∷◌, length, ⊤, Option, Some, None, Result, Ok, Err}
+use Rattle.std.specs.Prelude.{◌≡◌, ◌+◌, true, List, [], ◌∷◌, length, ⊤, Option, Some, None, Result, Ok, Err}
 use Rattle.std.specs.Option.{option_or}
 use Rattle.indexmap.specs.IndexMap.{insert_entry}
 use Rattle.indexmap.specs.IndexSet.{insert_key}
@@ -14,8 +14,8 @@ use Rattle.m11_modules.specs.declared.fault.ModuleFault.{ModuleFault}
 use Rattle.m11_modules.specs.declared.fault.ModuleFault.TheVariants.{NoMemory}
 use Rattle.m11_modules.specs.declared.stage.Stage.TheVariants.{Between, InDirectory, InBody}
 use Rattle.m11_modules.specs.Parts.{Part, Directory, Entry, EndOfDirectory, Text, Relocations, Relocated, EndOfModule, EndOfFile}
-use Rattle.m11_modules.specs.Places.{Known, selected_by, global_of}
-use Rattle.m11_modules.specs.Rules.{fault_known}
+use Rattle.m11_modules.specs.Places.{Known, adds_name, selected_by, global_of}
+use Rattle.m11_modules.specs.Rules.{StopsAtName, fault_known}
 
 abbrev pub with_section : GsdEntry → Known → Known
 with_section entry known = record known {
@@ -75,14 +75,15 @@ Notes new noted (Ok done) = new ≡ noted
 Notes new noted (Err NoMemory) = ⊤
 Notes new noted (Err fault) = ⊥
 
--- a part was taken, or its fault was returned
+-- a part was taken, or its fault was returned; or memory was refused at a part that adds a name and has no fault
 unfoldable pub TakesOne : Known → Known → Part → Result (Unit {0}) ModuleFault → Type 0
 TakesOne old new part (Ok done) = (fault_known old part ≡ None) × (new ≡ known_after old part)
-TakesOne old new part (Err NoMemory) = ⊤
+TakesOne old new part (Err NoMemory) = (fault_known old part ≡ None) × (adds_name part ≡ true)
 TakesOne old new part (Err fault) = fault_known old part ≡ Some fault
 
--- parts were taken, or their first fault was returned
+-- parts were taken, or their first fault was returned; or memory was refused at a part that adds a name, up to which
+-- there is no fault
 unfoldable pub RulesTake : Known → Known → List Part → Result (Unit {0}) ModuleFault → Type 0
 RulesTake old new parts (Ok done) = (first_known_fault old parts ≡ None) × (new ≡ known_after_all old parts)
-RulesTake old new parts (Err NoMemory) = ⊤
+RulesTake old new parts (Err NoMemory) = StopsAtName (first_known_fault old) parts
 RulesTake old new parts (Err fault) = first_known_fault old parts ≡ Some fault

@@ -1,10 +1,10 @@
 //! The rules by which records are modules, kept while the records come.
 
-ghost use Rattle.std.specs.Prelude.{◌≡◌, ◌∷◌, [], List, Result, Ok, Err, IfErr, map};
+ghost use Rattle.std.specs.Prelude.{◌≡◌, ◌∷◌, [], List, Result, Ok, Err, IfErr, is_some, map, true};
 ghost use Rattle.m11_obj.specs.Reading.{record_entries, record_relocations};
 ghost use Rattle.m11_modules.specs.Laws.{TakesAfter};
 ghost use Rattle.m11_modules.specs.Parts.{Part, Directory, Entry, EndOfDirectory, Text, Relocations, Relocated, EndOfModule, EndOfFile, record_parts};
-ghost use Rattle.m11_modules.specs.Places.{known_of};
+ghost use Rattle.m11_modules.specs.Places.{adds_name, global_of, known_of};
 ghost use Rattle.m11_modules.specs.Steps.{Notes, RulesTake, TakesOne, with_section, with_global, with_entry, with_target};
 
 use crate::checks::{check_begin, check_entry, check_relocation, check_text, size_of};
@@ -81,8 +81,8 @@ impl Rules {
     /// Takes one record.
     ///
     /// Faults, the first in the order of the record's parts; in one part in this order: `BadOrder`,
-    /// `NoText`, `BadDisplacement`, `UnknownSection`, `TextOutside`, then a limit. `NoMemory` where memory is refused.
-    /// After a fault the rules are of no more use.
+    /// `NoText`, `BadDisplacement`, `UnknownSection`, `TextOutside`, then a limit. `NoMemory` where memory is refused for
+    /// a name, once neither its part nor one before it has a fault. After a fault the rules are of no more use.
     #[tactic(auto, using(crate::proofs::KnownAfter::taken_after))]
     pub fn record(&mut self, record: &Record<'_>) -> Result<(), ModuleFault>
         ensures { (before : List Part) → self.old ≡ known_of before
@@ -214,7 +214,8 @@ impl Rules {
 
     // Keeps what an entry says.
     fn note_entry(&mut self, entry: &GsdEntry) -> Result<(), ModuleFault>
-        ensures { Notes self.new (with_entry entry.now.kind entry.now self.old) result }
+        ensures noted { Notes self.new (with_entry entry.now.kind entry.now self.old) result }
+        ensures adds { IfErr result (λ _. adds_name (Entry entry.now) ≡ true) }
     {
         match entry.kind {
             GsdKind::ControlSection => self.note_section(entry),
@@ -244,7 +245,8 @@ impl Rules {
     /// Takes one relocation of a record whose beginning was taken: `begin_relocations`, and then this call for each of its
     /// relocations, are one call of `record`. They are for a caller that uses a relocation in the walk that judges it.
     ///
-    /// Faults: `NoText`, `BadDisplacement`, `UnknownSection`, `TooManyGlobals`, and `NoMemory` where memory is refused.
+    /// Faults: `NoText`, `BadDisplacement`, `UnknownSection`, `TooManyGlobals`, and `NoMemory` where memory is refused
+    /// for a global's name that passes no limit.
     #[tactic(auto, unfolding(crate::specs::Steps::TakesOne, crate::specs::Steps::known_after, crate::specs::Rules::fault_known))]
     pub fn relocation(&mut self, relocation: Relocation) -> Result<(), ModuleFault>
         ensures { TakesOne self.old self.new (Relocated relocation) result }
@@ -257,7 +259,8 @@ impl Rules {
 
     // Keeps what a relocation names: a section that texts go to from now on, or a global.
     fn note_target(&mut self, target: Target) -> Result<(), ModuleFault>
-        ensures { Notes self.new (with_target target self.old) result }
+        ensures noted { Notes self.new (with_target target self.old) result }
+        ensures adds { IfErr result (λ _. is_some (global_of target) ≡ true) }
     {
         match target {
             Target::LocationCounterDefinition(name, _) => {
