@@ -11,7 +11,7 @@ use Rattle.m11_modules.specs.Places.{known_of}
 use Rattle.m11_modules.specs.Rules.{fault_known, fault_of, first_fault, may_stand}
 use Rattle.m11_layout.specs.Fault.{of_module}
 use Rattle.m11_layout.specs.Tables.{Gathered, gathered_after, gathered_after_all, nothing_gathered}
-use Rattle.m11_layout.specs.Plan.{LayoutEnds, IsPlan, Places, Planned, Plans, bases_onto}
+use Rattle.m11_layout.specs.Plan.{LayoutEnds, IsPlan, PlacesAll, Planned, Plans, StopsAtSection, bases_onto}
 use Rattle.m11_layout.specs.Layout.{FirstFault, LayoutState, LayoutStands}
 use Rattle.m11_layout.specs.declared.fault.LinkFault.{LinkFault}
 use Rattle.m11_layout.specs.declared.fault.LinkFault.TheVariants as fault
@@ -24,10 +24,11 @@ use Rattle.m11_layout.proofs.Walking.{head_none, rest_none}
 
 pub plan_failed : (bottom : ℕ) (gathered : Gathered) (entries new : List ((ℕ × ℕ) × ℕ)) (said : LinkFault)
     → entries ≡ []
-    → Places (bases_onto entries bottom gathered.sections) new (Err said) → Plans bottom gathered (Err said)
+    → PlacesAll entries bottom gathered.sections new (Err said) → Plans bottom gathered (Err said)
 plan_failed bottom gathered entries new fault.TooLarge e h =
     let P : List ((ℕ × ℕ) × ℕ) → Type 0 = λ based. bases_onto based bottom gathered.sections ≡ None in subst P e h
-plan_failed bottom gathered entries new fault.NoMemory e h = tt
+plan_failed bottom gathered entries new fault.NoMemory e h =
+    let P : List ((ℕ × ℕ) × ℕ) → Type 0 = λ based. StopsAtSection based bottom gathered.sections in subst P e h
 plan_failed bottom gathered entries new fault.Read e h = h
 plan_failed bottom gathered entries new (fault.Write output) e h = h
 plan_failed bottom gathered entries new (fault.Block inner) e h = h
@@ -110,7 +111,12 @@ ended bottom before reading (Err fault.TooLarge) s h = (
   too_large_is bottom before (rest_sound [] before s.sound)
       (too_large bottom before reading s h),
 )
-ended bottom before reading (Err fault.NoMemory) s h = tt
+ended bottom before reading (Err fault.NoMemory) s h = (
+  end_sound [] before s.sound,
+  (let P : Gathered → Type 0 = λ g. StopsAtSection [] bottom g.sections in
+      let S : ℕ → Type 0 = λ n. StopsAtSection [] n reading.gathered.sections in
+      subst P (nothing_more bottom before) (subst P s.gathered (subst S s.bottom_is h))),
+)
 ended bottom before reading (Err fault.Read) s h = absurd h
 ended bottom before reading (Err (fault.Write output)) s h = absurd h
 ended bottom before reading (Err (fault.Block inner)) s h = absurd h
@@ -147,28 +153,11 @@ pub end_fault : (before : List Part) (said : ModuleFault) → first_fault before
 unfolding first_fault fault_known
 end_fault before said e = inside (known_of before).stage said e
 
-ends_inside : (bottom : ℕ) (before : List Part) (reported : LinkFault) (said : ModuleFault)
-    → first_fault before (EndOfFile ∷ []) ≡ Some said → reported ≡ of_module said → LayoutEnds bottom before (Err reported)
-ends_inside bottom before reported said e t =
-    let f = end_fault before said e in
-    let P : ModuleFault → Type 0 = λ m. reported ≡ of_module m in
+-- the end of the last file has no other fault, and wants no memory
+pub end_refused : (bottom : ℕ) (before : List Part) (reported : LinkFault) → reported ≡ fault.BadOrder
+    → FirstFault before (EndOfFile ∷ []) reported → LayoutEnds bottom before (Err reported)
+end_refused bottom before reported is h =
+    let P : LinkFault → Type 0 = λ l. FirstFault before (EndOfFile ∷ []) l in
     let Q : LinkFault → Type 0 = λ l. LayoutEnds bottom before (Err l) in
-    subst Q (sym (subst P f.0 t)) f.1
-
-pub end_refused : (bottom : ℕ) (before : List Part) (reported : LinkFault) → FirstFault before (EndOfFile ∷ []) reported
-    → LayoutEnds bottom before (Err reported)
-end_refused bottom before fault.NoMemory h = tt
-end_refused bottom before fault.TooLarge h = ends_inside bottom before fault.TooLarge h.0 h.1 h.2
-end_refused bottom before fault.Read h = ends_inside bottom before fault.Read h.0 h.1 h.2
-end_refused bottom before (fault.Write output) h = ends_inside bottom before (fault.Write output) h.0 h.1 h.2
-end_refused bottom before (fault.Block inner) h = ends_inside bottom before (fault.Block inner) h.0 h.1 h.2
-end_refused bottom before (fault.Record inner) h = ends_inside bottom before (fault.Record inner) h.0 h.1 h.2
-end_refused bottom before fault.BadOrder h = ends_inside bottom before fault.BadOrder h.0 h.1 h.2
-end_refused bottom before fault.NoText h = ends_inside bottom before fault.NoText h.0 h.1 h.2
-end_refused bottom before fault.BadDisplacement h = ends_inside bottom before fault.BadDisplacement h.0 h.1 h.2
-end_refused bottom before fault.UnknownSection h = ends_inside bottom before fault.UnknownSection h.0 h.1 h.2
-end_refused bottom before fault.TooManyGlobals h = ends_inside bottom before fault.TooManyGlobals h.0 h.1 h.2
-end_refused bottom before fault.TooManySections h = ends_inside bottom before fault.TooManySections h.0 h.1 h.2
-end_refused bottom before fault.TooManyModules h = ends_inside bottom before fault.TooManyModules h.0 h.1 h.2
-end_refused bottom before fault.TooMuch h = ends_inside bottom before fault.TooMuch h.0 h.1 h.2
-end_refused bottom before fault.TextOutside h = ends_inside bottom before fault.TextOutside h.0 h.1 h.2
+    let found = subst P is h in
+    subst Q (sym is) (end_fault before found.0 found.1).1

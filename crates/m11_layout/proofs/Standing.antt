@@ -1,5 +1,5 @@
 -- A layout that stands after parts, and after more of them.
-use Rattle.std.proofs.Common.{◌≡◌, ℕ, List, [], ◌∷◌, ◌++◌, append-nil, Option, Some, None, Result, Ok, Err, IsErrAnd, refl, sym, subst}
+use Rattle.std.proofs.Common.{◌≡◌, ℕ, List, [], ◌∷◌, ◌++◌, append-nil, inl, Option, Some, None, Result, Ok, Err, IsErrAnd, refl, sym, subst}
 use Rattle.std.specs.Option.{option_or}
 use Rattle.std.specs.Prelude.{is_ok, true}
 use Rattle.std.proofs.Math.Seq.{append_snoc}
@@ -98,7 +98,7 @@ parts_taken {seen} {new} bottom before parts old is s t g b f =
 -- a fault of parts, found by what is known before them
 pub fault_found : (before parts : List Part) (old new : Known) (broken : ModuleFault) → old ≡ known_of before
     → RulesTake old new parts (Err broken) → FirstFault before parts (of_module broken)
-fault_found before parts old new rule.NoMemory is h = tt
+fault_found before parts old new rule.NoMemory is h = inl (taken_after before old new parts (Err rule.NoMemory) is h)
 fault_found before parts old new rule.BadOrder is h =
     (rule.BadOrder, taken_after before old new parts (Err rule.BadOrder) is h, refl)
 fault_found before parts old new rule.NoText is h =

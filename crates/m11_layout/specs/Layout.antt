@@ -1,11 +1,11 @@
 -- The first pass of a link, call by call: what stands after the parts so far. (This project's own.)
-use Rattle.std.specs.Prelude.{◌≡◌, ℕ, List, [], ◌++◌, ⊤, Option, Some, None, Result, Ok, Err}
+use Rattle.std.specs.Prelude.{◌≡◌, ◌⊎◌, ℕ, List, [], ◌++◌, Option, Some, None, Result, Ok, Err}
 use Rattle.m11_base.specs.Devices.{Bytes}
 use Rattle.m11_obj.specs.Reading.{content_of}
 use Rattle.m11_modules.specs.declared.fault.ModuleFault.{ModuleFault}
 use Rattle.m11_modules.specs.Parts.{Part}
 use Rattle.m11_modules.specs.Places.{Known, known_of}
-use Rattle.m11_modules.specs.Rules.{first_fault}
+use Rattle.m11_modules.specs.Rules.{StopsAtName, first_fault}
 use Rattle.m11_modules.specs.Parts.{record_parts}
 use Rattle.m11_layout.specs.Fault.{of_module}
 use Rattle.m11_layout.specs.Tables.{Gathered, gathered_after_all, nothing_gathered}
@@ -27,9 +27,10 @@ pub record LayoutStands (bottom : ℕ) (parts : List Part) (reading : LayoutStat
   pub bottom_is : reading.bottom ≡ bottom
   pub fault : reading.fault ≡ None
 
--- the first fault of parts after others, reported as that of the link
+-- the first fault of parts after others, reported as that of the link; or memory was refused at a part that adds a name,
+-- up to which none has a fault, or for what all of them say, of which none has one
 abbrev pub FirstFault : List Part → List Part → LinkFault → Type 0
-FirstFault before parts NoMemory = ⊤
+FirstFault before parts NoMemory = StopsAtName (first_fault before) parts ⊎ (first_fault before parts ≡ None)
 FirstFault before parts reported =
     (fault : ModuleFault) × (first_fault before parts ≡ Some fault) × (reported ≡ of_module fault)
 

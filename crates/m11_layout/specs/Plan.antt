@@ -1,8 +1,8 @@
 -- What a plan says of what was gathered. (This project's own. That it is what Sections.antt and Globals.antt say of
 -- all parts is proved.)
-use Rattle.std.specs.Prelude.{◌≡◌, get_or, map, min, option_and_then, true, false, ℕ, ◌+◌, ◌*◌, ◌%◌, ◌≤◌, nat_lt, length, List, [], ◌∷◌, ⊤, Option, Some, None, Result, Ok, Err, if◌then◌else◌}
+use Rattle.std.specs.Prelude.{◌≡◌, get_or, map, min, option_and_then, true, false, ℕ, ◌+◌, ◌*◌, ◌%◌, ◌≤◌, nat_lt, length, List, [], ◌∷◌, ◌++◌, Option, Some, None, Result, Ok, Err, if◌then◌else◌}
 use Rattle.std.specs.Map.{keys_of, lookup}
-use Rattle.std.specs.Option.{unwrap_or}
+use Rattle.std.specs.Option.{is_some, unwrap_or}
 use Rattle.indexmap.specs.IndexMap.{insert_entry}
 use Rattle.m11_base.specs.Names.{blank_name}
 use Rattle.m11_base.specs.Rad50.{Name, is_same_name}
@@ -50,12 +50,27 @@ bases_onto bases next [] = Some (record { bases = bases; top = next })
 bases_onto bases next (section ∷ sections) =
     option_and_then (λ following. bases_onto following.bases following.top sections) (placed bases next section)
 
--- a section was placed, or it ends past the limit
+-- a section was placed, or it ends past the limit; or memory was refused for one that doesn't
 abbrev pub Places : Option Bases → List (Name × ℕ) → Result ℕ LinkFault → Type 0
 Places placed new (Ok top) = placed ≡ Some (record { bases = new; top = top })
 Places placed new (Err TooLarge) = placed ≡ None
-Places placed new (Err NoMemory) = ⊤
+Places placed new (Err NoMemory) = is_some placed ≡ true
 Places placed new (Err fault) = ⊥
+
+-- memory was refused at one of these sections: at one that doesn't end past the limit, as none before it does
+pub record StopsAtSection (bases : List (Name × ℕ)) (next : ℕ) (sections : List (Name × Total)) : Type 0 where
+  pub before : List (Name × Total)
+  pub section : Name × Total
+  pub left : List (Name × Total)
+  pub split : sections ≡ before ++ section ∷ left
+  pub fits : is_some (bases_onto bases next (before ++ section ∷ [])) ≡ true
+
+-- sections were placed, or one ends past the limit; or memory was refused before one does
+abbrev pub PlacesAll : List (Name × ℕ) → ℕ → List (Name × Total) → List (Name × ℕ) → Result ℕ LinkFault → Type 0
+PlacesAll bases next sections new (Ok top) = bases_onto bases next sections ≡ Some (record { bases = new; top = top })
+PlacesAll bases next sections new (Err TooLarge) = bases_onto bases next sections ≡ None
+PlacesAll bases next sections new (Err NoMemory) = StopsAtSection bases next sections
+PlacesAll bases next sections new (Err fault) = ⊥
 
 -- ---- what a plan reports
 
@@ -186,13 +201,15 @@ abbrev pub Plans : ℕ → Gathered → Result Planned LinkFault → Type 0
 Plans bottom gathered (Ok plan) = (plan.gathered ≡ gathered) × (plan.bottom ≡ bottom)
     × (bases_onto [] bottom gathered.sections ≡ Some (record { bases = plan.bases; top = plan.top }))
 Plans bottom gathered (Err TooLarge) = bases_onto [] bottom gathered.sections ≡ None
-Plans bottom gathered (Err NoMemory) = ⊤
+Plans bottom gathered (Err NoMemory) = StopsAtSection [] bottom gathered.sections
 Plans bottom gathered (Err fault) = ⊥
 
--- what the reading of all parts yields: a plan; an end inside a module, and only then a section that ends too high
+-- what the reading of all parts yields: a plan; an end inside a module, and only then a section that ends too high; or
+-- memory was refused for the base of a section that doesn't, as none before it does
 abbrev pub LayoutEnds : ℕ → List Part → Result Planned LinkFault → Type 0
 LayoutEnds bottom parts (Ok plan) = (fault_of parts EndOfFile ≡ None) × IsPlanOf bottom parts plan
 LayoutEnds bottom parts (Err BadOrder) = fault_of parts EndOfFile ≡ Some rule.BadOrder
 LayoutEnds bottom parts (Err TooLarge) = (fault_of parts EndOfFile ≡ None) × (is_too_large bottom parts ≡ true)
-LayoutEnds bottom parts (Err NoMemory) = ⊤
+LayoutEnds bottom parts (Err NoMemory) = (fault_of parts EndOfFile ≡ None)
+    × StopsAtSection [] bottom (gathered_after_all bottom nothing_gathered parts).sections
 LayoutEnds bottom parts (Err fault) = ⊥

@@ -2,7 +2,7 @@
 //! ".PSECT directive".)
 
 ghost use Rattle.std.specs.Prelude.{◌≡◌, ◌+◌, Some, None, nat_lt, if◌then◌else◌};
-ghost use Rattle.m11_layout.specs.Plan.{Places, address_limit, bases_onto, placed};
+ghost use Rattle.m11_layout.specs.Plan.{Places, PlacesAll, address_limit, placed};
 
 use crate::definition::Total;
 use crate::fault::LinkFault;
@@ -62,7 +62,7 @@ pub(crate) fn place_all(
     bottom: u16,
     tables: &Tables,
 ) -> Result<u16, LinkFault>
-    ensures { Places (bases_onto bases.old.entries bottom tables.now.sections) bases.new.entries result }
+    ensures { PlacesAll bases.old.entries bottom tables.now.sections bases.new.entries result }
 {
     let mut next = bottom;
     'sections: for index in 0..tables.section_count() {

@@ -55,7 +55,8 @@ impl Layout {
     /// Takes one block.
     ///
     /// Faults: `Record` where the block is no record, and then the first fault of its order and its entries;
-    /// `NoMemory` where memory is refused. After a fault each call returns it again.
+    /// `NoMemory` where memory is refused, for a part up to which there is no fault. After a fault each call returns it
+    /// again.
     pub fn block(&mut self, block: &Block) -> Result<(), LinkFault>
         ensures takes { (bottom : ℕ) (before : List Part) → LayoutStands bottom before self.old
             → TakesBlock bottom before self.new block.now.items result }
@@ -85,7 +86,7 @@ impl Layout {
     /// The end of the first pass: what it has found, as a plan for the second.
     ///
     /// Faults: the one that came before; `BadOrder` inside a module; then `TooLarge` where a relocatable section ends
-    /// past 160000; `NoMemory` where memory is refused.
+    /// past 160000; `NoMemory` where memory is refused for a section, once neither it nor one before it is too large.
     pub fn end(self) -> Result<Plan, LinkFault>
         ensures ends { (bottom : ℕ) (before : List Part) → LayoutStands bottom before self → LayoutEnds bottom before result }
         ensures again { (fault : LinkFault) → self.fault ≡ Some fault → result ≡ Err fault }
@@ -108,6 +109,7 @@ impl Layout {
     fn finish(&mut self) -> Result<(), LinkFault>
         ensures takes { (bottom : ℕ) (before : List Part) → LayoutStands bottom before self.old
             → TakesParts bottom before self.new (EndOfFile ∷ []) result }
+        ensures inside { self.old.fault ≡ None → IfErr result (λ fault. fault ≡ LinkFault.BadOrder) }
         ensures again { (fault : LinkFault) → self.old.fault ≡ Some fault → result ≡ Err fault }
     {
         self.fault.check()?;

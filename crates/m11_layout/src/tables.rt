@@ -1,6 +1,6 @@
 //! The tables that a layout gathers while records come.
 
-ghost use Rattle.std.specs.Prelude.{◌≡◌, ◌≢◌, ◌≤◌, ◌<◌, Ok, Some, get_or, length, map, slice_get};
+ghost use Rattle.std.specs.Prelude.{◌≡◌, ◌≢◌, ◌≤◌, ◌<◌, IfErr, Ok, Some, get_or, is_some, length, map, slice_get, true};
 ghost use Rattle.m11_obj.specs.Reading.{record_entries, record_kind};
 ghost use Rattle.m11_modules.specs.Parts.{Entry};
 ghost use Rattle.m11_modules.specs.Parts.{record_parts};
@@ -455,7 +455,8 @@ impl Tables {
 
     /// The target of a relocation, which may refer to a global.
     pub(crate) fn note_target(&mut self, target: Target) -> Result<(), AllocError>
-        ensures { TablesKeep self.new (with_relocated (global_of target) self.old) result }
+        ensures noted { TablesKeep self.new (with_relocated (global_of target) self.old) result }
+        ensures adds { IfErr result (λ _. is_some (global_of target) ≡ true) }
     {
         match target {
             Target::Global(name) => self.note_relocated(name),

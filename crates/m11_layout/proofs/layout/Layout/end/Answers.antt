@@ -8,4 +8,5 @@ returns-in-Ok-clause-ends c =
 
 pub returns-in-Err-clause-ends : goal.returns-in-Err-clause-ends
 returns-in-Err-clause-ends c =
-    λ bottom before s. end_refused bottom before c.in-Err.fault (c.in-Err.ensures.takes bottom before s)
+    λ bottom before s. end_refused bottom before c.in-Err.fault (c.in-Err.ensures.inside s.fault)
+    (c.in-Err.ensures.takes bottom before s)
