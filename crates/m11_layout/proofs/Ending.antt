@@ -9,7 +9,6 @@ use Rattle.m11_modules.specs.declared.stage.Stage.TheVariants.{Between, InDirect
 use Rattle.m11_modules.specs.Parts.{Part, EndOfFile}
 use Rattle.m11_modules.specs.Places.{known_of}
 use Rattle.m11_modules.specs.Rules.{fault_known, fault_of, first_fault, may_stand}
-use Rattle.m11_layout.specs.Fault.{of_module}
 use Rattle.m11_layout.specs.Tables.{Gathered, gathered_after, gathered_after_all, nothing_gathered}
 use Rattle.m11_layout.specs.Plan.{LayoutEnds, IsPlan, PlacesAll, Planned, Plans, StopsAtSection, bases_onto}
 use Rattle.m11_layout.specs.Layout.{FirstFault, LayoutState, LayoutStands}

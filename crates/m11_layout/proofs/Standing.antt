@@ -1,9 +1,8 @@
 -- A layout that stands after parts, and after more of them.
 use Rattle.std.proofs.Common.{◌≡◌, ℕ, List, [], ◌∷◌, ◌++◌, append-nil, inl, Option, Some, None, Result, Ok, Err, IsErrAnd, refl, sym, subst}
 use Rattle.std.specs.Option.{option_or}
-use Rattle.std.specs.Prelude.{is_ok, true}
 use Rattle.std.proofs.Math.Seq.{append_snoc}
-use Rattle.m11_obj.specs.Reading.{◌>>=◌, IsRecord, content_of, record_of}
+use Rattle.m11_obj.specs.Reading.{◌>>=◌, content_of, record_of}
 use Rattle.m11_obj.specs.Records.{Content}
 use Rattle.m11_obj.specs.declared.fault.RecordFault.{RecordFault}
 use Rattle.m11_modules.specs.declared.fault.ModuleFault.{ModuleFault}
@@ -13,13 +12,11 @@ use Rattle.m11_modules.specs.Laws.{TakesAfter}
 use Rattle.m11_modules.specs.Parts.{Part, EndOfFile}
 use Rattle.m11_modules.specs.Places.{Known, known_of}
 use Rattle.m11_modules.specs.Rules.{fault_of, first_fault}
-use Rattle.m11_modules.specs.Parts.{record_parts}
 use Rattle.m11_modules.specs.Steps.{RulesTake}
 use Rattle.m11_layout.specs.Fault.{of_module}
 use Rattle.m11_layout.specs.Tables.{Gathered, gathered_after, gathered_after_all, nothing_gathered}
-use Rattle.m11_layout.specs.Layout.{FirstFault, LayoutState, LayoutStands, TakesBlock, TakesParts}
+use Rattle.m11_layout.specs.Layout.{FirstFault, LayoutState, LayoutStands, TakesParts}
 use Rattle.m11_layout.specs.declared.fault.LinkFault.{LinkFault}
-use Rattle.m11_layout.specs.declared.fault.LinkFault.TheVariants as fault
 
 pub begins : (bottom : ℕ) (reading : LayoutState) → reading.known ≡ known_of [] → reading.gathered ≡ nothing_gathered
     → reading.bottom ≡ bottom → reading.fault ≡ None → LayoutStands bottom [] reading

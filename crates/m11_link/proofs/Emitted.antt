@@ -293,7 +293,7 @@ module _ (plan : Planned) (before parts : List Part) (ws : Reporting → List Wr
   refused_by a s' new rule.TooManyGlobals h = ((rule.TooManyGlobals, h, refl), refl)
   refused_by a s' new rule.TooManySections h = ((rule.TooManySections, h, refl), refl)
   refused_by a s' new rule.TooManyModules h = ((rule.TooManyModules, h, refl), refl)
-  refused_by a s' new rule.NoMemory h = inl refl
+  refused_by a s' new rule.NoMemory h = inl (h, refl)
 
   pub parts_refused : (a : Outputs) (s' : Emitting) (new : Known) (broken : ModuleFault) (result : Result (Unit {0}) LinkFault)
       → TakesAfter before new parts (Err broken) → IsErrAnd result (λ e. e ≡ of_module broken)
@@ -616,7 +616,7 @@ of_record : (plan : Planned) (before : List Part) (a b : Outputs) (s s' : Emitti
     → TakesParts plan before (call_of a b s s') (record_parts items) result → TakesBlock plan before (call_of a b s s') items result
 of_record plan before a b s s' items (Ok done) is h = h
 of_record plan before a b s s' items (Err (fault.Write output)) is h = (is, h)
-of_record plan before a b s s' items (Err fault.NoMemory) is h = inr (is, h)
+of_record plan before a b s s' items (Err fault.NoMemory) is h = (is, h)
 of_record plan before a b s s' items (Err (fault.Record inner)) is h = absurd (no_record h.0.0 inner h.0.2)
 of_record plan before a b s s' items (Err stopped) is h = h
 

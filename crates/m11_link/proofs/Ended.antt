@@ -3,7 +3,7 @@ use Rattle.std.proofs.Common.{◌≡◌, Bool, true, false, if◌then◌else◌,
 use Rattle.m11_blocks.specs.Tapes.{tape_block}
 use Rattle.m11_modules.specs.Laws.{TakesAfter}
 use Rattle.m11_modules.specs.Parts.{Part, EndOfFile}
-use Rattle.m11_modules.specs.Places.{Known, known_of}
+use Rattle.m11_modules.specs.Places.{Known, adds_name, known_of}
 use Rattle.m11_modules.specs.Rules.{fault_of, first_fault}
 use Rattle.m11_modules.specs.declared.fault.ModuleFault.{ModuleFault}
 use Rattle.m11_modules.specs.declared.fault.ModuleFault.TheVariants as rule
@@ -22,6 +22,16 @@ use Rattle.m11_link.specs.Written.{counted, link_writes}
 use Rattle.m11_link.proofs.Counting.{counted-append}
 use Rattle.m11_link.proofs.Emitted.{begun_counts, begun_holds, here, none_written}
 use Rattle.m11_writes.proofs.Writing.{refused_between}
+
+-- the end of a file adds no name
+no_name_there : (taken : List Part) (part : Part) (left : List Part) → EndOfFile ∷ [] ≡ taken ++ part ∷ left
+    → adds_name part ≡ true → ⊥
+no_name_there [] part left e adds =
+    let is : EndOfFile ≡ part = cc in
+    let P : Part → Type 0 = λ x. adds_name x ≡ true in
+    let no : adds_name EndOfFile ≡ true = subst P (sym is) adds in cc
+no_name_there (first ∷ []) part left e adds = cc
+no_name_there (first ∷ second ∷ taken) part left e adds = cc
 
 -- ---- the transfer block
 
@@ -75,7 +85,7 @@ module _ {seen : Emitting} (plan : Planned) (before : List Part) (s : Emitting) 
         → Ended a b seen result
     ended_here a b (Ok done) sound h n = (sound, counts done n, went_on (λ more. Gains a b more) h)
     ended_here a b (Err (fault.Write output)) sound h n = (sound, went_on (λ more. StopsIn output a b more) h)
-    ended_here a b (Err fault.NoMemory) sound h n = went_on (λ more. StopsBetween a b more) h
+    ended_here a b (Err fault.NoMemory) sound h n = (sound, went_on (λ more. StopsBetween a b more) h)
     ended_here a b (Err fault.Read) sound h n = absurd h
     ended_here a b (Err (fault.Block inner)) sound h n = absurd h
     ended_here a b (Err (fault.Record inner)) sound h n = absurd h
@@ -104,7 +114,7 @@ module _ {seen : Emitting} (plan : Planned) (before : List Part) (s : Emitting) 
     inside : (a : Outputs) (new : Known) (broken : ModuleFault) → TakesAfter before new (EndOfFile ∷ []) (Err broken)
         → Ended a a seen (Err (of_module broken))
     inside a new rule.BadOrder h = ((end_fault before rule.BadOrder h).1, refl)
-    inside a new rule.NoMemory h = went_on (λ more. StopsBetween a a more) (refused_between link a made)
+    inside a new rule.NoMemory h = absurd (no_name_there h.taken h.part h.left h.split h.adds)
     inside a new rule.NoText h = let e = (end_fault before rule.NoText h).0 in absurd cc
     inside a new rule.BadDisplacement h = let e = (end_fault before rule.BadDisplacement h).0 in absurd cc
     inside a new rule.UnknownSection h = let e = (end_fault before rule.UnknownSection h).0 in absurd cc

@@ -156,27 +156,22 @@ module _ (plan : Planned) (parts : List Part) (sound : first_fault [] parts ≡ 
   within_end Stop none h =
       (parts ++ EndOfFile ∷ [], end_taken parts (sound_after [] parts (EndOfFile ∷ []) sound none), h)
 
-  refused_memory : (bytes : List ℕ) → (new ≡ now) ⊎ (IsRecord bytes
-      × TakesParts plan parts (call_of now new emit emit') (record_parts bytes) (Err fault.NoMemory))
+  refused_memory : (bytes : List ℕ) → IsRecord bytes
+      → TakesParts plan parts (call_of now new emit emit') (record_parts bytes) (Err fault.NoMemory)
       → (new ≡ now) ⊎ Within plan emit.has_begun parts (BlockOf bytes) (StopsBetween now new)
-  refused_memory bytes (inl e) = inl e
-  refused_memory bytes (inr h) = here h.1
-    where
-      here : TakesParts plan parts (call_of now new emit emit') (record_parts bytes) (Err fault.NoMemory)
-          → (new ≡ now) ⊎ Within plan emit.has_begun parts (BlockOf bytes) (StopsBetween now new)
-      here (inl e) = inl e
-      here (inr k) = inr (within_block bytes (StopsBetween now new) h.0 k.0 k.1)
+  refused_memory bytes is (inl h) = inl h.1
+  refused_memory bytes is (inr h) = inr (within_block bytes (StopsBetween now new) is h.0 h.1)
 
   block_halts : (bytes : List ℕ) (stopped : LinkFault) → TakesBlock plan parts (call_of now new emit emit') bytes (Err stopped)
       → Halts plan emit.has_begun parts (BlockOf bytes) now new stopped
   block_halts bytes (fault.Write output) h = within_block bytes (StopsIn output now new) h.0 h.1.0 h.1.1
-  block_halts bytes fault.NoMemory h = refused_memory bytes h
+  block_halts bytes fault.NoMemory h = refused_memory bytes h.0 h.1
   block_halts bytes (fault.Record inner) h = (no_record_decides parts bytes inner h.0, h.1)
   block_halts bytes stopped h = (parts_decide parts bytes stopped h.0, h.1)
 
   end_memory : TakesParts plan parts (call_of now new emit emit') (EndOfFile ∷ []) (Err fault.NoMemory)
       → (new ≡ now) ⊎ Within plan emit.has_begun parts ObjectEnds (StopsBetween now new)
-  end_memory (inl e) = inl e
+  end_memory (inl h) = inl h.1
   end_memory (inr k) = inr (within_end (StopsBetween now new) k.0 k.1)
 
   end_halts : (stopped : LinkFault) → TakesParts plan parts (call_of now new emit emit') (EndOfFile ∷ []) (Err stopped)
@@ -580,7 +575,7 @@ module _ {F : Type 0} (text : F → Option FeedText) (faults : F → ℕ) (feeds
         parts = h.3.parts;
         taken-is = h.3.taken-is;
         stops = stops_between_on old now new (written plan emit.has_begun h.3.parts)
-            (link_writes (planned plan) h.3.parts) h.3.gains e;
+            (link_writes (planned plan) h.3.parts) h.3.gains e.1;
       }),
     )
     second_ends (Err fault.BadOrder) e = absurd (none_some rule.BadOrder (sym h.3.between ∙ e.0))

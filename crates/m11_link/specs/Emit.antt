@@ -14,7 +14,7 @@ use Rattle.m11_obj.specs.declared.gsd.GsdKind.TheVariants.{GlobalSymbol}
 use Rattle.m11_obj.specs.declared.relocations.Relocation.{Relocation}
 use Rattle.m11_modules.specs.Parts.{Part, EndOfFile, Text, Relocations, Relocated, record_parts}
 use Rattle.m11_modules.specs.Places.{Known, known_of, current_section, modules_in, this_module}
-use Rattle.m11_modules.specs.Rules.{defines, fault_of, first_fault}
+use Rattle.m11_modules.specs.Rules.{StopsAtName, defines, fault_of, first_fault}
 use Rattle.m11_modules.specs.declared.fault.ModuleFault.TheVariants as rule
 use Rattle.m11_layout.specs.Plan.{Planned}
 use Rattle.m11_layout.specs.Layout.{FirstFault}
@@ -220,11 +220,13 @@ abbrev pub call_of : Outputs → Outputs → Emitting → Emitting → Call
 call_of old new stood stands = record { old = old; new = new; stood = stood; stands = stands }
 
 -- parts weren't taken: their first fault was returned, and nothing was written; or they have none, and an output failed,
--- or memory was refused; or memory was refused before anything was written
+-- or memory was refused; or memory was refused before anything was written, at a part that adds a name, up to which none
+-- has a fault
 abbrev pub StopsInParts : Planned → List Part → Outputs → Outputs → Emitting → List Part → LinkFault → Type 0
 StopsInParts plan before old new state parts (fault.Write output) = (first_fault before parts ≡ None)
     × GoesOn (StopsIn output old new) (written plan state.has_begun before) (written plan true (before ++ parts))
-StopsInParts plan before old new state parts fault.NoMemory = (new ≡ old)
+StopsInParts plan before old new state parts fault.NoMemory =
+    (StopsAtName (first_fault before) parts × (new ≡ old))
     ⊎ ((first_fault before parts ≡ None)
     × GoesOn (StopsBetween old new) (written plan state.has_begun before) (written plan true (before ++ parts)))
 StopsInParts plan before old new state parts stopped = FirstFault before parts stopped × (new ≡ old)
@@ -241,8 +243,8 @@ abbrev pub TakesBlock : Planned → List Part → Call → Bytes → Result (Uni
 TakesBlock plan before call bytes (Err (fault.Record inner)) = (content_of bytes ≡ Err inner) × (call.new ≡ call.old)
 TakesBlock plan before call bytes (Err (fault.Write output)) = IsRecord bytes
     × TakesParts plan before call (record_parts bytes) (Err (fault.Write output))
-TakesBlock plan before call bytes (Err fault.NoMemory) = (call.new ≡ call.old) ⊎ (IsRecord bytes
-    × TakesParts plan before call (record_parts bytes) (Err fault.NoMemory))
+TakesBlock plan before call bytes (Err fault.NoMemory) = IsRecord bytes
+    × TakesParts plan before call (record_parts bytes) (Err fault.NoMemory)
 TakesBlock plan before call bytes result = TakesParts plan before call (record_parts bytes) result
 
 -- where a fault was returned, it is returned again, nothing changes and nothing is written
@@ -251,14 +253,14 @@ FailsAgain state state' old new result = (stopped : LinkFault) → state.fault �
     → (result ≡ Err stopped) × (state' ≡ state) × (new ≡ old)
 
 -- the end of the second pass: the whole link is written; or the parts end inside a module, and nothing more was
--- written; or an output failed, or memory was refused
+-- written; or they don't, and an output failed, or memory was refused
 abbrev pub EmitEnds : Planned → List Part → Outputs → Outputs → Emitting → Result LinkDone LinkFault → Type 0
 EmitEnds plan parts old new state (Ok done) = (fault_of parts EndOfFile ≡ None)
     × (done.messages ≡ counted 0 (link_writes (planned plan) parts))
     × GoesOn (Gains old new) (written plan state.has_begun parts) (link_writes (planned plan) parts)
 EmitEnds plan parts old new state (Err (fault.Write output)) = (fault_of parts EndOfFile ≡ None)
     × GoesOn (StopsIn output old new) (written plan state.has_begun parts) (link_writes (planned plan) parts)
-EmitEnds plan parts old new state (Err fault.NoMemory) =
-    GoesOn (StopsBetween old new) (written plan state.has_begun parts) (link_writes (planned plan) parts)
+EmitEnds plan parts old new state (Err fault.NoMemory) = (fault_of parts EndOfFile ≡ None)
+    × GoesOn (StopsBetween old new) (written plan state.has_begun parts) (link_writes (planned plan) parts)
 EmitEnds plan parts old new state (Err fault.BadOrder) = (fault_of parts EndOfFile ≡ Some rule.BadOrder) × (new ≡ old)
 EmitEnds plan parts old new state (Err stopped) = ⊥

@@ -65,7 +65,7 @@ impl Emit {
     /// The first call of any kind that isn't refused writes the messages on undefined globals and the map before
     /// all else. Faults: `Record` where the block is no record, and then the first fault of its order and its entries:
     /// it has written nothing. `Write` where an output failed: nothing was written after it. `NoMemory` where memory was
-    /// refused. After a fault each call returns it again and writes nothing.
+    /// refused, for what passes no limit. After a fault each call returns it again and writes nothing.
     pub fn feed<S: Sink, T: Sink, U: Sink>(
         &mut self,
         block: &Block,
