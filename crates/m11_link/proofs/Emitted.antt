@@ -32,7 +32,7 @@ use Rattle.m11_link.specs.Outputs.{Outputs, Write, Gains, Stops, StopsBetween, S
 use Rattle.m11_link.specs.Written.{PlacedText, block_at, counted, defined_names, parts_writes}
 use Rattle.m11_link.proofs.Counting.{counted-append}
 use Rattle.m11_link.proofs.Entering.{goes_stopped_alone}
-use Rattle.m11_writes.proofs.Writing.{gains_nothing, gains_then, refused_between, stops_after, writes_then}
+use Rattle.m11_writes.proofs.Writing.{gains_nothing, gains_then, stops_after, writes_then}
 use Rattle.m11_link.proofs.WritesAfter.{content_defined_is, content_held, content_held_is, content_reported, content_reported_is, file_defined, held_more, parts_more, reported_all}
 
 -- ---- what is held

@@ -17,11 +17,10 @@ use Rattle.m11_link.specs.declared.emit.LinkDone.{LinkDone}
 use Rattle.m11_link.specs.Emit.{Emitting, EmitEnds, GoesOn, EmitStands, begin_writes, begun_reporting, written}
 use Rattle.m11_link_text.specs.Findings.{planned}
 use Rattle.m11_link.specs.Front.{front_writes}
-use Rattle.m11_link.specs.Outputs.{Outputs, Write, Gains, StopsBetween, StopsIn, Writes, to_tape, link}
+use Rattle.m11_link.specs.Outputs.{Outputs, Write, Gains, StopsBetween, StopsIn, Writes, to_tape}
 use Rattle.m11_link.specs.Written.{counted, link_writes}
 use Rattle.m11_link.proofs.Counting.{counted-append}
 use Rattle.m11_link.proofs.Emitted.{begun_counts, begun_holds, here, none_written}
-use Rattle.m11_writes.proofs.Writing.{refused_between}
 
 -- the end of a file adds no name
 no_name_there : (taken : List Part) (part : Part) (left : List Part) → EndOfFile ∷ [] ≡ taken ++ part ∷ left
