@@ -3,7 +3,7 @@ mod FirstLines
 mod Joined
 mod LineTaken
 mod LinesRead
-mod LinesWritten
+pub mod LinesWritten
 mod Passing
 mod ProgramsAgree
 mod ProgramsAlike

@@ -1,7 +1,9 @@
 mod EachPass
 mod MessagesCounted
+mod ObjectWritten
 mod OneOutcome
 mod OnePass
 mod OneText
+mod OutputLines
 mod OutputsAlike
 mod RunsRefused

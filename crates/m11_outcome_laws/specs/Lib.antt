@@ -1,4 +1,5 @@
 pub mod Messages
 pub mod OneText
+pub mod Outputs
 pub mod Runs
 pub mod Sources

@@ -1,14 +1,19 @@
 //! Laws of the outcome of sources, without code: that there is one outcome and no other, that two sources after a line feed are one text,
-//! what two passes over one text give, what a run that the sources refuse has written, how many messages there are, and what a listing
-//! leaves as it is. Each is the contract of a function that does nothing but to call the laws that its own follows from; no other crate
-//! names them.
+//! what two passes over one text give, what a run that the sources refuse has written, what each output
+//! gains, how many messages there are, and what a listing leaves as it is. Each is the contract of a function that does nothing but to call
+//! the laws that its own follows from; no other crate names them.
 #![tactic(auto)]
 
 mod laws;
+mod outputs;
 
 pub use laws::{
     a_listing_changes_no_other_output, each_list_of_sources_has_an_outcome,
     runs_write_their_outcome, sources_have_one_outcome,
     the_same_text_has_no_moved_label_and_no_second_refusal,
     there_is_a_message_for_each_flagged_line, two_sources_after_a_line_feed_are_one_text,
+};
+pub use outputs::{
+    the_listing_is_its_lines, the_messages_are_their_lines,
+    the_object_is_the_blocks_of_its_contents,
 };
