@@ -6,4 +6,6 @@ mod OnePass
 mod OneText
 mod OutputLines
 mod OutputsAlike
+mod RunsDecided
 mod RunsRefused
+mod SourcesRead

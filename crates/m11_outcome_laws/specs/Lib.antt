@@ -1,3 +1,4 @@
+pub mod Beginnings
 pub mod Messages
 pub mod OneText
 pub mod Outputs

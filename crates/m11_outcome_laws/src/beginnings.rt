@@ -1,0 +1,34 @@
+//! Whole runs over known sources.
+
+ghost use Rattle.std.specs.Prelude.{List, Result};
+ghost use Rattle.m11_asm.specs.Outcome.{Outcome};
+ghost use Rattle.m11_asm.specs.Passes.{pass_of};
+ghost use Rattle.m11_asm.specs.Run.{AsmRuns};
+ghost use Rattle.m11_asm.specs.declared.done.AsmDone.{AsmDone};
+ghost use Rattle.m11_asm_outputs.specs.Outputs.{Outputs};
+ghost use Rattle.m11_asm_outputs.specs.declared.fault.AsmFault.{AsmFault};
+ghost use Rattle.m11_base.specs.Devices.{Bytes};
+ghost use Rattle.m11_outcome_laws.specs.Beginnings.{AreKnown, IsDecided};
+ghost use Rattle.m11_outcome_laws.specs.Sources.{AssembleTo};
+
+use m11_base::Feed;
+use m11_pass_laws::{
+    a_pass_has_one_end, a_second_pass_over_the_same_lines_passes_no_limit,
+    the_same_lines_are_read_alike,
+};
+
+/// Where both passes get the same known bytes, their outcome decides the run. If they are assembled, a run that is Ok has written
+/// exactly what the outcome says, to the object, the listing and the messages, and no other faults come than `Read`, `Write` and
+/// `NoMemory`, after which each of the three has a beginning of that, and no other bytes. If they are refused, the run returns
+/// that refusal, `Read` or `NoMemory`, and writes nothing.
+pub fn known_sources_decide_the_run<F: Feed>()
+    ensures { (first again second later : List F) (sources : List Bytes) (outcome : Outcome) (old new : Outputs)
+        (returned : Result AsmDone AsmFault) → AssembleTo sources outcome → AreKnown F.text first sources
+        → AreKnown F.text second sources
+        → AsmRuns (pass_of F.text F.faults first again) (pass_of F.text F.faults second later) old new returned
+        → IsDecided outcome old new returned }
+{
+    a_pass_has_one_end();
+    the_same_lines_are_read_alike();
+    a_second_pass_over_the_same_lines_passes_no_limit();
+}
