@@ -1,4 +1,4 @@
-//! Devices that fail: the console of a program that runs, and its messages; the listing of an assembly.
+//! Devices that fail: the console of a program that runs, and its messages; the object and the listing of an assembly.
 
 use m11_base::{DeviceFault, FuseFeed, FuseSink, MemoryFeed, MemorySink, Sink, WriterSink};
 use m11_cli::{MemoryFile, MemoryFiles, OpenRefusal, Opens, command};
@@ -99,11 +99,23 @@ fn a_run_whose_device_fails_leaves_the_status_of_a_device(rt: HostRuntime) -> Re
     check_runs(&rt, &RUNS)
 }
 
-// The listing of this source:
+// The object of this source:
 //
 //     .WORD 1
 //     .END
-const LISTING: &str = "         1 000000 000001                  .WORD 1
+static OBJECT: [u8; 79] = [
+    0x01, 0x00, 0x26, 0x00, 0x01, 0x00, 0x09, 0xB1, 0x8C, 0x3A, 0x00, 0x00, 0x00, 0x00, 0x01, 0xAF,
+    0x94, 0x0F, 0x44, 0x05, 0x00, 0x00, 0x00, 0x00, 0x00, 0x00, 0x20, 0x05, 0x02, 0x00, 0x01, 0xAF,
+    0x94, 0x0F, 0x00, 0x03, 0x01, 0x00, 0x3E, 0x01, 0x00, 0x06, 0x00, 0x02, 0x00, 0xF7, 0x01, 0x00,
+    0x0E, 0x00, 0x04, 0x00, 0x07, 0x00, 0x00, 0x00, 0x00, 0x00, 0x00, 0x00, 0xE6, 0x01, 0x00, 0x0A,
+    0x00, 0x03, 0x00, 0x00, 0x00, 0x01, 0x00, 0xF1, 0x01, 0x00, 0x06, 0x00, 0x06, 0x00, 0xF3,
+];
+
+// How many bytes of it are written before the listing's first line.
+const HEAD: usize = 46;
+
+// The listing of that source.
+static LISTING: [u8; 202] = *b"         1 000000 000001                  .WORD 1
          2 000002                         .END
 
 SYMBOL TABLE
@@ -116,11 +128,6 @@ ERRORS DETECTED: 0
 
 // How many bytes of it are the lines of the source.
 const LINES: usize = 97;
-
-// The bytes of the object that are written before the listing's first line, and all of them.
-const HEAD: usize = 46;
-
-const OBJECT: usize = 79;
 
 // A file that takes as many bytes as it has room for, and then fails.
 #[derive(Drop)]
@@ -163,10 +170,11 @@ impl Sink for ShortFile {
     }
 }
 
-// The files of an assembly of that source, whose listing takes `room` bytes.
+// The files of an assembly of that source. One that is created at the path `short` takes `room` bytes.
 #[derive(Drop)]
 struct ShortFiles {
     alloc: Global,
+    short: &'static str,
     room: usize,
     object: Vec<u8>,
     listing: Vec<u8>,
@@ -188,10 +196,12 @@ impl Opens for ShortFiles {
     }
 
     fn create(&mut self, path: &str) -> Result<ShortFile, OpenRefusal> {
-        match path {
-            "P.LST" => Ok(ShortFile::new(self.alloc, self.room)),
-            _ => Ok(ShortFile::new(self.alloc, usize::MAX)),
-        }
+        let room = if path == self.short {
+            self.room
+        } else {
+            usize::MAX
+        };
+        Ok(ShortFile::new(self.alloc, room))
     }
 
     fn keep(&mut self, path: &str, output: ShortFile) {
@@ -202,11 +212,19 @@ impl Opens for ShortFiles {
     }
 }
 
-// Whether an assembly whose listing takes `room` bytes of its text leaves those, the object up to there, no message, and the
-// status and the line of a listing that can't be written.
-fn is_reported(alloc: Global, room: usize) -> bool {
+// What an assembly leaves where one of its outputs fails.
+#[derive(Clone, Copy)]
+struct Left {
+    object: &'static [u8],
+    listing: &'static [u8],
+    reported: &'static [u8],
+}
+
+// Whether an assembly whose output at the path `short` takes `room` bytes leaves this, and the status of a device.
+fn leaves(alloc: Global, short: &'static str, room: usize, left: Left) -> bool {
     let mut files = ShortFiles {
         alloc,
+        short,
         room,
         object: Vec::new(alloc),
         listing: Vec::new(alloc),
@@ -226,13 +244,11 @@ fn is_reported(alloc: Global, room: usize) -> bool {
         listing,
         ..
     } = files;
-    let written = if room < LINES { HEAD } else { OBJECT };
     status == 3
         && out.bytes().is_empty()
-        && err.bytes() == b"?M11 ASM 2 Write LISTING\n".as_slice()
-        && object.len() == written
-        && listing.len() == room
-        && LISTING.as_bytes().starts_with(listing.as_slice())
+        && err.bytes() == left.reported
+        && object.as_slice() == left.object
+        && listing.as_slice() == left.listing
 }
 
 #[test]
@@ -240,7 +256,35 @@ fn a_listing_that_fails_leaves_a_beginning_and_the_object_up_to_there(
     rt: HostRuntime,
 ) -> Result<(), Fail> {
     for room in 0..LISTING.len() {
-        assert!(rt; is_reported(rt.alloc(), room));
+        let written = if room < LINES { HEAD } else { OBJECT.len() };
+        let left = Left {
+            object: &OBJECT[..written],
+            listing: &LISTING[..room],
+            reported: b"?M11 ASM 2 Write LISTING\n",
+        };
+        assert!(rt;
+            leaves(rt.alloc(), "P.LST", room, left),
+            "room for {room} bytes"
+        );
+    }
+    Ok(())
+}
+
+#[test]
+fn an_object_that_fails_leaves_a_beginning_and_the_listing_up_to_there(
+    rt: HostRuntime,
+) -> Result<(), Fail> {
+    for room in 0..OBJECT.len() {
+        let listed = if room < HEAD { 0 } else { LINES };
+        let left = Left {
+            object: &OBJECT[..room],
+            listing: &LISTING[..listed],
+            reported: b"?M11 ASM 2 Write OBJECT\n",
+        };
+        assert!(rt;
+            leaves(rt.alloc(), "P.OBJ", room, left),
+            "room for {room} bytes"
+        );
     }
     Ok(())
 }
