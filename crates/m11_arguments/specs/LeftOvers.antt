@@ -1,5 +1,5 @@
--- What is left over of a line after its arguments, and of one whose argument is bad. (MACRO-11 Language Reference Manual, "Diagnostic
--- error message summary", A, Q and I.)
+-- What is left over of a line after its arguments, and of one whose argument is bad. (MACRO-11 Language Reference Manual,
+-- "Diagnostic error message summary", A, Q and I.)
 use Rattle.std.specs.Prelude.{ℕ, Bool, true, false, List, [], ◌∷◌, length}
 use Rattle.std.specs.Int.RustNames.{bit_or}
 use Rattle.m11_base.specs.Devices.{Bytes}
@@ -26,7 +26,8 @@ abbrev pub left_over : Bytes → ℕ → ℕ
 left_over line place =
     bit_or (letter_if (has_token (tokens_from line place)) letter_Q) (rest_letters line place)
 
--- A for an argument that is bad or missing at a place, from where on nothing more is read: I for a skipped character in all of the rest
+-- A for an argument that is bad or missing at a place, from where on nothing more is read: I for a skipped character in all of
+-- the rest
 abbrev pub bad_letters : Bytes → ℕ → ℕ
 bad_letters line place = bit_or letter_A (rest_letters line place)
 

@@ -1,4 +1,5 @@
-//! Whether an expression stands in a line, how far it reaches, and whether it is one term. (MACRO-11 Language Reference Manual, "Expressions".)
+//! Whether an expression stands in a line, how far it reaches, and whether it is one term. (MACRO-11 Language Reference Manual,
+//! "Expressions".)
 
 ghost use Rattle.std.specs.Prelude.{◌≡◌, ◌≤◌, ◌∷◌, [], length, IfSome, MatchOption};
 ghost use Rattle.std.specs.Option.{is_some};

@@ -36,8 +36,8 @@ pub fn rest_letters(line: &Line, place: usize) -> Letters
     skip_letters(line, place, line.text().len())
 }
 
-/// A for an argument that is bad or missing at a place of a line. Nothing more is read there: I for a skipped character in all of the
-/// rest.
+/// A for an argument that is bad or missing at a place of a line. Nothing more is read there: I for a skipped character in all of
+/// the rest.
 pub fn bad_letters(line: &Line, place: usize) -> Letters
     requires { place ≤ length line.now.text }
     ensures { bits_of result ≡ spec.bad_letters line.now.text place }

@@ -12,6 +12,7 @@ mod texts;
 mod values;
 
 use m11_scan::{Line, Token, next_token};
+use m11_statements::{Part, next_part};
 use std::fmt::{Debug, Display};
 use std::process::Abort;
 
@@ -23,4 +24,9 @@ pub(crate) fn same<T: PartialEq + Debug>(rt: &impl Abort, row: &impl Display, go
 // The token that stands next in a line from a place on, if one does.
 pub(crate) fn token_after(line: &Line, place: usize) -> Option<Token> {
     next_token(line, place.min(line.text().len()))
+}
+
+// The part of a text that stands next in a line from a place on, if one does.
+pub(crate) fn part_after(line: &Line, place: u8, is_first: bool) -> Option<Part> {
+    next_part(line, usize::from(place).min(line.text().len()), is_first)
 }

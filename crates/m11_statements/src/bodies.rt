@@ -31,7 +31,8 @@ pub enum Body {
     Assigns(Assignment),
     /// `.=e`: the place after the `=`.
     SetsCounter(u8),
-    /// A name, which is that of an operator: whether it is one is asked where it stands. What stands after it is the operator's to cut.
+    /// A name, in the place of an operator's: whether it is one is asked where it stands. What stands after it is the operator's to
+    /// cut.
     Operates(Span),
     /// Anything else, which counts as the elements of a `.WORD`: the place where they begin.
     Words(u8),

@@ -1,11 +1,11 @@
 //! Parts of texts, lists of names, actuals and formals. (MACRO-11 Language Reference Manual, ".ASCII directive", ".GLOBL directive", and
 //! "Arguments in macro definitions and macro calls".)
 
-use super::same;
+use super::{part_after, same};
 use m11_scan::{Letters, Line};
 use m11_statements::{
     Actual, ActualKind, ListedName, NextFormal, PartKind, listed_name, next_actual, next_formal,
-    next_part, separator_at,
+    separator_at,
 };
 use std::process::Abort;
 
@@ -142,15 +142,15 @@ fn parts_end_at_their_delimiters(rt: HostRuntime) {
     }
 }
 
-// The parts that stand one after the other, and after the last one nothing.
+// The parts that stand one after the other, and after the last one, if it has its end, nothing.
 fn check_parts(rt: &impl Abort, row: &PartsRow) {
     let line = Line::from_bytes(row.text);
     let mut place: u8 = 0;
-    let mut letters = Letters::none();
-    let mut left = row.parts.len();
     let mut is_first = true;
-    while let Some(part) = next_part(&line, usize::from(place), is_first) {
-        let Some(wanted) = row.parts.get(row.parts.len() - left) else {
+    let mut is_closed = true;
+    let mut letters = Letters::none();
+    for wanted in row.parts {
+        let Some(part) = part_after(&line, place, is_first) else {
             break;
         };
         let got = (
@@ -161,14 +161,12 @@ fn check_parts(rt: &impl Abort, row: &PartsRow) {
         );
         same(rt, &row.end, &got, wanted);
         letters = part.letters();
+        is_closed = part.is_closed;
         place = part.end;
         is_first = false;
-        left -= 1;
-        if !part.is_closed {
-            break;
-        }
     }
-    same(rt, &row.letters, &left, &0);
+    let goes_on = is_closed && part_after(&line, place, is_first).is_some();
+    same(rt, &row.letters, &goes_on, &false);
     same(rt, &row.letters, &place, &row.end);
     same(
         rt,

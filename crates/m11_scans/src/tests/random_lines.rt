@@ -1,8 +1,8 @@
 //! Lines of awkward characters from a fixed sequence: what is read from them lies in them in order, and nothing is lost.
 
-use super::{same, token_after};
+use super::{part_after, same, token_after};
 use m11_scan::{Line, Token, blanks_length, skipped_between};
-use m11_statements::{Body, Statement, labels_of, next_actual, next_part, separator_at, statement};
+use m11_statements::{Body, Statement, labels_of, next_actual, separator_at, statement};
 use std::process::Abort;
 
 const CHARACTERS: &[u8; 32] = b"'\"<>^\\;:=?AaR$.18,+ \tBD%#(-/!@.:";
@@ -139,7 +139,7 @@ fn check_parts(rt: &impl Abort, line: &Line) {
     let mut place = 0;
     let mut is_first = true;
     for _ in 0..line.text().len() + 1 {
-        let Some(part) = next_part(line, usize::from(place), is_first) else {
+        let Some(part) = part_after(line, place, is_first) else {
             return;
         };
         same(
