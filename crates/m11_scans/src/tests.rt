@@ -3,6 +3,7 @@
 mod arguments;
 mod cuts;
 mod expressions;
+mod fields;
 mod lines;
 mod random_lines;
 mod readers;

@@ -383,7 +383,7 @@ fn shape_of(body: Body) -> (Shape, u8, u8, u8) {
     }
 }
 
-fn label_of(label: &Label) -> (LabelKind, u8, u8) {
+pub(crate) fn label_of(label: &Label) -> (LabelKind, u8, u8) {
     (label.kind, label.name.start, label.name.end)
 }
 

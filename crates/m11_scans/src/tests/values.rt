@@ -12,8 +12,8 @@ use std::process::Abort;
 
 // A and B stand in one section, C in another one, R1 is a register, X another object's; other names are unknown.
 #[derive(Clone, Copy)]
-struct Known {
-    radix: Radix,
+pub(crate) struct Known {
+    pub(crate) radix: Radix,
 }
 
 impl Names for Known {
