@@ -1,6 +1,6 @@
 //! What tapes that fail leave in memory, and what is read of a tape.
 
-use m11_base::{Feed, MemoryFeed};
+use m11_base::{Feed, FuseFeed, MemoryFeed};
 use m11_blocks::TapeFault;
 use m11_cpu::{LoadFault, Machine};
 use std::alloc::{AllocError, Global};
@@ -168,6 +168,41 @@ fn check_loads(rt: &(impl Abort + AllocGlobal), loads: &[Load]) -> Result<(), Fa
 #[test]
 fn a_tape_that_fails_leaves_what_came_before(rt: HostRuntime) -> Result<(), Fail> {
     check_loads(&rt, &FAILED)
+}
+
+// The words at 1000 and 1002, where n bytes of that tape came before its reader failed.
+fn words_after(calls: u64) -> (u16, u16) {
+    match calls {
+        0..=6 => (0o000000, 0o000000),
+        7 => (0o000300, 0o000000),
+        8 => (0o012700, 0o000000),
+        _ => (0o012700, 0o000001),
+    }
+}
+
+// A load from a reader that fails after n calls yields its fault, and leaves what came before.
+fn read_fails(rt: &(impl Abort + AllocGlobal), calls: u64) -> Result<(), Fail> {
+    let mut machine = machine_with(rt, 4_096)?;
+    let outcome = machine.load(&mut FuseFeed::new(MemoryFeed::new(&HALTS), calls));
+    assert_eq!(rt;
+        outcome,
+        Err(LoadFault::Tape(TapeFault::Device)),
+        "{calls} calls"
+    );
+    let (first, second) = words_after(calls);
+    assert_eq!(rt; word_at(&machine, 0o1000), Some(first), "{calls} calls");
+    assert_eq!(rt; word_at(&machine, 0o1002), Some(second), "{calls} calls");
+    Ok(())
+}
+
+#[test]
+fn each_read_of_a_tape_may_fail(rt: HostRuntime) -> Result<(), Fail> {
+    for calls in 0..20 {
+        read_fails(&rt, calls)?;
+    }
+    let mut tape = FuseFeed::new(MemoryFeed::new(&HALTS), 20);
+    assert_eq!(rt; loaded(&rt, 4_096, &mut tape)?, Ok(0o1000));
+    Ok(())
 }
 
 #[test]

@@ -23,13 +23,22 @@ const POLLS_THREE: [Part<'static>; 1] = [(
     ],
 )];
 
-// How many calls of the console's input, of its output and of the messages pass. Each further one fails.
+// How many calls of the tape, of the console's input, of its output and of the messages pass. Each further one fails.
 #[derive(Clone, Copy)]
 struct Passes {
+    tape: u64,
     reads: u64,
     writes: u64,
     reports: u64,
 }
+
+// The tape and the messages pass, and nothing may be read of the console or sent to it.
+const WITHOUT_A_CONSOLE: Passes = Passes {
+    tape: u64::MAX,
+    reads: 0,
+    writes: 0,
+    reports: 1,
+};
 
 // What a run yields: its outcome, what it sends to the console, and what its messages begin with.
 #[derive(Clone, Copy)]
@@ -68,7 +77,7 @@ fn check(
     let mut reported = Vec::new(rt.alloc());
     let outcome = sim_run(
         rt.alloc(),
-        &mut MemoryFeed::new(tape),
+        &mut FuseFeed::new(MemoryFeed::new(tape), passes.tape),
         None,
         28_672,
         1_000,
@@ -175,7 +184,7 @@ fn check_polling(
         let passes = Passes {
             reads: *reads,
             writes: *writes,
-            reports: 1,
+            ..WITHOUT_A_CONSOLE
         };
         let wanted = Wanted {
             outcome: Ok(SimDone { stop: *stop }),
@@ -221,19 +230,14 @@ static REFUSED: [Refused<'static>; 3] = [
     ),
 ];
 
-// A run of a tape that ends in a fault sends and says nothing, though nothing may be read of the console.
+// A run of a tape that ends in a fault sends and says nothing.
 fn ends_in(
     rt: &(impl Abort + AllocGlobal),
     name: &str,
     tape: &[u8],
-    reports: u64,
+    passes: Passes,
     fault: SimFault,
 ) -> Result<(), Fail> {
-    let passes = Passes {
-        reads: 0,
-        writes: 0,
-        reports,
-    };
     let wanted = Wanted {
         outcome: Err(fault),
         sent: b"",
@@ -244,7 +248,7 @@ fn ends_in(
 
 fn check_refused(rt: &(impl Abort + AllocGlobal), rows: &[Refused<'_>]) -> Result<(), Fail> {
     for (name, tape, fault) in rows {
-        ends_in(rt, name, tape, 1, SimFault::Load(*fault))?;
+        ends_in(rt, name, tape, WITHOUT_A_CONSOLE, SimFault::Load(*fault))?;
     }
     Ok(())
 }
@@ -256,9 +260,34 @@ fn a_run_that_ends_in_a_fault_leaves_the_console_alone(rt: HostRuntime) -> Resul
         &rt,
         "messages that can't be written",
         &HALTS,
-        0,
+        Passes {
+            reports: 0,
+            ..WITHOUT_A_CONSOLE
+        },
         SimFault::Write,
     )
+}
+
+// The run of that tape, n calls of whose reader pass.
+fn after(calls: u64) -> Passes {
+    Passes {
+        tape: calls,
+        ..WITHOUT_A_CONSOLE
+    }
+}
+
+#[test]
+fn a_tape_that_fails_at_any_of_its_reads_runs_nothing(rt: HostRuntime) -> Result<(), Fail> {
+    for calls in 0..20 {
+        let fault = SimFault::Load(LoadFault::Tape(TapeFault::Device));
+        ends_in(&rt, "a tape that fails", &HALTS, after(calls), fault)?;
+    }
+    let wanted = Wanted {
+        outcome: Ok(SimDone { stop: Stop::Halt }),
+        sent: b"",
+        reported: b"HALT AFTER 2 STEPS\n",
+    };
+    check(&rt, "a tape that is read", &HALTS, after(20), wanted)
 }
 
 // What a run of that tape reports, and how it ends, where n calls of its messages pass, of a byte each.
