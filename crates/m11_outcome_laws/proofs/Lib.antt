@@ -9,3 +9,4 @@ mod OutputsAlike
 mod RunsDecided
 mod RunsRefused
 mod SourcesRead
+mod WholeOutcomes

@@ -4,3 +4,4 @@ pub mod OneText
 pub mod Outputs
 pub mod Runs
 pub mod Sources
+pub mod WholeSources

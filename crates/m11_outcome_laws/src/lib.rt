@@ -1,4 +1,5 @@
-//! Laws of the outcome of sources, without code: that there is one outcome and no other, that two sources after a line feed are one text,
+//! Laws of the outcome of sources, without code: that there is one outcome and no other, that it is that of the whole sources' rewriting, that
+//! two sources after a line feed are one text,
 //! what two passes over one text give, what a run that the sources refuse has written, what one over known sources yields, what each output
 //! gains, how many messages there are, and what a listing leaves as it is. Each is the contract of a function that does nothing but to call
 //! the laws that its own follows from; no other crate names them.
@@ -7,6 +8,7 @@
 mod beginnings;
 mod laws;
 mod outputs;
+mod sources;
 
 pub use beginnings::known_sources_decide_the_run;
 pub use laws::{
@@ -19,3 +21,4 @@ pub use outputs::{
     the_listing_is_its_lines, the_messages_are_their_lines,
     the_object_is_the_blocks_of_its_contents,
 };
+pub use sources::outcomes_are_those_of_whole_sources;
