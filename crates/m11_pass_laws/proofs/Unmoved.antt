@@ -12,7 +12,7 @@ use Rattle.m11_lines.specs.Line.{SourceLine}
 use Rattle.m11_passes.specs.Lines.{Numbered, PassLines, givens}
 use Rattle.m11_passes.specs.Lines as lines
 use Rattle.m11_placement.specs.Definitions.{firm_part, firm_standing, is_defined, last_definition}
-use Rattle.m11_placement.specs.Equation.{Solves, firm_in, firm_meaning}
+use Rattle.m11_placement.specs.Equation.{Solves, is_label_or_firm, label_or_value, label_or_value_of}
 use Rattle.m11_placement.specs.Labels.{global_if, label_name, labelled, with_block, with_definition, with_doubled, with_kind, with_label, with_labels, with_name}
 use Rattle.m11_placement.specs.Lines.{after_line, line_change, stands}
 use Rattle.m11_placement.specs.Meanings.{Map}
@@ -54,11 +54,16 @@ standing_by : (is_firm : Bool) (standing known : Standing) → is_firm ≡ true 
 standing_by true standing known firm same = same
 standing_by false standing known firm same = absurd (cc)
 
-found_place : (table : Table) (key : Key) (found : Option Definition) → firm_in found ≡ Some (labelled table key)
+part_of : (is_asked : Bool) (part label : Definition) → (if is_asked then Some part else None) ≡ Some label → part ≡ label
+part_of true part label same = cc
+part_of false part label same = absurd (cc)
+
+found_place : (table : Table) (key : Key) (found : Option Definition) → label_or_value found ≡ Some (labelled table key)
     → is_place_of table found ≡ true
 found_place table key None same = absurd (cc)
 found_place table key (Some definition) same =
-    let part : firm_part definition ≡ labelled table key = cc in
+    let part : firm_part definition ≡ labelled table key
+    = part_of (is_label_or_firm definition) (firm_part definition) (labelled table key) same in
     ap (λ (label : Option Name). is_in (section_name table) label && is_at (place table) definition.standing)
     (ap (λ (d : Definition). d.label) part)
     ∙ ap (λ (standing : Standing). is_in (section_name table) (Some (section_name table)) && is_at (place table) standing)
@@ -69,7 +74,7 @@ found_place table key (Some definition) same =
 -- ---- the labels of a line
 
 module _ (map : Map) (final : Table)
-    (solves : (key : Key) → firm_meaning key map.definitions ≡ firm_meaning key final.definitions) where
+    (solves : (key : Key) → label_or_value_of key map.definitions ≡ label_or_value_of key final.definitions) where
   unmoved_by : (is_known is_place : Bool) → (is_known ≡ false → is_place ≡ true)
       → letter_if (not is_known && not is_place) letter_P ≡ 0
   unmoved_by true is_place found = refl
@@ -80,7 +85,7 @@ module _ (map : Map) (final : Table)
       → moved_key map table key ≡ 0
   key_unmoved table key stands =
       unmoved_by (is_defined key table.definitions) (is_place_of table (last_definition key map.definitions))
-      (λ none. found_place table key (last_definition key map.definitions) (solves key ∙ ap firm_in (stands none)))
+      (λ none. found_place table key (last_definition key map.definitions) (solves key ∙ ap label_or_value (stands none)))
 
   -- a label of a key that has no definition defines it
   name_by : (is_there is_global : Bool) (table : Table) (name : Name) → is_there ≡ false

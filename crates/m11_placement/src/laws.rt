@@ -85,12 +85,13 @@ pub fn a_line_fills_what_it_steps_by()
         (line_change (firm_table table) given) }
 {}
 
-/// The map of a source solves its equation: the placement under it gives each label and each firm name what the map has of it.
+/// The map of a source solves its equation: the placement under it gives again each label with its place, and each firm value. It is
+/// asked of no other name.
 pub fn the_map_of_a_source_solves_it()
     ensures { (lines : List Given) → Solves (program_map lines) lines }
 {}
 
-/// Every map that solves a source has the labels and the firm values of the source's own map.
+/// Every map that solves a source has the labels of the source's own map, with their places, and its firm values, whatever else it has.
 pub fn solutions_are_alike()
     ensures { (map : Map) (lines : List Given) → Solves map lines → AreAlike map (program_map lines) }
 {}
