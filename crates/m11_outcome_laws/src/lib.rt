@@ -1,8 +1,7 @@
-//! Laws of the outcome of sources, without code: that there is one outcome and no other, that it is that of the whole sources' rewriting, that
-//! two sources after a line feed are one text,
-//! what two passes over one text give, what a run that the sources refuse has written, what one over known sources yields, what each output
-//! gains, how many messages there are, and what a listing leaves as it is. Each is the contract of a function that does nothing but to call
-//! the laws that its own follows from; no other crate names them.
+//! Laws of the outcome of sources, without code: that there is one outcome and no other, that it is that of the rewriting of whole sources,
+//! that two sources after a line feed are one text, what two passes over one text give, what a run that the sources refuse has written, what
+//! one over known sources yields, what each output gains, how many messages there are, and what a listing leaves as it is. Each is the
+//! contract of a function that does nothing but to call the laws that its own follows from; no other crate names them.
 #![tactic(auto)]
 
 mod beginnings;
