@@ -6,7 +6,7 @@ use Rattle.std.specs.Prelude.{false, not, ◌&&◌}
 use Rattle.std.specs.Option.{option_or}
 use Rattle.m11_arguments.specs.Definedness.{letter_U}
 use Rattle.m11_arguments.specs.Expressions as expressions
-use Rattle.m11_arguments.specs.Expressions.{known_by, symbols_at, value_at}
+use Rattle.m11_arguments.specs.Expressions.{has_expression, known_by, symbols_at, value_at}
 use Rattle.m11_arguments.specs.LeftOvers.{left_over, skip_letters}
 use Rattle.m11_base.specs.Devices.{Bytes}
 use Rattle.m11_base.specs.Rad50.{Name}
@@ -33,7 +33,7 @@ use Rattle.m11_placement.specs.Assigning as assigning
 use Rattle.m11_placement.specs.Assignments.{all_firm, assigned, standing_of}
 use Rattle.m11_placement.specs.Changes.{Assigns, Change, Numbers, becomes_global, changed}
 use Rattle.m11_placement.specs.Codes.{Setting}
-use Rattle.m11_placement.specs.Contents.{Put, byte, element_value, fixed_byte, followed_by, further, has_expression, nothing, pieces_from, put, with_letters, word}
+use Rattle.m11_placement.specs.Contents.{Put, byte, element_value, fixed_byte, followed_by, further, nothing, pieces_from, put, with_letters, word}
 use Rattle.m11_placement.specs.Counts as counts
 use Rattle.m11_placement.specs.Definitions.{has_key, is_defined, is_labelled, last_definition}
 use Rattle.m11_placement.specs.Effects.{directive_put, operator_put}
