@@ -1,7 +1,7 @@
 //! Where the parts of a line stand: its labels, its operator and the fields of an instruction. (MACRO-11 Language Reference
 //! Manual, "Source program format" and "Addressing modes".)
 
-use super::statements::{Known, label_of};
+use super::statements::label_of;
 use super::{same, values};
 use m11_base::{DoubleOp, Mode, Op, Size};
 use m11_fields::{Fields, fields_at};
@@ -44,7 +44,7 @@ fn labels_operator_and_operands_stand_in_order(rt: HostRuntime) {
     for label in labels.iter() {
         same(&rt, &LINE, &label_of(label), &(LabelKind::Global, 0, 1));
     }
-    let said = statement(&line, &Known::new());
+    let said = statement(&line);
     same(&rt, &LINE, &said.label_letters.text().len(), &0);
     same(
         &rt,
