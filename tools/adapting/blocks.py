@@ -1,0 +1,137 @@
+"""The third step: blocks of local symbols that .ENABL LSB opens. m11 ends a block at each label, so local
+symbols that are used across a label become names."""
+from .macros import has_boundary, reaches
+from .names import SECTIONS, TEXTS, six
+from .scan import BLANKS, change, names_in, tokens
+from .walk import walk
+
+
+class Block:
+    """The local symbols of a block: in which segments each one stands, and where."""
+
+    def __init__(self, line, depth, earlier):
+        self.line, self.depth, self.earlier = line, depth, earlier
+        self.ending = self.crossing = False
+        self.segments, self.defined, self.uses, self.calls, self.segment = {}, set(), [], [], 0
+
+
+class Blocks:
+    def __init__(self, lines, macros, reports):
+        self.lines, self.macros, self.reports = lines, macros, reports
+        self.used = set().union(*(names_in(line.text) for line in lines)) if lines else set()
+        self.block, self.done, self.last, self.depth, self.before = None, [], 0, 0, set()
+
+    def run(self):
+        for place in walk(self.lines):
+            self.line(place, self.lines[place.index])
+        self.close()
+        edits = {}
+        for block in self.done:
+            self.rename(block, edits)
+        for index, places in edits.items():
+            text = change(self.lines[index].text, places)
+            if len(text.partition(";")[0]) > 132:
+                self.reports.report(self.lines[index], "the line would get longer than 132 characters; cut it in two")
+            else:
+                self.lines[index].text = text if len(self.lines[index].text) > 132 else text[:132]
+
+    def line(self, place, line):
+        statement = place.statement
+        op = statement.op if statement.kind == "operator" else ""
+        if op in (".ENABL", ".DSABL") and line.text[statement.b:].split(";")[0].strip(BLANKS).upper() == "LSB":
+            return self.mode(place, line, op)
+        if place.in_macro:
+            return
+        self.conditions(op, line)
+        labels = [name for name, _, _ in statement.labels if not name[0].isdigit()]
+        if labels or op in SECTIONS:
+            self.boundary()
+        self.locals(place, line, op)
+        macros = self.macros.get(op, [])
+        if any(reaches(macro, self.macros, has_boundary) for macro in macros):
+            self.boundary()
+        if self.block:
+            self.block.calls += [(macro, line) for macro in macros]
+
+    def mode(self, place, line, op):
+        if place.in_macro or place.formals:
+            return self.reports.report(line, f"{op} LSB stands in a body; number its local symbols by hand")
+        if op == ".ENABL":
+            self.close()
+            self.block = Block(line, self.depth, set(self.before))
+        elif self.block:
+            self.block.ending = True
+        line.text = line.text[:place.statement.a] + ";" + line.text[place.statement.a:]
+
+    def conditions(self, op, line):
+        """A block begins and ends in the same part of a condition."""
+        self.depth += (op == ".IF") - (op == ".ENDC")
+        left = self.block and (self.depth < self.block.depth or self.depth == self.block.depth > 0 and op in (".IFF", ".IFT", ".IFTF"))
+        if left:
+            if not self.block.ending:
+                self.reports.report(self.block.line, "the block begins in a condition and goes on after it")
+            self.close()
+
+    def boundary(self):
+        """A label or a section: it ends a block of m11, and one of .ENABL LSB after its .DSABL LSB."""
+        if self.block and self.block.ending:
+            self.close()
+        if self.block:
+            self.block.segment += 1
+        self.before = set()
+
+    def close(self):
+        if self.block:
+            self.done.append(self.block)
+        self.block = None
+
+    def locals(self, place, line, op):
+        """Notes the local symbols of a line."""
+        for name, begin, end in place.statement.labels:
+            if name[0].isdigit():
+                self.note(name, place.index, begin, end, True)
+        if op in TEXTS:
+            return
+        begin = place.statement.b if place.statement.kind != "none" else len(line.text)
+        for kind, begin, end in tokens(line.text, begin):
+            if kind == "local":
+                self.note(line.text[begin:end], place.index, begin, end, False)
+
+    def note(self, name, index, begin, end, defines):
+        number = int(name.rstrip("$"))
+        self.before.add(number)
+        block = self.block
+        if not block:
+            return
+        if block.segment == 0 and number in block.earlier:
+            block.crossing = True
+        block.segments.setdefault(number, set()).add(block.segment)
+        block.uses.append((number, index, begin, end))
+        if defines:
+            block.defined.add(number)
+
+    def rename(self, block, edits):
+        """Gives names to the local symbols of a block where one of them is used across a label."""
+        crossing = block.crossing or any(len(block.segments[number]) > 1 for number in block.defined)
+        if not crossing:
+            return
+        self.check_calls(block)
+        names = {number: self.new_name() for number in sorted(block.defined)}
+        for number, index, begin, end in block.uses:
+            if number in names:
+                edits.setdefault(index, []).append((begin, end, names[number]))
+
+    def check_calls(self, block):
+        for macro, line in block.calls:
+            inside = set()
+            for statement in macro.body:
+                inside |= {name for name in names_in(statement.text.split(";")[0]) if name[0].isdigit() and name.endswith("$")}
+            if {int(name[:-1]) for name in inside if name[:-1].isdigit()} & block.defined:
+                self.reports.report(line, f"the body of {macro.name} has local symbols that this block of .ENABL LSB has too")
+
+    def new_name(self):
+        while True:
+            self.last += 1
+            name = f"L${self.last:04d}"
+            if six(name) not in self.used:
+                return name

@@ -1,0 +1,195 @@
+"""Macros: their definitions, libraries of them, and calls written as m11 takes them."""
+import re
+
+from .names import CLOSERS, OPENERS, SECTIONS, six
+from .scan import NAME, Statement, actuals, change, names_in, read_lines, skip_blanks, actual_end
+
+
+class Formal:
+    def __init__(self, name, created, default):
+        self.name, self.created, self.default = name, created, default
+
+
+class Macro:
+    """A macro by its formals and the statements of its body."""
+
+    def __init__(self, name, formals, sure):
+        self.name, self.formals, self.sure, self.body = name, formals, sure, []
+
+    def operators(self):
+        return {statement.op for statement in self.body if statement.kind == "operator"}
+
+    def shape(self):
+        return [(formal.name, formal.default) for formal in self.formals]
+
+
+def formals_of(text, at):
+    """The formals from a place on, and the edits that leave their defaults out."""
+    formals, edits = [], []
+    while True:
+        at = skip_blanks(text, at)
+        if text[at:at + 1] == ",":
+            at = skip_blanks(text, at + 1)
+        created = text[at:at + 1] == "?"
+        found = NAME.match(text, at + created)
+        if not found:
+            return formals, edits
+        at, default = found.end(), None
+        if text[at:at + 1] == "=":
+            end = actual_end(text, at + 1)
+            end = len(text) if end is None else end
+            default = text[at + 1:end]
+            edits.append((at, end, ""))
+            at = end
+        formals.append(Formal(six(found.group()), created, default))
+
+
+def bodies_of(lines):
+    """The outermost definitions of a list of lines, by name: the lines of each, first and last included."""
+    found, depth, name = {}, 0, None
+    for line in lines:
+        statement = Statement(line.text)
+        if statement.kind == "operator" and statement.op in OPENERS:
+            if depth == 0:
+                word = NAME.search(line.text, statement.b)
+                name = six(word.group()) if statement.op == ".MACRO" and word else None
+                body = []
+            depth += 1
+        if depth:
+            body.append(line)
+        if statement.kind == "operator" and statement.op in CLOSERS and depth:
+            depth -= 1
+            if depth == 0 and name:
+                found[name] = body
+    return found
+
+
+class Libraries:
+    """The definitions of text libraries; the first library that has a name gives it."""
+
+    def __init__(self, paths):
+        self.bodies = {}
+        for path in paths:
+            self.add(path)
+
+    def add(self, path):
+        for name, body in bodies_of(read_lines(path)).items():
+            self.bodies.setdefault(name, body)
+
+
+KEYWORD = re.compile(r"([A-Za-z$.][A-Za-z0-9$.]*)=")
+
+
+class Call:
+    """A call, whose actuals are put into the order of the formals."""
+
+    def __init__(self, text, at, macro):
+        self.text, self.at, self.macro = text, at, macro
+        self.places, self.end = actuals(text, at)
+        self.given, self.changed, self.wrong = [], False, None
+
+    def written(self, outer):
+        """The line as m11 takes it. `wrong` is what can't be done; `outer` holds the formals of the bodies around."""
+        if self.places is None:
+            return self.text
+        names = [formal.name for formal in self.macro.formals]
+        slots, place = {}, 0
+        for begin, end in self.places:
+            word = self.text[begin:end]
+            keyword = KEYWORD.match(word)
+            if keyword and six(keyword.group(1)) in names:
+                self._keyword(six(keyword.group(1)), word[keyword.end():], slots, names, outer)
+            else:
+                slots[place] = self._bracket(word)
+                place += 1
+        self._defaults(slots, outer)
+        if not self.changed or self.wrong:
+            return self.text
+        return self._line(slots)
+
+    def _keyword(self, name, value, slots, names, outer):
+        formal = self.macro.formals[names.index(name)]
+        if name in outer:
+            self.wrong = f"the keyword {name} of {self.macro.name} is also a formal of the body around it"
+        if value == "" and formal.default:
+            self.wrong = f"the keyword {name} is given empty, and it has a default"
+        slots[names.index(name)] = self._bracket(value)
+        self.changed = True
+
+    def _bracket(self, word):
+        """An actual `^/text/` as `<text>`."""
+        if len(word) < 3 or word[0] != "^" or word[1].isalnum() or word[-1] != word[1]:
+            return word
+        inside = word[2:-1]
+        if inside.count("<") != inside.count(">"):
+            self.wrong = f"the actual {word} has a bracket without its other one"
+        self.changed = True
+        return "<" + inside + ">"
+
+    def _defaults(self, slots, outer):
+        for place, formal in enumerate(self.macro.formals):
+            if formal.default and not slots.get(place):
+                if names_in(formal.default) & outer:
+                    self.wrong = f"the default {formal.default} names a formal of the body around the call"
+                slots[place] = formal.default
+                self.changed = True
+
+    def _line(self, slots):
+        if ".NARG" in self.macro.operators():
+            self.wrong = f"{self.macro.name} asks by .NARG how many actuals it has, and they change"
+            return self.text
+        words = [slots.get(place, "") for place in range(max(slots, default=-1) + 1)]
+        while words and words[-1] == "":
+            words.pop()
+        begin = skip_blanks(self.text, self.at)
+        head, tail = self.text[:begin], self.text[self.end:]
+        if begin == self.at and words:
+            head += "\t"
+        kept = self.text[:self.end].rstrip(" \t\f")
+        gap = self.text[max(len(kept), begin):self.end]
+        if tail and not gap:
+            gap = "\t"
+        return (head + ",".join(words) + gap + tail).rstrip(" \t\f") if not tail else head + ",".join(words) + gap + tail
+
+
+def reaches(macro, macros, wanted, seen=None):
+    """Whether the body of a macro, or one that it calls, satisfies `wanted`."""
+    seen = set() if seen is None else seen
+    if macro.name in seen:
+        return False
+    seen.add(macro.name)
+    if wanted(macro):
+        return True
+    inner = [one for op in macro.operators() for one in macros.get(op, [])]
+    return any(reaches(one, macros, wanted, seen) for one in inner)
+
+
+def switches(macro):
+    """Whether a body goes to another section outside of .SAVE and .RESTORE."""
+    depth = 0
+    for statement in macro.body:
+        depth += (statement.op == ".SAVE") - (statement.op == ".RESTO")
+        if statement.kind == "operator" and statement.op in SECTIONS and depth <= 0:
+            return True
+    return False
+
+
+def restores(macro):
+    """Whether a body goes back to the section of its caller."""
+    return ".RESTO" in macro.operators()
+
+
+def has_boundary(macro):
+    """Whether a body may end a block of local symbols."""
+    for statement in macro.body:
+        if statement.kind == "operator" and statement.op in SECTIONS:
+            return True
+        if any(not name[0].isdigit() and "'" not in name and name not in created(macro) for name, _, _ in statement.labels):
+            return True
+        if any("'" in name and not name.endswith("$") for name, _, _ in statement.labels):
+            return True
+    return False
+
+
+def created(macro):
+    return {formal.name for formal in macro.formals if formal.created}

@@ -1,0 +1,75 @@
+"""The names that m11 knows, and those of MACRO-11 that it doesn't take."""
+
+
+def _instructions():
+    """The code of each instruction, with zeros in the places of its operands."""
+    codes = {}
+    for number, name in enumerate("MOV CMP BIT BIC BIS ADD".split(), 1):
+        codes[name] = number << 12
+    for number, name in enumerate("MOVB CMPB BITB BICB BISB".split(), 9):
+        codes[name] = number << 12
+    for number, name in enumerate("MUL DIV ASH ASHC XOR".split()):
+        codes[name] = 0o70000 + (number << 9)
+    for number, name in enumerate("CLR COM INC DEC NEG ADC SBC TST ROR ROL ASR ASL".split()):
+        codes[name] = 0o5000 + (number << 6)
+        codes[name + "B"] = 0o105000 + (number << 6)
+    for number, name in enumerate("HALT WAIT RTI BPT IOT RESET RTT".split()):
+        codes[name] = number
+    for number, name in enumerate("BR BNE BEQ BGE BLT BGT BLE".split(), 1):
+        codes[name] = number << 8
+    for number, name in enumerate("BPL BMI BHI BLOS BVC BVS BCC BCS".split()):
+        codes[name] = 0o100000 + (number << 8)
+    codes.update(SUB=0o160000, JSR=0o4000, SOB=0o77000, JMP=0o100, SWAB=0o300, SXT=0o6700, RTS=0o200, MARK=0o6400)
+    codes.update(EMT=0o104000, TRAP=0o104400, CALL=0o4700, RETURN=0o207, BHIS=0o103000, BLO=0o103400)
+    codes.update(NOP=0o240, CLC=0o241, CLV=0o242, CLZ=0o244, CLN=0o250, CCC=0o257)
+    codes.update(SEC=0o261, SEV=0o262, SEZ=0o264, SEN=0o270, SCC=0o277)
+    return codes
+
+
+INSTRUCTIONS = _instructions()
+REGISTERS = ["R0", "R1", "R2", "R3", "R4", "R5", "SP", "PC"]
+
+DIRECTIVES = set(""".WORD .BYTE .ASCII .ASCIZ .RAD50 .BLKB .BLKW .EVEN .ODD .LIMIT .RADIX .ASECT .CSECT .PSECT .GLOBL .WEAK
+.TITLE .IDENT .LIST .NLIST .ENABL .DSABL .SBTTL .PAGE .END .NARG .NCHR .IF .IFF .IFT .IFTF .ENDC .IIF .MACRO .REPT .IRP .IRPC
+.ENDM .ENDR .MEXIT""".split())
+OPENERS = {".MACRO", ".REPT", ".IRP", ".IRPC"}
+CLOSERS = {".ENDM", ".ENDR"}
+SECTIONS = {".ASECT", ".CSECT", ".PSECT"}
+# Directives whose operands are a text, in which nothing is looked for.
+TEXTS = {".ASCII", ".ASCIZ", ".RAD50", ".TITLE", ".IDENT", ".SBTTL", ".PAGE"}
+LISTED = set("SEQ LOC BIN SRC COM BEX MD MC ME MEB CND LD TOC SYM TTM".split())
+
+# Conditions by other names.
+CONDITIONS = {"Z": "EQ", "NZ": "NE", "G": "GT", "L": "LT"}
+ONE_WORD = {".IF" + name: name for name in "EQ NE GT LT GE LE DF NDF B NB IDN DIF".split()}
+ONE_WORD.update({".IF" + name: right for name, right in CONDITIONS.items()})
+
+# What a list of .ENABL or .DSABL may say: the words that change no byte of a right program.
+WITHOUT_BYTES = {
+    ".ENABL": set("LC GBL CRF REG FPT LCM PNC ABS".split()),
+    ".DSABL": set("GBL CRF REG FPT LCM ABS AMA CDR MCL".split()),
+}
+TAKEN = {".ENABL": {"LC", "GBL"}, ".DSABL": set()}
+WHY_NOT = {
+    (".ENABL", "AMA"): "under .ENABL AMA the operand A is @#A; write it so",
+    (".ENABL", "CDR"): "under .ENABL CDR a line ends after 72 characters; cut the lines",
+    (".DSABL", "LC"): "under .DSABL LC small letters of texts become large ones; write them so",
+    (".DSABL", "PNC"): "under .DSABL PNC no object is written; leave the lines out",
+}
+NO_LINES = {".CROSS", ".NOCRO", ".EOT"}
+CANNOT = {
+    ".NTYPE": "m11 has no .NTYPE",
+    ".FLT2": "m11 has no floating point; write the words in octal",
+    ".FLT4": "m11 has no floating point; write the words in octal",
+    ".PACKED": "m11 has no .PACKED; write the bytes in octal",
+    ".PACKE": "m11 has no .PACKED; write the bytes in octal",
+}
+OTHER_MODELS = set("""SPL MFPI MTPI MFPD MTPD MFPS MTPS MFPT CSM TSTSET WRTLCK FADD FSUB FMUL FDIV
+CFCC SETF SETI SETD SETL LDFPS STFPS STST CLRF CLRD TSTF TSTD ABSF ABSD NEGF NEGD MULF MULD MODF MODD ADDF ADDD LDF LDD
+SUBF SUBD CMPF CMPD STF STD DIVF DIVD STEXP STCFI STCFL STCDI STCDL STCFD STCDF LDEXP LDCIF LDCID LDCLF LDCLD LDCDF
+LDCFD""".split())
+
+
+def six(name):
+    """A name as it counts."""
+    return name.upper()[:6]

@@ -1,0 +1,259 @@
+"""The first step: files, macros, conditions and directives. It goes through the lines once, in order."""
+import os
+
+from . import directives
+from .macros import Call, Formal, Libraries, Macro, formals_of, reaches, restores, switches
+from .names import CLOSERS, DIRECTIVES, INSTRUCTIONS, OPENERS, OTHER_MODELS, six
+from .scan import NAME, Line, Statement, change, read_lines
+
+WIDTH = 132
+
+
+class Body:
+    """A body that is being read: its macro, where it is one, and the formals of it and those around it."""
+
+    def __init__(self, macro, formals, depth):
+        self.macro, self.formals, self.depth = macro, formals, depth
+        self.section, self.saved = None, []
+
+
+class Reports:
+    """What is said on standard error. A report leaves status 1, and a note doesn't."""
+
+    def __init__(self):
+        self.lines, self.failed = [], False
+
+    def report(self, line, sentence):
+        self.failed = True
+        self.note(line, sentence)
+
+    def note(self, line, sentence):
+        said = f"{line.file}:{line.number}: {sentence}"
+        if said not in self.lines:
+            self.lines.append(said)
+
+
+class Reader:
+    """Reads sources; `known` are macros that an earlier reading found, for calls in bodies that stand before them."""
+
+    def __init__(self, libraries, folders, reports, known=None):
+        self.libraries, self.folders, self.reports, self.known = libraries, folders, reports, known or {}
+        self.out, self.front, self.front_branches = [], 0, []
+        self.macros, self.bodies, self.branches = {}, [], []
+        self.placing, self.open_files, self.restore_known = set(), [], False
+        self.remark, self.ended, self.any_macro_call, self.deleted = None, False, False, set()
+        self.section, self.saved, self.restored_to = ("\t.PSECT", []), [], None
+        self.last_branch, self.source = 0, 0
+
+    # What is written
+
+    def emit(self, line):
+        line.source = self.source
+        self.out.append(line)
+
+    def write(self, line, text):
+        """The line with another text, which may not get too long by it."""
+        if len(text) > WIDTH and len(line.text) <= WIDTH and text != line.text:
+            if len(text[:WIDTH].partition(";")[0]) < WIDTH and '"' not in text and "'" not in text:
+                text = text[:WIDTH]
+            else:
+                self.reports.report(line, f"the line would get longer than {WIDTH} characters; cut it in two")
+                text = line.text
+        self.emit(line.with_text(text))
+
+    def leave_out(self, line, statement):
+        """The line as a comment; its labels stay."""
+        text = line.text[:statement.a] + ";" + line.text[statement.a:]
+        self.emit(line.with_text(text[:WIDTH] if len(line.text) <= WIDTH else text))
+
+    def report(self, line, sentence):
+        self.reports.report(line, sentence)
+        self.emit(line)
+
+    # Going through lines
+
+    def read_source(self, path, index):
+        self.source = index
+        self.read_file(path)
+
+    def read_file(self, path):
+        self.open_files.append(os.path.realpath(path))
+        self.run(read_lines(path))
+        self.open_files.pop()
+
+    def run(self, lines):
+        for line in lines:
+            if self.ended:
+                self.emit(line)
+            elif self.remark is not None:
+                directives.go_on_with_remark(self, line)
+            else:
+                self.line(line, Statement(line.text))
+
+    def line(self, line, statement):
+        if self.bodies and self.bodies[-1].macro:
+            for body in self.bodies:
+                if body.macro:
+                    body.macro.body.append(statement)
+        if statement.kind != "operator":
+            return directives.assignment(self, line, statement)
+        op = statement.op
+        if op in OPENERS:
+            return self.open_body(line, statement)
+        if op in CLOSERS:
+            return self.close_body(line)
+        candidates = self.candidates(op)
+        if candidates:
+            return self.call(line, statement, candidates)
+        rule = directives.rule_of(op)
+        if rule:
+            return rule(self, line, statement)
+        self.unknown(line, statement)
+
+    def unknown(self, line, statement):
+        op = statement.op
+        if op in DIRECTIVES or op in INSTRUCTIONS or op in self.formals():
+            return self.emit(line)
+        if op in OTHER_MODELS:
+            return self.report(line, f"{op} is an instruction of another model; write its words by .WORD")
+        if self.any_macro_call and op in self.libraries.bodies:
+            self.place(op, line)
+            return self.call(line, statement, self.candidates(op))
+        if op in self.deleted:
+            return self.report(line, f"the macro {op} was deleted by .MDELETE; m11 calls it here")
+        self.emit(line)
+
+    # Bodies and conditions
+
+    def formals(self):
+        return self.bodies[-1].formals if self.bodies else set()
+
+    def open_body(self, line, statement):
+        if not self.bodies:
+            self.front, self.front_branches = len(self.out), list(self.branches)
+        found = NAME.search(line.text, statement.b)
+        macro, formals, text = None, [], line.text
+        if statement.op == ".MACRO" and found:
+            formals, edits = formals_of(line.text, found.end())
+            macro = Macro(six(found.group()), formals, None)
+            macro.sure = None if self.bodies else list(self.branches)
+            self.macros.setdefault(macro.name, []).append(macro)
+            self.deleted.discard(macro.name)
+            text = change(line.text, edits)
+        elif statement.op in (".IRP", ".IRPC") and found:
+            formals = [Formal(six(found.group()), False, None)]
+        names = self.formals() | {formal.name for formal in formals}
+        self.bodies.append(Body(macro, names, len(self.branches)))
+        self.write(line, text)
+
+    def close_body(self, line):
+        if self.bodies:
+            body = self.bodies.pop()
+            del self.branches[body.depth:]
+            if body.saved:
+                self.reports.report(line, "the body ends after a .SAVE without its .RESTORE")
+        self.emit(line)
+
+    def in_macro(self):
+        """The innermost macro body that is being read, or None."""
+        for body in reversed(self.bodies):
+            if body.macro:
+                return body
+        return None
+
+    def holds(self, path):
+        """Whether what was read in some branches of conditions holds in those that are open."""
+        return path is not None and path == self.branches[:len(path)]
+
+    def depth(self):
+        """How many conditions were open where the innermost body began."""
+        return self.bodies[-1].depth if self.bodies else 0
+
+    def new_branch(self):
+        self.last_branch += 1
+        return self.last_branch
+
+    # Macros
+
+    def candidates(self, name):
+        """The macros that a name may call here, the last one first."""
+        found = []
+        for macro in reversed(self.macros.get(name, [])):
+            found.append(macro)
+            if self.holds(macro.sure):
+                break
+        if not found and self.bodies:
+            return self.known.get(name, [])
+        return found
+
+    def defines(self, name):
+        """Whether a macro of that name is defined here for certain."""
+        return any(self.holds(macro.sure) for macro in self.macros.get(name, []))
+
+    def call(self, line, statement, candidates):
+        texts, wrong = set(), None
+        for macro in candidates:
+            call = Call(line.text, statement.b, macro)
+            texts.add(call.written(self.formals()))
+            wrong = wrong or call.wrong
+        if len(texts) > 1:
+            wrong = f"{statement.op} has several definitions, whose formals differ; say which one by leaving the others out"
+        if wrong:
+            return self.report(line, wrong)
+        self.mind_sections(line, candidates[0])
+        self.write(line, texts.pop())
+
+    def mind_sections(self, line, macro):
+        """A macro that restores the section of its caller gets to know that section."""
+        body = self.in_macro()
+        if reaches(macro, self.macros, restores) and not self.defines_restore():
+            if body and (body.saved or body.section):
+                self.reports.report(line, f"{macro.name} restores a section, and this body is in another one than its caller")
+            elif not body:
+                self.tell_section(line)
+        if reaches(macro, self.macros, switches):
+            if body:
+                body.section = None
+            else:
+                self.section = (None, [])
+
+    def defines_restore(self):
+        """Whether the sources themselves define .RESTORE."""
+        return bool(self.macros.get(".RESTO"))
+
+    def tell_section(self, line):
+        text, path = self.section
+        if text is None or not self.holds(path):
+            self.reports.report(line, "a section is restored here, and which one depends on a condition or a macro")
+        elif self.restored_to is None or self.restored_to[0] != text or not self.holds(self.restored_to[1]):
+            for part in ("\t.MACRO\t.RESTORE", text, "\t.ENDM\t.RESTORE"):
+                self.emit(Line(part, line.end or "\n", line.file, line.number))
+            self.restored_to = (text, list(self.branches))
+
+    def place(self, name, line):
+        """Puts the definition of a library's macro here, or in front of the outermost body that is open."""
+        if name in self.placing or self.defines(name):
+            return
+        kept = self.out, self.bodies, self.branches, self.front, self.front_branches
+        if self.bodies:
+            self.branches = list(self.front_branches)
+        self.out, self.bodies = [], []
+        self.placing.add(name)
+        self.run([Line(one.text, one.end or "\n", one.file, one.number) for one in self.libraries.bodies[name]])
+        self.placing.discard(name)
+        new = self.out
+        self.out, self.bodies, self.branches, self.front, self.front_branches = kept
+        at = self.front if self.bodies else len(self.out)
+        self.out[at:at] = new
+        self.front += len(new) if self.bodies else 0
+
+    def declare_restore(self, line):
+        """Makes .RESTORE a macro in front of the first body that calls it."""
+        if not self.restore_known:
+            self.restore_known = True
+            parts = ["\t.MACRO\t.RESTORE", "\t.ENDM\t.RESTORE"]
+            new = [Line(part, line.end or "\n", line.file, line.number) for part in parts]
+            for one in new:
+                one.source = self.source
+            self.out[self.front:self.front] = new
+            self.front += len(new)

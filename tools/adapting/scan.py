@@ -1,0 +1,164 @@
+"""Lines and their parts: where labels, operators, operands, actuals and comments begin and end."""
+import re
+
+from .names import six
+
+NAME = re.compile(r"[A-Za-z0-9$.]+")
+LABEL = re.compile(r"[ \t\f]*([A-Za-z0-9$.][A-Za-z0-9$.']*)(::?)(?!=)")
+ASSIGNMENT = re.compile(r"[ \t\f]*([A-Za-z$.][A-Za-z0-9$.]*)[ \t\f]*(==?:?)")
+OPERATOR = re.compile(r"[ \t\f]*([A-Za-z$.][A-Za-z0-9$.]*)")
+LOCAL = re.compile(r"[0-9]+\$$")
+BLANKS = " \t\f"
+
+
+class Line:
+    """A line: its text, what ends it, and the file and number that it came from."""
+
+    def __init__(self, text, end, file, number):
+        self.text, self.end, self.file, self.number = text, end, file, number
+
+    def with_text(self, text):
+        return Line(text, self.end, self.file, self.number)
+
+
+class Statement:
+    """The parts of a line. `a` to `b` is the operator or the name that is assigned."""
+
+    def __init__(self, text, at=0):
+        self.text, self.labels, self.kind, self.op = text, [], "none", ""
+        while True:
+            found = LABEL.match(text, at)
+            if not found:
+                break
+            self.labels.append((found.group(1), found.start(1), found.end(1)))
+            at = found.end()
+        self.a = self.b = at
+        self._operator(at)
+
+    def _operator(self, at):
+        found = ASSIGNMENT.match(self.text, at)
+        if found:
+            self.kind, self.op = "assignment", six(found.group(1))
+            self.a, self.b = found.span(1)
+            self.sign = found.span(2)
+            return
+        found = OPERATOR.match(self.text, at)
+        if found:
+            self.kind, self.op = "operator", six(found.group(1))
+            self.a, self.b = found.span(1)
+            return
+        rest = self.text[at:].lstrip(BLANKS)
+        self.a = self.b = len(self.text) - len(rest)
+        if rest and rest[0] != ";":
+            self.kind = "words"
+
+
+def read_lines(path):
+    """The lines of a file, each with what ends it."""
+    with open(path, "rb") as file:
+        text = file.read().decode("latin-1")
+    lines = []
+    for number, part in enumerate(text.split("\n"), 1):
+        lines.append([part, "\n", number])
+    if lines[-1][0] == "":
+        lines.pop()
+    elif lines:
+        lines[-1][1] = ""
+    out = []
+    for part, end, number in lines:
+        if end and part.endswith("\r"):
+            part, end = part[:-1], "\r" + end
+        out.append(Line(part, end, path, number))
+    return out
+
+
+def skip_blanks(text, at):
+    while at < len(text) and text[at] in BLANKS:
+        at += 1
+    return at
+
+
+def tokens(text, at):
+    """Tokens (kind, begin, end) from a place up to a comment: name, local, number, text, or a character by itself."""
+    out = []
+    while True:
+        at = skip_blanks(text, at)
+        if at >= len(text) or text[at] == ";":
+            return out + [("end", at, at)]
+        kind, end = _token(text, at)
+        out.append((kind, at, end))
+        at = end
+
+
+def _token(text, at):
+    found = NAME.match(text, at)
+    if found:
+        word = found.group()
+        if word[0].isdigit():
+            number = re.match(r"[0-9]+[$.]?", word).group()
+            return ("local" if number[-1] == "$" else "number"), at + len(number)
+        return "name", found.end()
+    if text[at] == "^" and text[at + 1:at + 2].upper() == "R":
+        found = NAME.match(text, at + 2)
+        return "text", found.end() if found else at + 2
+    if text[at] == "^" and text[at + 1:at + 2].upper() in ("B", "O", "C", "D", "F"):
+        return "^" + text[at + 1].upper(), at + 2
+    if text[at] in "'\"":
+        return "text", min(len(text), at + (2 if text[at] == "'" else 3))
+    return text[at], at + 1
+
+
+def bracket_end(text, at):
+    """The place after the bracket that opens at a place, or None where it isn't closed."""
+    depth = 0
+    for place in range(at, len(text)):
+        depth += (text[place] == "<") - (text[place] == ">")
+        if depth == 0:
+            return place + 1
+    return None
+
+
+def actual_end(text, at):
+    """The place after the actual that begins at a place, or None where a bracket isn't closed."""
+    if text[at:at + 1] == "<":
+        return bracket_end(text, at)
+    if text[at:at + 1] == "^" and at + 1 < len(text) and text[at + 1] not in " \t;," and not text[at + 1].isalnum():
+        close = text.find(text[at + 1], at + 2)
+        return None if close < 0 else close + 1
+    keyword = re.compile(r"[A-Za-z$.][A-Za-z0-9$.]*=").match(text, at)
+    if keyword and text[keyword.end():keyword.end() + 1] in ("<", "^"):
+        return actual_end(text, keyword.end())
+    while at < len(text) and text[at] not in " \t\f,;":
+        at += 1
+    return at
+
+
+def actuals(text, at):
+    """The actuals from a place on, as (begin, end), and the place after them; None where a bracket isn't closed."""
+    out = []
+    at = skip_blanks(text, at)
+    while at < len(text) and text[at] != ";":
+        if text[at] == ",":
+            out.append((at, at))
+        else:
+            end = actual_end(text, at)
+            if end is None:
+                return None, at
+            out.append((at, end))
+            at = end
+        at = skip_blanks(text, at)
+        if text[at:at + 1] == ",":
+            at = skip_blanks(text, at + 1)
+    return out, at
+
+
+def change(text, edits):
+    """The text with each (begin, end, new) put in."""
+    for begin, end, new in sorted(edits, reverse=True):
+        text = text[:begin] + new + text[end:]
+    return text
+
+
+def names_in(text):
+    """All names of a text, as they count."""
+    return {six(name) for name in NAME.findall(text)}

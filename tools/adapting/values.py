@@ -1,0 +1,94 @@
+"""The second step: numbers that stand for registers, and instructions that stand for their codes."""
+from .names import INSTRUCTIONS, REGISTERS, six
+from .directives import statement_place
+from .scan import Statement, change, tokens
+from .walk import defined_names, walk
+
+FIELD_FIRST = {"JSR", "RTS", "XOR", "SOB"}
+FIELD_LAST = {"MUL", "DIV", "ASH", "ASHC"}
+VALUES = {".WORD", ".BYTE"}
+
+
+class Values:
+    def __init__(self, lines, macros, reports):
+        self.lines, self.macros, self.reports = lines, macros, reports
+        self.defined, self.moved = defined_names(lines)
+
+    def run(self):
+        """The lines with registers and codes written out."""
+        for place in walk(self.lines):
+            line, statement = self.lines[place.index], place.statement
+            if statement.op == ".IIF" and statement.kind == "operator":
+                statement = Statement(line.text, statement_place(line.text, statement.b) or len(line.text))
+            edits = self.edits(line, statement, place.formals)
+            if edits:
+                text = change(line.text, edits)
+                if len(text.partition(";")[0]) > 132:
+                    self.reports.report(line, "the line would get longer than 132 characters; cut it in two")
+                else:
+                    line.text = text if len(line.text) > 132 else text[:132]
+
+    def edits(self, line, statement, formals):
+        operator = statement.kind == "operator" and statement.op not in self.macros
+        if operator and statement.op in INSTRUCTIONS:
+            words = tokens(line.text, statement.b)
+            edits = self.registers(line.text, statement.op, words, formals)
+            return edits + self.codes(line, immediate(words), formals)
+        if statement.kind == "assignment":
+            return self.codes(line, tokens(line.text, statement.sign[1]), formals)
+        if statement.kind == "words" or operator and statement.op in VALUES:
+            return self.codes(line, tokens(line.text, statement.b), formals)
+        return []
+
+    def register(self, number, formals):
+        name = REGISTERS[number]
+        other = [value for word, value in self.moved if word == name and value != f"%{number}"]
+        return f"%{number}" if other or name in formals else name
+
+    def registers(self, text, op, words, formals):
+        """Edits for `(6)` and for a number in the field of a register."""
+        places = []
+        for before, word, after in zip(words, words[1:], words[2:]):
+            if before[0] == "(" and after[0] == ")":
+                places.append(word)
+        commas = [at for at, word in enumerate(words) if word[0] == ","]
+        if op in FIELD_FIRST and (commas[:1] or [len(words) - 1])[0] == 1:
+            places.append(words[0])
+        if op in FIELD_LAST and len(commas) == 1 and commas[0] == len(words) - 3:
+            places.append(words[-2])
+        edits = []
+        for kind, begin, end in places:
+            number = text[begin:end].rstrip(".")
+            if kind == "number" and number in list("01234567"):
+                edits.append((begin, end, self.register(int(number), formals)))
+        return edits
+
+    def codes(self, line, words, formals):
+        """Edits for the names of instructions that nothing else defines."""
+        edits = []
+        for at, (kind, begin, end) in enumerate(words):
+            name = six(line.text[begin:end]) if kind == "name" and end - begin <= 6 else ""
+            if name not in INSTRUCTIONS or name in self.defined or name in formals or joined(line.text, begin, end):
+                continue
+            code = f"^O{INSTRUCTIONS[name]:o}"
+            self.reports.note(line, f"{name} is taken as its code, {code}, since nothing else defines it")
+            edits.append((begin, end, code))
+        return edits
+
+
+def joined(text, begin, end):
+    """Whether a quote joins a name to something else, as in a body."""
+    return text[begin - 1:begin] == "'" or text[end:end + 1] == "'"
+
+
+def immediate(words):
+    """The words of operands that begin with `#`."""
+    out, inside = [], False
+    for kind, begin, end in words:
+        if kind == "#":
+            inside = True
+        elif kind == ",":
+            inside = False
+        elif inside:
+            out.append((kind, begin, end))
+    return out

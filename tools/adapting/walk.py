@@ -1,0 +1,47 @@
+"""Goes through the lines of a program and knows in which bodies each of them stands."""
+from .names import CLOSERS, OPENERS, six
+from .scan import NAME, Statement
+from .macros import formals_of
+
+
+class Place:
+    """A line with its statement, the formals that are replaced in it, and whether a macro's body holds it."""
+
+    def __init__(self, index, statement, formals, in_macro):
+        self.index, self.statement, self.formals, self.in_macro = index, statement, formals, in_macro
+
+
+def walk(lines):
+    bodies = []
+    for index, line in enumerate(lines):
+        statement = Statement(line.text)
+        operator = statement.op if statement.kind == "operator" else ""
+        if operator in CLOSERS and bodies:
+            bodies.pop()
+        formals = set().union(*(names for _, names in bodies))
+        yield Place(index, statement, formals, any(macro for macro, _ in bodies))
+        if operator in OPENERS:
+            bodies.append((operator == ".MACRO", _formals(line.text, statement)))
+
+
+def _formals(text, statement):
+    found = NAME.search(text, statement.b)
+    if not found or statement.op == ".REPT":
+        return set()
+    if statement.op == ".MACRO":
+        return {formal.name for formal in formals_of(text, found.end())[0]}
+    return {six(found.group())}
+
+
+def defined_names(lines):
+    """All names that the lines give a meaning or declare, and those that are assigned another register."""
+    names, moved = set(), set()
+    for place in walk(lines):
+        statement, text = place.statement, lines[place.index].text
+        names |= {six(name) for name, _, _ in statement.labels if not name[0].isdigit()}
+        if statement.kind == "assignment":
+            names.add(statement.op)
+            moved.add((statement.op, text[statement.sign[1]:].split(";")[0].strip()))
+        elif statement.kind == "operator" and statement.op in (".GLOBL", ".WEAK"):
+            names |= {six(name) for name in NAME.findall(text[statement.b:].split(";")[0])}
+    return names, moved
