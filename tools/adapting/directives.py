@@ -258,8 +258,6 @@ def restore(reader, line, statement):
 
 def modes(reader, line, statement):
     words = [six(word) for word in NAME.findall(operands(line.text, statement.b))]
-    if "LSB" in words and len(words) > 1:
-        reader.reports.report(line, "LSB stands in a list; give it a line by itself")
     if words == ["LSB"] or all(word in TAKEN[statement.op] for word in words):
         return reader.emit(line)
     if set(words) & reader.formals():
@@ -271,6 +269,10 @@ def modes(reader, line, statement):
         reader.any_macro_call = statement.op == ".ENABL"
     if statement.op == ".ENABL" and "ABS" in words:
         reader.reports.note(line, "left out: m11 writes an object, and m11 link makes the absolute tape")
+    if "LSB" in words:
+        at = skip_blanks(line.text, statement.b)
+        end = at + len(operands(line.text, statement.b))
+        return reader.write(line, change(line.text, [(at, end, "LSB")]))
     reader.leave_out(line, statement)
 
 

@@ -1,8 +1,8 @@
 """Macros: their definitions, libraries of them, and calls written as m11 takes them."""
 import re
 
-from .names import CLOSERS, OPENERS, SECTIONS, six
-from .scan import NAME, Statement, actuals, change, names_in, read_lines, skip_blanks, actual_end
+from .names import CLOSERS, OPENERS, SECTIONS, TEXTS, six
+from .scan import NAME, Statement, actual_end, actuals, change, names_in, read_lines, skip_blanks, tokens
 
 
 class Formal:
@@ -155,9 +155,9 @@ class Call:
 def reaches(macro, macros, wanted, seen=None):
     """Whether the body of a macro, or one that it calls, satisfies `wanted`."""
     seen = set() if seen is None else seen
-    if macro.name in seen:
+    if id(macro) in seen:
         return False
-    seen.add(macro.name)
+    seen.add(id(macro))
     if wanted(macro):
         return True
     inner = [one for op in macro.operators() for one in macros.get(op, [])]
@@ -189,6 +189,21 @@ def has_boundary(macro):
         if any("'" in name and not name.endswith("$") for name, _, _ in statement.labels):
             return True
     return False
+
+
+def used_across_sections(macro):
+    """A local symbol that the body defines in one section and uses in another, or None."""
+    segment, defined, used = 0, {}, []
+    local = created(macro)
+    for statement in macro.body:
+        segment += statement.kind == "operator" and statement.op in SECTIONS | {".RESTO"}
+        for name, _, _ in statement.labels:
+            if six(name) in local or name[0].isdigit():
+                defined[six(name)] = segment
+        if statement.op not in TEXTS and statement.kind != "none":
+            text = statement.text
+            used += [(six(text[begin:end]), segment) for kind, begin, end in tokens(text, statement.b) if kind in ("name", "local")]
+    return next((name for name, place in used if defined.get(name, place) != place), None)
 
 
 def created(macro):

@@ -2,7 +2,7 @@
 import os
 
 from . import directives
-from .macros import Call, Formal, Libraries, Macro, formals_of, reaches, restores, switches
+from .macros import Call, Formal, Libraries, Macro, formals_of, reaches, restores, switches, used_across_sections
 from .names import CLOSERS, DIRECTIVES, INSTRUCTIONS, OPENERS, OTHER_MODELS, six
 from .scan import NAME, Line, Statement, change, read_lines
 
@@ -152,6 +152,9 @@ class Reader:
             del self.branches[body.depth:]
             if body.saved:
                 self.reports.report(line, "the body ends after a .SAVE without its .RESTORE")
+            name = used_across_sections(body.macro) if body.macro else None
+            if name:
+                self.reports.report(line, f"{name} is used in another section than it stands in, where m11 ends its block")
         self.emit(line)
 
     def in_macro(self):
@@ -200,7 +203,8 @@ class Reader:
             wrong = f"{statement.op} has several definitions, whose formals differ; say which one by leaving the others out"
         if wrong:
             return self.report(line, wrong)
-        self.mind_sections(line, candidates[0])
+        for macro in candidates:
+            self.mind_sections(line, macro)
         self.write(line, texts.pop())
 
     def mind_sections(self, line, macro):

@@ -1,0 +1,224 @@
+#!/usr/bin/env python3
+"""Runs the tests of tools/adapt and tools/lines: python3 tools/test.py [NAME]...
+
+Each file of tools/tests is a case. Its parts begin with a word at the beginning of a line, and their lines with `|`:
+  words ..        words of adapt beside -o OUT and the sources
+  file NAME       a file that lies beside the sources
+  source NAME     a source to adapt, and `after NAME` what it becomes; without `after` it stays as it is
+  map NAME        the map of a source; without it there is none
+  reports         what adapt says; nothing where the part is missing
+  status N        the status of adapt; 0 where it is missing
+  flagged N       how many lines of all that is written the other reading flags; 0 where it is missing
+  equal           a plain source whose object is that of the adapted ones
+  messages, turned  what tools/lines reads, and what it writes"""
+import glob
+import os
+import subprocess
+import sys
+import tempfile
+
+sys.dont_write_bytecode = True
+HERE = os.path.dirname(os.path.realpath(__file__))
+ROOT = os.path.dirname(HERE)
+sys.path.insert(0, os.path.join(ROOT, "bench", "reading"))
+sys.path.insert(0, HERE)
+
+import pasm  # noqa: E402
+from adapting.main import adapt  # noqa: E402
+from adapting.names import INSTRUCTIONS  # noqa: E402
+
+PARTS = ("words", "file", "source", "after", "map", "reports", "status", "flagged", "equal", "messages", "turned")
+
+
+class Case:
+    def __init__(self, text):
+        self.parts, lines = {}, None
+        for line in text.split("\n"):
+            if line.startswith("|"):
+                lines.append(line[1:].replace("\\r", "\r").replace("\\0", "\0"))
+            elif line and not line.startswith(";"):
+                word, _, value = line.partition(" ")
+                assert word in PARTS, line
+                lines = []
+                self.parts.setdefault(word, {})[value] = lines
+
+    def text(self, word, value=""):
+        lines = self.parts[word][value]
+        return "".join(line + "\n" for line in lines).encode("latin-1")
+
+    def value(self, word, missing):
+        return next(iter(self.parts.get(word, {missing: None})))
+
+    def names(self, word):
+        return list(self.parts.get(word, {}))
+
+
+def put(folder, name, content):
+    path = os.path.join(folder, name)
+    os.makedirs(os.path.dirname(path), exist_ok=True)
+    with open(path, "wb") as file:
+        file.write(content)
+
+
+def get(folder, name):
+    path = os.path.join(folder, name)
+    if not os.path.exists(path):
+        return None
+    with open(path, "rb") as file:
+        return file.read()
+
+
+def run(tool, words, folder, given=b""):
+    command = [sys.executable, os.path.join(HERE, tool)] + words
+    return subprocess.run(command, cwd=folder, input=given, capture_output=True)
+
+
+def differ(what, got, wanted):
+    if got == wanted:
+        return []
+    return [f"{what}\n--- is\n{got if isinstance(got, int) else (got or b'').decode('latin-1')}"
+            f"\n--- should be\n{wanted if isinstance(wanted, int) else (wanted or b'').decode('latin-1')}"]
+
+
+def check_adapt(case, folder):
+    """The differences of a case from what adapt does."""
+    sources = case.names("source")
+    done = run("adapt", case.value("words", "").split() + ["-o", "OUT"] + sources, folder)
+    wrong = differ("status", done.returncode, int(case.value("status", "0")))
+    reports = case.text("reports") if "reports" in case.parts else b""
+    wrong += differ("reports", done.stderr, reports)
+    outputs = []
+    for name in sources:
+        outputs.append(get(folder, os.path.join("OUT", name)) or b"")
+        wanted = case.text("after", name) if name in case.names("after") else case.text("source", name)
+        wrong += differ(f"after {name}", outputs[-1], wanted)
+        map_wanted = case.text("map", name) if name in case.names("map") else None
+        wrong += differ(f"map {name}", get(folder, os.path.join("OUT", name + ".map")), map_wanted)
+    return wrong + check_outputs(case, folder, sources, outputs)
+
+
+def check_outputs(case, folder, sources, outputs):
+    """What another assembler says of the adapted sources, and that a second call leaves them as they are."""
+    taken, _, messages, flagged, _ = pasm.assemble(outputs)
+    wrong = differ("flagged", flagged, int(case.value("flagged", "0")))
+    if wrong:
+        wrong.append("\n".join(messages))
+    if "equal" in case.parts:
+        wrong += differ("object", taken.hex(" ").encode(), pasm.assemble([case.text("equal")])[0].hex(" ").encode())
+    if case.value("status", "0") == "0":
+        again = run("adapt", ["-o", "../AGAIN"] + sources, os.path.join(folder, "OUT"))
+        wrong += differ("status of a second call", again.returncode, 0)
+        for name, output in zip(sources, outputs):
+            wrong += differ(f"{name} after a second call", get(folder, os.path.join("AGAIN", name)), output)
+    return wrong
+
+
+def check_lines(case, folder):
+    sources = [os.path.join("OUT", name) for name in case.names("source")]
+    done = run("lines", sources, folder, case.text("messages"))
+    return differ("turned", done.stdout, case.text("turned")) + differ("status of lines", done.returncode, 0)
+
+
+def check_case(path):
+    with open(path, encoding="latin-1", newline="") as file:
+        case = Case(file.read())
+    with tempfile.TemporaryDirectory() as folder:
+        for word in ("file", "source"):
+            for name in case.names(word):
+                put(folder, name, case.text(word, name))
+        wrong = check_adapt(case, folder)
+        if "messages" in case.parts:
+            wrong += check_lines(case, folder)
+    return wrong
+
+
+def check_codes():
+    """The codes of instructions are those of the other reading."""
+    wanted = {name: row[1] for name, row in pasm.OPS.items()}
+    return [] if INSTRUCTIONS == wanted else [f"codes differ: {set(INSTRUCTIONS.items()) ^ set(wanted.items())}"]
+
+
+def suite_sources():
+    """The sources of the cases of whole commands, and the examples, as (name, list of bytes)."""
+    for path in sorted(glob.glob(os.path.join(ROOT, "examples", "**", "*.MAC"), recursive=True)):
+        if not path.endswith("REVERS.MAC"):
+            yield path, get("", path)
+    for path in sorted(glob.glob(os.path.join(ROOT, "crates", "m11_suite", "data", "*", "*.case"))
+                       + glob.glob(os.path.join(ROOT, "crates", "m11_suite", "data", "*.case"))):
+        for text in case_files(get("", path).decode("latin-1")):
+            yield path, text.encode("latin-1")
+
+
+def case_files(text):
+    lines, files = None, []
+    for line in text.split("\n"):
+        word, _, name = line.partition(" ")
+        if line.startswith("|") and lines is not None:
+            lines.append(line[1:] + "\n")
+        elif not line.startswith(("|", "=")) and word:
+            lines = [] if word == "file" and name.strip().endswith(".MAC") else None
+            files += [lines] if lines is not None else []
+    return ["".join(lines) for lines in files]
+
+
+def check_taken():
+    """What is taken without a flag comes out as it is, and nothing that was adapted changes again."""
+    wrong, count = [], 0
+    with tempfile.TemporaryDirectory() as folder:
+        path = os.path.join(folder, "S.MAC")
+        for name, source in suite_sources():
+            count += 1
+            put(folder, "S.MAC", source)
+            once = adapted(path)
+            put(folder, "S.MAC", once)
+            if adapted(path) != once:
+                wrong.append(f"{name}: changes again")
+            if once != source and not flags_of(source):
+                wrong.append(f"{name}: it is taken, and changes")
+    return wrong if count else ["no sources were found"]
+
+
+def adapted(path):
+    return "".join(line.text + line.end for line in adapt([path], [], [])[0][0]).encode("latin-1")
+
+
+def flags_of(source):
+    try:
+        return pasm.assemble([source])[3]
+    except pasm.Fault:
+        return 1
+
+
+def check_refusals():
+    """Words that are refused, and files that aren't there."""
+    wrong = []
+    with tempfile.TemporaryDirectory() as folder:
+        put(folder, "A.MAC", b"\t.END\n")
+        put(folder, "B.MAC", b"\t.END\n")
+        for words, status in ((["A.MAC", "B.MAC"], 2), ([], 2), (["-o", ".", "A.MAC"], 2), (["C.MAC"], 3), (["-l", "C.MAC", "A.MAC"], 3),
+                              (["-o", "OUT", "A.MAC", "./A.MAC"], 2), (["A.MAC"], 0), (["--help"], 0)):
+            wrong += differ(f"status of adapt {' '.join(words)}", run("adapt", words, folder).returncode, status)
+        for words, status in (([], 2), (["C.MAC"], 3), (["A.MAC"], 0), (["--help"], 0)):
+            wrong += differ(f"status of lines {' '.join(words)}", run("lines", words, folder).returncode, status)
+        wrong += differ("A.MAC", get(folder, "A.MAC"), b"\t.END\n")
+    return wrong
+
+
+def main(names):
+    tests = [(os.path.basename(path)[:-5], check_case, (path,)) for path in sorted(glob.glob(os.path.join(HERE, "tests", "*.case")))]
+    tests += [("codes-of-instructions", check_codes, ()), ("sources-that-are-taken", check_taken, ()), ("refusals", check_refusals, ())]
+    passed = failed = 0
+    for name, check, given in tests:
+        if names and name not in names:
+            continue
+        wrong = check(*given)
+        passed += not wrong
+        failed += bool(wrong)
+        for text in wrong:
+            print(f"{name}: {text}")
+    print(f"{passed} passed, {failed} failed")
+    return 1 if failed or not passed else 0
+
+
+if __name__ == "__main__":
+    sys.exit(main(sys.argv[1:]))
