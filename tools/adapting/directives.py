@@ -25,6 +25,7 @@ def mcall(reader, line, statement):
     missing = [name for name in names if name not in reader.libraries.bodies and name not in reader.macros]
     if missing:
         reader.reports.report(line, f"no library has the macro {', '.join(missing)}; give a file that defines it by -l")
+    reader.missing |= set(missing)
     reader.leave_out(line, statement)
     for name in names:
         if name in reader.libraries.bodies:

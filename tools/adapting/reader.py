@@ -3,7 +3,7 @@ import os
 
 from . import directives
 from .macros import Call, Formal, Libraries, Macro, formals_of, reaches, restores, switches, used_across_sections
-from .names import CLOSERS, DIRECTIVES, INSTRUCTIONS, OPENERS, OTHER_MODELS, six
+from .names import CLOSERS, DIRECTIVES, INSTRUCTIONS, ONE_WORD_CODES, OPENERS, OTHER_MODELS, six
 from .scan import NAME, Line, Statement, change, read_lines
 
 WIDTH = 132
@@ -41,7 +41,8 @@ class Reader:
         self.out, self.front, self.front_branches = [], 0, []
         self.macros, self.bodies, self.branches = {}, [], []
         self.placing, self.open_files, self.restore_known = set(), [], False
-        self.remark, self.ended, self.any_macro_call, self.deleted = None, False, False, set()
+        self.remark, self.ended, self.any_macro_call = None, False, False
+        self.deleted, self.missing = set(), set()
         self.section, self.saved, self.restored_to = ("\t.PSECT", []), [], None
         self.last_branch, self.source = 0, 0
 
@@ -102,26 +103,43 @@ class Reader:
             return self.open_body(line, statement)
         if op in CLOSERS:
             return self.close_body(line)
+        if op not in self.macros and op in self.libraries.bodies and self.takes_unasked(op):
+            self.place(op, line)
         candidates = self.candidates(op)
         if candidates:
             return self.call(line, statement, candidates)
         rule = directives.rule_of(op)
-        if rule:
+        if rule and op not in self.missing:
             return rule(self, line, statement)
         self.unknown(line, statement)
+
+    def takes_unasked(self, op):
+        """Whether a macro of a library is taken without .MCALL: in bodies of libraries, and under .ENABL MCL."""
+        if op in DIRECTIVES or op in INSTRUCTIONS or op in self.formals():
+            return False
+        return bool(self.placing) or self.any_macro_call and not directives.rule_of(op)
 
     def unknown(self, line, statement):
         op = statement.op
         if op in DIRECTIVES or op in INSTRUCTIONS or op in self.formals():
             return self.emit(line)
         if op in OTHER_MODELS:
-            return self.report(line, f"{op} is an instruction of another model; write its words by .WORD")
-        if self.any_macro_call and op in self.libraries.bodies:
-            self.place(op, line)
-            return self.call(line, statement, self.candidates(op))
+            return self.other_model(line, statement)
         if op in self.deleted:
             return self.report(line, f"the macro {op} was deleted by .MDELETE; m11 calls it here")
         self.emit(line)
+
+    def other_model(self, line, statement):
+        """CALLR is JMP; what is one word that needs no mode is written by .WORD."""
+        op, text = statement.op, directives.operands(line.text, statement.b)
+        if op == "CALLR":
+            return self.write(line, change(line.text, [(statement.a, statement.b, "JMP")]))
+        if op in ONE_WORD_CODES and not text:
+            return self.write(line, change(line.text, [(statement.a, statement.b, f".WORD\t^O{ONE_WORD_CODES[op]:o}")]))
+        if op == "SPL" and text:
+            at = line.text.index(text, statement.b)
+            return self.write(line, change(line.text, [(statement.a, at + len(text), f".WORD\t^O230+<{text}>")]))
+        self.report(line, f"{op} is an instruction of another model; write its words by .WORD")
 
     # Bodies and conditions
 
