@@ -7,6 +7,8 @@ from .walk import defined_names, walk
 FIELD_FIRST = {"JSR", "RTS", "XOR", "SOB"}
 FIELD_LAST = {"MUL", "DIV", "ASH", "ASHC"}
 VALUES = {".WORD", ".BYTE"}
+BEFORE_TERMS = {",", "+", "-", "*", "/", "&", "!", "<", "^C"}
+AFTER_TERMS = {",", "+", "-", "*", "/", "&", "!", ">", "end"}
 
 
 class Values:
@@ -68,7 +70,7 @@ class Values:
         edits = []
         for at, (kind, begin, end) in enumerate(words):
             name = six(line.text[begin:end]) if kind == "name" and end - begin <= 6 else ""
-            if name not in INSTRUCTIONS or name in self.defined or name in formals or joined(line.text, begin, end):
+            if name not in INSTRUCTIONS or name in self.defined or name in formals or not is_term(words, at):
                 continue
             code = f"^O{INSTRUCTIONS[name]:o}"
             self.reports.note(line, f"{name} is taken as its code, {code}, since nothing else defines it")
@@ -76,9 +78,10 @@ class Values:
         return edits
 
 
-def joined(text, begin, end):
-    """Whether a quote joins a name to something else, as in a body."""
-    return text[begin - 1:begin] == "'" or text[end:end + 1] == "'"
+def is_term(words, at):
+    """Whether a word stands where a term of an expression stands, and ends there."""
+    before = words[at - 1][0] if at else ","
+    return before in BEFORE_TERMS and words[at + 1][0] in AFTER_TERMS
 
 
 def immediate(words):
@@ -87,8 +90,7 @@ def immediate(words):
     for kind, begin, end in words:
         if kind == "#":
             inside = True
-        elif kind == ",":
-            inside = False
-        elif inside:
+        elif inside or kind == ",":
+            inside = inside and kind != ","
             out.append((kind, begin, end))
-    return out
+    return out + words[-1:]
