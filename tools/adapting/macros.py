@@ -88,8 +88,9 @@ class Call:
         self.places, self.end = actuals(text, at)
         self.given, self.changed, self.wrong = [], False, None
 
-    def written(self, outer):
-        """The line as m11 takes it. `wrong` is what can't be done; `outer` holds the formals of the bodies around."""
+    def written(self, outer, filled=frozenset()):
+        """The line as m11 takes it. `wrong` is what can't be done; `outer` holds the formals of the bodies around, and
+        `filled` those of them that are never empty."""
         if self.places is None:
             return self.text
         names = [formal.name for formal in self.macro.formals]
@@ -102,7 +103,7 @@ class Call:
             else:
                 slots[place] = self._bracket(word)
                 place += 1
-        self._defaults(slots, outer)
+        self._defaults(slots, outer, filled)
         if not self.changed or self.wrong:
             return self.text
         return self._line(slots)
@@ -126,8 +127,10 @@ class Call:
         self.changed = True
         return "<" + inside + ">"
 
-    def _defaults(self, slots, outer):
+    def _defaults(self, slots, outer, filled):
         for place, formal in enumerate(self.macro.formals):
+            if formal.default and may_be_empty(slots.get(place, ""), outer, filled):
+                self.wrong = f"{slots[place]} may be empty in an expansion, and then the default {formal.default} would hold"
             if formal.default and not slots.get(place):
                 if names_in(formal.default) & outer:
                     self.wrong = f"the default {formal.default} names a formal of the body around the call"
@@ -150,6 +153,12 @@ class Call:
         if tail and not gap:
             gap = "\t"
         return (head + ",".join(words) + gap + tail).rstrip(" \t\f") if not tail else head + ",".join(words) + gap + tail
+
+
+def may_be_empty(word, outer, filled):
+    """Whether an actual in a body is made of formals alone that may be empty."""
+    names = names_in(word)
+    return bool(names) and names <= outer - filled and not NAME.sub("", word).strip("<>' \t")
 
 
 def reaches(macro, macros, wanted, seen=None):

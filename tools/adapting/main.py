@@ -98,7 +98,7 @@ def main(argv):
         out, reports = adapt(given.sources, given.library, given.include)
         write(given, out)
     except OSError as error:
-        print(f"adapt: {error.filename}: {error.strerror}", file=sys.stderr)
+        print(f"adapt: {error.filename or 'an output'}: {error.strerror}", file=sys.stderr)
         return 3
     for said in reports.lines:
         print(said, file=sys.stderr)

@@ -47,13 +47,14 @@ ONE_WORD.update({".IF" + name: right for name, right in CONDITIONS.items()})
 # What a list of .ENABL or .DSABL may say: the words that change no byte of a right program.
 WITHOUT_BYTES = {
     ".ENABL": set("LC GBL CRF REG FPT LCM PNC ABS".split()),
-    ".DSABL": set("GBL CRF REG FPT LCM ABS AMA CDR MCL".split()),
+    ".DSABL": set("GBL CRF REG FPT ABS AMA CDR MCL".split()),
 }
 TAKEN = {".ENABL": {"LC", "GBL"}, ".DSABL": set()}
 WHY_NOT = {
     (".ENABL", "AMA"): "under .ENABL AMA the operand A is @#A; write it so",
     (".ENABL", "CDR"): "under .ENABL CDR a line ends after 72 characters; cut the lines",
     (".DSABL", "LC"): "under .DSABL LC small letters of texts become large ones; write them so",
+    (".DSABL", "LCM"): "m11 compares texts of .IF IDN byte for byte, and .DSABL LCM asks for large and small letters alike",
     (".DSABL", "PNC"): "under .DSABL PNC no object is written; leave the lines out",
 }
 NO_LINES = {".CROSS", ".NOCRO", ".EOT"}

@@ -4,16 +4,17 @@ import os
 from . import directives
 from .macros import Call, Formal, Libraries, Macro, formals_of, reaches, restores, switches, used_across_sections
 from .names import CLOSERS, DIRECTIVES, INSTRUCTIONS, ONE_WORD_CODES, OPENERS, OTHER_MODELS, six
-from .scan import NAME, Line, Statement, change, read_lines
+from .scan import NAME, Line, Statement, change, names_in, read_lines
 
 WIDTH = 132
 
 
 class Body:
-    """A body that is being read: its macro, where it is one, and the formals of it and those around it."""
+    """A body that is being read: its macro, where it is one, and the formals of it and those around it.
+    Those that are `filled` are never empty, since they have a default or a created symbol."""
 
-    def __init__(self, macro, formals, depth):
-        self.macro, self.formals, self.depth = macro, formals, depth
+    def __init__(self, macro, formals, filled, depth):
+        self.macro, self.formals, self.filled, self.depth = macro, formals, filled, depth
         self.section, self.saved = None, []
 
 
@@ -146,6 +147,9 @@ class Reader:
     def formals(self):
         return self.bodies[-1].formals if self.bodies else set()
 
+    def filled(self):
+        return self.bodies[-1].filled if self.bodies else set()
+
     def open_body(self, line, statement):
         if not self.bodies:
             self.front, self.front_branches = len(self.out), list(self.branches)
@@ -158,10 +162,14 @@ class Reader:
             self.macros.setdefault(macro.name, []).append(macro)
             self.deleted.discard(macro.name)
             text = change(line.text, edits)
+            if any(formal.default and names_in(formal.default) & self.formals() for formal in formals):
+                self.reports.report(line, f"a default of {macro.name} names a formal of the body around it")
+                text = line.text
         elif statement.op in (".IRP", ".IRPC") and found:
             formals = [Formal(six(found.group()), False, None)]
         names = self.formals() | {formal.name for formal in formals}
-        self.bodies.append(Body(macro, names, len(self.branches)))
+        filled = self.filled() | {formal.name for formal in formals if formal.default or formal.created}
+        self.bodies.append(Body(macro, names, filled, len(self.branches)))
         self.write(line, text)
 
     def close_body(self, line):
@@ -215,7 +223,7 @@ class Reader:
         texts, wrong = set(), None
         for macro in candidates:
             call = Call(line.text, statement.b, macro)
-            texts.add(call.written(self.formals()))
+            texts.add(call.written(self.formals(), self.filled()))
             wrong = wrong or call.wrong
         if len(texts) > 1:
             wrong = f"{statement.op} has several definitions, whose formals differ; say which one by leaving the others out"
