@@ -222,35 +222,29 @@ def section(reader, line, statement):
 def set_section(reader, text):
     body = reader.in_macro()
     if body:
-        body.section = text
+        body.section = (text, list(reader.branches))
     else:
         reader.section = (text, list(reader.branches))
 
 
 def save(reader, line, statement):
-    body = reader.in_macro()
-    if body:
-        body.saved.append(body.section)
-    else:
-        reader.saved.append(reader.section)
+    body = reader.in_macro() or reader
+    body.saved.append(body.section)
     reader.leave_out(line, statement)
 
 
 def restore(reader, line, statement):
-    body = reader.in_macro()
-    saved = body.saved if body else reader.saved
-    if not saved:
+    body = reader.in_macro() or reader
+    if not body.saved:
         return reader.report(line, ".RESTORE has no .SAVE before it")
-    if not body:
-        text, path = saved.pop()
-        if text is None or not reader.holds(path):
-            return reader.report(line, "which section is restored depends on a condition or a macro; name it")
-    else:
-        text = body.section = saved.pop()
-        if text is None:
-            # A macro .RESTORE, which is defined before each call of this body, names the section of the caller.
-            reader.declare_restore(line)
-            return reader.emit(line)
+    body.section = body.saved.pop()
+    if body.section is None:
+        # A macro .RESTORE, which is defined before each call of this body, names the section of the caller.
+        reader.declare_restore(line)
+        return reader.emit(line)
+    text, path = body.section
+    if text is None or not reader.holds(path):
+        return reader.report(line, "which section is restored depends on a condition or a macro; name it")
     set_section(reader, text)
     reader.write(line, change(line.text, [(statement.a, statement.b, text[1:])]))
 

@@ -109,11 +109,8 @@ class Call:
         return self._line(slots)
 
     def _keyword(self, name, value, slots, names, outer):
-        formal = self.macro.formals[names.index(name)]
         if name in outer:
             self.wrong = f"the keyword {name} of {self.macro.name} is also a formal of the body around it"
-        if value == "" and formal.default:
-            self.wrong = f"the keyword {name} is given empty, and it has a default"
         slots[names.index(name)] = self._bracket(value)
         self.changed = True
 
@@ -131,7 +128,9 @@ class Call:
         for place, formal in enumerate(self.macro.formals):
             if formal.default and may_be_empty(slots.get(place, ""), outer, filled):
                 self.wrong = f"{slots[place]} may be empty in an expansion, and then the default {formal.default} would hold"
-            if formal.default and not slots.get(place):
+            if formal.default and slots.get(place) == "":
+                self.wrong = self.wrong or f"{formal.name} is given empty, and has the default {formal.default}; write what is meant"
+            elif formal.default and place not in slots:
                 if names_in(formal.default) & outer:
                     self.wrong = f"the default {formal.default} names a formal of the body around the call"
                 slots[place] = formal.default

@@ -15,6 +15,7 @@ class Body:
 
     def __init__(self, macro, formals, filled, depth):
         self.macro, self.formals, self.filled, self.depth = macro, formals, filled, depth
+        # The section that the body is in: None is that of its caller, and (None, []) isn't known.
         self.section, self.saved = None, []
 
 
@@ -242,10 +243,7 @@ class Reader:
             elif not body:
                 self.tell_section(line)
         if reaches(macro, self.macros, switches):
-            if body:
-                body.section = None
-            else:
-                self.section = (None, [])
+            (body or self).section = (None, [])
 
     def defines_restore(self):
         """Whether the sources themselves define .RESTORE."""
