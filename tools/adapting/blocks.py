@@ -2,7 +2,7 @@
 symbols that are used across a label become names."""
 from .macros import has_boundary, reaches
 from .names import SECTIONS, TEXTS, six
-from .scan import BLANKS, change, names_in, tokens
+from .scan import BLANKS, TOO_LONG, change, fitted, names_in, tokens
 from .walk import walk
 
 
@@ -29,11 +29,12 @@ class Blocks:
         for block in self.done:
             self.rename(block, edits)
         for index, places in edits.items():
-            text = change(self.lines[index].text, places)
-            if len(text.partition(";")[0]) > 132:
-                self.reports.report(self.lines[index], "the line would get longer than 132 characters; cut it in two")
+            line = self.lines[index]
+            text = fitted(line.text, change(line.text, places))
+            if text is None:
+                self.reports.report(line, TOO_LONG)
             else:
-                self.lines[index].text = text if len(self.lines[index].text) > 132 else text[:132]
+                line.text = text
 
     def line(self, place, line):
         statement = place.statement
@@ -66,8 +67,8 @@ class Blocks:
     def conditions(self, op, line):
         """A block begins and ends in the same part of a condition."""
         self.depth += (op == ".IF") - (op == ".ENDC")
-        left = self.block and (self.depth < self.block.depth or self.depth == self.block.depth > 0 and op in (".IFF", ".IFT", ".IFTF"))
-        if left:
+        switched = op in (".IFF", ".IFT", ".IFTF") and self.block and self.depth == self.block.depth > 0
+        if self.block and (switched or self.depth < self.block.depth):
             if not self.block.ending:
                 self.reports.report(self.block.line, "the block begins in a condition and goes on after it")
             self.close()

@@ -3,7 +3,7 @@ import os
 
 from .names import CANNOT, CONDITIONS, LISTED, NO_LINES, ONE_WORD, OPENERS, SECTIONS, TAKEN, WHY_NOT, WITHOUT_BYTES, six
 from .names import DIRECTIVES, INSTRUCTIONS
-from .scan import BLANKS, NAME, Line, Statement, actual_end, actuals, change, skip_blanks, tokens
+from .scan import BLANKS, NAME, WIDTH, Statement, actual_end, actuals, change, skip_blanks, tokens
 
 
 def operands(text, at):
@@ -118,7 +118,7 @@ def finish_remark(reader, line, at):
 def go_on_with_remark(reader, line):
     finish_remark(reader, line, 0)
     text = ";" + line.text
-    reader.emit(line.with_text(text[:132] if len(line.text) <= 132 else text))
+    reader.emit(line.with_text(text[:WIDTH] if len(line.text) <= WIDTH else text))
 
 
 def say(reader, line, statement):

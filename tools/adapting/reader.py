@@ -4,9 +4,7 @@ import os
 from . import directives
 from .macros import Call, Formal, Libraries, Macro, formals_of, reaches, restores, switches, used_across_sections
 from .names import CLOSERS, DIRECTIVES, INSTRUCTIONS, ONE_WORD_CODES, OPENERS, OTHER_MODELS, six
-from .scan import NAME, Line, Statement, change, names_in, read_lines
-
-WIDTH = 132
+from .scan import NAME, TOO_LONG, WIDTH, Line, Statement, change, fitted, names_in, read_lines
 
 
 class Body:
@@ -56,12 +54,9 @@ class Reader:
 
     def write(self, line, text):
         """The line with another text, which may not get too long by it."""
-        if len(text) > WIDTH and len(line.text) <= WIDTH and text != line.text:
-            if len(text[:WIDTH].partition(";")[0]) < WIDTH and '"' not in text and "'" not in text:
-                text = text[:WIDTH]
-            else:
-                self.reports.report(line, f"the line would get longer than {WIDTH} characters; cut it in two")
-                text = line.text
+        text = fitted(line.text, text)
+        if text is None:
+            return self.report(line, TOO_LONG)
         self.emit(line.with_text(text))
 
     def leave_out(self, line, statement):

@@ -9,6 +9,9 @@ ASSIGNMENT = re.compile(r"[ \t\f]*([A-Za-z$.][A-Za-z0-9$.]*)[ \t\f]*(==?:?)")
 OPERATOR = re.compile(r"[ \t\f]*([A-Za-z$.][A-Za-z0-9$.]*)")
 LOCAL = re.compile(r"[0-9]+\$$")
 BLANKS = " \t\f"
+# How many characters of a line m11 reads.
+WIDTH = 132
+TOO_LONG = f"the line would get longer than {WIDTH} characters; cut it in two"
 
 
 class Line:
@@ -157,6 +160,25 @@ def change(text, edits):
     for begin, end, new in sorted(edits, reverse=True):
         text = text[:begin] + new + text[end:]
     return text
+
+
+def comment_place(text):
+    """Where the comment begins: at the first `;` that no bracket holds."""
+    depth = 0
+    for place, char in enumerate(text):
+        depth = max(0, depth + (char == "<") - (char == ">"))
+        if char == ";" and depth == 0:
+            return place
+    return len(text)
+
+
+def fitted(old, new):
+    """A changed line, without the end of its comment where it got longer than m11 reads; None where that isn't enough."""
+    if len(new) <= WIDTH or len(old) > WIDTH:
+        return new
+    if comment_place(new) < WIDTH and "'" not in new and '"' not in new:
+        return new[:WIDTH]
+    return None
 
 
 def names_in(text):

@@ -1,7 +1,7 @@
 """The second step: numbers that stand for registers, and instructions that stand for their codes."""
 from .names import INSTRUCTIONS, REGISTERS, six
 from .directives import statement_place
-from .scan import Statement, change, tokens
+from .scan import TOO_LONG, Statement, change, fitted, tokens
 from .walk import defined_names, walk
 
 FIELD_FIRST = {"JSR", "RTS", "XOR", "SOB"}
@@ -24,11 +24,11 @@ class Values:
                 statement = Statement(line.text, statement_place(line.text, statement.b) or len(line.text))
             edits = self.edits(line, statement, place.formals)
             if edits:
-                text = change(line.text, edits)
-                if len(text.partition(";")[0]) > 132:
-                    self.reports.report(line, "the line would get longer than 132 characters; cut it in two")
+                text = fitted(line.text, change(line.text, edits))
+                if text is None:
+                    self.reports.report(line, TOO_LONG)
                 else:
-                    line.text = text if len(line.text) > 132 else text[:132]
+                    line.text = text
 
     def edits(self, line, statement, formals):
         operator = statement.kind == "operator" and statement.op not in self.macros
