@@ -2,8 +2,8 @@
 import os
 
 from .names import CANNOT, CONDITIONS, LISTED, NO_LINES, ONE_WORD, OPENERS, SECTIONS, TAKEN, WHY_NOT, WITHOUT_BYTES, six
-from .names import DIRECTIVES, INSTRUCTIONS
-from .scan import BLANKS, NAME, WIDTH, Statement, actual_end, actuals, change, skip_blanks, tokens
+from .names import DIRECTIVES, INSTRUCTIONS, TEXT_CONDITIONS
+from .scan import BLANKS, NAME, WIDTH, Statement, actual_end, actuals, change, skip_blanks, tokens, with_brackets
 
 
 def operands(text, at):
@@ -139,12 +139,15 @@ def cannot(reader, line, statement):
 
 def one_word_condition(reader, line, statement):
     reader.branches.append(reader.new_branch())
-    reader.write(line, change(line.text, [(statement.a, statement.b, ".IF " + ONE_WORD[statement.op])]))
+    text = with_brackets(line.text, statement.b, TEXT_CONDITIONS.get(ONE_WORD[statement.op], 0))
+    reader.write(line, change(text, [(statement.a, statement.b, ".IF " + ONE_WORD[statement.op])]))
 
 
 def renamed_condition(reader, line, statement):
     """The text with another name of its condition, where it has an old one."""
     found = NAME.match(line.text, skip_blanks(line.text, statement.b))
+    if found and six(found.group()) in TEXT_CONDITIONS:
+        return with_brackets(line.text, found.end(), TEXT_CONDITIONS[six(found.group())])
     if found and six(found.group()) in CONDITIONS and six(found.group()) not in reader.formals():
         return change(line.text, [(found.start(), found.end(), CONDITIONS[six(found.group())])])
     return line.text
@@ -196,8 +199,8 @@ def statement_place(text, at):
         return None
     name, at = six(found.group()), skip_blanks(text, found.end())
     at = skip_blanks(text, at + 1) if text[at:at + 1] == "," else at
-    if name in ("B", "NB", "IDN", "DIF"):
-        for number in range(1 if name in ("B", "NB") else 2):
+    if name in TEXT_CONDITIONS:
+        for number in range(TEXT_CONDITIONS[name]):
             if number and text[at:at + 1] == ",":
                 at = skip_blanks(text, at + 1)
             at = actual_end(text, at)
@@ -209,6 +212,11 @@ def statement_place(text, at):
         if kind == ",":
             return end
     return None
+
+
+def count_of_characters(reader, line, statement):
+    found = NAME.match(line.text, skip_blanks(line.text, statement.b))
+    reader.write(line, with_brackets(line.text, found.end(), 1) if found else line.text)
 
 
 # Sections
@@ -292,6 +300,7 @@ RULES = {
     ".MCALL": mcall, ".INCLU": include, ".LIBRA": library, ".MDELE": mdelete, ".REM": remark, ".ERROR": say, ".PRINT": say,
     ".IF": condition, ".IFF": switch, ".IFT": switch, ".IFTF": switch, ".ENDC": end_of_condition, ".IIF": immediate,
     ".SAVE": save, ".RESTO": restore, ".ENABL": modes, ".DSABL": modes, ".LIST": listing, ".NLIST": listing, ".END": end,
+    ".NCHR": count_of_characters,
 }
 RULES.update({name: section for name in SECTIONS})
 RULES.update({name: leave_out for name in NO_LINES})

@@ -86,7 +86,7 @@ class Call:
     def __init__(self, text, at, macro):
         self.text, self.at, self.macro = text, at, macro
         self.places, self.end = actuals(text, at)
-        self.given, self.changed, self.wrong = [], False, None
+        self.changed, self.counted, self.wrong = False, False, None
 
     def written(self, outer, filled=frozenset()):
         """The line as m11 takes it. `wrong` is what can't be done; `outer` holds the formals of the bodies around, and
@@ -112,7 +112,7 @@ class Call:
         if name in outer:
             self.wrong = f"the keyword {name} of {self.macro.name} is also a formal of the body around it"
         slots[names.index(name)] = self._bracket(value)
-        self.changed = True
+        self.changed = self.counted = True
 
     def _bracket(self, word):
         """An actual `^/text/` as `<text>`."""
@@ -134,10 +134,10 @@ class Call:
                 if names_in(formal.default) & outer:
                     self.wrong = f"the default {formal.default} names a formal of the body around the call"
                 slots[place] = formal.default
-                self.changed = True
+                self.changed = self.counted = True
 
     def _line(self, slots):
-        if ".NARG" in self.macro.operators():
+        if self.counted and ".NARG" in self.macro.operators():
             self.wrong = f"{self.macro.name} asks by .NARG how many actuals it has, and they change"
             return self.text
         words = [slots.get(place, "") for place in range(max(slots, default=-1) + 1)]
@@ -148,10 +148,9 @@ class Call:
         if begin == self.at and words:
             head += "\t"
         kept = self.text[:self.end].rstrip(" \t\f")
-        gap = self.text[max(len(kept), begin):self.end]
-        if tail and not gap:
-            gap = "\t"
-        return (head + ",".join(words) + gap + tail).rstrip(" \t\f") if not tail else head + ",".join(words) + gap + tail
+        gap = self.text[max(len(kept), begin):self.end] or ("\t" if tail else "")
+        line = head + ",".join(words) + gap + tail
+        return line if tail else line.rstrip(" \t\f")
 
 
 def may_be_empty(word, outer, filled):

@@ -41,6 +41,8 @@ LISTED = set("SEQ LOC BIN SRC COM BEX MD MC ME MEB CND LD TOC SYM TTM".split())
 
 # Conditions by other names.
 CONDITIONS = {"Z": "EQ", "NZ": "NE", "G": "GT", "L": "LT"}
+# How many texts a condition asks for.
+TEXT_CONDITIONS = {"B": 1, "NB": 1, "IDN": 2, "DIF": 2}
 ONE_WORD = {".IF" + name: name for name in "EQ NE GT LT GE LE DF NDF B NB IDN DIF".split()}
 ONE_WORD.update({".IF" + name: right for name, right in CONDITIONS.items()})
 

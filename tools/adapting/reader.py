@@ -4,7 +4,7 @@ import os
 from . import directives
 from .macros import Call, Formal, Libraries, Macro, formals_of, reaches, restores, switches, used_across_sections
 from .names import CLOSERS, DIRECTIVES, INSTRUCTIONS, ONE_WORD_CODES, OPENERS, OTHER_MODELS, six
-from .scan import NAME, TOO_LONG, WIDTH, Line, Statement, change, fitted, names_in, read_lines
+from .scan import NAME, TOO_LONG, WIDTH, Line, Statement, change, fitted, names_in, read_lines, with_brackets
 
 
 class Body:
@@ -163,6 +163,7 @@ class Reader:
                 text = line.text
         elif statement.op in (".IRP", ".IRPC") and found:
             formals = [Formal(six(found.group()), False, None)]
+            text = with_brackets(line.text, found.end(), 1)
         names = self.formals() | {formal.name for formal in formals}
         filled = self.filled() | {formal.name for formal in formals if formal.default or formal.created}
         self.bodies.append(Body(macro, names, filled, len(self.branches)))

@@ -155,6 +155,32 @@ def actuals(text, at):
     return out, at
 
 
+def delimited(text, at):
+    """The actual `^/text/` at a place as `<text>`, or None where there is none or it can't be written so."""
+    if text[at:at + 1] != "^" or at + 1 >= len(text) or text[at + 1].isalnum() or text[at + 1] in " \t;,":
+        return None
+    end = actual_end(text, at)
+    inside = text[at + 2:end - 1] if end else ""
+    if end is None or inside.count("<") != inside.count(">"):
+        return None
+    return at, end, f"<{inside}>"
+
+
+def with_brackets(text, at, count):
+    """The text, in which up to `count` actuals from a place on have brackets in place of `^/` and `/`."""
+    edits = []
+    for _ in range(count):
+        at = skip_blanks(text, at)
+        at = skip_blanks(text, at + 1) if text[at:at + 1] == "," else at
+        edit = delimited(text, at)
+        edits += [edit] if edit else []
+        end = actual_end(text, at)
+        if end is None:
+            break
+        at = end
+    return change(text, edits)
+
+
 def change(text, edits):
     """The text with each (begin, end, new) put in."""
     for begin, end, new in sorted(edits, reverse=True):
