@@ -104,7 +104,7 @@ def check_outputs(case, folder, sources, outputs):
     if wrong:
         wrong.append("\n".join(messages))
     if "equal" in case.parts:
-        wrong += differ("object", taken.hex(" ").encode(), pasm.assemble([case.text("equal")])[0].hex(" ").encode())
+        wrong += differ("object", taken.hex().encode(), pasm.assemble([case.text("equal")])[0].hex().encode())
     if case.value("status", "0") == "0":
         again = run("adapt", ["-o", "../AGAIN"] + sources, os.path.join(folder, "OUT"))
         wrong += differ("status of a second call", again.returncode, 0)
