@@ -63,7 +63,7 @@ source_rows =
         transfer = Some 2;
         names = named (codes "Q     ") ∷ named (codes "R     ") ∷ named (codes "S     ") ∷ [];
         registers = named (codes "R0    ") ∷ [];
-        references = named (codes "Q     ") ∷ [];
+        references = named (codes "Q     ") ∷ named (codes "R     ") ∷ [];
       };
     }
     ∷ record {

@@ -131,10 +131,8 @@ impl Assembled {
 // What stands before these blocks, where an object ends with them.
 fn front_before<'a>(object: &'a [u8], blocks: &[&[u8]]) -> Option<&'a [u8]> {
     let mut front = object;
-    let mut rest = blocks;
-    while let [others @ .., block] = rest {
+    for block in blocks.iter().rev() {
         front = front.strip_suffix(*block)?;
-        rest = others;
     }
     Some(front)
 }
