@@ -316,6 +316,9 @@ def main():
                     break
             continue
         b = theirs(src, again, d)
+        if a[0] == 6 and src != again:
+            # what a second pass has written before its refusal isn't modelled
+            a, b = a[:2], (b[0], b[1][b[1].rfind(b"\n", 0, -1) + 1:])
         if a != b:
             bad += 1
             open(os.path.join(found, f"{seed}-{i}.MAC"), "wb").write(src)

@@ -1189,22 +1189,20 @@ class Pass:
         self.left(toks, 0)
 
     def d_end(self, text, toks, at):
+        """The address where the program begins: what names decide is asked of the first pass, and the rest of each text."""
         self.bad_in(toks)
         self.ended = True
-        if toks[0].k in NO_EXPRESSION:
-            self.end = None
-            self.left(toks, 0)
-            return
         flags = set()
-        v, i = self.expr(toks, 0, "real", flags)
+        value, i = None, 0
+        if toks[0].k not in NO_EXPRESSION:
+            value, i = self.expr(toks, 0, "real", flags)
+            if value.k == "reg":
+                flags.add("R")
         self.left(toks, i)
-        if v.k == "reg":
-            flags.add("R")
         if self.first is None:
-            self.end = (v, flags)
+            self.end = value and (value, flags)
         else:
-            keep = flags - set("UARD")
-            self.flags |= keep
+            self.flags |= flags - set("UARD")
             if self.first.end:
                 self.flags |= self.first.end[1] & set("UARD")
 
