@@ -1,8 +1,6 @@
 -- No operator passes a limit without its fault.
-use Rattle.std.proofs.Common.{◌≡◌, ◌≤◌, ◌<◌, ◌+◌, ℕ, Bool, true, false, List, [], ◌∷◌, length, Option, Some, None, Result, Ok, IfOk, refl, sym, ap, ◌∙◌, subst, arith}
+use Rattle.std.proofs.Common.{◌≡◌, ◌≤◌, ◌<◌, ◌+◌, ℕ, Bool, true, false, List, [], ◌∷◌, length, Option, Some, None, Result, Ok, Err, IfErr, IfOk, refl, sym, subst, arith}
 use Rattle.std.specs.Prelude.{if◌then◌else◌, nat_le, nat_lt, drop, map}
-use Rattle.std.specs.Option.{option_or}
-use Rattle.std.specs.Result.{result_err}
 use Rattle.std.proofs.lemmas.Bool.Decides.{nat_tests}
 use Rattle.m11_arguments.specs.Actuals.{actuals_from}
 use Rattle.m11_arguments.specs.Conditions.{Asked, condition}
@@ -23,7 +21,6 @@ use Rattle.m11_unfolding.specs.Limits.{has_room}
 use Rattle.m11_unfolding.specs.Stages.{Purpose, Stage}
 use Rattle.m11_unfolding.specs.declared.fault.UnfoldFault.{UnfoldFault}
 use Rattle.m11_unfold.specs.Kept.{IsKept}
-use Rattle.m11_unfold.specs.Unfolder.{IsWithin}
 use Rattle.m11_unfold.proofs.Keeping.{not_so, opened_kept, under}
 
 -- either of two
@@ -120,7 +117,7 @@ module _ (stage : Stage) (kept : IsKept stage) where
       kept_if (is_expanding stage.left) (own (flagged 0 text place) (record stage { left = after_mark stage.left }))
       (own (flagged letter_O text place) stage) (λ _. with_left (after_mark stage.left) (same_ends stage.left)) (λ _. kept)
 
-  kept_created : (created : ℕ) → IsKept (record stage { created = created })
+  pub kept_created : (created : ℕ) → IsKept (record stage { created = created })
   kept_created created = record {
     lines = kept.lines;
     macros = kept.macros;
@@ -178,18 +175,9 @@ module _ (stage : Stage) (kept : IsKept stage) where
   pub kept_acts : (known : Known) (text : List ℕ) → act_fault stage text ≡ None → IsKept (act known stage text).after
   kept_acts known text fits = kept_by known text (operation stage.conditions stage.macros text) fits
 
--- the same where no fault was kept before, and the outcome is handed on
-pub kept_latched : {A : Type 0} (before after : Stage) (stood latch : Option UnfoldFault) (acted : Result A UnfoldFault) (done : A)
-    (known : Known) (text : List ℕ) → Ok done ≡ acted → stood ≡ None → latch ≡ option_or stood (result_err acted)
-    → IsWithin stood before → IfOk acted (λ _. act_fault before text ≡ None)
-    → IfOk acted (λ _. after ≡ (act known before text).after) → IsWithin latch after
-kept_latched {A} before after stood latch acted done known text ok none is within fits goes =
-    let P : Option UnfoldFault → Type 0 = λ f. IsWithin f before in
-    let Q : Option UnfoldFault → Type 0 = λ f. IsWithin f after in
-    let R : Result A UnfoldFault → Type 0 = λ r. IfOk r (λ _. act_fault before text ≡ None) in
-    let S : Result A UnfoldFault → Type 0 = λ r. IfOk r (λ _. after ≡ (act known before text).after) in
-    let open_still : latch ≡ None = is ∙ ap (λ o. option_or o (result_err acted)) none
-    ∙ ap (λ (r : Result A UnfoldFault). result_err r) (sym ok) in
-    let goes_so : after ≡ (act known before text).after = subst S (sym ok) goes in
-    subst Q (sym open_still)
-    (subst IsKept (sym goes_so) (kept_acts before (subst P none within) known text (subst R (sym ok) fits)))
+-- what a call leaves that does it, or fails
+pub kept_acted : (before after : Stage) (acted : Result Bool UnfoldFault) (known : Known) (text : List ℕ) → IsKept before
+    → IfOk acted (λ _. act_fault before text ≡ None) → IfOk acted (λ _. after ≡ (act known before text).after)
+    → IfErr acted (λ _. IsKept after) → IsKept after
+kept_acted before after (Ok is_own) known text kept fits goes fallen = subst IsKept (sym goes) (kept_acts before kept known text fits)
+kept_acted before after (Err fault) known text kept fits goes fallen = fallen

@@ -1,4 +1,5 @@
 mod Counted
+mod Falling
 mod Keeping
 mod KeptActing
 mod Noting

@@ -1,5 +1,5 @@
 -- The calls give the unfolding of the source that was fed.
-use Rattle.std.proofs.Common.{◌≡◌, ◌∙◌, Bool, true, false, List, [], ◌∷◌, ◌++◌, append-nil, Some, None, sym, ap, subst}
+use Rattle.std.proofs.Common.{◌≡◌, ◌∙◌, Bool, true, false, List, [], ◌∷◌, ◌++◌, append-nil, None, sym, ap, subst}
 use Rattle.std.specs.Prelude.{if◌then◌else◌, Result, Ok, Err}
 use Rattle.std.proofs.lemmas.List.{map-append}
 use Rattle.m11_arguments.specs.Expressions.{Known}
@@ -16,9 +16,9 @@ use Rattle.m11_unfolding.specs.Taking as taking
 use Rattle.m11_unfolding.specs.Unfolding.{Given, Leads, Unfolds, given}
 use Rattle.m11_unfolding.specs.Unfolding as steps
 use Rattle.m11_unfolding.specs.declared.fault.UnfoldFault.{UnfoldFault}
-use Rattle.m11_unfolding.specs.declared.fault.UnfoldFault.TheVariants.{TooDeep, TooManyLines, TooMuchText, TooManyMacros, NoMemory}
-use Rattle.m11_unfold.specs.Sources.{Exceeds, ExceedsAt, IsAllTaken, IsOver, Reaches, ReachesOn, Refuses}
-use Rattle.m11_unfold.specs.Unfolder.{Acts, Comes, Passes, Steps, Stops, live_of}
+use Rattle.m11_unfold.specs.Sources.{IsAllTaken, IsOver, Reaches, ReachesOn, Refuses, RefusesAt}
+use Rattle.m11_unfold.specs.Steps.{Fails}
+use Rattle.m11_unfold.specs.Unfolder.{Acts, Comes, Steps, Stops, live_of}
 use Rattle.m11_unfold.specs.declared.steps.Act.{Act}
 use Rattle.m11_unfold.specs.declared.steps.Step.{Step}
 use Rattle.m11_unfold.specs.declared.steps.Step.TheVariants.{NeedLine, End, Line}
@@ -53,21 +53,13 @@ comes source done before after live known stands came acts =
     steps.Leads.Giving done came.middle after live known (passes_on source done before came.middle stands came.passing) came.is_within
     came.gives acts
 
-exceeds : (source : List SourceLine) (done : List Given) (before : Stage) (fault : UnfoldFault) → Unfolds source done before
-    → Passes before fault → Exceeds source done fault
-exceeds source done before fault stands passed = record {
-  stage = passed.middle;
-  unfolds = passes_on source done before passed.middle stands passed.passing;
-  passes = passed.passes;
-}
-
 refuses : (source : List SourceLine) (done : List Given) (before : Stage) (fault : UnfoldFault) → Unfolds source done before
     → Stops before fault → Refuses source done fault
-refuses source done before TooDeep stands stops = exceeds source done before TooDeep stands stops
-refuses source done before TooManyLines stands stops = exceeds source done before TooManyLines stands stops
-refuses source done before TooMuchText stands stops = exceeds source done before TooMuchText stands stops
-refuses source done before TooManyMacros stands stops = exceeds source done before TooManyMacros stands stops
-refuses source done before NoMemory stands stops = tt
+refuses source done before fault stands stops = record {
+  stage = stops.middle;
+  unfolds = passes_on source done before stops.middle stands stops.passing;
+  passes = stops.passes;
+}
 
 -- nothing is taken where nothing is left, and after `.END`
 rests_without : (left : List Left) (stage : Stage) → left ≡ [] → stage.has_ended ≡ false
@@ -106,15 +98,15 @@ reaches source done before after line (Err fault) stands stepped = refuses sourc
 
 module _ (source : List SourceLine) (done : List Given) (before live_stage after : Stage) (line : SourceLine) (is_expanded : Bool)
     (known : Known) (stands : Unfolds source done before) (came : Comes before (live_of line is_expanded) live_stage) where
-  exceeds_at : (fault : UnfoldFault) → act_fault live_stage line.text ≡ Some fault
-      → ExceedsAt source done (live_of line is_expanded) fault
-  exceeds_at fault is = record {
+  refuses_at : (fault : UnfoldFault) → Fails (act_fault live_stage line.text) fault
+      → RefusesAt source done (live_of line is_expanded) fault
+  refuses_at fault fails = record {
     stage = came.middle;
     after = live_stage;
     unfolds = passes_on source done before came.middle stands came.passing;
     is_within = came.is_within;
     gives = came.gives;
-    passes = is;
+    passes = fails;
   }
 
   pub reaches_on : (result : Result Act UnfoldFault) → Acts known line.text live_stage after result
@@ -123,11 +115,7 @@ module _ (source : List SourceLine) (done : List Given) (before live_stage after
       let next = comes source done before live_stage (live_of line is_expanded) known stands came acts.0 in
       let P : Stage → Type 0 = λ s. Unfolds source (done ++ given known (live_of line is_expanded) live_stage ∷ []) s in
       (subst P (sym acts.1) next, acts.2, acts.3, acts.4)
-  reaches_on (Err TooDeep) acts = exceeds_at TooDeep acts
-  reaches_on (Err TooManyLines) acts = exceeds_at TooManyLines acts
-  reaches_on (Err TooMuchText) acts = exceeds_at TooMuchText acts
-  reaches_on (Err TooManyMacros) acts = exceeds_at TooManyMacros acts
-  reaches_on (Err NoMemory) acts = tt
+  reaches_on (Err fault) acts = refuses_at fault acts
 
 pub acts_on : (source : List SourceLine) (done : List Given) (before live_stage after : Stage) (line : SourceLine)
     (is_expanded : Bool)

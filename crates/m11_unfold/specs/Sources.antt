@@ -1,5 +1,5 @@
 -- What an unfolder has given of a source, whatever lines of it are still to be fed. (This project's own.)
-use Rattle.std.specs.Prelude.{◌≡◌, List, [], ◌∷◌, ◌++◌, Some, None, Result, Ok, Err}
+use Rattle.std.specs.Prelude.{◌≡◌, List, [], ◌∷◌, ◌++◌, None, Result, Ok, Err}
 use Rattle.m11_arguments.specs.Expressions.{Known}
 use Rattle.m11_lines.specs.Line.{SourceLine}
 use Rattle.m11_unfolding.specs.Acting.{act, act_fault}
@@ -9,21 +9,17 @@ use Rattle.m11_unfolding.specs.Histories.{with_more}
 use Rattle.m11_unfolding.specs.Taking.{Gives, Live, Rests, move}
 use Rattle.m11_unfolding.specs.Unfolding.{Given, Leads, Unfolds, given}
 use Rattle.m11_unfolding.specs.declared.fault.UnfoldFault.{UnfoldFault}
-use Rattle.m11_unfolding.specs.declared.fault.UnfoldFault.TheVariants.{NoMemory}
+use Rattle.m11_unfold.specs.Steps.{Fails, FailsMoving, grows}
 use Rattle.m11_unfold.specs.Unfolder.{live_of}
 use Rattle.m11_unfold.specs.declared.steps.Act.{Act}
 use Rattle.m11_unfold.specs.declared.steps.Step.{Step}
 use Rattle.m11_unfold.specs.declared.steps.Step.TheVariants.{NeedLine, End, Line}
 
--- the unfolding passes a limit after these lines, and before a further one
-pub record Exceeds (source : List SourceLine) (done : List Given) (fault : UnfoldFault) : Type 0 where
+-- after these lines, and before a further one, the unfolding passes a limit; or it passes none, and memory is refused for a body
+pub record Refuses (source : List SourceLine) (done : List Given) (fault : UnfoldFault) : Type 0 where
   pub stage : Stage
   pub unfolds : Unfolds source done stage
-  pub passes : next_fault stage ≡ Some fault
-
-abbrev pub Refuses : List SourceLine → List Given → UnfoldFault → Type 0
-Refuses source done NoMemory = Unit {0}
-Refuses source done fault = Exceeds source done fault
+  pub passes : FailsMoving (next_fault stage) (grows stage) fault
 
 -- all lines of the source were taken, and a further one is needed
 pub record IsAllTaken (source : List SourceLine) (done : List Given) (after : Stage) : Type 0 where
@@ -47,18 +43,14 @@ Reaches source done after line (Ok (Line is_expanded)) = (known : Known) → act
     → Unfolds source (done ++ given known (live_of line is_expanded) after ∷ []) (act known after line.text).after
 Reaches source done after line (Err fault) = Refuses source done fault
 
--- the unfolding passes a limit after these lines, where the operator of the next one is done
-pub record ExceedsAt (source : List SourceLine) (done : List Given) (live : Live) (fault : UnfoldFault) : Type 0 where
+-- after these lines, where the operator of the next one is done, the unfolding passes a limit; or it passes none, and memory is refused
+pub record RefusesAt (source : List SourceLine) (done : List Given) (live : Live) (fault : UnfoldFault) : Type 0 where
   pub stage : Stage
   pub after : Stage
   pub unfolds : Unfolds source done stage
   pub is_within : next_fault stage ≡ None
   pub gives : move stage ≡ Gives live after
-  pub passes : act_fault after live.line.text ≡ Some fault
-
-abbrev pub RefusesAt : List SourceLine → List Given → Live → UnfoldFault → Type 0
-RefusesAt source done live NoMemory = Unit {0}
-RefusesAt source done live fault = ExceedsAt source done live fault
+  pub passes : Fails (act_fault after live.line.text) fault
 
 -- after the operator of a live line is done: the line is the next one of the unfolding, with what its operator gave
 abbrev pub ReachesOn : List SourceLine → List Given → Known → Live → Stage → Stage → Result Act UnfoldFault → Type 0

@@ -1,8 +1,8 @@
 -- What the calls below an unfolder's own do to a stage. (This project's own.)
-use Rattle.std.specs.Prelude.{◌≡◌, Bool, false, List, ◌∷◌, Option, Some, None, Result, Ok, Err}
+use Rattle.std.specs.Prelude.{◌≡◌, Bool, true, false, is_some, List, [], ◌∷◌, Option, Some, None, Result, Ok, Err}
 use Rattle.m11_base.specs.Devices.{Bytes}
 use Rattle.m11_expansions.specs.Bodies.{depth_after}
-use Rattle.m11_expansions.specs.Left.{Line}
+use Rattle.m11_expansions.specs.Left.{Left, Line, End}
 use Rattle.m11_lines.specs.Line.{SourceLine}
 use Rattle.m11_unfolding.specs.Limits.{body_fault, closing_fault, next_fault}
 use Rattle.m11_unfolding.specs.Stages.{Opening, Purpose, Stage}
@@ -13,29 +13,43 @@ use Rattle.m11_unfolding.specs.declared.fault.UnfoldFault.TheVariants.{NoMemory}
 use Rattle.m11_unfold.specs.declared.taking.Moved.{Moved}
 use Rattle.m11_unfold.specs.declared.taking.Moved.TheVariants.{Rests, Passes, Gives}
 
--- want of memory, or the fault of the limit that is passed
+-- the fault of the limit that is passed, or want of memory where none is passed
 abbrev pub Fails : Option UnfoldFault → UnfoldFault → Type 0
-Fails passed NoMemory = Unit {0}
+Fails passed NoMemory = passed ≡ None
 Fails passed fault = passed ≡ Some fault
+
+-- whether a line is next that comes into a body, or closes it
+abbrev pub grows_from : List Left → Stage → Bool
+grows_from [] stage = false
+grows_from (End mark ∷ left) stage = false
+grows_from (Line line ∷ left) stage = is_some stage.opening
+
+abbrev pub grows : Stage → Bool
+grows stage = grows_from stage.left stage
+
+-- the same of a move, which takes memory only for a body
+abbrev pub FailsMoving : Option UnfoldFault → Bool → UnfoldFault → Type 0
+FailsMoving passed grows NoMemory = (passed ≡ None) × (grows ≡ true)
+FailsMoving passed grows fault = passed ≡ Some fault
 
 -- a stage in which a line stands before what is left
 abbrev pub with_line : SourceLine → Stage → Stage
 with_line line stage = record stage { left = Line line ∷ stage.left }
 
 -- a move that passes no limit leads to the stage after, or fails
-abbrev pub Results : Option UnfoldFault → Move → Stage → SourceLine → Result Moved UnfoldFault → Type 0
-Results passed move after line (Ok Rests) = move ≡ taking.Rests
-Results passed move after line (Ok Passes) = (passed ≡ None) × (move ≡ taking.Passes after)
-Results passed move after line (Ok (Gives is_expanded)) =
+abbrev pub Results : Option UnfoldFault → Bool → Move → Stage → SourceLine → Result Moved UnfoldFault → Type 0
+Results passed grows move after line (Ok Rests) = move ≡ taking.Rests
+Results passed grows move after line (Ok Passes) = (passed ≡ None) × (move ≡ taking.Passes after)
+Results passed grows move after line (Ok (Gives is_expanded)) =
     (passed ≡ None) × (move ≡ taking.Gives (record { line = line; is_expanded = is_expanded }) after)
-Results passed move after line (Err fault) = Fails passed fault
+Results passed grows move after line (Err fault) = FailsMoving passed grows fault
 
 abbrev pub Moves : Stage → Stage → SourceLine → Result Moved UnfoldFault → Type 0
 Moves before after line (Ok Rests) = (move before ≡ taking.Rests) × (after ≡ before)
 Moves before after line (Ok Passes) = (next_fault before ≡ None) × (move before ≡ taking.Passes after)
 Moves before after line (Ok (Gives is_expanded)) =
     (next_fault before ≡ None) × (move before ≡ taking.Gives (record { line = line; is_expanded = is_expanded }) after)
-Moves before after line (Err fault) = Fails (next_fault before) fault
+Moves before after line (Err fault) = FailsMoving (next_fault before) (grows before) fault
 
 -- after a live line no statement stands before what is left
 abbrev pub IsFree : Bool → Result Moved UnfoldFault → Type 0

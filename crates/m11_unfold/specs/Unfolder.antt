@@ -1,6 +1,6 @@
 -- What an unfolder's calls give, by the stages before and after them. (MACRO-11 Language Reference Manual, "Macro directives" and
 -- "Conditional assembly directives". The limits are this project's own.)
-use Rattle.std.specs.Prelude.{◌≡◌, Bool, true, false, [], Option, Some, None, Result, Ok, Err, not, ◌&&◌}
+use Rattle.std.specs.Prelude.{◌≡◌, Bool, true, false, [], Option, None, Result, Ok, Err, not, ◌&&◌}
 use Rattle.m11_arguments.specs.Expressions.{Known}
 use Rattle.m11_base.specs.Devices.{Bytes}
 use Rattle.m11_expansions.specs.Left.{argument_count, is_empty}
@@ -11,9 +11,7 @@ use Rattle.m11_unfolding.specs.Stages.{Stage}
 use Rattle.m11_unfolding.specs.Taking as taking
 use Rattle.m11_unfolding.specs.Unfolding.{Leads}
 use Rattle.m11_unfolding.specs.declared.fault.UnfoldFault.{UnfoldFault}
-use Rattle.m11_unfolding.specs.declared.fault.UnfoldFault.TheVariants.{NoMemory}
-use Rattle.m11_unfold.specs.Kept.{IsKept}
-use Rattle.m11_unfold.specs.Steps.{Fails}
+use Rattle.m11_unfold.specs.Steps.{Fails, FailsMoving, grows}
 use Rattle.m11_unfold.specs.declared.steps.Act.{Act}
 use Rattle.m11_unfold.specs.declared.steps.Step.{Step}
 use Rattle.m11_unfold.specs.declared.steps.Step.TheVariants.{NeedLine, End, Line}
@@ -23,11 +21,6 @@ pub record Unfolding : Type 0 where
   pub stage : Stage
   pub has_statement : Bool
   pub fault : Option UnfoldFault
-
--- until a fault comes, no limit is passed
-abbrev pub IsWithin : Option UnfoldFault → Stage → Type 0
-IsWithin None stage = IsKept stage
-IsWithin (Some fault) stage = Unit {0}
 
 -- a line that became live, by what a step says of it
 abbrev pub live_of : SourceLine → Bool → taking.Live
@@ -40,15 +33,11 @@ pub record Comes (before : Stage) (live : taking.Live) (after : Stage) : Type 0 
   pub is_within : next_fault middle ≡ None
   pub gives : taking.move middle ≡ taking.Gives live after
 
--- a limit is passed, after moves that give no line
-pub record Passes (before : Stage) (fault : UnfoldFault) : Type 0 where
+-- after moves that give no line, the next one passes a limit; or it passes none, and memory is refused for a body
+pub record Stops (before : Stage) (fault : UnfoldFault) : Type 0 where
   pub middle : Stage
   pub passing : Leads before [] middle
-  pub passes : next_fault middle ≡ Some fault
-
-abbrev pub Stops : Stage → UnfoldFault → Type 0
-Stops before NoMemory = Unit {0}
-Stops before fault = Passes before fault
+  pub passes : FailsMoving (next_fault middle) (grows middle) fault
 
 -- from one live line to the next, or to the end of what is left; the line is where the call puts it
 abbrev pub Steps : Stage → Stage → SourceLine → Result Step UnfoldFault → Type 0

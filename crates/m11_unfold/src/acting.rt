@@ -1,7 +1,7 @@
 //! What the operator of a live line does. (MACRO-11 Language Reference Manual, "Conditional assembly block directives", "Macro
 //! definition", "Repeat block directives", "Indefinite repeat block directives" and "Macro exit".)
 
-ghost use Rattle.std.specs.Prelude.{◌≡◌, ◌+◌, ◌<◌, ◌≤◌, false, if◌then◌else◌, length, bit_or, IfOk};
+ghost use Rattle.std.specs.Prelude.{◌≡◌, ◌+◌, ◌<◌, ◌≤◌, false, if◌then◌else◌, length, bit_or, IfErr, IfOk};
 ghost use Rattle.m11_arguments.specs.Conditions.{condition as asked_condition};
 ghost use Rattle.m11_arguments.specs.Expressions.{known_by};
 ghost use Rattle.m11_arguments.specs.Indefinite.{rounds_seen};
@@ -51,6 +51,7 @@ impl State {
         ensures notes { IfOk result (λ _. notes.new ≡ joined notes.old (spec.acted_by
             (known_by (N.base names.now) (N.stands_for names.now)) line.now.text (stage_of self.old)
             (spec.Directs directive place)).notes) }
+        ensures unchanged { IfErr result (λ _. stage_of self.new ≡ stage_of self.old) }
     {
         match directive {
             Directive::If => self.act_if(line, place, names, notes)?,
@@ -94,6 +95,7 @@ impl State {
             (known_by (N.base names.now) (N.stands_for names.now)) line.now.text place (stage_of self.old)).after) }
         ensures notes { IfOk result (λ _. notes.new ≡ joined notes.old (spec.acted_if
             (known_by (N.base names.now) (N.stands_for names.now)) line.now.text place (stage_of self.old)).notes) }
+        ensures unchanged { IfErr result (λ _. stage_of self.new ≡ stage_of self.old) }
     {
         if self.conditions.count() + self.left.conditions_open() < CONDITION_LIMIT {
             self.open_condition(line, place, names, notes)?;
@@ -119,6 +121,7 @@ impl State {
             (known_by (N.base names.now) (N.stands_for names.now)) line.now.text place) (stage_of self.old)).after) }
         ensures notes { IfOk result (λ _. notes.new ≡ joined notes.old (spec.condition_opened line.now.text (asked_condition
             (known_by (N.base names.now) (N.stands_for names.now)) line.now.text place) (stage_of self.old)).notes) }
+        ensures unchanged { IfErr result (λ _. stage_of self.new ≡ stage_of self.old) }
     {
         let verdict = condition(line, place, names, notes)?;
         notes.add_letters(left_over(line, usize::from(verdict.end)));
@@ -170,6 +173,7 @@ impl State {
             (known_by (N.base names.now) (N.stands_for names.now)) line.now.text place (stage_of self.old)).after) }
         ensures notes { IfOk result (λ _. notes.new ≡ joined notes.old (spec.acted_immediate
             (known_by (N.base names.now) (N.stands_for names.now)) line.now.text place (stage_of self.old)).notes) }
+        ensures unchanged { IfErr result (λ _. stage_of self.new ≡ stage_of self.old) }
     {
         let immediate = immediate_condition(line, place, names, notes)?;
         if immediate.holds
@@ -194,6 +198,7 @@ impl State {
             ≡ (spec.acted_header (header line.now.text place) (stage_of self.old)).after) }
         ensures notes { IfOk result (λ _. notes.new ≡ joined notes.old
             (spec.acted_header (header line.now.text place) (stage_of self.old)).notes) }
+        ensures unchanged { IfErr result (λ _. stage_of self.new ≡ stage_of self.old) }
     {
         let header = header_at(alloc, line, place, notes)?;
         self.open(alloc, defining(header));
@@ -214,6 +219,7 @@ impl State {
             (known_by (N.base names.now) (N.stands_for names.now)) line.now.text place (stage_of self.old)).after) }
         ensures notes { IfOk result (λ _. notes.new ≡ joined notes.old (spec.acted_repeat
             (known_by (N.base names.now) (N.stands_for names.now)) line.now.text place (stage_of self.old)).notes) }
+        ensures unchanged { IfErr result (λ _. stage_of self.new ≡ stage_of self.old) }
     {
         let count = repeat_count(line, place, names, notes)?;
         let rounds = m11_expansions::Rounds::plain(alloc, count);
@@ -223,8 +229,9 @@ impl State {
 
     // `.IRP` or `.IRPC`: one formal, and one actual in each round; no round where an argument is bad or missing.
     fn act_repeated(&mut self, alloc: Global, rounds: Option<Rounds>) -> Result<(), AllocError>
-        ensures { IfOk result (λ _. stage_of self.new
+        ensures after { IfOk result (λ _. stage_of self.new
             ≡ spec.opens (spec.repeating (rounds_seen rounds)) (stage_of self.old)) }
+        ensures unchanged { IfErr result (λ _. stage_of self.new ≡ stage_of self.old) }
     {
         let mut formals = Vec::new(alloc);
         let rounds = match rounds {

@@ -1,17 +1,18 @@
 //! What a line's operator is, and calls of macros. (MACRO-11 Language Reference Manual, "Macro calls" and "Arguments in macro
 //! definitions and macro calls".)
 
-ghost use Rattle.std.specs.Prelude.{◌≡◌, ◌+◌, ◌<◌, ◌≤◌, false, length, None, Some, IfOk, IfErr};
+ghost use Rattle.std.specs.Prelude.{◌≡◌, ◌<◌, ◌≤◌, false, length, None, Some, IfOk, IfErr};
+ghost use Rattle.std.specs.Option.{option_copied};
 ghost use Rattle.m11_arguments.specs.Actuals.{actuals_from};
 ghost use Rattle.m11_arguments.specs.Directives.{operator as line_operator};
 ghost use Rattle.m11_arguments.specs.Expressions.{known_by};
 ghost use Rattle.m11_arguments.specs.Notes.{joined};
 ghost use Rattle.m11_base.specs.Mnemonics.{six_of};
 ghost use Rattle.m11_base.specs.Rad50.{name_of};
-ghost use Rattle.m11_expansions.specs.Conditions.{most_conditions};
-ghost use Rattle.m11_expansions.specs.Left.{conditions_open, depth, most_expansions};
+ghost use Rattle.m11_expansions.specs.Left.{depth, most_expansions};
 ghost use Rattle.m11_unfolding.specs.Acting as spec;
 ghost use Rattle.m11_unfolding.specs.Macros.{macro_named};
+ghost use Rattle.m11_unfold.specs.Kept.{IsKept};
 ghost use Rattle.m11_unfold.specs.Steps.{Fails};
 ghost use Rattle.m11_unfold.specs.Views.{stage_of};
 
@@ -39,7 +40,7 @@ impl State {
         notes: &mut Notes,
     ) -> Result<bool, UnfoldFault>
         requires operator { operator ≡ line_operator line.now.text }
-        requires room { length self.old.conditions.entered + conditions_open self.old.left.left ≤ most_conditions }
+        requires kept { IsKept (stage_of self.old) }
         requires free { self.old.left.has_statement ≡ false }
         ensures own { IfOk result (λ is_own. is_own ≡ (spec.act
             (known_by (N.base names.now) (N.stands_for names.now)) (stage_of self.old) line.now.text).is_own) }
@@ -49,6 +50,7 @@ impl State {
             (known_by (N.base names.now) (N.stands_for names.now)) (stage_of self.old) line.now.text).notes) }
         ensures within { IfOk result (λ _. spec.act_fault (stage_of self.old) line.now.text ≡ None) }
         ensures fails { IfErr result (λ fault. Fails (spec.act_fault (stage_of self.old) line.now.text) fault) }
+        ensures kept { IfErr result (λ _. IsKept (stage_of self.new)) }
     {
         // the operator lies in the line
         labels_and_body_stand_in_order();
@@ -56,10 +58,11 @@ impl State {
             return Ok(false);
         };
         let place = usize::from(name.end);
-        if let Some(called) = self.macro_called(name.text(line))? {
+        if let Some(named) = self.macro_called(name.text(line)) {
             if self.left.depth() >= EXPANSION_LIMIT {
                 return Err(UnfoldFault::TooDeep);
             }
+            let called = named.handle()?;
             self.call(alloc, called, line, place, names, notes)?;
             return Ok(true);
         }
@@ -70,31 +73,29 @@ impl State {
     }
 
     // The macro of a word, if it is the name of one. A line that ends a skipped part is live by its directive.
-    fn macro_called(&self, word: &[u8]) -> Result<Option<Macro>, AllocError>
-        ensures { IfOk result (λ called. called
-            ≡ spec.macro_of self.now.conditions self.now.macros.entries (name_of (six_of word.now))) }
+    fn macro_called(&self, word: &[u8]) -> Option<&Macro>
+        ensures { option_copied result
+            ≡ spec.macro_of self.now.conditions self.now.macros.entries (name_of (six_of word.now)) }
     {
         // most sources define few macros or none, and then no name need be read
         if self.macros.is_empty() || self.conditions.is_skipping() {
-            return Ok(None);
+            return None;
         }
         match read_name(word) {
             Some(name) => self.macro_named(name),
-            None => Ok(None),
+            None => None,
         }
     }
 
     // The macro of a name, if it is defined.
-    fn macro_named(&self, name: Name) -> Result<Option<Macro>, AllocError>
-        ensures { IfOk result (λ named. named ≡ macro_named self.now.macros.entries name) }
+    fn macro_named(&self, name: Name) -> Option<&Macro>
+        ensures { option_copied result ≡ macro_named self.now.macros.entries name }
     {
-        match self.macros.get(&name) {
-            Some(named) => Ok(Some(named.handle()?)),
-            None => Ok(None),
-        }
+        self.macros.get(&name)
     }
 
     // A call puts the body in its place, each formal with its actual.
+    #[tactic(auto, using(crate::proofs::KeptActing::kept_created))]
     fn call<N: Names>(
         &mut self,
         alloc: Global,
@@ -106,6 +107,7 @@ impl State {
     ) -> Result<(), AllocError>
         requires within { place ≤ length line.now.text }
         requires room { depth self.old.left.left < most_expansions }
+        requires kept { IsKept (stage_of self.old) }
         requires free { self.old.left.has_statement ≡ false }
         ensures after { IfOk result (λ _. stage_of self.new ≡ (spec.acted_call called (actuals_from
             (known_by (N.base names.now) (N.stands_for names.now)) line.now.text (length called.formals) place)
@@ -113,6 +115,7 @@ impl State {
         ensures notes { IfOk result (λ _. notes.new ≡ joined notes.old (spec.acted_call called (actuals_from
             (known_by (N.base names.now) (N.stands_for names.now)) line.now.text (length called.formals) place)
             (stage_of self.old)).notes) }
+        ensures kept { IfErr result (λ _. IsKept (stage_of self.new)) }
     {
         let wanted = called.formals().len();
         let actuals = actuals_from(alloc, line, place, wanted, names, notes)?;

@@ -1,7 +1,8 @@
 //! A body that is being taken. (MACRO-11 Language Reference Manual, ".MACRO directive" and ".REPT directive".)
 
-ghost use Rattle.std.specs.Prelude.{◌≡◌, ◌+◌, ◌<◌, true, false, length, Some, None, IfOk};
+ghost use Rattle.std.specs.Prelude.{◌≡◌, ◌+◌, ◌≤◌, true, false, length, Some, None, IfOk};
 ghost use Rattle.m11_expansions.specs.Bodies.{depth_after, depth_inside, nothing_taken, size_of, taken_with};
+ghost use Rattle.m11_unfolding.specs.Limits.{most_bytes};
 ghost use Rattle.m11_unfold.specs.Purposes.{IsPurpose, purpose_of};
 
 use m11_arguments::MacroFormal;
@@ -21,7 +22,7 @@ pub enum Purpose {
     Drops,
 }
 
-// A body that is being taken, with the bytes of its lines.
+// A body that is being taken, with the bytes of its lines: at most 65,536.
 #[derive(Drop)]
 pub(crate) struct Opening {
     purpose: Purpose,
@@ -30,8 +31,9 @@ pub(crate) struct Opening {
 }
 
 impl Model for Opening {
-    ghost use Rattle.std.specs.Prelude.{◌≡◌};
+    ghost use Rattle.std.specs.Prelude.{◌≡◌, ◌≤◌};
     ghost use Rattle.m11_expansions.specs.Bodies.{size_of};
+    ghost use Rattle.m11_unfolding.specs.Limits.{most_bytes};
     ghost use Rattle.m11_unfolding.specs.Stages as stages;
     ghost use Rattle.m11_unfold.specs.Purposes.{IsPurpose, purpose_of};
 
@@ -39,7 +41,7 @@ impl Model for Opening {
 
     ghost view = { λ o. record { purpose = purpose_of o.purpose; taken = o.taken } };
 
-    ghost invariant = { λ o. (size_of o.taken.body ≡ o.bytes) × IsPurpose o.purpose };
+    ghost invariant = { λ o. (size_of o.taken.body ≡ o.bytes) × (o.bytes ≤ most_bytes) × IsPurpose o.purpose };
 }
 
 // A body that is closed.
@@ -79,11 +81,11 @@ impl Opening {
         self.taken.is_closed_by(nesting)
     }
 
-    // Takes a line that doesn't end it.
+    // Takes a line that doesn't end it, where there is room for it.
     pub(crate) fn take(&mut self, text: &[u8], nesting: Nesting) -> Result<(), AllocError>
         requires stays { depth_after nesting self.old.taken.depth
             ≡ Some (depth_inside nesting self.old.taken.depth) }
-        requires room { size_of self.old.taken.body + (length text.now + 1) < 4294967296 }
+        requires room { size_of self.old.taken.body + (length text.now + 1) ≤ most_bytes }
         ensures { IfOk result (λ _. self.new ≡ record {
           purpose = self.old.purpose;
           taken = taken_with self.old.taken text.now (depth_inside nesting self.old.taken.depth);

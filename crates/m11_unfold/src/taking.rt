@@ -1,10 +1,10 @@
 //! What is taken next. (MACRO-11 Language Reference Manual, "Macro definition" and "Conditional assembly block directives".)
 
-ghost use Rattle.std.specs.Prelude.{◌≡◌, ◌+◌, ◌<◌, ◌≤◌, false, true, length, None, Some, Ok, IfOk, is_some};
+ghost use Rattle.std.specs.Prelude.{◌≡◌, ◌+◌, ◌<◌, ◌≤◌, false, true, length, None, Some, Ok, IfErr, IfOk, is_some};
 ghost use Rattle.m11_expansions.specs.Bodies.{size_of};
 ghost use Rattle.m11_expansions.specs.Left.{bytes_held, depth, is_expanding, most_expansions};
 ghost use Rattle.m11_lines.specs.Line.{line_limit};
-ghost use Rattle.m11_unfolding.specs.Limits.{bytes_of, line_fault, most_bytes};
+ghost use Rattle.m11_unfolding.specs.Limits.{line_fault, most_bytes};
 ghost use Rattle.m11_unfolding.specs.Stages as stages;
 ghost use Rattle.m11_unfolding.specs.Taking as spec;
 ghost use Rattle.m11_unfold.specs.Kept.{IsKept};
@@ -49,7 +49,6 @@ impl State {
     // takes less time.
     #[inline(always)]
     pub(crate) fn take_live_line(&mut self, line: &mut Line) -> bool
-        requires { IsKept (stage_of self.old) }
         ensures moves { result ≡ true → Moves (stage_of self.old) (stage_of self.new) line.new (Ok (Moved.Gives false)) }
         ensures free { result ≡ true → self.new.left.has_statement ≡ false }
         ensures unchanged { result ≡ false → self.new ≡ self.old }
@@ -68,6 +67,7 @@ impl State {
     pub(crate) fn advance(&mut self, alloc: Global, line: &mut Line) -> Result<Moved, UnfoldFault>
         requires { IsKept (stage_of self.old) }
         ensures moves { Moves (stage_of self.old) (stage_of self.new) line.new result }
+        ensures kept { IfErr result (λ _. IsKept (stage_of self.new)) }
         ensures free { IsFree self.new.left.has_statement result }
     {
         if self.has_ended {
@@ -90,6 +90,7 @@ impl State {
         requires kept { IsKept (stage_of self.old) }
         requires goes_on { self.old.has_ended ≡ false }
         ensures moves { Moves (stage_of self.old) (stage_of self.new) line.new result }
+        ensures kept { IfErr result (λ _. IsKept (stage_of self.new)) }
         ensures free { IsFree self.new.left.has_statement result }
     {
         match self.left.take(line) {
@@ -105,6 +106,7 @@ impl State {
 
     // One line is taken, which stood before what is left.
     // Inline: each line of a source comes here.
+    #[tactic(auto, using(crate::proofs::Falling::kept_untaken, crate::proofs::Falling::kept_taken))]
     #[inline(always)]
     fn take_line(
         &mut self,
@@ -115,9 +117,10 @@ impl State {
         requires kept { IsKept (with_line line.now (stage_of self.old)) }
         requires free { self.old.left.has_statement ≡ false }
         requires expanded { is_expanded ≡ is_expanding self.old.left.left }
-        ensures moves { Results (line_fault (with_line line.now (stage_of self.old)) line.now.text)
+        ensures moves { Results (line_fault (with_line line.now (stage_of self.old)) line.now.text) (is_some self.old.opening)
             (spec.line_taken self.old.opening line.now (spec.one_taken self.old.left.left (stage_of self.old)))
             (stage_of self.new) line.now result }
+        ensures kept { IfErr result (λ _. IsKept (stage_of self.new)) }
         ensures free { self.new.left.has_statement ≡ false }
     {
         if self.taken >= LINE_MOST {
@@ -140,11 +143,12 @@ impl State {
     // One line is taken into the body that is open, by a call: room for a body would be cleared for each line.
     #[inline(never)]
     fn take_body_line(&mut self, alloc: Global, line: &Line) -> Result<(), UnfoldFault>
-        requires bytes { bytes_of (stage_of self.old) ≤ most_bytes }
+        requires kept { IsKept (stage_of self.old) }
         requires open { is_some self.old.opening ≡ true }
         requires free { self.old.left.has_statement ≡ false }
         ensures takes { (opening : stages.Opening) → self.old.opening ≡ Some opening
             → Enters (record (stage_of self.old) { opening = Some opening }) opening line.now.text (stage_of self.new) result }
+        ensures kept { IfErr result (λ _. IsKept (stage_of self.new)) }
         ensures free { self.new.left.has_statement ≡ false }
     {
         match self.opening.take() {
@@ -153,13 +157,15 @@ impl State {
         }
     }
 
-    // A line is taken into a body, or closes it.
+    // A line is taken into a body, or closes it. After a fault no body is open.
+    #[tactic(auto, using(crate::proofs::Falling::kept_dropped))]
     fn take_into(&mut self, alloc: Global, opening: Opening, line: &Line) -> Result<(), UnfoldFault>
-        requires bytes { bytes_of (record (stage_of self.old) { opening = Some opening }) ≤ most_bytes }
+        requires kept { IsKept (record (stage_of self.old) { opening = Some opening }) }
         requires open { self.old.opening ≡ None }
         requires free { self.old.left.has_statement ≡ false }
         ensures takes { Enters (record (stage_of self.old) { opening = Some opening }) opening line.now.text
             (stage_of self.new) result }
+        ensures kept { IfErr result (λ _. IsKept (stage_of self.new)) }
         ensures free { self.new.left.has_statement ≡ false }
     {
         let mut opening = opening;
@@ -192,8 +198,10 @@ impl State {
         requires few { IsPurpose closed.purpose }
         requires bytes { size_of closed.body ≡ closed.bytes }
         requires room { self.old.defined_bytes + closed.bytes ≤ most_bytes }
+        requires kept { IsKept (stage_of self.old) }
         requires free { self.old.left.has_statement ≡ false }
         ensures closes { Closes (purpose_of closed.purpose) closed.body (stage_of self.old) (stage_of self.new) result }
+        ensures kept { IfErr result (λ _. IsKept (stage_of self.new)) }
         ensures free { self.new.left.has_statement ≡ false }
     {
         let Closed {
@@ -221,6 +229,7 @@ impl State {
         requires bytes { size_of body ≡ bytes }
         requires room { self.old.defined_bytes + bytes ≤ most_bytes }
         ensures closes { Closes (stages.Defines name formals.items) body (stage_of self.old) (stage_of self.new) result }
+        ensures unchanged { IfErr result (λ _. stage_of self.new ≡ stage_of self.old) }
         ensures left { self.new.left ≡ self.old.left }
     {
         if self.macros.get(&name).is_none() && self.macros.len() >= MACRO_MOST {
@@ -241,9 +250,11 @@ impl State {
         bytes: u32,
     ) -> Result<(), UnfoldFault>
         requires bytes { size_of body ≡ bytes }
+        requires kept { IsKept (stage_of self.old) }
         requires free { self.old.left.has_statement ≡ false }
         ensures closes { Closes (stages.Repeats formals.items rounds) body (stage_of self.old) (stage_of self.new)
             result }
+        ensures kept { IfErr result (λ _. IsKept (stage_of self.new)) }
         ensures free { self.new.left.has_statement ≡ false }
     {
         if self.left.depth() >= EXPANSION_LIMIT {
@@ -254,7 +265,8 @@ impl State {
         Ok(())
     }
 
-    // Puts an expansion before what is left. Conditions belong to it; its end carries those around it.
+    // Puts an expansion before what is left. Conditions belong to it; its end carries those around it. Where memory is refused no
+    // condition of the innermost expansion stays.
     pub(crate) fn expand(
         &mut self,
         template: Rc<Template>,
@@ -263,9 +275,11 @@ impl State {
         bytes: u32,
     ) -> Result<(), AllocError>
         requires room { depth self.old.left.left < most_expansions }
+        requires kept { IsKept (stage_of self.old) }
         requires free { self.old.left.has_statement ≡ false }
         ensures opened { IfOk result (λ _. stage_of self.new ≡ spec.opened arguments bytes template.value.formals rounds
             template.value.body (stage_of self.old)) }
+        ensures kept { IfErr result (λ _. IsKept (stage_of self.new)) }
         ensures free { self.new.left.has_statement ≡ false }
     {
         let conditions = std::mem::replace(&mut self.conditions, Conditions::new());

@@ -1,6 +1,6 @@
 //! The unfolder of a source. (MACRO-11 Language Reference Manual, "Macro directives" and "Conditional assembly directives".)
 
-ghost use Rattle.std.specs.Prelude.{◌≡◌, ◌∷◌, [], false, None, Some, Err, IfOk};
+ghost use Rattle.std.specs.Prelude.{◌≡◌, ◌∷◌, [], false, None, Some, Err};
 ghost use Rattle.std.specs.Result.{result_err};
 ghost use Rattle.m11_arguments.specs.Directives.{operator as line_operator};
 ghost use Rattle.m11_arguments.specs.Expressions.{known_by};
@@ -23,8 +23,8 @@ use std::alloc::Global;
 use std::marker::Model;
 
 /// Unfolds a source line by line: `next` gives each line that becomes live, and `act` does its operator. It keeps at most 16 open
-/// expansions, 256 macros, 65,536 bytes of bodies and 32 open conditions, and each body once. After a fault each call returns it
-/// again.
+/// expansions, 256 macros, 65,536 bytes of bodies and 32 open conditions, also after a fault, and each body once. After a fault each
+/// call returns it again.
 #[derive(Drop)]
 pub struct Unfolder {
     alloc: Global,
@@ -33,6 +33,7 @@ pub struct Unfolder {
 }
 
 impl Model for Unfolder {
+    ghost use Rattle.m11_unfold.specs.Kept.{IsKept};
     ghost use Rattle.m11_unfold.specs.Unfolder as spec;
     ghost use Rattle.m11_unfold.specs.Views.{stage_of};
 
@@ -44,7 +45,7 @@ impl Model for Unfolder {
       fault = u.fault;
     } };
 
-    ghost invariant = { λ u. spec.IsWithin u.fault (stage_of u.state) };
+    ghost invariant = { λ u. IsKept (stage_of u.state) };
 }
 
 impl Unfolder {
@@ -75,14 +76,15 @@ impl Unfolder {
     /// step after it.
     ///
     /// Errors: `TooManyLines` before the 200,001st line is taken, `TooMuchText` before bodies have more than 65,536 bytes,
-    /// `TooManyMacros` before the 257th name is defined, `TooDeep` before a repeat opens the 17th expansion, and `NoMemory`.
+    /// `TooManyMacros` before the 257th name is defined, `TooDeep` before a repeat opens the 17th expansion, and `NoMemory` at a line of a
+    /// body that passes none of these.
     pub fn next(&mut self, line: &mut Line) -> Result<Step, UnfoldFault>
         ensures steps { self.old.fault ≡ None → spec.Steps self.old.stage self.new.stage line.new result }
         ensures again { (fault : UnfoldFault) → self.old.fault ≡ Some fault → result ≡ Err fault }
         ensures fault { self.new.fault ≡ result_err result }
         ensures empty { spec.IsEmpty self.new.stage result }
         ensures free { spec.IsFree self.new.has_statement result }
-        ensures kept { spec.IsWithin self.new.fault self.new.stage }
+        ensures kept { IsKept self.new.stage }
     {
         self.fault.check()?;
         let step = self.state.next_live(self.alloc, line);
@@ -99,7 +101,7 @@ impl Unfolder {
     /// Does the operator of the line that became live last, by the step before, under what is known of names once its labels are defined.
     /// The operator is where `operator` finds it in the line.
     ///
-    /// Errors: `TooDeep` where a call would open the 17th expansion, before an argument is read; and `NoMemory`.
+    /// Errors: `TooDeep` where a call would open the 17th expansion, before an argument is read; and `NoMemory` where it wouldn't.
     pub fn act<N: Names>(
         &mut self,
         line: &Line,
@@ -112,7 +114,7 @@ impl Unfolder {
             line.now.text self.old.stage self.new.stage result }
         ensures again { (fault : UnfoldFault) → self.old.fault ≡ Some fault → result ≡ Err fault }
         ensures fault { self.new.fault ≡ result_err result }
-        ensures kept { spec.IsWithin self.new.fault self.new.stage }
+        ensures kept { IsKept self.new.stage }
     {
         self.fault.check()?;
         let arguments = self.state.left.argument_count();
@@ -135,7 +137,7 @@ impl State {
         requires { IsKept (stage_of self.old) }
         ensures steps { spec.Steps (stage_of self.old) (stage_of self.new) line.new result }
         ensures empty { spec.IsEmpty (stage_of self.new) result }
-        ensures kept { IfOk result (λ _. IsKept (stage_of self.new)) }
+        ensures kept { IsKept (stage_of self.new) }
         ensures free { spec.IsFree self.new.left.has_statement result }
     {
         // most lines are those of the source itself, and are live
@@ -152,7 +154,7 @@ impl State {
         requires { IsKept (stage_of self.old) }
         ensures steps { spec.Steps (stage_of self.old) (stage_of self.new) line.new result }
         ensures empty { spec.IsEmpty (stage_of self.new) result }
-        ensures kept { IfOk result (λ _. IsKept (stage_of self.new)) }
+        ensures kept { IsKept (stage_of self.new) }
         ensures free { spec.IsFree self.new.left.has_statement result }
     {
         'moves: loop {
