@@ -307,6 +307,45 @@ fn bodies_may_have_65536_bytes(rt: HostRuntime) {
     check_rows(&rt, rt.alloc(), &TEXT);
 }
 
+// A source, how many of its lines become live before a fault, but for unfolding's own, and the fault.
+type Place = (&'static [Lines], u32, UnfoldFault);
+
+static PLACES: [Place; 4] = [
+    // a repeat inside sixteen others, and a call inside sixteen others
+    (
+        &[("A", 2), (".REPT 1", 17), ("B", 1), (".ENDR", 17)],
+        2,
+        UnfoldFault::TooDeep,
+    ),
+    (
+        &[(".MACRO M", 1), ("A", 1), ("M", 1), (".ENDM", 1), ("M", 1)],
+        16,
+        UnfoldFault::TooDeep,
+    ),
+    // the 200,001st line
+    (
+        &[(".REPT 77777", 1), ("A", 6), (".ENDR", 1), ("A", 3_400)],
+        199_992,
+        UnfoldFault::TooManyLines,
+    ),
+    // the 65,537th byte, before the body is closed
+    (
+        &[("A", 3), (".REPT 1", 1), (LONG, 512), ("", 1), (".ENDR", 1)],
+        3,
+        UnfoldFault::TooMuchText,
+    ),
+];
+
+#[test]
+fn each_limit_comes_at_its_line(rt: HostRuntime) {
+    for (number, (source, wanted, fault)) in PLACES.iter().enumerate() {
+        let mut count = Count(0);
+        let found = unfold(rt.alloc(), source, &mut count);
+        assert_eq!(&rt; found, Err(*fault), "row {number}");
+        assert_eq!(&rt; count.0, *wanted, "row {number}");
+    }
+}
+
 // The line that begins a macro of a number, which is below 1,000.
 fn header(number: u16) -> Line {
     let mut line = Line::from_bytes(b".MACRO M");
