@@ -1,0 +1,4 @@
+//! The image of sources: which bytes a linked program has at which addresses, told by its sources alone; and laws above the definitions of
+//! the assembler and the linker: what a linker reads of the object of a source, and that the tape of a link holds the image. Each law is
+//! the contract of a function that does nothing.
+#![tactic(auto)]

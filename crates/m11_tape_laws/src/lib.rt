@@ -1,0 +1,3 @@
+//! What a tape leaves in a machine's memory, told by the bytes that lie at each address. Each law is the contract of a function that does
+//! nothing.
+#![tactic(auto)]
