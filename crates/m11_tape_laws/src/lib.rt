@@ -1,3 +1,7 @@
 //! What a tape leaves in a machine's memory, told by the bytes that lie at each address. Each law is the contract of a function that does
 //! nothing.
 #![tactic(auto)]
+
+mod loads;
+
+pub use loads::tapes_load_their_bytes;

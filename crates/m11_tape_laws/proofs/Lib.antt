@@ -1,0 +1,4 @@
+pub mod BytesPlaced
+pub mod Fronts
+pub mod KnownTexts
+pub mod LoadsYield
