@@ -2,3 +2,4 @@ pub mod BytesPlaced
 pub mod Fronts
 pub mod KnownTexts
 pub mod LoadsYield
+pub mod Readings

@@ -2,6 +2,8 @@
 //! nothing.
 #![tactic(auto)]
 
+mod images;
 mod loads;
 
+pub use images::{later_blocks_count, tapes_have_one_image};
 pub use loads::tapes_load_their_bytes;
