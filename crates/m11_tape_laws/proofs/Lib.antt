@@ -3,3 +3,4 @@ pub mod Fronts
 pub mod KnownTexts
 pub mod LoadsYield
 pub mod Readings
+pub mod TwoSizes

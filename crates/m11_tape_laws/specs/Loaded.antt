@@ -41,3 +41,8 @@ LoadYields image tape faults faults' before after (Err OutsideMemory) = LiesPast
 LoadYields image tape faults faults' before after (Err (Tape fault.Device)) = Rises faults faults'
 LoadYields image tape faults faults' before after (Err (Tape fault.TooMuch)) = most_bytes < length tape
 LoadYields image tape faults faults' before after (Err (Tape other)) = ⊥
+
+-- up to the end of the smaller memory two machines hold the same, and after it the larger one holds 0
+pub record HoldsTheSame (small large : Machine) : Type 0 where
+  pub bytes : (address : ℕ) → address < memory_size small → byte_in address large ≡ byte_in address small
+  pub others : (address : ℕ) → memory_size small ≤ address → byte_in address large ≡ 0

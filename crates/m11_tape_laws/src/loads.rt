@@ -1,15 +1,16 @@
 //! Loading the tapes of an image.
 
-ghost use Rattle.std.specs.Prelude.{◌≡◌, ◌≤◌, ℕ, length, Some, Option, Result, Ok};
+ghost use Rattle.std.specs.Prelude.{◌≡◌, ◌≤◌, ℕ, length, Some, Option, Result, Ok, Err};
 ghost use Rattle.m11_base.specs.Devices.{Rises};
 ghost use Rattle.m11_base.specs.Feed.{Text};
 ghost use Rattle.m11_blocks.specs.Limited.{most_bytes};
 ghost use Rattle.m11_cpu.specs.Loading.{LoadsInto};
-ghost use Rattle.m11_cpu.specs.Machine.{memory_size};
+ghost use Rattle.m11_cpu.specs.Machine.{memory_size, new_machine};
 ghost use Rattle.m11_cpu.specs.declared.fault.LoadFault.{LoadFault};
+ghost use Rattle.m11_cpu.specs.declared.fault.LoadFault.TheVariants.{OutsideMemory};
 ghost use Rattle.m11_cpu.specs.declared.machine.Machine.{Machine};
 ghost use Rattle.m11_tape_laws.specs.Image.{Image};
-ghost use Rattle.m11_tape_laws.specs.Loaded.{LiesInside, LiesPast, LoadYields};
+ghost use Rattle.m11_tape_laws.specs.Loaded.{HoldsTheSame, LiesInside, LiesPast, LoadYields};
 ghost use Rattle.m11_tape_laws.specs.Tapes.{IsTapeOf};
 
 /// A machine into which a tape of an image was loaded holds the image: its bytes stand at their addresses, everything else
@@ -30,4 +31,22 @@ pub fn tapes_load_their_bytes()
     ensures refused { (image : Image) (text : Text) (left : Option Text) (faults faults' : ℕ) (before after : Machine)
         (start : ℕ) → IsTapeOf image text.bytes → LiesPast (memory_size before) image
         → LoadsInto (Some text) left faults faults' before after (Ok start) → ⊥ }
+{}
+
+/// Machines that differ in the size of their memory load an image alike, whichever tapes of it they are given: up to the
+/// end of the smaller memory both hold the same, after it the larger one holds 0, and the program starts at one address.
+/// What a smaller memory takes a larger one takes too.
+pub fn larger_memories_hold_the_same()
+    ensures alike { (image : Image) (text other_text : Text) (left other_left : Option Text)
+        (faults faults' other_faults other_faults' words more_words : ℕ) (small large : Machine) (start other_start : ℕ)
+        → words ≤ more_words → IsTapeOf image text.bytes → IsTapeOf image other_text.bytes
+        → LoadsInto (Some text) left faults faults' (new_machine words) small (Ok start)
+        → LoadsInto (Some other_text) other_left other_faults other_faults' (new_machine more_words) large (Ok other_start)
+        → HoldsTheSame small large × (other_start ≡ start) }
+    ensures taken { (image : Image) (text other_text : Text) (left other_left : Option Text)
+        (faults faults' other_faults other_faults' words more_words : ℕ) (small large : Machine) (start : ℕ)
+        → words ≤ more_words → IsTapeOf image text.bytes → IsTapeOf image other_text.bytes
+        → LoadsInto (Some text) left faults faults' (new_machine words) small (Ok start)
+        → LoadsInto (Some other_text) other_left other_faults other_faults' (new_machine more_words) large
+        (Err OutsideMemory) → ⊥ }
 {}
