@@ -1,3 +1,4 @@
+pub mod Example
 pub mod Image
 pub mod Loaded
 pub mod Tapes

@@ -6,4 +6,6 @@ mod images;
 mod loads;
 
 pub use images::{later_blocks_count, tapes_have_one_image};
-pub use loads::{larger_memories_hold_the_same, tapes_load_their_bytes};
+pub use loads::{
+    a_byte_is_loaded_over_another, larger_memories_hold_the_same, tapes_load_their_bytes,
+};

@@ -1,14 +1,15 @@
 //! Loading the tapes of an image.
 
-ghost use Rattle.std.specs.Prelude.{◌≡◌, ◌≤◌, ℕ, length, Some, Option, Result, Ok, Err};
+ghost use Rattle.std.specs.Prelude.{◌≡◌, ◌≤◌, ℕ, [], length, Some, Option, Result, Ok, Err};
 ghost use Rattle.m11_base.specs.Devices.{Rises};
-ghost use Rattle.m11_base.specs.Feed.{Text};
+ghost use Rattle.m11_base.specs.Feed.{Ending, Text};
 ghost use Rattle.m11_blocks.specs.Limited.{most_bytes};
 ghost use Rattle.m11_cpu.specs.Loading.{LoadsInto};
-ghost use Rattle.m11_cpu.specs.Machine.{memory_size, new_machine};
+ghost use Rattle.m11_cpu.specs.Machine.{byte_in, memory_size, new_machine};
 ghost use Rattle.m11_cpu.specs.declared.fault.LoadFault.{LoadFault};
 ghost use Rattle.m11_cpu.specs.declared.fault.LoadFault.TheVariants.{OutsideMemory};
 ghost use Rattle.m11_cpu.specs.declared.machine.Machine.{Machine};
+ghost use Rattle.m11_tape_laws.specs.Example.{overlaid_tape};
 ghost use Rattle.m11_tape_laws.specs.Image.{Image};
 ghost use Rattle.m11_tape_laws.specs.Loaded.{HoldsTheSame, LiesInside, LiesPast, LoadYields};
 ghost use Rattle.m11_tape_laws.specs.Tapes.{IsTapeOf};
@@ -49,4 +50,15 @@ pub fn larger_memories_hold_the_same()
         → LoadsInto (Some text) left faults faults' (new_machine words) small (Ok start)
         → LoadsInto (Some other_text) other_left other_faults other_faults' (new_machine more_words) large
         (Err OutsideMemory) → ⊥ }
+{}
+
+/// A tape that has two bytes at one address leaves the later one there, and around it what it has once.
+pub fn a_byte_is_loaded_over_another()
+    ensures later { (ending : Ending) (left : Option Text) (faults faults' : ℕ) (before after : Machine) (start : ℕ)
+        → LoadsInto (Some (record { bytes = overlaid_tape; ending = ending })) left faults faults' before after (Ok start)
+        → (byte_in 0o1001 after ≡ 2) × (byte_in 0o1002 after ≡ 0o377) × (byte_in 0o1003 after ≡ 4) × (start ≡ 0o1000) }
+    // a machine whose memory is large enough may load it
+    ensures met { (ending : Ending) (faults : ℕ) (before : Machine) → 0o1004 ≤ memory_size before
+        → (after : Machine) × LoadsInto (Some (record { bytes = overlaid_tape; ending = ending }))
+        (Some (record { bytes = []; ending = ending })) faults faults before after (Ok 0o1000) }
 {}
