@@ -45,6 +45,12 @@ Finds text files path (Ok input) = Holds files path (text input)
 Finds text files path (Err NotOpened) = Lacks files path
 Finds text files path (Err NoMemory) = ⊤
 
+-- a file was opened for two passes, each of which reads all of it; or there is none; or memory was refused
+abbrev pub FindsTwice : {I : Type 0} → (I → Option Text) → Option Files → Bytes → Result (I × I) OpenRefusal → Type 0
+FindsTwice text files path (Ok inputs) = Holds files path (text inputs.0) × Holds files path (text inputs.1)
+FindsTwice text files path (Err NotOpened) = Lacks files path
+FindsTwice text files path (Err NoMemory) = ⊤
+
 -- what was opened are the files of these paths, in order
 abbrev pub AreFiles : {I : Type 0} → (I → Option Text) → Option Files → List Bytes → List I → Type 0
 AreFiles text files [] [] = ⊤

@@ -1,7 +1,7 @@
 //! What opens the files of a task.
 
 ghost use Rattle.std.specs.Prelude.{◌≡◌, ℕ, Option, IfOk};
-ghost use Rattle.m11_files.specs.Opens.{Files, Creates, CountsRefusal, Finds, IsEmptied, keeping};
+ghost use Rattle.m11_files.specs.Opens.{Files, Creates, CountsRefusal, Finds, FindsTwice, IsEmptied, keeping};
 
 use m11_base::{Feed, Sink};
 
@@ -35,6 +35,21 @@ pub trait Opens {
         ensures finds { Finds Self.Input.text (files self.old) path.now result }
         ensures files { files self.new ≡ files self.old }
         ensures counts { CountsRefusal (refusals self.old) (refusals self.new) result };
+
+    /// Opens the file of a path for two passes, each of which reads it from its beginning. Where nothing else is said, it is
+    /// opened two times.
+    ///
+    /// `NotOpened`: there is none that can be opened, or it can be read only once; either is counted. `NoMemory`: memory was
+    /// refused.
+    fn open_twice(&mut self, path: &str) -> Result<(Self::Input, Self::Input), OpenRefusal>
+        ensures finds { FindsTwice Self.Input.text (files self.old) path.now result }
+        ensures files { files self.new ≡ files self.old }
+        ensures counts { CountsRefusal (refusals self.old) (refusals self.new) result }
+    {
+        let first = self.open(path)?;
+        let second = self.open(path)?;
+        Ok((first, second))
+    }
 
     /// Creates the file of a path, or empties it where there is one.
     ///

@@ -1,11 +1,12 @@
 //! The files of the system.
 
-ghost use Rattle.std.specs.Prelude.{◌≡◌};
-ghost use Rattle.m11_files.specs.Opens.{Counts};
+ghost use Rattle.std.specs.Prelude.{◌≡◌, IfErr};
+ghost use Rattle.m11_files.specs.Opens.{Counts, CountsRefusal};
+ghost use Rattle.m11_files.specs.declared.opens.OpenRefusal.TheVariants.{NoMemory};
 
 use crate::opens::{OpenRefusal, Opens};
 use m11_base::{BufferedFeed, WriterSink};
-use std::io::{BufReader, ErrorKind};
+use std::io::{BufReader, ErrorKind, Seek};
 use std::rt::Files;
 use std::{fs, io};
 
@@ -38,14 +39,21 @@ impl<'a, R: Files + AllocGlobal> Opens for SystemFiles<'a, R> {
     ghost refusals = { λ s. s.refusals };
 
     fn open(&mut self, path: &str) -> Result<BufferedFeed<R::File>, OpenRefusal> {
-        let file = match fs::open(self.rt, path) {
-            Ok(file) => file,
-            Err(error) => return Err(refusal(&error, &mut self.refusals)),
-        };
-        match BufReader::new(self.rt.alloc(), file) {
-            Ok(reader) => Ok(BufferedFeed::new(reader)),
-            Err(_) => Err(OpenRefusal::NoMemory),
+        let file = opened(self.rt, path, &mut self.refusals)?;
+        buffered(self.rt, file)
+    }
+
+    // A pipe, a socket and a terminal give their bytes once, and have no place that is known: only what has one is read again.
+    fn open_twice(
+        &mut self,
+        path: &str,
+    ) -> Result<(BufferedFeed<R::File>, BufferedFeed<R::File>), OpenRefusal> {
+        let mut first = opened(self.rt, path, &mut self.refusals)?;
+        if let Err(error) = first.stream_position() {
+            return Err(refusal(&error, &mut self.refusals));
         }
+        let second = opened(self.rt, path, &mut self.refusals)?;
+        Ok((buffered(self.rt, first)?, buffered(self.rt, second)?))
     }
 
     fn create(&mut self, path: &str) -> Result<WriterSink<R::File>, OpenRefusal> {
@@ -58,6 +66,29 @@ impl<'a, R: Files + AllocGlobal> Opens for SystemFiles<'a, R> {
     // All that was put is written, so nothing is left to do.
     fn keep(&mut self, _path: &str, output: WriterSink<R::File>) {
         drop(output);
+    }
+}
+
+// The file of a path, to be read.
+fn opened<R: Files>(rt: &R, path: &str, refusals: &mut u64) -> Result<R::File, OpenRefusal>
+    ensures { CountsRefusal refusals.old refusals.new result }
+{
+    match fs::open(rt, path) {
+        Ok(file) => Ok(file),
+        Err(error) => Err(refusal(&error, refusals)),
+    }
+}
+
+// What a file gives, through a buffer. Nothing but memory is refused.
+fn buffered<R: Files + AllocGlobal>(
+    rt: &R,
+    file: R::File,
+) -> Result<BufferedFeed<R::File>, OpenRefusal>
+    ensures { IfErr result (λ refusal. refusal ≡ NoMemory) }
+{
+    match BufReader::new(rt.alloc(), file) {
+        Ok(reader) => Ok(BufferedFeed::new(reader)),
+        Err(_) => Err(OpenRefusal::NoMemory),
     }
 }
 

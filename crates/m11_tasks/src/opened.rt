@@ -57,8 +57,8 @@ pub struct LinkFiles<I, O> {
     pub map: Option<O>,
 }
 
-/// Opens the sources, then creates the object, and then the listing if one is asked for. `NotOpened` of the first path that
-/// is refused, after which nothing is opened or created; `NoMemory`.
+/// Opens the sources, each for both passes, then creates the object, and then the listing if one is asked for. `NotOpened` of
+/// the first path that is refused, after which nothing is opened or created; `NoMemory`.
 pub fn open_asm_files<'a, F: Opens>(
     alloc: Global,
     files: &mut F,
@@ -88,8 +88,8 @@ pub fn open_asm_files<'a, F: Opens>(
     })
 }
 
-/// Opens the objects, then creates the tape, and then the map if one is asked for. `NotOpened` of the first path that is
-/// refused, after which nothing is opened or created; `NoMemory`.
+/// Opens the objects, each for both passes, then creates the tape, and then the map if one is asked for. `NotOpened` of the
+/// first path that is refused, after which nothing is opened or created; `NoMemory`.
 pub fn open_link_files<'a, F: Opens>(
     alloc: Global,
     files: &mut F,
@@ -128,10 +128,13 @@ pub fn open_sim_file<'a, F: Opens>(
         (sim_inputs task.now) []) }
     ensures counts { CountsOpening (F.refusals files.old) (F.refusals files.new) result }
 {
-    open_input(files, task.tape)
+    match files.open(task.tape) {
+        Ok(tape) => Ok(tape),
+        Err(refusal) => Err(fault_at(refusal, task.tape)),
+    }
 }
 
-// Inputs, in order, each opened twice before the next.
+// Inputs, in order, each opened for both passes before the next.
 fn open_inputs<'a, F: Opens>(
     alloc: Global,
     files: &mut F,
@@ -155,7 +158,7 @@ fn open_inputs<'a, F: Opens>(
     Ok(Inputs { first, second })
 }
 
-// An input that is read twice.
+// An input that is read in two passes.
 fn open_twice<'a, F: Opens>(
     files: &mut F,
     path: &'a str,
@@ -168,21 +171,8 @@ fn open_twice<'a, F: Opens>(
     ensures lacks { IfErr result (LacksOne (F.files files.old) path.entry.now) }
     ensures counts { CountsOpening (F.refusals files.old) (F.refusals files.new) result }
 {
-    let once = open_input(files, path)?;
-    let again = open_input(files, path)?;
-    Ok((once, again))
-}
-
-// Opens an input, to be read once.
-fn open_input<'a, F: Opens>(files: &mut F, path: &'a str) -> Result<F::Input, OpenFault<'a>>
-    ensures opened { IfOk result (λ input.
-        Holds (F.files files.old) path.entry.now (F.Input.text input)) }
-    ensures files { F.files files.new ≡ F.files files.old }
-    ensures lacks { IfErr result (LacksOne (F.files files.old) path.entry.now) }
-    ensures counts { CountsOpening (F.refusals files.old) (F.refusals files.new) result }
-{
-    match files.open(path) {
-        Ok(input) => Ok(input),
+    match files.open_twice(path) {
+        Ok(inputs) => Ok(inputs),
         Err(refusal) => Err(fault_at(refusal, path)),
     }
 }
