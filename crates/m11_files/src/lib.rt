@@ -3,6 +3,7 @@
 
 mod memory_files;
 mod opens;
+mod stand_ins;
 mod system_files;
 
 pub use memory_files::{MadeFile, MemoryFile, MemoryFiles};

@@ -5,25 +5,36 @@ ghost use Rattle.m11_files.specs.Opens.{Counts, CountsRefusal};
 ghost use Rattle.m11_files.specs.declared.opens.OpenRefusal.TheVariants.{NoMemory};
 
 use crate::opens::{OpenRefusal, Opens};
+use crate::stand_ins::StandIns;
 use m11_base::{BufferedFeed, WriterSink};
 use std::io::{BufReader, ErrorKind, Seek};
+use std::os::fd::AsRawFd;
 use std::rt::Files;
 use std::{fs, io};
 
 /// Opens files by the runtime. What is read comes through a buffer; what is written goes to the file at once, so that a
-/// failed write shows at the put that made it. Of the texts of files nothing is known.
+/// failed write shows at the put that made it. Of the texts of files nothing is known. No file that is opened is a standard
+/// stream, also where the caller closed some: others stand in for those for as long as this lives.
 #[derive(Drop)]
-pub struct SystemFiles<'a, R> {
+pub struct SystemFiles<'a, R: Files> {
     rt: &'a R,
+    stand_ins: StandIns<R::File>,
     refusals: u64,
 }
 
-impl<'a, R: Files + AllocGlobal> SystemFiles<'a, R> {
-    /// The files that `rt` reaches.
+impl<'a, R: Files + AllocGlobal> SystemFiles<'a, R>
+where
+    R::File: AsRawFd,
+{
+    /// The files that `rt` reaches. It is to be made before any other file is opened.
     pub fn new(rt: &'a R) -> SystemFiles<'a, R>
         ensures { ⟦<SystemFiles<'a, R> as Opens>⟧.refusals result ≡ 0 }
     {
-        SystemFiles { rt, refusals: 0 }
+        SystemFiles {
+            rt,
+            stand_ins: StandIns::new(rt),
+            refusals: 0,
+        }
     }
 }
 
