@@ -1,5 +1,5 @@
 #!/usr/bin/env python3
-"""Runs the tests of tools/adapt and tools/lines: python3 tools/test.py [NAME]...
+"""Runs the tests of tools/adapt and tools/lines, and of the scripts at the top: python3 tools/test.py [NAME]...
 
 Each file of tools/tests is a case. Its parts begin with a word at the beginning of a line, and their lines with `|`:
   words ..        words of adapt beside -o OUT and the sources
@@ -10,7 +10,9 @@ Each file of tools/tests is a case. Its parts begin with a word at the beginning
   status N        the status of adapt; 0 where it is missing
   flagged N       how many lines of all that is written the other reading flags; 0 where it is missing
   equal           a plain source whose object is that of the adapted ones
-  messages, turned  what tools/lines reads, and what it writes"""
+  messages, turned  what tools/lines reads, and what it writes
+
+tools/tests/scripts.py checks the scripts at the top."""
 import glob
 import os
 import subprocess
@@ -26,6 +28,7 @@ sys.path.insert(0, HERE)
 import pasm  # noqa: E402
 from adapting.main import adapt  # noqa: E402
 from adapting.names import INSTRUCTIONS  # noqa: E402
+from tests import scripts  # noqa: E402
 
 PARTS = ("words", "file", "source", "after", "map", "reports", "status", "flagged", "equal", "messages", "turned")
 
@@ -207,6 +210,7 @@ def check_refusals():
 def main(names):
     tests = [(os.path.basename(path)[:-5], check_case, (path,)) for path in sorted(glob.glob(os.path.join(HERE, "tests", "*.case")))]
     tests += [("codes-of-instructions", check_codes, ()), ("sources-that-are-taken", check_taken, ()), ("refusals", check_refusals, ())]
+    tests += scripts.CHECKS
     passed = failed = 0
     for name, check, given in tests:
         if names and name not in names:

@@ -1,0 +1,253 @@
+"""Checks of the scripts at the top, m11 and install, over a small repository and a stand-in for rt. CHECKS lists them for tools/test.py.
+
+The stand-in `builds` a program that prints its words, and counts how often it was asked to. The folder has a blank in its name."""
+import os
+import shutil
+import subprocess
+import tempfile
+
+TOP = os.path.dirname(os.path.dirname(os.path.dirname(os.path.realpath(__file__))))
+COPIED = ("m11", "install", "docs/man/m11.1", "tools/completion.bash")
+LISTS = "# a list for each crate\nm11_low: std\nm11_other: m11_low\nm11: m11_low\n"
+NOBODY = 65534
+
+RT = r"""#!/bin/sh
+# `rt version`, and `rt run`, which builds. Where the file `fails` lies at the top, a build fails.
+top=../..
+case $1 in
+version) echo kit-1 logic 1 ;;
+run)
+    echo built >>$top/builds
+    echo "rt: chose --jobs 4 for m11_low"
+    if [ -f $top/slow ]; then sleep 1.5; fi
+    if [ -f $top/fails ]; then echo "it is not proved"; exit 1; fi
+    echo "fn m11_low::one: proved"
+    echo "rt: chose --jobs 4 for m11"
+    if [ -f $top/slow ]; then sleep 1.5; fi
+    mkdir -p out
+    printf '#!/bin/sh\necho "ran $*"\n[ "$1" = --help ] || exit 4\n' >out/m11
+    chmod +x out/m11
+    ;;
+esac
+"""
+
+
+def put(path, text):
+    """Writes a file, with its folders."""
+    os.makedirs(os.path.dirname(path), exist_ok=True)
+    with open(path, "w", encoding="utf-8") as file:
+        file.write(text)
+
+
+class Repository:
+    """The small repository."""
+
+    def __init__(self, folder):
+        self.folder, self.top, self.found = folder, os.path.join(folder, "m 11"), []
+        for name in COPIED:
+            os.makedirs(os.path.dirname(os.path.join(self.top, name)), exist_ok=True)
+            shutil.copy(os.path.join(TOP, name), os.path.join(self.top, name))
+        put(self.at("crates.txt"), LISTS)
+        for name in ("m11/src/main.rt", "m11_low/src/lib.rt", "m11_low/specs/Lib.antt", "m11_low/proofs/one/Answers.antt",
+                     "m11_other/src/lib.rt", "m11/data/P.MAC", "m11/args"):
+            put(self.at("crates/" + name), name + "\n")
+        put(os.path.join(folder, "bin", "rt"), RT)
+        os.chmod(os.path.join(folder, "bin", "rt"), 0o755)
+
+    def at(self, name):
+        """The path of a file of it."""
+        return os.path.join(self.top, name)
+
+    def run(self, words, script="m11", has_rt=True, **how):
+        """The status of a script, and what it says on standard output and on standard error."""
+        path = (os.path.join(self.folder, "bin") + ":" if has_rt else "") + "/usr/bin:/bin"
+        done = subprocess.run([self.at(script), *words], cwd=self.folder, env={"PATH": path, "HOME": self.folder}, stdin=subprocess.DEVNULL,
+                              capture_output=True, text=True, check=False, **how)
+        return done.returncode, done.stdout, done.stderr
+
+    def builds(self):
+        """How often the program was built."""
+        if not os.path.exists(self.at("builds")):
+            return 0
+        with open(self.at("builds"), encoding="utf-8") as file:
+            return len(file.readlines())
+
+    def expect(self, what, got, wanted):
+        """Notes what differs."""
+        if got != wanted:
+            self.found.append(f"{what}\n--- is\n{got}\n--- should be\n{wanted}")
+
+    def expect_builds(self, what, count):
+        """A call has to run the program, after so many builds of it in all."""
+        self.expect(what, self.run(["a b", "-c"])[:2], (4, "ran a b -c\n"))
+        self.expect(f"{what}: builds", self.builds(), count)
+
+
+def age(top):
+    """Makes all files older than any build was."""
+    for at, folders, files in os.walk(top):
+        for name in folders + files:
+            os.utime(os.path.join(at, name), (10 ** 9, 10 ** 9))
+
+
+def check_builds(repository):
+    """The program is built again just where its own sources changed."""
+    age(repository.top)
+    repository.expect_builds("the first call", 1)
+    repository.expect_builds("the second call", 1)
+    for name in ("crates/m11_other/src/lib.rt", "crates/m11/data/P.MAC", "crates/m11/args", "docs/man/m11.1"):
+        put(repository.at(name), "other\n")
+        repository.expect_builds(f"a change of {name}", 1)
+    os.utime(repository.at("crates/m11_low/src/lib.rt"))
+    repository.expect_builds("a new time", 1)
+    put(repository.at("crates.txt"), LISTS.replace("m11_other: m11_low", "m11_other: std"))
+    repository.expect_builds("a list of another crate", 1)
+    changes = (("crates.txt", LISTS.replace("m11_low: std", "m11_low: core")), ("crates/m11_low/src/lib.rt", "new\n"),
+               ("crates/m11_low/specs/Lib.antt", "new\n"), ("crates/m11/src/more.rt", "new\n"))
+    for count, (name, text) in enumerate(changes, 2):
+        put(repository.at(name), text)
+        repository.expect_builds(f"a change of {name}", count)
+    os.remove(repository.at("crates/m11_low/proofs/one/Answers.antt"))
+    repository.expect_builds("a proof that is gone", 6)
+    repository.expect_builds("the call after it", 6)
+
+
+def check_copies(repository):
+    """A copy of a repository with its program is run as it is, whatever times its files have, also where nothing can be written."""
+    repository.expect_builds("the first call", 1)
+    shutil.copytree(repository.top, repository.top + " copy", copy_function=shutil.copyfile)
+    for at, _, files in os.walk(repository.top + " copy"):
+        for name in files:
+            os.chmod(os.path.join(at, name), 0o755)
+    repository.top += " copy"
+    os.utime(repository.at("crates/m11_low/src/lib.rt"))
+    os.utime(repository.at("crates/m11/out/built"), (10 ** 9, 10 ** 9))
+    repository.expect("a call by somebody else", by_nobody(repository, ["x"]), (4, "ran x\n", ""))
+    repository.expect_builds("a call", 1)
+    put(repository.at("crates/m11_low/src/lib.rt"), "new\n")
+    status, _, said = by_nobody(repository, ["x"])
+    repository.expect("somebody else, when it is to be built", (status, said.count("\n"), "may write to" in said), (70, 1, True))
+
+
+def by_nobody(repository, words):
+    """A call by a user who may not write to the repository."""
+    if os.geteuid() == 0:
+        return repository.run(words, user=NOBODY, group=NOBODY)
+    for at, _, _ in os.walk(repository.top):
+        os.chmod(at, 0o555)
+    said = repository.run(words)
+    for at, _, _ in os.walk(repository.top):
+        os.chmod(at, 0o755)
+    return said
+
+
+def check_failures(repository):
+    """A build that fails, and none that can begin."""
+    status, out, said = repository.run(["x"], has_rt=False)
+    repository.expect("without rt", (status, out, said), (70, "", "m11: the program is to be built, and there is no rt on the PATH\n"))
+    put(repository.at("fails"), "")
+    status, out, said = repository.run(["x"])
+    repository.expect("a build that fails", (status, out, said.endswith("the build failed; its log ends:\nrt: chose --jobs 4 for m11_low\nit is not proved\n")),
+                      (70, "", True))
+    os.remove(repository.at("fails"))
+    repository.expect_builds("the next call", 2)
+
+
+def check_progress(repository):
+    """Without a terminal there is a line for each crate."""
+    put(repository.at("slow"), "")
+    said = repository.run(["x"])[2].split("\n")
+    repository.expect("what it says", [line for line in said if "crate" in line and "reading" not in line and "log" not in line],
+                      ["m11: crate 1 of 2, m11_low", "m11: crate 2 of 2, m11"])
+
+
+def check_version(repository):
+    """The version is answered without a build, by what git and the kit say."""
+    repository.expect("without git", repository.run(["--version"]), (0, "m11: commit unknown (there is no git that knows it), kit kit-1 logic 1\n", ""))
+    for words in (["init", "-q"], ["add", "."], ["-c", "user.name=a", "-c", "user.email=a@b", "commit", "-qm", "One"]):
+        subprocess.run(["git", *words], cwd=repository.top, check=True)
+    commit = subprocess.run(["git", "rev-parse", "--short=12", "HEAD"], cwd=repository.top, check=True, capture_output=True, text=True).stdout.strip()
+    repository.expect("with git", repository.run(["--version"]), (0, f"m11: commit {commit}, kit kit-1 logic 1\n", ""))
+    repository.expect("builds", repository.builds(), 0)
+    repository.run(["x"])
+    put(repository.at("docs/man/m11.1"), "other\n")
+    repository.expect("changed, and without rt", repository.run(["--version"], has_rt=False)[1], f"m11: commit {commit}-dirty, kit kit-1 logic 1\n")
+    repository.expect("with another word", repository.run(["--version", "x"])[1], "ran --version x\n")
+
+
+REFUSED = (
+    "asm -o A.MAC A.MAC", "asm A.MAC -oA.MAC", "asm -o=A.MAC A.MAC", "asm --output=A.MAC A.MAC", "asm --output ./A.MAC A.MAC", "asm -o LINK A.MAC",
+    "asm -o HARD A.MAC", "asm -o N -l A.MAC B.MAC A.MAC", "asm -o N -l N A.MAC", "asm -o N --listing=./N A.MAC", "asm -o B.MAC -l B.MAC A.MAC",
+    "asm -o N -l DANGLING A.MAC", "asm -o A.MAC -- A.MAC", "link -o A.MAC B.MAC A.MAC", "link -b 2000 -m A.MAC -o N A.MAC", "link -o N -m N A.MAC",
+)
+TAKEN = (
+    "asm -o N A.MAC", "asm -o N -l M A.MAC", "asm -o /dev/null -l /dev/null A.MAC", "asm -o N /dev/null", "asm -o /dev/null /dev/null", "asm -o B.MAC A.MAC A.MAC",
+    "asm -h -o A.MAC A.MAC", "asm -o N -o N A.MAC", "asm -o N NONE", "asm -o NONE NONE", "asm -o", "asm", "asm -o N -- -o A.MAC", "link -b A.MAC -o N A.MAC", "link -o N -m M A.MAC B.MAC",
+    "sim A.MAC", "sim -s A.MAC A.MAC", "", "other -o A.MAC A.MAC",
+)
+
+
+def check_paths(repository):
+    """An output that is also an input or another output is refused before anything runs."""
+    for name in ("A.MAC", "B.MAC"):
+        put(os.path.join(repository.folder, name), "text\n")
+    os.symlink("A.MAC", os.path.join(repository.folder, "LINK"))
+    os.symlink("N", os.path.join(repository.folder, "DANGLING"))
+    os.link(os.path.join(repository.folder, "A.MAC"), os.path.join(repository.folder, "HARD"))
+    for words in REFUSED:
+        status, out, said = repository.run(words.split())
+        repository.expect(words, (status, out, said.count("\n"), said.startswith("m11: the ")), (2, "", 1, True))
+    repository.expect("builds", repository.builds(), 0)
+    repository.expect("a sentence", repository.run(["asm", "-o", "N", "-l", "./N", "A.MAC"])[2], "m11: the object N and the listing ./N would be one file\n")
+    repository.expect("another", repository.run(["link", "-o", "LINK", "A.MAC"])[2], "m11: the tape LINK would be written over the object A.MAC\n")
+    for words in TAKEN:
+        repository.expect(words, repository.run(words.split())[:2], (4, f"ran {words}\n"))
+
+
+def check_install(repository):
+    """What install copies, also a second time, and what it refuses."""
+    prefix = os.path.join(repository.folder, "pre fix")
+    copied = [os.path.join(prefix, name) for name in ("bin/m11", "share/man/man1/m11.1", "share/bash-completion/completions/m11")]
+    put(repository.at("crates/m11/out/m11"), "")
+    for words in ([], [""], ["-x"], ["a", "b"]):
+        repository.expect(f"install {words}", repository.run(words, "install")[0], 2)
+    for _ in range(2):
+        repository.expect("install", repository.run([prefix], "install")[:2], (0, "".join(f"copied to {path}\n" for path in copied)))
+    done = subprocess.run([copied[0], "y"], capture_output=True, text=True, check=False)
+    repository.expect("the installed program", done.stdout, "ran y\n")
+    with open(copied[1], encoding="utf-8") as file:
+        heading = file.readline()
+    repository.expect("the heading of the page", heading,
+                      '.TH M11 1 "" "commit unknown (there is no git that knows it), kit kit-1 logic 1" "Tools for PDP-11 software"\n')
+    put(repository.at("fails"), "")
+    put(repository.at("crates/m11/src/main.rt"), "new\n")
+    repository.expect("a build that fails", repository.run([prefix], "install")[:2], (70, ""))
+
+
+def check_completion(repository):
+    """What is completed after some words."""
+    for name in ("P.MAC", "q.mac", "P.OBJ", "P.TAP"):
+        put(os.path.join(repository.folder, "work", name), "")
+    os.mkdir(os.path.join(repository.folder, "work", "Pages"))
+    for words, wanted in ((["a"], "asm"), (["s"], "sim"), (["asm", ""], "P.MAC Pages q.mac"), (["asm", "P"], "P.MAC Pages"), (["asm", "-o", "P"], "P.OBJ Pages"),
+                          (["asm", "--l"], "--listing"), (["link", "-o", "x", "P"], "P.OBJ Pages"), (["link", "--m"], "--map"), (["link", "-b", ""], ""),
+                          (["sim", "P"], "P.TAP Pages"), (["sim", "--st"], "--start --steps"), (["other", "P"], "")):
+        said = subprocess.run(["bash", "-c", 'source "$0"; COMP_WORDS=("$@"); COMP_CWORD=$(($# - 1)); _m11; printf "%s\\n" "${COMPREPLY[@]}"',
+                               repository.at("tools/completion.bash"), "m11", *words], cwd=os.path.join(repository.folder, "work"),
+                              capture_output=True, text=True, check=False)
+        repository.expect(f"after {words}", (" ".join(sorted(said.stdout.split())), said.stderr), (wanted, ""))
+
+
+def over_a_repository(check):
+    """A check, as a call without words that gives the differences that it found."""
+    def checked():
+        with tempfile.TemporaryDirectory() as folder:
+            os.chmod(folder, 0o755)
+            repository = Repository(folder)
+            check(repository)
+            return repository.found
+    return checked
+
+
+CHECKS = [(check.__name__.replace("check_", "scripts-"), over_a_repository(check), ())
+          for check in (check_builds, check_copies, check_failures, check_progress, check_version, check_paths, check_install, check_completion)]
