@@ -1,8 +1,8 @@
 -- Where the second pass begins, and where it ends.
 use Rattle.std.proofs.Common.{◌≡◌, ◌∙◌, ◌≤◌, Bool, true, false, if◌then◌else◌, List, [], ◌∷◌, ◌++◌, length, Option, None, Result, IfOk, refl, sym, ap, subst, arith}
 use Rattle.std.proofs.lemmas.List.Sums.{count_by-le-length}
+use Rattle.m11_asm_faults.specs.declared.fault.AsmFault.{AsmFault}
 use Rattle.m11_asm_outputs.specs.Outputs.{Gains, Outputs, Write, Writes, assembly}
-use Rattle.m11_asm_outputs.specs.declared.fault.AsmFault.{AsmFault}
 use Rattle.m11_first.specs.Facts.{Facts}
 use Rattle.m11_first.specs.First.{Symbols}
 use Rattle.m11_lines.specs.Line.{SourceLine}

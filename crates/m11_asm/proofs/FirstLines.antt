@@ -1,21 +1,20 @@
 -- The first pass over feeds, from line to line.
-use Rattle.std.proofs.Common.{◌≡◌, ◌∙◌, Bool, true, false, List, [], ◌∷◌, ◌++◌, ℕ, length, Option, Some, None, Result, Ok, Err, IsErrAnd, refl, sym, ap, subst, inl, inr}
-use Rattle.m11_asm_outputs.specs.Fault.{of_lines}
-use Rattle.m11_asm_outputs.specs.declared.fault.AsmFault.{AsmFault}
-use Rattle.m11_asm_outputs.specs.declared.fault.AsmFault.TheVariants as fault
+use Rattle.std.proofs.Common.{◌≡◌, ◌∙◌, Bool, true, false, List, [], ◌∷◌, ◌++◌, ℕ, length, Option, Some, None, Result, Ok, Err, IfOk, IsErrAnd, refl, sym, ap, subst, inl, inr, ◌≤◌}
+use Rattle.std.specs.Result.{result_err}
+use Rattle.m11_asm_faults.specs.Faults.{of_lines}
+use Rattle.m11_asm_faults.specs.declared.fault.AsmFault.{AsmFault}
+use Rattle.m11_asm_faults.specs.declared.fault.AsmFault.TheVariants as fault
 use Rattle.m11_base.specs.Feed.{NoneFailed, Text}
-use Rattle.m11_first.specs.First.{FirstFails, FirstStands, FirstState, FirstTakes, Symbols}
+use Rattle.m11_first.specs.First.{FirstFails, FirstStands, FirstState, FirstTakes, Symbols, symbols_of}
 use Rattle.m11_lines.specs.Line.{SourceLine}
 use Rattle.m11_lines.specs.Reader.{LineReading, ReadsNext, place}
 use Rattle.m11_lines.specs.declared.fault.LineFault.{LineFault}
 use Rattle.m11_lines.specs.declared.fault.LineFault.TheVariants.{Read, TooMuchSource, TooManyLines}
-use Rattle.m11_passes.specs.declared.fault.PassFault.{PassFault}
-use Rattle.m11_passes.specs.declared.fault.PassFault.TheVariants as pass
+use Rattle.m11_placement.specs.Limits.{most_sections}
 use Rattle.m11_placement.specs.Meanings.{empty_map}
 use Rattle.m11_readings.specs.Readings.{Reading}
-use Rattle.m11_asm.specs.Faults.{of_pass}
 use Rattle.m11_asm.specs.Written.{Ended}
-use Rattle.m11_asm.specs.FirstReading.{EndsWith, FirstTaken, GivesSymbols, IsTakenUp}
+use Rattle.m11_asm.specs.FirstReading.{FirstTaken, GivesSymbols, IsTakenUp, TakesLines}
 use Rattle.m11_asm.specs.Outcome as outcome
 use Rattle.m11_asm.specs.Outcome.{Ends, Refuses, Unended}
 use Rattle.m11_asm.specs.Passes.{Pass, ReadsFirst, pass_of}
@@ -104,33 +103,26 @@ module _ {F : Type 0} (text : F → Option Text) (faults : F → ℕ) (initial h
           true_false e = cc
       first_goes_on first' (inr took) = record { source = so.source ++ line ∷ []; read = more; stands = took.1 }
 
-      refused_so : (limit : PassFault) → FirstFails (so.source ++ line ∷ []) first limit
-          → ReadsFirst (pass_of text faults initial later) (Err (of_pass limit))
-      refused_so pass.TooManySymbols fails = (
+      refused_so : (stopped : AsmFault) → FirstFails (so.source ++ line ∷ []) first stopped
+          → ReadsFirst (pass_of text faults initial later) (Err stopped)
+      refused_so fault.NoMemory fails = begun_more.reads.0
+      refused_so fault.Read fails = absurd fails.refused
+      refused_so (fault.Write output) fails = absurd fails.refused
+      refused_so fault.TooMuchSource fails = absurd fails.refused
+      refused_so stopped fails = (
         begun_more.reading,
         begun_more.reads,
         fails.lines,
-        outcome.Refuses.AtLimit (so.source ++ line ∷ []) begun_more.more pass.TooManySymbols begun_more.are fails.refused refl,
+        outcome.Refuses.AtLimit (so.source ++ line ∷ []) begun_more.more stopped begun_more.are fails.refused refl,
       )
-      refused_so pass.TooManySections fails = (
-        begun_more.reading,
-        begun_more.reads,
-        fails.lines,
-        outcome.Refuses.AtLimit (so.source ++ line ∷ []) begun_more.more pass.TooManySections begun_more.are fails.refused refl,
-      )
-      refused_so (pass.Unfold inner) fails = (
-        begun_more.reading,
-        begun_more.reads,
-        fails.lines,
-        outcome.Refuses.AtLimit (so.source ++ line ∷ []) begun_more.more (pass.Unfold inner) begun_more.are fails.refused refl,
-      )
-      refused_so pass.NoMemory fails = begun_more.reads.0
 
-      pub first_refuses : (first' : FirstState) (limit : PassFault) (stopped : AsmFault) → stopped ≡ of_pass limit
-          → FirstTakes so.source line first first' (Err limit) → ReadsFirst (pass_of text faults initial later) (Err stopped)
-      first_refuses first' limit stopped is fails =
+      pub first_refuses : (first' : FirstState) (stopped : AsmFault) (result : Result (Unit {0}) AsmFault)
+          → FirstTakes so.source line first first' (Err stopped) → IsErrAnd result (λ f. f ≡ stopped)
+          → TakesLines (pass_of text faults initial later) first' result
+      first_refuses first' stopped (Ok done) fails is = absurd is
+      first_refuses first' stopped (Err other) fails is =
           let P : AsmFault → Type 0 = λ f. ReadsFirst (pass_of text faults initial later) (Err f) in
-          subst P (sym is) (refused_so limit fails)
+          subst P (sym is) (refused_so stopped fails)
 
 -- ---- before the first line, and after the last one
 
@@ -146,16 +138,17 @@ none_given text faults feeds (Err stopped) is =
     let P : AsmFault → Type 0 = λ f. ReadsFirst (pass_of text faults feeds feeds) (Err f) in
     subst P (sym is) (none_failed faults feeds)
 
-no_fault : (first : FirstState) (came : PassFault) → first.fault ≡ None → first.fault ≡ Some came → ⊥
+no_fault : (first : FirstState) (came : AsmFault) → first.fault ≡ None → first.fault ≡ Some came → ⊥
 no_fault first came none some = none_some (sym none ∙ some)
   where
     none_some : None ≡ Some came → ⊥
     none_some e = cc
 
 pub all_given : {F : Type 0} (pass : Pass F) (first : FirstState) → FirstTaken pass first → (result : Result Symbols AsmFault)
-    → EndsWith first result → GivesSymbols pass result
-all_given pass first taken (Ok symbols) is = (first, taken, is.0, is.1)
-all_given pass first taken (Err stopped) (came, some, is) = absurd (no_fault first came taken.stands.goes_on some)
+    → IfOk result (λ symbols. symbols ≡ symbols_of first) → IfOk result (λ symbols. length symbols.kept.table.sections ≤ most_sections)
+    → result_err result ≡ first.fault → GivesSymbols pass result
+all_given pass first taken (Ok symbols) is few ends = (first, taken, is, few)
+all_given pass first taken (Err stopped) is few ends = absurd (no_fault first stopped taken.stands.goes_on (sym ends))
 
 abbrev ended_at : List SourceLine → Ended
 ended_at source = record { read = length source; has_end = false }

@@ -1,7 +1,7 @@
 -- Both passes make the run.
 use Rattle.std.proofs.Common.{◌≤◌, ℕ, List, length, Result, Ok, Err, refl, sym, subst, inr}
+use Rattle.m11_asm_faults.specs.declared.fault.AsmFault.{AsmFault}
 use Rattle.m11_asm_outputs.specs.Outputs.{Gains, Outputs, Write}
-use Rattle.m11_asm_outputs.specs.declared.fault.AsmFault.{AsmFault}
 use Rattle.m11_first.specs.First.{Symbols}
 use Rattle.m11_passes.specs.Lines.{Numbered, givens}
 use Rattle.m11_placement.specs.Limits.{most_sections}

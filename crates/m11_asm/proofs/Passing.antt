@@ -1,8 +1,8 @@
 -- What follows from a line of the source is placed and written, live line by live line.
 use Rattle.std.proofs.Common.{◌≡◌, ℕ, Bool, true, false, List, [], ◌∷◌, ◌++◌, length, Result, Ok, Err, IsErrAnd, refl, sym, subst, append-nil}
+use Rattle.m11_asm_faults.specs.declared.fault.AsmFault.{AsmFault}
+use Rattle.m11_asm_faults.specs.declared.fault.AsmFault.TheVariants as fault
 use Rattle.m11_asm_outputs.specs.Outputs.{Gains, Outputs, Stops, StopsBetween, Write, assembly}
-use Rattle.m11_asm_outputs.specs.declared.fault.AsmFault.{AsmFault}
-use Rattle.m11_asm_outputs.specs.declared.fault.AsmFault.TheVariants as fault
 use Rattle.m11_lines.specs.Line.{SourceLine}
 use Rattle.m11_object_text.specs.declared.pieces.PieceContent.{PieceContent}
 use Rattle.m11_passes.specs.Lines.{Numbered, numbered, table_at}
@@ -11,8 +11,6 @@ use Rattle.m11_passes.specs.Reaching.{PlacesLine, Reaches, Refused}
 use Rattle.m11_passes.specs.Refusals.{given_by}
 use Rattle.m11_passes.specs.States.{Going, PassStands}
 use Rattle.m11_passes.specs.Turns.{SaysPlaced, Turns}
-use Rattle.m11_passes.specs.declared.fault.PassFault.{PassFault}
-use Rattle.m11_passes.specs.declared.fault.PassFault.TheVariants as pass
 use Rattle.m11_passes.specs.declared.placed.PlacedLine.{PlacedLine}
 use Rattle.m11_passes.specs.declared.turns.Turn.{Turn}
 use Rattle.m11_passes.specs.declared.turns.Turn.TheVariants.{NeedLine, End, Line}
@@ -20,7 +18,6 @@ use Rattle.m11_placement.specs.Contents.{Put}
 use Rattle.m11_placement.specs.Meanings.{Map}
 use Rattle.m11_placing.specs.Mentioned.{Gathered}
 use Rattle.m11_writes.proofs.Writing.{gains_then, stops_after}
-use Rattle.m11_asm.specs.Faults.{of_pass}
 use Rattle.m11_asm.specs.Program.{Program}
 use Rattle.m11_asm.specs.Second.{SecondFails, Taken, TakesAll, TakesLeft}
 use Rattle.m11_asm.specs.Writing.{Writing, WritingStands}
@@ -30,7 +27,7 @@ use Rattle.m11_asm.proofs.LinesWritten.{next_writes, written_more}
 -- the law of the calls of a pass
 abbrev pub TurnsSo : Type 0
 TurnsSo = (map : Map) (before : Gathered) (source : List SourceLine) (lines : List Numbered) (old new : Going)
-    (placed : PlacedLine) (result : Result Turn PassFault) → PassStands map before source lines old
+    (placed : PlacedLine) (result : Result Turn AsmFault) → PassStands map before source lines old
     → Turns map old new (live_in placed.live) (SaysPlaced map placed new.put) result
     → Reaches map before source lines new (live_in placed.live) (SaysPlaced map placed new.put) result
 
@@ -134,28 +131,24 @@ module _ (turn : TurnsSo) (program : Program) (source : List SourceLine) (first 
             (stops_so stopped (stops_more stopped (writes one new.put some.1.keeps here.is_said (sym contents_are) number_is)))
 
   -- the pass passes a limit, or memory is refused
-  module _ (limit : PassFault) (turned : Turns map_ old new (live_in placed.live) (SaysPlaced map_ placed new.put) (Err limit)) where
+  module _ (limit : AsmFault) (turned : Turns map_ old new (live_in placed.live) (SaysPlaced map_ placed new.put) (Err limit)) where
     refused : Refused program.map program.mentioned.names source some.0 limit
     refused =
         let P : Map → Type 0 = λ m. Turns m old new (live_in placed.live) (SaysPlaced m placed new.put) (Err limit) in
         turn program.map program.mentioned source some.0 old new placed (Err limit) some.1.stands (subst P same turned)
 
-    fails_so : (limit : PassFault) → Refused program.map program.mentioned.names source some.0 limit
-        → SecondFails program source first now (of_pass limit)
-    fails_so pass.TooManySymbols r =
-        record { limit = pass.TooManySymbols; fault_is = refl; lines = some.0; exceeds = r; gains = some.1.gains }
-    fails_so pass.TooManySections r =
-        record { limit = pass.TooManySections; fault_is = refl; lines = some.0; exceeds = r; gains = some.1.gains }
-    fails_so (pass.Unfold inner) r =
-        record { limit = pass.Unfold inner; fault_is = refl; lines = some.0; exceeds = r; gains = some.1.gains }
-    fails_so pass.NoMemory r =
+    fails_so : (stopped : AsmFault) → Refused program.map program.mentioned.names source some.0 stopped
+        → SecondFails program source first now stopped
+    fails_so fault.NoMemory r =
         record { lines = some.0; stage = old.unfolder.stage; live = some.1.stands.lines_are; stops = all_between }
+    fails_so fault.Read r = absurd r
+    fails_so (fault.Write output) r = absurd r
+    fails_so fault.TooMuchSource r = absurd r
+    fails_so other r = record { lines = some.0; exceeds = r; gains = some.1.gains }
 
-    pub fails_all : SecondFails program source first now (of_pass limit)
-    fails_all = fails_so limit refused
-
--- the same fault by another name
-pub fails_as : (program : Program) (source : List SourceLine) (first now : Outputs) (stopped other : AsmFault) → stopped ≡ other
-    → SecondFails program source first now other → SecondFails program source first now stopped
-fails_as program source first now stopped other is fails =
-    let P : AsmFault → Type 0 = λ f. SecondFails program source first now f in subst P (sym is) fails
+    -- which is handed on
+    pub fails_all : (later : Writing) (result : Result Bool AsmFault) → IsErrAnd result (λ f. f ≡ limit)
+        → TakesLeft program source first now new later result
+    fails_all later (Ok ended) is = absurd is
+    fails_all later (Err stopped) is =
+        let P : AsmFault → Type 0 = λ f. SecondFails program source first now f in subst P (sym is) (fails_so limit refused)

@@ -1,9 +1,9 @@
 -- The second pass over feeds, from line to line.
 use Rattle.std.proofs.Common.{◌≡◌, ◌∙◌, ℕ, ◌+◌, Bool, true, false, List, [], ◌∷◌, ◌++◌, length, Option, Some, None, Result, Ok, Err, IfOk, IsErrAnd, refl, sym, ap, subst, inl, inr, arith}
-use Rattle.m11_asm_outputs.specs.Fault.{of_lines}
+use Rattle.m11_asm_faults.specs.Faults.{of_lines}
+use Rattle.m11_asm_faults.specs.declared.fault.AsmFault.{AsmFault}
+use Rattle.m11_asm_faults.specs.declared.fault.AsmFault.TheVariants as fault
 use Rattle.m11_asm_outputs.specs.Outputs.{Outputs, StopsBetween, StopsIn, Write, Writes, assembly}
-use Rattle.m11_asm_outputs.specs.declared.fault.AsmFault.{AsmFault}
-use Rattle.m11_asm_outputs.specs.declared.fault.AsmFault.TheVariants as fault
 use Rattle.m11_base.specs.Feed.{Text}
 use Rattle.m11_lines.specs.Line.{SourceLine}
 use Rattle.m11_lines.specs.Lines.{most_lines}
@@ -162,7 +162,7 @@ module _ {F : Type 0} (text : F → Option Text) (faults : F → ℕ) (program :
           begun_more.reading,
           begun_more.reads,
           s.lines,
-          outcome.Refuses.AtLimit all begun_more.more s.limit begun_more.are s.exceeds s.fault_is,
+          outcome.Refuses.AtLimit all begun_more.more stopped begun_more.are s.exceeds refl,
           s.gains,
         )
 

@@ -1,12 +1,10 @@
 -- The first pass over feeds, call by call. (This project's own.)
-use Rattle.std.specs.Prelude.{◌≡◌, ◌≤◌, Bool, true, false, List, ◌++◌, length, None, Some, Result, Ok, Err}
-use Rattle.m11_asm_outputs.specs.declared.fault.AsmFault.{AsmFault}
+use Rattle.std.specs.Prelude.{◌≡◌, ◌≤◌, Bool, true, false, List, ◌++◌, length, None, Result, Ok, Err}
+use Rattle.m11_asm_faults.specs.declared.fault.AsmFault.{AsmFault}
 use Rattle.m11_first.specs.First.{FirstStands, FirstState, Symbols, symbols_of}
 use Rattle.m11_lines.specs.Line.{SourceLine}
 use Rattle.m11_placement.specs.Limits.{most_sections}
-use Rattle.m11_passes.specs.declared.fault.PassFault.{PassFault}
 use Rattle.m11_readings.specs.Readings.{Reading}
-use Rattle.m11_asm.specs.Faults.{of_pass}
 use Rattle.m11_asm.specs.Passes.{Pass, Reads, ReadsFirst}
 
 -- these lines of a reading were taken: up to that in which `.END` became live, or all of them
@@ -25,11 +23,6 @@ pub record FirstTaken {F : Type 0} (pass : Pass F) (first : FirstState) : Type 0
 abbrev pub TakesLines : {F : Type 0} → Pass F → FirstState → Result (Unit {0}) AsmFault → Type 0
 TakesLines pass first (Ok done) = FirstTaken pass first
 TakesLines pass first (Err stopped) = ReadsFirst pass (Err stopped)
-
--- the end of a pass
-abbrev pub EndsWith : FirstState → Result Symbols AsmFault → Type 0
-EndsWith first (Ok symbols) = (symbols ≡ symbols_of first) × (length symbols.kept.table.sections ≤ most_sections)
-EndsWith first (Err stopped) = (fault : PassFault) × (first.fault ≡ Some fault) × (stopped ≡ of_pass fault)
 
 abbrev pub GivesSymbols : {F : Type 0} → Pass F → Result Symbols AsmFault → Type 0
 GivesSymbols pass (Ok symbols) = (first : FirstState) × FirstTaken pass first × (symbols ≡ symbols_of first)

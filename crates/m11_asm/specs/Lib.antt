@@ -1,4 +1,3 @@
-pub mod Faults
 pub mod FirstReading
 pub mod Outcome
 pub mod Passes

@@ -2,18 +2,16 @@
 -- Manual, "Source program format", "Symbols" and ".END directive". That sources are one text after the other, read twice, and the limits,
 -- are this project's own.)
 use Rattle.std.specs.Prelude.{◌≡◌, ℕ, true, false, List, [], ◌++◌, length, None, Some}
-use Rattle.m11_asm_outputs.specs.Fault.{of_lines}
+use Rattle.m11_asm_faults.specs.Faults.{of_lines}
+use Rattle.m11_asm_faults.specs.declared.fault.AsmFault.{AsmFault}
 use Rattle.m11_asm_outputs.specs.Outputs.{Write}
-use Rattle.m11_asm_outputs.specs.declared.fault.AsmFault.{AsmFault}
 use Rattle.m11_base.specs.Rad50.{Name}
 use Rattle.m11_lines.specs.Line.{SourceLine}
 use Rattle.m11_lines.specs.declared.fault.LineFault.{LineFault}
 use Rattle.m11_passes.specs.Lines.{Numbered, PassLines, givens}
 use Rattle.m11_passes.specs.Reaching.{Exceeds}
-use Rattle.m11_passes.specs.declared.fault.PassFault.{PassFault}
 use Rattle.m11_placement.specs.Meanings.{Map, empty_map}
 use Rattle.m11_readings.specs.Readings.{Reading}
-use Rattle.m11_asm.specs.Faults.{of_pass}
 use Rattle.m11_asm.specs.Program.{Program, program_of}
 use Rattle.m11_asm.specs.Written.{Ended, flagged_count, program_writes, written}
 use Rattle.m11_unfolding.specs.Stages.{Stage}
@@ -38,8 +36,8 @@ pub data Ends (map : Map) (names : List Name) (reading : Reading) (lines : List 
 pub data Refuses (map : Map) (names : List Name) (reading : Reading) (lines : List Numbered) (stopped : AsmFault) : Type 0 where
   AtReading : (fault : LineFault) → reading.fault ≡ Some fault → stopped ≡ of_lines fault → Unended map names reading.lines lines
       → Refuses map names reading lines stopped
-  AtLimit : (source more : List SourceLine) (limit : PassFault) → reading.lines ≡ source ++ more
-      → Exceeds map names source lines limit → stopped ≡ of_pass limit → Refuses map names reading lines stopped
+  AtLimit : (source more : List SourceLine) (limit : AsmFault) → reading.lines ≡ source ++ more
+      → Exceeds map names source lines limit → stopped ≡ limit → Refuses map names reading lines stopped
 
 -- ---- the outcome
 

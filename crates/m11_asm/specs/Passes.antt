@@ -1,8 +1,8 @@
 -- Passes over feeds: what their texts yield, and where a pass ends early. (This project's own.)
 use Rattle.std.specs.Prelude.{◌≡◌, List, [], ◌++◌, None, Option, ℕ, Result, Ok, Err}
+use Rattle.m11_asm_faults.specs.declared.fault.AsmFault.{AsmFault}
+use Rattle.m11_asm_faults.specs.declared.fault.AsmFault.TheVariants as fault
 use Rattle.m11_asm_outputs.specs.Outputs.{Gains, Outputs, StopsBetween, StopsIn, Write}
-use Rattle.m11_asm_outputs.specs.declared.fault.AsmFault.{AsmFault}
-use Rattle.m11_asm_outputs.specs.declared.fault.AsmFault.TheVariants as fault
 use Rattle.m11_base.specs.Feed.{NoneFailed, Text}
 use Rattle.m11_lines.specs.Line.{SourceLine}
 use Rattle.m11_passes.specs.Lines.{Numbered, PassLines}

@@ -1,6 +1,8 @@
 -- The second pass of a source, call by call: what stands after its lines so far, what is written, and how it stops. (MACRO-11 Language
 -- Reference Manual, "Source program format" and ".END directive". That lines past the 65,535th are refused is this project's own.)
 use Rattle.std.specs.Prelude.{◌≡◌, ◌⊎◌, ℕ, ◌+◌, Bool, true, false, List, [], ◌∷◌, ◌++◌, length, Option, None, Result, Ok, Err, IfOk}
+use Rattle.m11_asm_faults.specs.declared.fault.AsmFault.{AsmFault}
+use Rattle.m11_asm_faults.specs.declared.fault.AsmFault.TheVariants as fault
 use Rattle.m11_lines.specs.Line.{SourceLine}
 use Rattle.m11_lines.specs.Lines.{most_lines}
 use Rattle.m11_unfolding.specs.Stages.{Stage}
@@ -8,11 +10,7 @@ use Rattle.m11_placement.specs.Meanings.{Map}
 use Rattle.m11_passes.specs.Lines.{Numbered, PassLines}
 use Rattle.m11_passes.specs.Reaching.{Exceeds}
 use Rattle.m11_passes.specs.States.{Going, PassState, PassStands}
-use Rattle.m11_passes.specs.declared.fault.PassFault.{PassFault}
 use Rattle.m11_asm_outputs.specs.Outputs.{Gains, Outputs, StopsBetween, StopsIn, Write, Writes}
-use Rattle.m11_asm_outputs.specs.declared.fault.AsmFault.{AsmFault}
-use Rattle.m11_asm_outputs.specs.declared.fault.AsmFault.TheVariants as fault
-use Rattle.m11_asm.specs.Faults.{of_pass}
 use Rattle.m11_asm.specs.Program.{Program}
 use Rattle.m11_asm.specs.Written.{Ended, flagged_count, program_writes, written}
 use Rattle.m11_asm.specs.Writing.{Writing, WritingStands}
@@ -60,10 +58,8 @@ pub record StopsAmong (Stop : List Write → Type 0) (program : Program) (source
 
 -- the source passes a limit after these live lines, and exactly what they write was written
 pub record StopsAtLimit (program : Program) (source : List SourceLine) (first now : Outputs) (stopped : AsmFault) : Type 0 where
-  pub limit : PassFault
-  pub fault_is : stopped ≡ of_pass limit
   pub lines : List Numbered
-  pub exceeds : Exceeds program.map program.mentioned.names source lines limit
+  pub exceeds : Exceeds program.map program.mentioned.names source lines stopped
   pub gains : Gains first now (written program lines)
 
 -- the source has one line too many, and exactly what the lines before it write was written

@@ -1,7 +1,7 @@
 -- The second pass over feeds, call by call. (This project's own.)
 use Rattle.std.specs.Prelude.{List, Result, Ok, Err}
+use Rattle.m11_asm_faults.specs.declared.fault.AsmFault.{AsmFault}
 use Rattle.m11_asm_outputs.specs.Outputs.{Outputs}
-use Rattle.m11_asm_outputs.specs.declared.fault.AsmFault.{AsmFault}
 use Rattle.m11_lines.specs.Line.{SourceLine}
 use Rattle.m11_readings.specs.Readings.{Reading}
 use Rattle.m11_asm.specs.Program.{Program}

@@ -1,12 +1,11 @@
 //! The first pass: what the sources give their names.
 
 ghost use Rattle.std.specs.Prelude.{[]};
-ghost use Rattle.m11_asm.specs.FirstReading.{EndsWith, GivesSymbols, TakesLines};
+ghost use Rattle.m11_asm.specs.FirstReading.{GivesSymbols, TakesLines};
 ghost use Rattle.m11_asm.specs.Passes.{pass_of};
 ghost use Rattle.m11_first.specs.First.{FirstStands};
 
-use crate::faults::of_pass;
-use m11_asm_outputs::AsmFault;
+use m11_asm_faults::AsmFault;
 use m11_base::Feed;
 use m11_first::{First, Symbols};
 use m11_lines::LineReader;
@@ -18,21 +17,12 @@ pub fn read_first<F: Feed>(alloc: Global, feeds: &mut [F]) -> Result<Symbols, As
 {
     let mut first = First::new(alloc)?;
     match take_lines(feeds, &mut first) {
-        Ok(()) => end(first),
+        Ok(()) => first.end(),
         Err(fault) => {
             // by a call, which is proved sooner
             drop(first);
             Err(fault)
         }
-    }
-}
-
-fn end(first: First) -> Result<Symbols, AsmFault>
-    ensures { EndsWith first result }
-{
-    match first.end() {
-        Ok(symbols) => Ok(symbols),
-        Err(fault) => Err(of_pass(fault)),
     }
 }
 
@@ -46,10 +36,7 @@ fn take_lines<F: Feed>(feeds: &mut [F], first: &mut First) -> Result<(), AsmFaul
             return Ok(());
         }
         match reader.next(feeds) {
-            Ok(true) => match first.line(reader.line()) {
-                Ok(()) => {}
-                Err(fault) => return Err(of_pass(fault)),
-            },
+            Ok(true) => first.line(reader.line())?,
             Ok(false) => return Ok(()),
             Err(fault) => return Err(AsmFault::from(fault)),
         }

@@ -5,7 +5,6 @@
 #![tactic(auto)]
 
 mod done;
-mod faults;
 mod first_reading;
 mod laws;
 mod lines;
@@ -16,7 +15,7 @@ mod writing;
 
 pub use done::AsmDone;
 pub use laws::a_run_writes_the_outcome_of_its_sources;
-pub use m11_asm_outputs::{AsmFault, AsmOutput};
+pub use m11_asm_faults::{AsmFault, AsmOutput};
 pub use m11_first::{First, Symbols};
 pub use run::asm_run;
 pub use second::Second;

@@ -7,9 +7,8 @@ ghost use Rattle.m11_passes.specs.Lines.{Numbered};
 ghost use Rattle.m11_asm.specs.Program.{Program};
 ghost use Rattle.m11_asm.specs.Second.{Taken, TakesLeft};
 
-use crate::faults::of_pass;
 use crate::writing::Writing;
-use m11_asm_outputs::AsmFault;
+use m11_asm_faults::AsmFault;
 use m11_base::Sink;
 use m11_passes::{PlacedLine, SourcePass, Turn, the_calls_place_the_lines_of_a_source};
 use m11_table::Map;
@@ -40,13 +39,12 @@ pub fn take_left<S: Sink, T: Sink, U: Sink>(
 {
     the_calls_place_the_lines_of_a_source();
     'lines: loop {
-        match pass.next(map, placed) {
-            Ok(Turn::NeedLine) => return Ok(false),
-            Ok(Turn::End) => return Ok(true),
-            Ok(Turn::Line) => {
+        match pass.next(map, placed)? {
+            Turn::NeedLine => return Ok(false),
+            Turn::End => return Ok(true),
+            Turn::Line => {
                 writing.put_line(placed, number, pass.contents(), object, listing, messages)?
             }
-            Err(fault) => return Err(of_pass(fault)),
         }
         // most lines of a source are one live line
         if pass.needs_line() {

@@ -2,8 +2,8 @@
 
 ghost use Rattle.std.specs.Prelude.{◌≡◌, [], ◌+◌, List, Some, Err, IfOk, IfErr};
 ghost use Rattle.std.specs.Result.{result_err};
+ghost use Rattle.m11_asm_faults.specs.declared.fault.AsmFault.TheVariants as fault;
 ghost use Rattle.m11_asm_outputs.specs.Outputs.{Gains, Outputs, outputs_of};
-ghost use Rattle.m11_asm_outputs.specs.declared.fault.AsmFault.TheVariants as fault;
 ghost use Rattle.m11_lines.specs.Line.{SourceLine};
 ghost use Rattle.m11_lines.specs.Lines.{most_lines};
 ghost use Rattle.m11_asm.specs.Program.{Program, program_in};
@@ -12,7 +12,7 @@ ghost use Rattle.m11_asm.specs.Second.{SecondEnds, SecondStands, SecondTakes};
 use crate::done::AsmDone;
 use crate::lines::take_left;
 use crate::writing::Writing;
-use m11_asm_outputs::AsmFault;
+use m11_asm_faults::AsmFault;
 use m11_base::{Latch, Sink};
 use m11_first::Symbols;
 use m11_passes::{PlacedLine, SourcePass, the_calls_place_the_lines_of_a_source};

@@ -9,7 +9,7 @@ ghost use Rattle.m11_asm.specs.Second.{SecondStands};
 
 use crate::done::AsmDone;
 use crate::second::Second;
-use m11_asm_outputs::AsmFault;
+use m11_asm_faults::AsmFault;
 use m11_base::{Feed, Sink};
 use m11_first::Symbols;
 use m11_lines::LineReader;

@@ -27,9 +27,8 @@ ghost use Rattle.m11_writes.specs.Outputs.{Output, optional_output, output_of};
 
 use crate::done::AsmDone;
 use bitflags::Flags;
-use m11_asm_outputs::{
-    AsmFault, open_text, put_count, put_flagged, put_head, put_last, put_pieces,
-};
+use m11_asm_faults::AsmFault;
+use m11_asm_outputs::{open_text, put_count, put_flagged, put_head, put_last, put_pieces};
 use m11_base::Sink;
 use m11_directory::{FirstPass, directory_rows};
 use m11_first::Facts;

@@ -1,12 +1,12 @@
 -- Contents that are written as blocks.
 use Rattle.std.proofs.Common.{◌≡◌, ℕ, List, [], ◌∷◌, ◌++◌, map, Result, refl, sym, ap, ◌∙◌, subst, append_assoc}
 use Rattle.arrayvec.specs.ArrayVec.{ArrayVec}
+use Rattle.m11_asm_faults.specs.declared.fault.AsmFault.{AsmFault}
 use Rattle.m11_base.specs.Devices.{Bytes}
 use Rattle.m11_blocks.specs.Frames.{block}
 use Rattle.m11_obj.specs.Records.{Content, EndOfGsd, record_data}
 use Rattle.m11_object_text.specs.Blocks.{AreRecords}
 use Rattle.m11_object_text.specs.declared.directory.DirectoryRow.{DirectoryRow}
-use Rattle.m11_asm_outputs.specs.declared.fault.AsmFault.{AsmFault}
 use Rattle.m11_asm_outputs.specs.Object.{block_writes, content_writes, head_contents, records_filled_by, rest_records}
 use Rattle.m11_asm_outputs.specs.Outputs.{Gains, Outputs, Stops, Write, Writes, to_object}
 use Rattle.m11_asm_outputs.proofs.Closing.{all_directory, from_nothing}

@@ -1,8 +1,8 @@
 -- Writes of a list, one of its items after another. (This project's own words.)
 use Rattle.std.proofs.Common.{◌≡◌, ℕ, ◌+◌, ◌<◌, List, [], ◌∷◌, ◌++◌, length, drop, get_or, Result, Ok, Err, refl, sym, ap, ◌∙◌, subst}
 use Rattle.std.proofs.lemmas.List.{drop_more, map-append}
+use Rattle.m11_asm_faults.specs.declared.fault.AsmFault.{AsmFault}
 use Rattle.m11_obj.specs.Records.{Content}
-use Rattle.m11_asm_outputs.specs.declared.fault.AsmFault.{AsmFault}
 use Rattle.m11_asm_outputs.specs.Object.{content_write, content_writes}
 use Rattle.m11_asm_outputs.specs.Outputs.{Outputs, Write, Gains, Stops, Writes, assembly}
 use Rattle.m11_writes.proofs.Writing.{gains_nothing, stops_before, writes_then}

@@ -1,9 +1,9 @@
 -- Items taken one after another, where each writes what it adds to the records of those before it. (This project's own
 -- words.)
 use Rattle.std.proofs.Common.{◌≡◌, List, [], ◌∷◌, ◌++◌, refl, sym, ap, subst, ◌∙◌, append_assoc, append-nil}
+use Rattle.m11_asm_faults.specs.declared.fault.AsmFault.{AsmFault}
 use Rattle.m11_obj.specs.Records.{Content}
 use Rattle.m11_writes.specs.Outputs.{Output}
-use Rattle.m11_asm_outputs.specs.declared.fault.AsmFault.{AsmFault}
 use Rattle.m11_asm_outputs.specs.Object.{added, content_writes}
 use Rattle.m11_asm_outputs.specs.Outputs.{Outputs, Gains, Stops}
 use Rattle.m11_asm_outputs.proofs.Growing.{added-append, added-nil}

@@ -1,10 +1,10 @@
 -- What one output of an assembly took is a write. (This project's own words.)
 use Rattle.std.proofs.Common.{◌≡◌, ◌≢◌, ℕ, false, List, [], ◌∷◌, Result, Ok, Err, IfErr, refl, sym, subst}
 use Rattle.std.specs.Io.KnownBytes.{Appends}
-use Rattle.m11_asm_outputs.specs.declared.fault.AsmFault.{AsmFault}
-use Rattle.m11_asm_outputs.specs.declared.fault.AsmFault.TheVariants as fault
-use Rattle.m11_asm_outputs.specs.declared.fault.AsmOutput.{AsmOutput}
-use Rattle.m11_asm_outputs.specs.declared.fault.AsmOutput.TheVariants.{Object, Listing, Messages}
+use Rattle.m11_asm_faults.specs.declared.fault.AsmFault.{AsmFault}
+use Rattle.m11_asm_faults.specs.declared.fault.AsmFault.TheVariants as fault
+use Rattle.m11_asm_faults.specs.declared.fault.AsmOutput.{AsmOutput}
+use Rattle.m11_asm_faults.specs.declared.fault.AsmOutput.TheVariants.{Object, Listing, Messages}
 use Rattle.m11_writes.specs.Outputs.{Output, Puts, no_output}
 use Rattle.m11_writes.specs.Writes.{gained}
 use Rattle.m11_writes.proofs.Writing.{keeps, put_writes}

@@ -1,14 +1,12 @@
-//! The faults and outputs of an assembly, and what is written to them: the records of the object, and the lines of the
+//! The outputs of an assembly, and what is written to them: the records of the object, and the lines of the
 //! listing and of the messages. No source is read here, and no line is understood.
 #![tactic(auto)]
 
-mod fault;
 mod laws;
 mod messages;
 mod object;
 mod outputs;
 
-pub use fault::{AsmFault, AsmOutput};
 pub use laws::{pieces_close_texts_in_turn, the_parts_are_the_object};
 pub use messages::{put_count, put_flagged};
 pub use object::{open_text, put_head, put_last, put_pieces};

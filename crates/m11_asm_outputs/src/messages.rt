@@ -7,8 +7,8 @@ ghost use Rattle.m11_scan.specs.Views.{bits_of};
 ghost use Rattle.m11_writes.specs.Outputs.{Output, output_of};
 ghost use Rattle.m11_asm_outputs.specs.Outputs.{Writes, outputs, to_messages};
 
-use crate::fault::AsmFault;
 use crate::outputs::put_message;
+use m11_asm_faults::AsmFault;
 use m11_base::Sink;
 use m11_listing::{count_line, message_line};
 use m11_scan::Letters;

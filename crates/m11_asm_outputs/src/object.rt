@@ -13,8 +13,8 @@ ghost use Rattle.m11_writes.specs.Outputs.{Output, output_of};
 ghost use Rattle.m11_asm_outputs.specs.Object.{IsOpenAfter, WaitsAfter, block_writes, content_writes, head_contents, last_records, records_closed_by, records_filled_by, rest_records};
 ghost use Rattle.m11_asm_outputs.specs.Outputs.{Writes, outputs};
 
-use crate::fault::AsmFault;
 use crate::outputs::put_record;
+use m11_asm_faults::AsmFault;
 use m11_base::{Name, Sink};
 use m11_obj::{Block, Record};
 use m11_object_text::{DirectoryRow, OpenDirectory, OpenText, Piece, PieceContent, Text};

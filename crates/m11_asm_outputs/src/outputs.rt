@@ -5,7 +5,7 @@ ghost use Rattle.m11_blocks.specs.Frames.{block};
 ghost use Rattle.m11_writes.specs.Outputs.{Output, optional_output, output_of};
 ghost use Rattle.m11_asm_outputs.specs.Outputs.{Writes, outputs, to_listing, to_messages, to_object};
 
-use crate::fault::{AsmFault, AsmOutput};
+use m11_asm_faults::{AsmFault, AsmOutput};
 use m11_base::Sink;
 use m11_obj::{Block, block_bytes};
 use m11_writes::put_or_fail;

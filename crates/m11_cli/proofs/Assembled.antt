@@ -2,9 +2,9 @@
 use Rattle.std.proofs.Common.{ℕ, List, inl, inr, ap, Option, Result, Ok, Err}
 use Rattle.m11_asm.specs.Passes.{ReadsFirst, ReadsSecond, pass_of}
 use Rattle.m11_asm.specs.Run.{AsmRuns}
+use Rattle.m11_asm_faults.specs.declared.fault.AsmFault.{AsmFault}
+use Rattle.m11_asm_faults.specs.declared.fault.AsmFault.TheVariants as fault
 use Rattle.m11_asm_outputs.specs.Outputs.{Outputs}
-use Rattle.m11_asm_outputs.specs.declared.fault.AsmFault.{AsmFault}
-use Rattle.m11_asm_outputs.specs.declared.fault.AsmFault.TheVariants as fault
 use Rattle.m11_base.specs.Feed.{Text}
 use Rattle.m11_passes.specs.Lines.{Numbered, givens}
 use Rattle.m11_readings.specs.Calls.{FailReading, HaveReading}

@@ -2,8 +2,8 @@
 -- lines, messages of a link or a stop other than HALT, 2 words that are refused, 3 a device, 4 a
 -- malformed object or tape or one that does not fit the memory, 5 no memory, 6 a limit.)
 use Rattle.std.specs.Prelude.{◌≡◌, ⊤, ℕ, Ok, Err, ◌==◌, if◌then◌else◌}
-use Rattle.m11_asm_outputs.specs.declared.fault.AsmFault.{AsmFault}
-use Rattle.m11_asm_outputs.specs.declared.fault.AsmFault.TheVariants as asm
+use Rattle.m11_asm_faults.specs.declared.fault.AsmFault.{AsmFault}
+use Rattle.m11_asm_faults.specs.declared.fault.AsmFault.TheVariants as asm
 use Rattle.m11_cpu.specs.declared.fault.LoadFault.{LoadFault}
 use Rattle.m11_cpu.specs.declared.fault.LoadFault.TheVariants as load
 use Rattle.m11_cpu.specs.declared.fault.SimFault.{SimFault}

@@ -2,7 +2,7 @@
 
 ghost use Rattle.std.specs.Prelude.{◌≡◌, OnErr, OnOk};
 ghost use Rattle.std.specs.Io.KnownBytes.{Appends};
-ghost use Rattle.m11_asm_outputs.specs.declared.fault.AsmFault.TheVariants.{Unfold};
+ghost use Rattle.m11_asm_faults.specs.declared.fault.AsmFault.TheVariants.{Unfold};
 ghost use Rattle.m11_base.specs.Devices.{Rises};
 ghost use Rattle.m11_base.specs.Sink.{AppendsBeginning};
 ghost use Rattle.m11_cpu.specs.declared.fault.LoadFault.TheVariants.{Tape};

@@ -4,6 +4,7 @@ use Rattle.std.proofs.lemmas.List.{map-append}
 use Rattle.std.specs.Prelude.{◌⊎◌}
 use Rattle.std.specs.Option.{option_or}
 use Rattle.std.specs.Result.{result_err}
+use Rattle.m11_asm_faults.specs.declared.fault.AsmFault.{AsmFault}
 use Rattle.m11_lines.specs.Line.{SourceLine}
 use Rattle.m11_unfolding.specs.Stages.{Stage, start}
 use Rattle.m11_unfolding.specs.Unfolding.{Given}
@@ -20,7 +21,6 @@ use Rattle.m11_passes.specs.Reaching.{PlacesLine, Reaches, Refused}
 use Rattle.m11_passes.specs.Refusals.{given_by}
 use Rattle.m11_passes.specs.States.{Going, PassState, PassStands, fed}
 use Rattle.m11_passes.specs.Turns.{SaysLive, Turns}
-use Rattle.m11_passes.specs.declared.fault.PassFault.{PassFault}
 use Rattle.m11_passes.specs.declared.placed.LiveLine.{LiveLine}
 use Rattle.m11_passes.specs.declared.turns.Turn.{Turn}
 use Rattle.m11_passes.specs.declared.turns.Turn.TheVariants.{NeedLine, End, Line}
@@ -36,7 +36,7 @@ Feeds = (map : Map) (before : Gathered) (source : List SourceLine) (lines : List
 
 abbrev pub TurnsSo : Type 0
 TurnsSo = (before : Gathered) (source : List SourceLine) (lines : List Numbered) (old new : Going)
-    (live : LiveLine) (result : Result Turn PassFault) → PassStands empty_map before source lines old
+    (live : LiveLine) (result : Result Turn AsmFault) → PassStands empty_map before source lines old
     → Turns empty_map old new (live_in live) (SaysLive live) result
     → Reaches empty_map before source lines new (live_in live) (SaysLive live) result
 
@@ -104,11 +104,11 @@ module _ (turn : TurnsSo) (source : List SourceLine) (old new : Going) (live : L
           record { lines = some.0; taken = record { stands = here.0; facts_are = some.1.facts_are }; ended = sym here.1 }
 
     -- a fault of the pass, which is handed on
-    pub fails_all : (fault : PassFault) (later : Facts) (result : Result Bool PassFault) → Turns empty_map old new (live_in live) (SaysLive live) (Err fault)
+    pub fails_all : (fault : AsmFault) (later : Facts) (result : Result Bool AsmFault) → Turns empty_map old new (live_in live) (SaysLive live) (Err fault)
         → IsErrAnd result (λ f. f ≡ fault) → TakesLeft source new later result
     fails_all fault later (Ok ended) turned is = absurd is
     fails_all fault later (Err other) turned is =
-        let P : PassFault → Type 0 = λ f. Refused empty_map [] source some.0 f in (
+        let P : AsmFault → Type 0 = λ f. Refused empty_map [] source some.0 f in (
           some.0,
           subst P (sym is) (turn none_gathered source some.0 old new live (Err fault) some.1.stands turned),
         )
@@ -116,7 +116,7 @@ module _ (turn : TurnsSo) (source : List SourceLine) (old new : Going) (live : L
 -- ---- a line of the source
 
 -- before the first one
-pub begins : (going : Going) (gathered : Gathered) (facts : Facts) (fault : Option PassFault)
+pub begins : (going : Going) (gathered : Gathered) (facts : Facts) (fault : Option AsmFault)
     → ((map : Map) → PassStands map gathered [] [] going) → gathered ≡ none_gathered → going.unfolder.stage ≡ start []
     → facts ≡ no_facts → fault ≡ None
     → FirstStands [] (record { going = going; facts = facts; has_ended = false; fault = fault })
@@ -130,7 +130,7 @@ begins going gathered facts fault stands none first untold goes =
       goes_on = goes;
     }
 
-pub begins_so : (pass : PassState) (fault : Option PassFault) → pass.going.unfolder.stage ≡ start [] → pass.fault ≡ None
+pub begins_so : (pass : PassState) (fault : Option AsmFault) → pass.going.unfolder.stage ≡ start [] → pass.fault ≡ None
     → GoesOn fault false pass
 begins_so pass fault first goes = record {
   goes_on = λ none. goes;
@@ -138,10 +138,10 @@ begins_so pass fault first goes = record {
 }
 
 module _ (feeds : Feeds) (source : List SourceLine) (line : SourceLine) (pass read : PassState) (facts : Facts) (has_ended : Bool)
-    (fault : Option PassFault) (old : FirstState)
+    (fault : Option AsmFault) (old : FirstState)
     (view_is : record { going = pass.going; facts = facts; has_ended = has_ended; fault = fault } ≡ old)
     (goes : has_ended ≡ false) (read_is : read ≡ record { going = fed line pass.going; fault = pass.fault })
-    (outcome : Result Bool PassFault) (new_going : Going) (new_facts : Facts)
+    (outcome : Result Bool AsmFault) (new_going : Going) (new_facts : Facts)
     (takes : (source : List SourceLine) (lines : List Numbered) → Taken source lines read.going facts
     → TakesLeft source new_going new_facts outcome)
     (stands : FirstStands source old) where
@@ -159,24 +159,24 @@ module _ (feeds : Feeds) (source : List SourceLine) (line : SourceLine) (pass re
         facts_are = here.taken.facts_are;
       }))
 
-  pub line_fails : (came : PassFault) (new : FirstState) (result : Result (Unit {0}) PassFault) → Err came ≡ outcome
+  pub line_fails : (came : AsmFault) (new : FirstState) (result : Result (Unit {0}) AsmFault) → Err came ≡ outcome
       → IsErrAnd result (λ f. f ≡ came) → FirstTakes source line old new result
   line_fails came new (Ok done) same is = absurd is
   line_fails came new (Err other) same is =
-      let P : Result Bool PassFault → Type 0 = λ r. TakesLeft (source ++ line ∷ []) new_going new_facts r in
+      let P : Result Bool AsmFault → Type 0 = λ r. TakesLeft (source ++ line ∷ []) new_going new_facts r in
       let here : TakesLeft (source ++ line ∷ []) new_going new_facts (Err came) = subst P (sym same) left in
-      let Q : PassFault → Type 0 = λ f. Refused empty_map [] (source ++ line ∷ []) here.0 f in
+      let Q : AsmFault → Type 0 = λ f. Refused empty_map [] (source ++ line ∷ []) here.0 f in
       record { reads = goes_so; lines = here.0; refused = subst Q (sym is) here.1 }
 
-  pub line_takes : (ended : Bool) (kept : Option PassFault) → Ok ended ≡ outcome
+  pub line_takes : (ended : Bool) (kept : Option AsmFault) → Ok ended ≡ outcome
       → IfOk outcome (λ e. e ≡ false → new_going.unfolder.stage.left ≡ [])
       → kept ≡ option_or fault (result_err outcome) → fault ≡ None
       → ((old.has_ended ≡ true) × (record { going = new_going; facts = new_facts; has_ended = ended; fault = kept } ≡ old))
       ⊎ ((old.has_ended ≡ false) × FirstStands (source ++ line ∷ [])
       (record { going = new_going; facts = new_facts; has_ended = ended; fault = kept }))
   line_takes ended kept same needs kept_is none =
-      let P : Result Bool PassFault → Type 0 = λ r. TakesLeft (source ++ line ∷ []) new_going new_facts r in
-      let N : Result Bool PassFault → Type 0 = λ r. IfOk r (λ e. e ≡ false → new_going.unfolder.stage.left ≡ []) in
+      let P : Result Bool AsmFault → Type 0 = λ r. TakesLeft (source ++ line ∷ []) new_going new_facts r in
+      let N : Result Bool AsmFault → Type 0 = λ r. IfOk r (λ e. e ≡ false → new_going.unfolder.stage.left ≡ []) in
       let here : TakesAll (source ++ line ∷ []) new_going new_facts ended = subst P (sym same) left in
       inr (
         goes_so,
@@ -185,7 +185,7 @@ module _ (feeds : Feeds) (source : List SourceLine) (line : SourceLine) (pass re
           taken = here.taken;
           ended = here.ended;
           needs = subst N (sym same) needs;
-          goes_on = kept_is ∙ ap (λ (f : Option PassFault). option_or f (result_err outcome)) none
-              ∙ ap (λ (r : Result Bool PassFault). result_err r) (sym same);
+          goes_on = kept_is ∙ ap (λ (f : Option AsmFault). option_or f (result_err outcome)) none
+              ∙ ap (λ (r : Result Bool AsmFault). result_err r) (sym same);
         },
       )

@@ -1,6 +1,7 @@
 -- Where the first pass of a source stands between two of its lines, and what it gives in the end. (MACRO-11 Language Reference Manual,
 -- "Source program format", "Symbols and expressions" and ".END directive".)
 use Rattle.std.specs.Prelude.{◌≡◌, ◌⊎◌, Bool, true, false, List, [], ◌∷◌, ◌++◌, Option, None, Result, Ok, Err}
+use Rattle.m11_asm_faults.specs.declared.fault.AsmFault.{AsmFault}
 use Rattle.m11_lines.specs.Line.{SourceLine}
 use Rattle.m11_placement.specs.Meanings.{empty_map}
 use Rattle.m11_placing.specs.Mentioned.{Gathered, none_gathered}
@@ -8,7 +9,6 @@ use Rattle.m11_placing.specs.Passes.{Kept}
 use Rattle.m11_passes.specs.Lines.{Numbered, givens}
 use Rattle.m11_passes.specs.Reaching.{Refused}
 use Rattle.m11_passes.specs.States.{Going, PassState, PassStands}
-use Rattle.m11_passes.specs.declared.fault.PassFault.{PassFault}
 use Rattle.m11_first.specs.Facts.{Facts, facts_of}
 
 -- the pass, what the lines said beside names and places, whether `.END` became live, and the fault that ended the pass, if one did
@@ -16,10 +16,10 @@ pub record FirstState : Type 0 where
   pub going : Going
   pub facts : Facts
   pub has_ended : Bool
-  pub fault : Option PassFault
+  pub fault : Option AsmFault
 
 -- the pass goes on where no fault came, and where `.END` didn't come nothing is left to take
-pub record GoesOn (fault : Option PassFault) (has_ended : Bool) (pass : PassState) : Type 0 where
+pub record GoesOn (fault : Option AsmFault) (has_ended : Bool) (pass : PassState) : Type 0 where
   pub goes_on : fault ≡ None → pass.fault ≡ None
   pub needs : fault ≡ None → has_ended ≡ false → pass.going.unfolder.stage.left ≡ []
 
@@ -37,13 +37,13 @@ pub record FirstStands (source : List SourceLine) (state : FirstState) : Type 0 
   pub goes_on : state.fault ≡ None
 
 -- the source passes a limit with this line, or memory is refused
-pub record FirstFails (source : List SourceLine) (old : FirstState) (fault : PassFault) : Type 0 where
+pub record FirstFails (source : List SourceLine) (old : FirstState) (fault : AsmFault) : Type 0 where
   pub reads : old.has_ended ≡ false
   pub lines : List Numbered
   pub refused : Refused empty_map [] source lines fault
 
 -- one more line of the source: after `.END` became live none is read
-abbrev pub FirstTakes : List SourceLine → SourceLine → FirstState → FirstState → Result (Unit {0}) PassFault → Type 0
+abbrev pub FirstTakes : List SourceLine → SourceLine → FirstState → FirstState → Result (Unit {0}) AsmFault → Type 0
 FirstTakes source line old new (Ok done) =
     ((old.has_ended ≡ true) × (new ≡ old)) ⊎ ((old.has_ended ≡ false) × FirstStands (source ++ line ∷ []) new)
 FirstTakes source line old new (Err fault) = FirstFails (source ++ line ∷ []) old fault
@@ -56,7 +56,7 @@ pub record TakesAll (source : List SourceLine) (new : Going) (facts : Facts) (ha
   pub taken : Taken source lines new facts
   pub ended : has_ended ≡ new.unfolder.stage.has_ended
 
-abbrev pub TakesLeft : List SourceLine → Going → Facts → Result Bool PassFault → Type 0
+abbrev pub TakesLeft : List SourceLine → Going → Facts → Result Bool AsmFault → Type 0
 TakesLeft source new facts (Ok has_ended) = TakesAll source new facts has_ended
 TakesLeft source new facts (Err fault) = (lines : List Numbered) × Refused empty_map [] source lines fault
 

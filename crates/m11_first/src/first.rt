@@ -10,8 +10,9 @@ ghost use Rattle.m11_first.specs.First.{FirstStands, FirstTakes, Taken, TakesLef
 
 use crate::facts::Facts;
 use crate::symbols::Symbols;
+use m11_asm_faults::AsmFault;
 use m11_base::Latch;
-use m11_passes::{LiveLine, PassFault, SourcePass, Turn, the_calls_place_the_lines_of_a_source};
+use m11_passes::{LiveLine, SourcePass, Turn, the_calls_place_the_lines_of_a_source};
 use m11_placing::Mentioned;
 use m11_scan::Line;
 use std::alloc::{AllocError, Global};
@@ -24,7 +25,7 @@ pub struct First {
     pass: SourcePass,
     facts: Facts,
     has_ended: bool,
-    fault: Latch<PassFault>,
+    fault: Latch<AsmFault>,
     // Where live lines are put, one after the other.
     live: LiveLine,
 }
@@ -57,9 +58,9 @@ impl First {
     ///
     /// Errors: `Unfold` where a limit of unfolding is passed, `TooManySymbols`, `TooManySections`, the first one in the order of the lines,
     /// and within a line in that of labels, operator and arguments; and `NoMemory`.
-    pub fn line(&mut self, line: &Line) -> Result<(), PassFault>
+    pub fn line(&mut self, line: &Line) -> Result<(), AsmFault>
         ensures takes { (source : List SourceLine) → FirstStands source self.old → FirstTakes source line.now self.old self.new result }
-        ensures again { (fault : PassFault) → self.old.fault ≡ Some fault → (result ≡ Err fault) × (self.new ≡ self.old) }
+        ensures again { (fault : AsmFault) → self.old.fault ≡ Some fault → (result ≡ Err fault) × (self.new ≡ self.old) }
         ensures fault { self.new.fault ≡ result_err result }
     {
         the_calls_place_the_lines_of_a_source();
@@ -83,7 +84,7 @@ impl First {
     /// What the lines gave, after the last one.
     ///
     /// Errors: the fault that came, if one did.
-    pub fn end(self) -> Result<Symbols, PassFault>
+    pub fn end(self) -> Result<Symbols, AsmFault>
         ensures symbols { IfOk result (λ symbols. symbols ≡ symbols_of self) }
         ensures sections { IfOk result (λ symbols. length symbols.kept.table.sections ≤ most_sections) }
         ensures fault { result_err result ≡ self.fault }
@@ -107,7 +108,7 @@ fn take_left(
     pass: &mut SourcePass,
     facts: &mut Facts,
     live: &mut LiveLine,
-) -> Result<bool, PassFault>
+) -> Result<bool, AsmFault>
     requires { pass.old.fault ≡ None }
     ensures takes { (source : List SourceLine) (lines : List Numbered) → Taken source lines pass.old.going facts.old
         → TakesLeft source pass.new.going facts.new result }

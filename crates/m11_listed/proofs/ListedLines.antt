@@ -1,6 +1,7 @@
 -- Lines of the listing, one after another.
 use Rattle.std.proofs.Common.{◌≡◌, ◌∙◌, ◌≤◌, ◌<◌, ℕ, ◌+◌, List, [], ◌∷◌, ◌++◌, length, map, take, drop, append_assoc, get_or, Result, refl, sym, ap, subst, arith}
 use Rattle.std.proofs.lemmas.List.{map-append}
+use Rattle.m11_asm_faults.specs.declared.fault.AsmFault.{AsmFault}
 use Rattle.m11_base.specs.Devices.{Bytes}
 use Rattle.m11_listing.specs.Items.{place_after}
 use Rattle.m11_listing.specs.Listing.{further_line, further_lines}
@@ -13,7 +14,6 @@ use Rattle.m11_writes.specs.Outputs.{Output, no_output}
 use Rattle.m11_writes.proofs.Writing.{gains_nothing, gains_then}
 use Rattle.m11_asm_outputs.specs.Outputs.{Gains, Outputs, Stops, Write, Writes, assembly, outputs, to_listing}
 use Rattle.m11_listed.specs.Listed.{all_to_listing}
-use Rattle.m11_asm_outputs.specs.declared.fault.AsmFault.{AsmFault}
 use Rattle.m11_asm_outputs.proofs.Looping.{item_left}
 use Rattle.m11_asm_outputs.proofs.Writing.{to_no_listing}
 

@@ -8,7 +8,8 @@ ghost use Rattle.m11_writes.specs.Outputs.{Output, optional_output};
 ghost use Rattle.m11_asm_outputs.specs.Outputs.{Writes, outputs};
 ghost use Rattle.m11_listed.specs.Listed.{all_to_listing};
 
-use m11_asm_outputs::{AsmFault, put_listing};
+use m11_asm_faults::AsmFault;
+use m11_asm_outputs::put_listing;
 use m11_base::Sink;
 use m11_listing::{Item, further_line, listed_line, place_after};
 use m11_scan::Letters;

@@ -15,7 +15,7 @@ ghost use Rattle.m11_writes.specs.Outputs.{Output, optional_output};
 
 use crate::lines::put_listed;
 use bitflags::Flags;
-use m11_asm_outputs::AsmFault;
+use m11_asm_faults::AsmFault;
 use m11_base::Sink;
 use m11_listing::Item;
 use m11_object_text::PieceContent;

@@ -7,7 +7,8 @@ ghost use Rattle.m11_listing.specs.Messages.{count_line};
 ghost use Rattle.m11_listing.specs.SymbolTable.{empty_line, last_lines, section_line, symbol_line, title_line};
 ghost use Rattle.m11_writes.specs.Outputs.{Output, optional_output};
 
-use m11_asm_outputs::{AsmFault, put_listing};
+use m11_asm_faults::AsmFault;
+use m11_asm_outputs::put_listing;
 use m11_base::Sink;
 use m11_listing::{
     SectionEntry, SymbolEntry, count_line, empty_line, section_line, symbol_line, title_line,

@@ -3,8 +3,8 @@ use Rattle.std.proofs.Common.{◌≡◌, ◌∙◌, true, false, List, [], ◌++
 use Rattle.std.specs.Prelude.{◌⊎◌}
 use Rattle.m11_asm.specs.Outcome as outcome
 use Rattle.m11_asm.specs.Outcome.{Ends, HasOutcome, Outcome, Refused, Assembled, Refuses, Unended}
-use Rattle.m11_asm_outputs.specs.Fault.{of_lines}
-use Rattle.m11_asm_outputs.specs.declared.fault.AsmFault.{AsmFault}
+use Rattle.m11_asm_faults.specs.Faults.{of_lines}
+use Rattle.m11_asm_faults.specs.declared.fault.AsmFault.{AsmFault}
 use Rattle.m11_base.specs.Rad50.{Name}
 use Rattle.m11_lines.specs.Line.{SourceLine}
 use Rattle.m11_lines.specs.declared.fault.LineFault.{LineFault}
@@ -13,7 +13,6 @@ use Rattle.m11_pass_laws.specs.Ends as ends
 use Rattle.m11_passes.specs.Lines.{Numbered, PassLines, givens}
 use Rattle.m11_placement.specs.Meanings.{Map, empty_map}
 use Rattle.m11_readings.specs.Readings.{Reading}
-use Rattle.m11_asm.specs.Faults.{of_pass}
 use Rattle.m11_asm.specs.Program.{Program, program_of}
 use Rattle.m11_asm.specs.Written.{Ended, flagged_count, program_writes, written}
 use Rattle.m11_unfolding.specs.Stages.{Stage}
@@ -53,7 +52,7 @@ module _ (map_ : Map) (names : List Name) (reading : Reading) where
   pub comes_by : HasEnd map_ names reading.lines → Comes map_ names reading
   comes_by (ends.HasEnd.AtEnd source lines stage e) = by_end source lines stage e e.is_over
   comes_by (ends.HasEnd.AtLimit source lines limit x) =
-      inr (lines, of_pass limit, outcome.Refuses.AtLimit source x.more limit (sym x.whole) x.exceeds refl)
+      inr (lines, limit, outcome.Refuses.AtLimit source x.more limit (sym x.whole) x.exceeds refl)
 
 module _ (each : EachEnds) (first second : Reading) where
   by_second : (lines : List Numbered) (ended : Ended) (program : Program) → Ends empty_map [] first lines ended

@@ -5,10 +5,10 @@ use Rattle.std.proofs.lemmas.Grind.{flat_map-append}
 use Rattle.m11_asm.proofs.LinesWritten.{pieces_more}
 use Rattle.m11_asm.specs.Program.{Program}
 use Rattle.m11_asm.specs.Written.{Ended, added_writes, closing_writes, flagged_count, head_before, is_flagged, last_place, last_writes, letter_E, letters_at, line_writes, message_writes, pieces_in, program_writes, written, written_after}
+use Rattle.m11_asm_faults.specs.declared.fault.AsmOutput.TheVariants.{Object}
 use Rattle.m11_asm_outputs.proofs.Closing.{all_records, closed-append}
 use Rattle.m11_asm_outputs.specs.Object.{closed_records, content_writes, head_contents, last_records, object_contents, records_closed_by}
 use Rattle.m11_asm_outputs.specs.Outputs.{Write, assembly, to_messages}
-use Rattle.m11_asm_outputs.specs.declared.fault.AsmOutput.TheVariants.{Object}
 use Rattle.m11_base.specs.Devices.{Bytes}
 use Rattle.m11_listed.specs.Listed.{added_lines, all_to_listing, lines_of, listing_writes}
 use Rattle.m11_listing.specs.Messages.{count_line, message_line}

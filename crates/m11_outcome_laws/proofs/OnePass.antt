@@ -2,17 +2,15 @@
 use Rattle.std.proofs.Common.{◌≡◌, ◌∙◌, Bool, true, false, List, [], length, append-nil, Option, Some, None, inl, inr, refl, sym, ap}
 use Rattle.m11_asm.specs.Outcome as outcome
 use Rattle.m11_asm.specs.Outcome.{Ends, Refuses, Unended}
-use Rattle.m11_asm_outputs.specs.Fault.{of_lines}
-use Rattle.m11_asm_outputs.specs.declared.fault.AsmFault.{AsmFault}
+use Rattle.m11_asm_faults.specs.Faults.{of_lines}
+use Rattle.m11_asm_faults.specs.declared.fault.AsmFault.{AsmFault}
 use Rattle.m11_base.specs.Rad50.{Name}
 use Rattle.m11_lines.specs.Line.{SourceLine}
 use Rattle.m11_lines.specs.declared.fault.LineFault.{LineFault}
 use Rattle.m11_pass_laws.specs.Ends.{EndsAfter, ExceedsAfter}
 use Rattle.m11_passes.specs.Lines.{Numbered}
-use Rattle.m11_passes.specs.declared.fault.PassFault.{PassFault}
 use Rattle.m11_placement.specs.Meanings.{Map}
 use Rattle.m11_readings.specs.Readings.{Reading}
-use Rattle.m11_asm.specs.Faults.{of_pass}
 use Rattle.m11_asm.specs.Written.{Ended}
 use Rattle.m11_unfolding.specs.Stages.{Stage}
 
@@ -71,12 +69,12 @@ EndsOnce = (map : Map) (names : List Name) (all source other : List SourceLine) 
 
 abbrev pub ExceedsOnce : Type 0
 ExceedsOnce = (map : Map) (names : List Name) (all source other : List SourceLine) (lines later : List Numbered)
-    (first second : PassFault) → ExceedsAfter map names all source lines first → ExceedsAfter map names all other later second
+    (first second : AsmFault) → ExceedsAfter map names all source lines first → ExceedsAfter map names all other later second
     → (source ≡ other) × (lines ≡ later) × (first ≡ second)
 
 abbrev pub EndsOrExceeds : Type 0
 EndsOrExceeds = (map : Map) (names : List Name) (all source other : List SourceLine) (lines later : List Numbered) (stage : Stage)
-    (fault : PassFault) → EndsAfter map names all source lines stage → ExceedsAfter map names all other later fault → ⊥
+    (fault : AsmFault) → EndsAfter map names all source lines stage → ExceedsAfter map names all other later fault → ⊥
 
 -- ---- of passes over a reading
 
@@ -109,7 +107,7 @@ module _ (once : EndsOnce) (limit_once : ExceedsOnce) (either : EndsOrExceeds) (
       (outcome.Refuses.AtLimit source' more' limit' whole' exceeds' is') =
       let same = limit_once map_ names reading.lines source source' lines later limit limit'
       (record { exceeds = exceeds; more = more; whole = sym whole }) (record { exceeds = exceeds'; more = more'; whole = sym whole' }) in
-      (same.1, is ∙ ap of_pass same.2 ∙ sym is')
+      (same.1, is ∙ same.2 ∙ sym is')
 
   pub not_both : (ended : Ended) (stopped : AsmFault) → Ends map_ names reading lines ended → Refuses map_ names reading later stopped → ⊥
   not_both ended stopped ends (outcome.Refuses.AtReading fault stops is u) =

@@ -2,7 +2,7 @@
 use Rattle.std.proofs.Common.{◌≡◌, ◌∙◌, List, [], ◌∷◌, ◌++◌, inl, inr, refl, sym, ap, subst}
 use Rattle.m11_asm.specs.Outcome as outcome
 use Rattle.m11_asm.specs.Outcome.{Ends, HasOutcome, Outcome, Refuses}
-use Rattle.m11_asm_outputs.specs.declared.fault.AsmFault.{AsmFault}
+use Rattle.m11_asm_faults.specs.declared.fault.AsmFault.{AsmFault}
 use Rattle.m11_base.specs.Rad50.{Name}
 use Rattle.m11_lines.specs.Line.{SourceLine}
 use Rattle.m11_pass_laws.specs.Ends.{EndsAfter, ExceedsAfter}
@@ -10,7 +10,6 @@ use Rattle.m11_pass_laws.specs.Second.{map_from, moved_after}
 use Rattle.m11_passes.specs.Lines.{Numbered, PassLines, givens, names_at}
 use Rattle.m11_passes.specs.Reaching.{Exceeds}
 use Rattle.m11_passes.specs.States.{gathered_after}
-use Rattle.m11_passes.specs.declared.fault.PassFault.{PassFault}
 use Rattle.m11_placement.specs.Limits.{names_after}
 use Rattle.m11_placement.specs.Lines.{after_line}
 use Rattle.m11_placement.specs.Meanings.{Map, empty_map}
@@ -46,7 +45,7 @@ EndAlike = (one other : Map) (names others : List Name) (all source read : List 
 
 abbrev pub PassesNone : Type 0
 PassesNone = (one other : Map) (names : List Name) (all source read : List SourceLine) (lines later : List Numbered) (stage : Stage)
-    (fault : PassFault) → EndsAfter one names all source lines stage
+    (fault : AsmFault) → EndsAfter one names all source lines stage
     → ExceedsAfter other (names_at one names lines) all read later fault → ⊥
 
 abbrev pub NoneMoves : Type 0

@@ -2,8 +2,8 @@
 use Rattle.std.proofs.Common.{◌≡◌, ◌∙◌, ℕ, List, ◌++◌, Option, Some, None, sym, ap, subst}
 use Rattle.std.specs.Io.KnownBytes.{Appends}
 use Rattle.m11_asm.specs.Outcome.{Assembled, HasOutcome, Outcome}
+use Rattle.m11_asm_faults.specs.declared.fault.AsmOutput.{AsmOutput}
 use Rattle.m11_asm_outputs.specs.Outputs.{Gains, Outputs, Write, assembly}
-use Rattle.m11_asm_outputs.specs.declared.fault.AsmOutput.{AsmOutput}
 use Rattle.m11_base.specs.Devices.{Bytes}
 use Rattle.m11_readings.specs.Readings.{Reading}
 use Rattle.m11_writes.specs.Writes.{gained}

@@ -4,7 +4,7 @@ use Rattle.m11_asm.specs.Outcome as outcome
 use Rattle.m11_asm.specs.Outcome.{Ends, HasOutcome, Outcome, Refuses, Unended}
 use Rattle.m11_asm.specs.Program.{Program, program_of}
 use Rattle.m11_asm.specs.Written.{Ended}
-use Rattle.m11_asm_outputs.specs.declared.fault.AsmFault.{AsmFault}
+use Rattle.m11_asm_faults.specs.declared.fault.AsmFault.{AsmFault}
 use Rattle.m11_base.specs.Rad50.{Name}
 use Rattle.m11_lines.specs.Line.{SourceLine}
 use Rattle.m11_outcome_laws.specs.WholeSources.{IsOfWholeSources, IsProgramOf}
@@ -13,7 +13,6 @@ use Rattle.m11_source_laws.specs.WholeSources.{AreAllLines}
 use Rattle.m11_passes.specs.Lines.{Numbered, PassLines, givens}
 use Rattle.m11_passes.specs.Reaching as reaching
 use Rattle.m11_passes.specs.Reaching.{Exceeds}
-use Rattle.m11_passes.specs.declared.fault.PassFault.{PassFault}
 use Rattle.m11_placement.specs.Meanings.{Map, empty_map}
 use Rattle.m11_placement.specs.Unfolded.{AreLines}
 use Rattle.m11_readings.specs.Readings.{Reading}
@@ -73,7 +72,7 @@ module _ (so_far : SoFar) (all_lines : AllLines) where
           first = subst P (sym parts) (so_far map names source more lines stage passes);
         }
 
-    exceeded : (source more : List SourceLine) (limit : PassFault) → reading.lines ≡ source ++ more
+    exceeded : (source more : List SourceLine) (limit : AsmFault) → reading.lines ≡ source ++ more
         → Exceeds map names source lines limit → IsFirst map reading lines
     exceeded source more limit parts (reaching.Exceeds.BeforeLine stage inner passes exceeds is) =
         first_lines source more stage parts passes

@@ -1,11 +1,11 @@
 -- What a run of the assembler yields over known sources. (That sources are read twice, and what may end a run early, is this
 -- project's own.)
 use Rattle.std.specs.Prelude.{◌≡◌, List, [], ◌∷◌, ⊤, Option, Some, None, Result, Ok, Err}
+use Rattle.m11_asm_faults.specs.declared.fault.AsmFault.{AsmFault}
+use Rattle.m11_asm_faults.specs.declared.fault.AsmFault.TheVariants as fault
 use Rattle.m11_base.specs.Devices.{Bytes}
 use Rattle.m11_base.specs.Feed.{Text}
 use Rattle.m11_asm_outputs.specs.Outputs.{Gains, Outputs, assembly}
-use Rattle.m11_asm_outputs.specs.declared.fault.AsmFault.{AsmFault}
-use Rattle.m11_asm_outputs.specs.declared.fault.AsmFault.TheVariants as fault
 use Rattle.m11_writes.specs.Writes.{LeavesBeginnings}
 use Rattle.m11_asm.specs.Outcome.{Assembled, Outcome, Refused}
 use Rattle.m11_asm.specs.declared.done.AsmDone.{AsmDone}

@@ -4,9 +4,9 @@ ghost use Rattle.std.specs.Prelude.{◌≡◌, ◌↔◌, ◌∷◌, ◌++◌, �
 ghost use Rattle.m11_asm.specs.Outcome.{Assembled, Ends, HasOutcome, Outcome, Refuses};
 ghost use Rattle.m11_asm.specs.Passes.{Pass};
 ghost use Rattle.m11_asm.specs.Run.{AsmRuns};
+ghost use Rattle.m11_asm_faults.specs.declared.fault.AsmFault.{AsmFault};
+ghost use Rattle.m11_asm_faults.specs.declared.fault.AsmOutput.{AsmOutput};
 ghost use Rattle.m11_asm_outputs.specs.Outputs.{Gains, Outputs, Write};
-ghost use Rattle.m11_asm_outputs.specs.declared.fault.AsmFault.{AsmFault};
-ghost use Rattle.m11_asm_outputs.specs.declared.fault.AsmOutput.{AsmOutput};
 ghost use Rattle.m11_base.specs.Devices.{Bytes};
 ghost use Rattle.m11_outcome_laws.specs.Messages.{messages_in};
 ghost use Rattle.m11_outcome_laws.specs.OneText.{IsDecidedByFirst, Repeats, program_after};

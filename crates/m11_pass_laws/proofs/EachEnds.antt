@@ -1,14 +1,14 @@
 -- Each pass over lines comes to its end, or passes a limit.
 use Rattle.std.proofs.Common.{◌≡◌, ◌∙◌, ◌<◌, ℕ, ◌+◌, zero, suc, Bool, true, false, List, [], ◌∷◌, ◌++◌, length, append_assoc, Option, Some, None, inl, inr, refl, sym, ap, arith}
+use Rattle.m11_asm_faults.specs.Faults.{of_unfolding}
+use Rattle.m11_asm_faults.specs.declared.fault.AsmFault.{AsmFault}
 use Rattle.m11_base.specs.Rad50.{Name}
 use Rattle.m11_expansions.specs.Left.{depth}
 use Rattle.m11_lines.specs.Line.{SourceLine}
-use Rattle.m11_passes.specs.Faults.{of_unfolding}
 use Rattle.m11_passes.specs.Lines.{Numbered, PassLines, acted, names_at, numbered, table_at, with_line}
 use Rattle.m11_passes.specs.Lines as lines
 use Rattle.m11_passes.specs.Reaching as reaching
 use Rattle.m11_passes.specs.Refusals.{given_by, line_fault}
-use Rattle.m11_passes.specs.declared.fault.PassFault.{PassFault}
 use Rattle.m11_placement.specs.Meanings.{Map}
 use Rattle.m11_unfolding.specs.Limits.{next_fault}
 use Rattle.m11_unfolding.specs.Stages.{Stage, start}
@@ -31,7 +31,7 @@ module _ (map_ : Map) (names : List Name) (all : List SourceLine) where
 
   module _ (most : ℕ) (further : Ends most) (source more : List SourceLine) (placed : List Numbered) (stage : Stage)
       (passes : PassLines map_ names source placed stage) (whole : source ++ more ≡ all) (small : work more stage < suc most) where
-    by_limit : (live : Live) (after : Stage) → next_fault stage ≡ None → move stage ≡ Gives live after → (fault : Option PassFault)
+    by_limit : (live : Live) (after : Stage) → next_fault stage ≡ None → move stage ≡ Gives live after → (fault : Option AsmFault)
         → line_fault map_ (table_at map_ placed) (names_at map_ names placed) live after ≡ fault → HasEnd map_ names all
     by_limit live after fits moves (Some fault) exceeds =
         ends.HasEnd.AtLimit source placed fault (record {

@@ -1,13 +1,13 @@
 -- A pass over one source has one end, or passes one limit.
 use Rattle.std.proofs.Common.{◌≡◌, ◌∙◌, List, ◌++◌, Some, None, inl, inr, sym, ap, subst}
+use Rattle.m11_asm_faults.specs.Faults.{of_unfolding}
+use Rattle.m11_asm_faults.specs.declared.fault.AsmFault.{AsmFault}
 use Rattle.m11_base.specs.Rad50.{Name}
 use Rattle.m11_lines.specs.Line.{SourceLine}
-use Rattle.m11_passes.specs.Faults.{of_unfolding}
 use Rattle.m11_passes.specs.Lines.{Numbered, names_at, table_at}
 use Rattle.m11_passes.specs.Reaching.{Exceeds}
 use Rattle.m11_passes.specs.Reaching as reaching
 use Rattle.m11_passes.specs.Refusals.{line_fault}
-use Rattle.m11_passes.specs.declared.fault.PassFault.{PassFault}
 use Rattle.m11_placement.specs.Meanings.{Map}
 use Rattle.m11_unfolding.specs.Limits.{next_fault}
 use Rattle.m11_unfolding.specs.Stages.{Stage}
@@ -23,13 +23,13 @@ record IsQuiet (stage : Stage) : Type 0 where
   rests : move stage ≡ Rests
 
 -- the fault of what comes next
-data NextFails (map_ : Map) (names : List Name) (lines : List Numbered) (stage : Stage) (fault : PassFault) : Type 0 where
+data NextFails (map_ : Map) (names : List Name) (lines : List Numbered) (stage : Stage) (fault : AsmFault) : Type 0 where
   Before : (inner : UnfoldFault) → next_fault stage ≡ Some inner → fault ≡ of_unfolding inner → NextFails map_ names lines stage fault
   Within : (live : Live) (after : Stage) → next_fault stage ≡ None → move stage ≡ Gives live after
       → line_fault map_ (table_at map_ lines) (names_at map_ names lines) live after ≡ Some fault → NextFails map_ names lines stage fault
 
 -- a pass over all lines that goes no further after some of them, since what comes next fails
-record StopsAfter (map_ : Map) (names : List Name) (all source : List SourceLine) (lines : List Numbered) (fault : PassFault) : Type 0 where
+record StopsAfter (map_ : Map) (names : List Name) (all source : List SourceLine) (lines : List Numbered) (fault : AsmFault) : Type 0 where
   more : List SourceLine
   stage : Stage
   fails : NextFails map_ names lines stage fault
@@ -37,7 +37,7 @@ record StopsAfter (map_ : Map) (names : List Name) (all source : List SourceLine
   stops : step map_ names (at source more lines stage) ≡ None
 
 -- what comes next fails in one way
-one_fault : (map_ : Map) (names : List Name) (lines : List Numbered) (stage : Stage) (fault other : PassFault)
+one_fault : (map_ : Map) (names : List Name) (lines : List Numbered) (stage : Stage) (fault other : AsmFault)
     → NextFails map_ names lines stage fault → NextFails map_ names lines stage other → fault ≡ other
 one_fault map_ names lines stage fault other (Before inner fails is) (Before inner' fails' is') =
     let both : Some inner ≡ Some inner' = sym fails ∙ fails' in
@@ -57,7 +57,7 @@ one_fault map_ names lines stage fault other (Within live after fits moves refus
     let faults : Some fault ≡ Some other = sym here ∙ refused' in cc
 
 -- and in none where no limit is passed and nothing is taken
-none_fails : (map_ : Map) (names : List Name) (lines : List Numbered) (stage : Stage) (fault : PassFault) → IsQuiet stage
+none_fails : (map_ : Map) (names : List Name) (lines : List Numbered) (stage : Stage) (fault : AsmFault) → IsQuiet stage
     → NextFails map_ names lines stage fault → ⊥
 none_fails map_ names lines stage fault quiet (Before inner fails is) =
     let both : None ≡ Some inner = sym quiet.fits ∙ fails in cc
@@ -84,7 +84,7 @@ module _ (map_ : Map) (names : List Name) where
     stays_there : (stage : Stage) (end : EndsAfter map_ names all source lines stage) → step map_ names (end_of stage end) ≡ None
     stays_there stage end = over_stops (end_of stage end) end.is_over
 
-    stands_by : (fault : PassFault) (more : List SourceLine) → source ++ more ≡ all → Exceeds map_ names source lines fault
+    stands_by : (fault : AsmFault) (more : List SourceLine) → source ++ more ≡ all → Exceeds map_ names source lines fault
         → StopsAfter map_ names all source lines fault
     stands_by fault more whole (reaching.Exceeds.BeforeLine stage inner passed exceeds is) = record {
       more = more;
@@ -101,7 +101,7 @@ module _ (map_ : Map) (names : List Name) where
       stops = exceeds_at map_ names (at source more lines stage) live after fault fits moves refused;
     }
 
-    stands : (fault : PassFault) → ExceedsAfter map_ names all source lines fault → StopsAfter map_ names all source lines fault
+    stands : (fault : AsmFault) → ExceedsAfter map_ names all source lines fault → StopsAfter map_ names all source lines fault
     stands fault exceeds = stands_by fault exceeds.more exceeds.whole exceeds.exceeds
 
   -- ---- the laws
@@ -118,7 +118,7 @@ module _ (map_ : Map) (names : List Name) where
         ap (λ (a : At). a.stage) same,
       )
 
-  same_limit : (all source other : List SourceLine) (lines later : List Numbered) (fault fault' : PassFault)
+  same_limit : (all source other : List SourceLine) (lines later : List Numbered) (fault fault' : AsmFault)
       → StopsAfter map_ names all source lines fault → StopsAfter map_ names all other later fault'
       → (source ≡ other) × (lines ≡ later) × (fault ≡ fault')
   same_limit all source other lines later fault fault' first second =
@@ -133,13 +133,13 @@ module _ (map_ : Map) (names : List Name) where
         one_fault map_ names later second.stage fault fault' fails second.fails,
       )
 
-  pub one_limit : (all source other : List SourceLine) (lines later : List Numbered) (fault fault' : PassFault)
+  pub one_limit : (all source other : List SourceLine) (lines later : List Numbered) (fault fault' : AsmFault)
       → ExceedsAfter map_ names all source lines fault → ExceedsAfter map_ names all other later fault'
       → (source ≡ other) × (lines ≡ later) × (fault ≡ fault')
   one_limit all source other lines later fault fault' exceeds exceeds' =
       same_limit all source other lines later fault fault' (stands all source lines fault exceeds) (stands all other later fault' exceeds')
 
-  not_both : (all source other : List SourceLine) (lines later : List Numbered) (stage : Stage) (fault : PassFault)
+  not_both : (all source other : List SourceLine) (lines later : List Numbered) (stage : Stage) (fault : AsmFault)
       → EndsAfter map_ names all source lines stage → StopsAfter map_ names all other later fault → ⊥
   not_both all source other lines later stage fault end second =
       let here : At = end_of all source lines stage end in
@@ -151,7 +151,7 @@ module _ (map_ : Map) (names : List Name) where
       = subst (λ (a : At). IsQuiet a.stage) same (is_quiet end.more stage end.is_over) in
       none_fails map_ names later second.stage fault quiet second.fails
 
-  pub end_or_limit : (all source other : List SourceLine) (lines later : List Numbered) (stage : Stage) (fault : PassFault)
+  pub end_or_limit : (all source other : List SourceLine) (lines later : List Numbered) (stage : Stage) (fault : AsmFault)
       → EndsAfter map_ names all source lines stage → ExceedsAfter map_ names all other later fault → ⊥
   end_or_limit all source other lines later stage fault end exceeds =
       not_both all source other lines later stage fault end (stands all other later fault exceeds)

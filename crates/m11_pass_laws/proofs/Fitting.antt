@@ -4,13 +4,13 @@ use Rattle.std.proofs.lemmas.List.{map-append}
 use Rattle.std.specs.List.{fold}
 use Rattle.std.specs.Option.{option_or}
 use Rattle.std.specs.Prelude.{◌⊎◌, if◌then◌else◌, nat_lt}
+use Rattle.m11_asm_faults.specs.declared.fault.AsmFault.{AsmFault}
+use Rattle.m11_asm_faults.specs.declared.fault.AsmFault.TheVariants as fault
 use Rattle.m11_base.specs.Rad50.{Name}
 use Rattle.m11_lines.specs.Line.{SourceLine}
 use Rattle.m11_passes.specs.Lines.{Numbered, PassLines, givens, names_at, numbered, table_at}
 use Rattle.m11_passes.specs.Lines as lines
 use Rattle.m11_passes.specs.Refusals.{act_refused, given_by, labels_fault, line_fault, mentions_of_labels, of_limit, placing_fault}
-use Rattle.m11_passes.specs.declared.fault.PassFault.{PassFault}
-use Rattle.m11_passes.specs.declared.fault.PassFault.TheVariants as fault
 use Rattle.m11_placement.specs.Definitions.{firm_parts}
 use Rattle.m11_placement.specs.Limits.{LimitFault, TooManySymbols, TooManySections, is_local, is_local_definition, limit_fault, local_count, most_local_symbols, most_names, most_sections, names_after, with_mentions}
 use Rattle.m11_placement.specs.Lines.{after_line, deed, stands}
@@ -73,9 +73,9 @@ pub record Fits (map : Map) (table : Table) (names : List Name) (live : Live) (s
 pub fits : (map : Map) (table : Table) (names : List Name) (live : Live) (stage : Stage) → line_fault map table names live stage ≡ None
     → Fits map table names live stage
 fits map table names live stage none =
-    let labels : Option PassFault = labels_fault names table live.line.text in
-    let acts : Option PassFault = act_refused (act_fault stage live.line.text) in
-    let placed : Option PassFault = placing_fault map table names (given_by table live stage) in
+    let labels : Option AsmFault = labels_fault names table live.line.text in
+    let acts : Option AsmFault = act_refused (act_fault stage live.line.text) in
+    let placed : Option AsmFault = placing_fault map table names (given_by table live stage) in
     let others : option_or acts placed ≡ None = second_none labels (option_or acts placed) none in record {
       labels = first_none labels (option_or acts placed) none;
       acts = first_none acts placed others;
@@ -186,7 +186,7 @@ module _ (alike : PlaceAlike) (one other : Map) (before : List Numbered) (live :
         let same : given ≡ given_by later live stage = given_alike alike one other before live stage in
         let placing : placing_fault other later others (given_by later live stage) ≡ None
         = ap (placing_fault other later others) (sym same) ∙ ap of_limit placed_fits in
-        ap (λ (f : Option PassFault). option_or f
+        ap (λ (f : Option AsmFault). option_or f
         (option_or (act_refused (act_fault stage live.line.text)) (placing_fault other later others (given_by later live stage)))) labels_fit
-        ∙ ap (λ (f : Option PassFault). option_or f (placing_fault other later others (given_by later live stage))) fits_first.acts
+        ∙ ap (λ (f : Option AsmFault). option_or f (placing_fault other later others (given_by later live stage))) fits_first.acts
         ∙ placing

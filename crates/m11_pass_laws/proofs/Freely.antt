@@ -2,11 +2,11 @@
 -- takes the same steps, up to its end or to a limit.
 use Rattle.std.proofs.Common.{◌≡◌, ◌∙◌, Bool, false, List, [], ◌∷◌, ◌++◌, length, append-nil, Option, Some, None, inl, inr, refl, sym, ap}
 use Rattle.std.specs.Prelude.{◌⊎◌}
+use Rattle.m11_asm_faults.specs.declared.fault.AsmFault.{AsmFault}
 use Rattle.m11_base.specs.Rad50.{Name}
 use Rattle.m11_lines.specs.Line.{SourceLine}
 use Rattle.m11_passes.specs.Lines.{Numbered, PassLines, acted, names_at, numbered, table_at}
 use Rattle.m11_passes.specs.Refusals.{given_by, line_fault}
-use Rattle.m11_passes.specs.declared.fault.PassFault.{PassFault}
 use Rattle.m11_placement.specs.Meanings.{Map}
 use Rattle.m11_unfolding.specs.Acting.{act}
 use Rattle.m11_unfolding.specs.Limits.{next_fault}
@@ -55,7 +55,7 @@ next_freely map here live after fits moves = freely_moved map here (Gives live a
 -- ---- a step of a pass is one of these
 
 module _ (map : Map) (names : List Name) where
-  places_freely : (fault : Option PassFault) (live : Live) (after : Stage) (here next : At)
+  places_freely : (fault : Option AsmFault) (live : Live) (after : Stage) (here next : At)
       → places map names fault live after here ≡ Some next → Some (placed_at map live after here) ≡ Some next
   places_freely (Some fault) live after here next goes = absurd (cc)
   places_freely None live after here next goes = goes

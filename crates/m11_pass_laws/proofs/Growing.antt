@@ -1,11 +1,11 @@
 -- Of two passes over beginnings of one source, one goes on from the lines of the other.
 use Rattle.std.proofs.Common.{◌≡◌, ◌∙◌, Bool, true, false, List, [], ◌∷◌, ◌++◌, length, append_assoc, append-nil, Option, Some, None, inl, inr, refl, sym, ap, subst}
 use Rattle.std.specs.Prelude.{◌⊎◌}
+use Rattle.m11_asm_faults.specs.declared.fault.AsmFault.{AsmFault}
 use Rattle.m11_base.specs.Rad50.{Name}
 use Rattle.m11_lines.specs.Line.{SourceLine}
 use Rattle.m11_passes.specs.Lines.{Numbered, PassLines, names_at, numbered, table_at}
 use Rattle.m11_passes.specs.Refusals.{given_by, line_fault}
-use Rattle.m11_passes.specs.declared.fault.PassFault.{PassFault}
 use Rattle.m11_placement.specs.Meanings.{Map}
 use Rattle.m11_unfolding.specs.Limits.{next_fault}
 use Rattle.m11_unfolding.specs.Stages.{Stage}
@@ -38,7 +38,7 @@ module _ (go : At → Option At) (grows : (here : At) → Grows here (go here)) 
       further before.lines middle.lines after.lines (grown_by before middle leads) (subst (Grows middle) steps (grows middle))
 
 module _ (map_ : Map) (names : List Name) where
-  grows_placed : (fault : Option PassFault) (live : Live) (after : Stage) (here : At)
+  grows_placed : (fault : Option AsmFault) (live : Live) (after : Stage) (here : At)
       → Grows here (places map_ names fault live after here)
   grows_placed (Some fault) live after here = tt
   grows_placed None live after here =

@@ -1,5 +1,6 @@
 -- Maps that say the same have the same live lines: the table and the names after each of them, and the limits.
 use Rattle.std.proofs.Common.{◌≡◌, ◌∙◌, List, [], ◌∷◌, ◌++◌, length, refl, sym, ap, subst}
+use Rattle.m11_asm_faults.specs.declared.fault.AsmFault.{AsmFault}
 use Rattle.m11_base.specs.Rad50.{Name}
 use Rattle.m11_lines.specs.Line.{SourceLine}
 use Rattle.m11_unfolding.specs.Stages.{Stage}
@@ -16,7 +17,6 @@ use Rattle.m11_passes.specs.Lines as lines
 use Rattle.m11_passes.specs.Reaching.{Exceeds}
 use Rattle.m11_passes.specs.Reaching as reaching
 use Rattle.m11_passes.specs.Refusals.{given_by, line_fault}
-use Rattle.m11_passes.specs.declared.fault.PassFault.{PassFault}
 use Rattle.m11_pass_laws.specs.Maps.{MapsAgree}
 use Rattle.m11_pass_laws.proofs.MapsAlike.{after_line_same, line_fault_same}
 
@@ -69,7 +69,7 @@ module _ (one other : Map) (same : MapsAgree one other) where
         (lines.PassLines.Placing source all before after live (pass_lines_same source all before so_far) within gives
         (sym (next_fault_same all live after) ∙ fits))
 
-    pub exceeds_same : (source : List SourceLine) (all : List Numbered) (fault : PassFault)
+    pub exceeds_same : (source : List SourceLine) (all : List Numbered) (fault : AsmFault)
         → Exceeds one names source all fault → Exceeds other names source all fault
     exceeds_same source all fault (reaching.Exceeds.BeforeLine stage inner so_far passes is) =
         reaching.Exceeds.BeforeLine stage inner (pass_lines_same source all stage so_far) passes is

@@ -1,13 +1,13 @@
 -- A pass over one list of lines goes step by step: each state of it has one next state at most.
 use Rattle.std.proofs.Common.{◌≡◌, ◌∙◌, Bool, true, false, List, [], ◌∷◌, ◌++◌, length, append_assoc, Option, Some, None, refl, sym, ap, subst}
 use Rattle.std.specs.Prelude.{if◌then◌else◌}
+use Rattle.m11_asm_faults.specs.declared.fault.AsmFault.{AsmFault}
 use Rattle.m11_base.specs.Rad50.{Name}
 use Rattle.m11_expansions.specs.Left.{Left}
 use Rattle.m11_lines.specs.Line.{SourceLine}
 use Rattle.m11_passes.specs.Lines.{Numbered, PassLines, acted, names_at, numbered, table_at, with_line}
 use Rattle.m11_passes.specs.Lines as lines
 use Rattle.m11_passes.specs.Refusals.{given_by, line_fault}
-use Rattle.m11_passes.specs.declared.fault.PassFault.{PassFault}
 use Rattle.m11_placement.specs.Meanings.{Map}
 use Rattle.m11_unfolding.specs.Limits.{fault_from, next_fault}
 use Rattle.m11_unfolding.specs.Stages.{Stage, start}
@@ -58,7 +58,7 @@ module _ (map_ : Map) (names : List Name) where
   -- ---- a step
 
   -- a live line that passes no limit
-  abbrev pub places : Option PassFault → Live → Stage → At → Option At
+  abbrev pub places : Option AsmFault → Live → Stage → At → Option At
   places (Some fault) live after here = None
   places None live after here = Some
       (at here.source here.more
@@ -97,11 +97,11 @@ module _ (map_ : Map) (names : List Name) where
   exceeds_before here fault exceeds = ap (λ (f : Option UnfoldFault). within f here) exceeds
 
   -- the next live line passes one
-  pub exceeds_at : (here : At) (live : Live) (after : Stage) (fault : PassFault) → next_fault here.stage ≡ None
+  pub exceeds_at : (here : At) (live : Live) (after : Stage) (fault : AsmFault) → next_fault here.stage ≡ None
       → move here.stage ≡ Gives live after
       → line_fault map_ (table_at map_ here.lines) (names_at map_ names here.lines) live after ≡ Some fault → step here ≡ None
   exceeds_at here live after fault fits moves exceeds =
-      moved here (Gives live after) fits moves ∙ ap (λ (f : Option PassFault). places f live after here) exceeds
+      moved here (Gives live after) fits moves ∙ ap (λ (f : Option AsmFault). places f live after here) exceeds
 
   -- ---- where nothing is left, or `.END` came
 
@@ -129,7 +129,7 @@ module _ (map_ : Map) (names : List Name) where
       (all ++ numbered (length source) (given_by (table_at map_ all) live after) ∷ []) (acted (table_at map_ all) live after))
   line_placed source more all stage after live fits moves placed =
       let here : At = at source more all stage in
-      moved here (Gives live after) fits moves ∙ ap (λ (f : Option PassFault). places f live after here) placed
+      moved here (Gives live after) fits moves ∙ ap (λ (f : Option AsmFault). places f live after here) placed
 
   -- ---- a pass over some of the lines goes by these steps
 

@@ -2,6 +2,7 @@
 use Rattle.std.proofs.Common.{◌≡◌, ◌∙◌, false, List, [], ◌∷◌, ◌++◌, length, Option, Some, None, inl, inr, refl, sym, ap, subst}
 use Rattle.std.specs.Prelude.{◌⊎◌, nat_lt}
 use Rattle.std.proofs.lemmas.List.{map-append}
+use Rattle.m11_asm_faults.specs.declared.fault.AsmFault.{AsmFault}
 use Rattle.m11_base.specs.Rad50.{Name}
 use Rattle.m11_lines.specs.Line.{SourceLine}
 use Rattle.m11_passes.specs.Lines.{Numbered, PassLines, givens, names_at, numbered, table_at}
@@ -9,7 +10,6 @@ use Rattle.m11_passes.specs.Lines as lines
 use Rattle.m11_passes.specs.Reaching.{Exceeds}
 use Rattle.m11_passes.specs.Reaching as reaching
 use Rattle.m11_passes.specs.Refusals.{given_by, line_fault}
-use Rattle.m11_passes.specs.declared.fault.PassFault.{PassFault}
 use Rattle.m11_placement.specs.Limits.{most_names}
 use Rattle.m11_placement.specs.Meanings.{Map}
 use Rattle.m11_placement.specs.Mentions.{mentions}
@@ -64,7 +64,7 @@ over_fits : (more : List SourceLine) (stage : Stage) → IsOver more stage → n
 over_fits more stage (inl ended) = ended_fits stage ended
 over_fits more stage (inr (all, none, goes)) = none_fits stage none goes
 
-places_fit : (map : Map) (names : List Name) (fault : Option PassFault) (live : Live) (after : Stage) (here next : At)
+places_fit : (map : Map) (names : List Name) (fault : Option AsmFault) (live : Live) (after : Stage) (here next : At)
     → places map names fault live after here ≡ Some next → fault ≡ None
 places_fit map names (Some fault) live after here next goes = absurd (cc)
 places_fit map names None live after here next goes = refl
@@ -131,14 +131,14 @@ module _ (alike : PlaceAlike) (one other : Map) (names : List Name) (all source 
         let led = goes next (next_freely one (stood stage') live after fits_so moves) in
         fits_again (grown one names next last led.1) (fits_first next led.0)
 
-  none_within : (fault : PassFault) → Exceeds other full_names read later fault → ⊥
+  none_within : (fault : AsmFault) → Exceeds other full_names read later fault → ⊥
   none_within fault (reaching.Exceeds.BeforeLine stage' inner passes exceeds is) = none_before stage' inner passes exceeds
   none_within fault (reaching.Exceeds.AtLine stage' after live passes fits_so moves exceeds) =
       let both : None ≡ Some fault = sym (fits_there stage' after live passes fits_so moves) ∙ exceeds in
       cc
 
 pub no_limit : PlaceAlike → (one other : Map) (names : List Name) (all source read : List SourceLine) (lines later : List Numbered)
-    (stage : Stage) (fault : PassFault) → EndsAfter one names all source lines stage
+    (stage : Stage) (fault : AsmFault) → EndsAfter one names all source lines stage
     → ExceedsAfter other (names_at one names lines) all read later fault → ⊥
 no_limit alike one other names all source read lines later stage fault ends exceeds =
     none_within alike one other names all source read exceeds.more lines later stage ends exceeds.whole fault exceeds.exceeds

@@ -1,10 +1,10 @@
 -- How a pass over the lines of a source ends. (This project's own.)
 use Rattle.std.specs.Prelude.{◌≡◌, ◌⊎◌, true, false, List, [], ◌++◌}
+use Rattle.m11_asm_faults.specs.declared.fault.AsmFault.{AsmFault}
 use Rattle.m11_base.specs.Rad50.{Name}
 use Rattle.m11_lines.specs.Line.{SourceLine}
 use Rattle.m11_passes.specs.Lines.{Numbered, PassLines}
 use Rattle.m11_passes.specs.Reaching.{Exceeds}
-use Rattle.m11_passes.specs.declared.fault.PassFault.{PassFault}
 use Rattle.m11_placement.specs.Meanings.{Map}
 use Rattle.m11_unfolding.specs.Stages.{Stage}
 
@@ -20,7 +20,7 @@ pub record EndsAfter (map : Map) (names : List Name) (all source : List SourceLi
   pub is_over : IsOver more stage
 
 -- a pass over all these lines passes a limit after the lines of a source, which they begin with
-pub record ExceedsAfter (map : Map) (names : List Name) (all source : List SourceLine) (lines : List Numbered) (fault : PassFault) : Type 0 where
+pub record ExceedsAfter (map : Map) (names : List Name) (all source : List SourceLine) (lines : List Numbered) (fault : AsmFault) : Type 0 where
   pub exceeds : Exceeds map names source lines fault
   pub more : List SourceLine
   pub whole : source ++ more ≡ all
@@ -29,5 +29,5 @@ pub record ExceedsAfter (map : Map) (names : List Name) (all source : List Sourc
 pub data HasEnd (map : Map) (names : List Name) (all : List SourceLine) : Type 0 where
   AtEnd : (source : List SourceLine) (lines : List Numbered) (stage : Stage) → EndsAfter map names all source lines stage
       → HasEnd map names all
-  AtLimit : (source : List SourceLine) (lines : List Numbered) (fault : PassFault) → ExceedsAfter map names all source lines fault
+  AtLimit : (source : List SourceLine) (lines : List Numbered) (fault : AsmFault) → ExceedsAfter map names all source lines fault
       → HasEnd map names all

@@ -1,12 +1,12 @@
 //! Laws of the live lines of one pass. Each is the contract of a function that does nothing.
 
 ghost use Rattle.std.specs.Prelude.{◌≡◌, ◌⊎◌, ◌≤◌, ◌++◌, List, length};
+ghost use Rattle.m11_asm_faults.specs.declared.fault.AsmFault.{AsmFault};
 ghost use Rattle.m11_base.specs.Rad50.{Name};
 ghost use Rattle.m11_lines.specs.Line.{SourceLine};
 ghost use Rattle.m11_pass_laws.specs.Beginnings.{BeginWith};
 ghost use Rattle.m11_pass_laws.specs.Ends.{EndsAfter, ExceedsAfter, HasEnd};
 ghost use Rattle.m11_passes.specs.Lines.{Numbered, PassLines};
-ghost use Rattle.m11_passes.specs.declared.fault.PassFault.{PassFault};
 ghost use Rattle.m11_placement.specs.Meanings.{Map};
 ghost use Rattle.m11_unfolding.specs.Limits.{most_lines};
 ghost use Rattle.m11_unfolding.specs.Stages.{Stage};
@@ -34,10 +34,10 @@ pub fn a_pass_has_one_end()
         (stage after : Stage) → EndsAfter map names all source lines stage → EndsAfter map names all other later after
         → (source ≡ other) × (lines ≡ later) × (stage ≡ after) }
     ensures exceeds { (map : Map) (names : List Name) (all source other : List SourceLine) (lines later : List Numbered)
-        (first second : PassFault) → ExceedsAfter map names all source lines first → ExceedsAfter map names all other later second
+        (first second : AsmFault) → ExceedsAfter map names all source lines first → ExceedsAfter map names all other later second
         → (source ≡ other) × (lines ≡ later) × (first ≡ second) }
     ensures either { (map : Map) (names : List Name) (all source other : List SourceLine) (lines later : List Numbered) (stage : Stage)
-        (fault : PassFault) → EndsAfter map names all source lines stage → ExceedsAfter map names all other later fault → ⊥ }
+        (fault : AsmFault) → EndsAfter map names all source lines stage → ExceedsAfter map names all other later fault → ⊥ }
 {}
 
 /// Each pass over lines reaches its end or passes a limit, whatever the lines are: it takes no more than 200,000 lines, and each opens one

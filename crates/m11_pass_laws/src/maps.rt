@@ -1,6 +1,7 @@
 //! Laws of maps that agree. Each is the contract of a function that does nothing.
 
 ghost use Rattle.std.specs.Prelude.{◌≡◌, List};
+ghost use Rattle.m11_asm_faults.specs.declared.fault.AsmFault.{AsmFault};
 ghost use Rattle.m11_base.specs.Devices.{Bytes};
 ghost use Rattle.m11_base.specs.Rad50.{Name};
 ghost use Rattle.m11_lines.specs.Line.{SourceLine};
@@ -17,7 +18,6 @@ ghost use Rattle.m11_passes.specs.Lines.{Numbered, PassLines, names_at, table_at
 ghost use Rattle.m11_passes.specs.Placed.{all_letters};
 ghost use Rattle.m11_passes.specs.Reaching.{Exceeds};
 ghost use Rattle.m11_passes.specs.Refusals.{line_fault};
-ghost use Rattle.m11_passes.specs.declared.fault.PassFault.{PassFault};
 ghost use Rattle.m11_pass_laws.specs.Maps.{MapsAgree};
 
 /// Where one table keeps all definitions of a source and another the last of each key, their maps agree.
@@ -53,6 +53,6 @@ pub fn maps_that_agree_have_the_same_live_lines()
         → (names : List Name) (source : List SourceLine) (lines : List Numbered) (stage : Stage)
         → PassLines one names source lines stage → PassLines other names source lines stage }
     ensures limits { (one other : Map) → MapsAgree one other
-        → (names : List Name) (source : List SourceLine) (lines : List Numbered) (fault : PassFault)
+        → (names : List Name) (source : List SourceLine) (lines : List Numbered) (fault : AsmFault)
         → Exceeds one names source lines fault → Exceeds other names source lines fault }
 {}

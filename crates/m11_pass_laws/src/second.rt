@@ -2,13 +2,13 @@
 //! that its own follows from.
 
 ghost use Rattle.std.specs.Prelude.{◌≡◌, ◌⊎◌, ◌++◌, ◌∷◌, List};
+ghost use Rattle.m11_asm_faults.specs.declared.fault.AsmFault.{AsmFault};
 ghost use Rattle.m11_base.specs.Rad50.{Name};
 ghost use Rattle.m11_lines.specs.Line.{SourceLine};
 ghost use Rattle.m11_pass_laws.specs.Beginnings.{BeginWith};
 ghost use Rattle.m11_pass_laws.specs.Ends.{EndsAfter, ExceedsAfter};
 ghost use Rattle.m11_pass_laws.specs.Second.{map_from, moved_after};
 ghost use Rattle.m11_passes.specs.Lines.{Numbered, PassLines, names_at};
-ghost use Rattle.m11_passes.specs.declared.fault.PassFault.{PassFault};
 ghost use Rattle.m11_placement.specs.Meanings.{Map};
 ghost use Rattle.m11_unfolding.specs.Stages.{Stage};
 
@@ -50,7 +50,7 @@ pub fn no_label_has_moved_in_a_second_pass_over_the_same_lines()
 /// map is: it mentions no name that the first one didn't, and has the same local symbols and sections.
 pub fn a_second_pass_over_the_same_lines_passes_no_limit()
     ensures limits { (one other : Map) (names : List Name) (all source read : List SourceLine) (lines later : List Numbered) (stage : Stage)
-        (fault : PassFault) → EndsAfter one names all source lines stage
+        (fault : AsmFault) → EndsAfter one names all source lines stage
         → ExceedsAfter other (names_at one names lines) all read later fault → ⊥ }
     ensures names { (one other : Map) (names : List Name) (all source read rest : List SourceLine) (lines later : List Numbered)
         (stage after : Stage) → EndsAfter one names all source lines stage

@@ -5,6 +5,8 @@ use Rattle.std.specs.Int.RustNames.{bit_or}
 use Rattle.std.specs.Option.{option_to_list}
 use Rattle.m11_arguments.specs.Notes.{Notes}
 use Rattle.m11_arguments.specs.Expressions.{Known, known_by, value_at}
+use Rattle.m11_asm_faults.specs.declared.fault.AsmFault.{AsmFault}
+use Rattle.m11_asm_faults.specs.declared.fault.AsmFault.TheVariants.{TooManySymbols, TooManySections, NoMemory}
 use Rattle.m11_base.specs.Devices.{Bytes}
 use Rattle.m11_scan.specs.Views.{bits_of}
 use Rattle.m11_statements.specs.Labels.{labels_at, labels_end}
@@ -46,7 +48,8 @@ use Rattle.m11_passes.proofs.Settling.{change_modest, changed_moves, labels_bloc
 use Rattle.m11_passes.proofs.Turning.{first_sound}
 use Rattle.m11_passes.specs.Begun.{Begins, Finishes, States}
 use Rattle.m11_passes.specs.Bounds.{HasRoom, IsSound, IsSoundUntil}
-use Rattle.m11_passes.specs.Faults.{Fails, Refuses}
+use Rattle.m11_passes.specs.Faults.{Fails}
+use Rattle.m11_placing.specs.Faults.{Refuses}
 use Rattle.m11_passes.specs.Lines.{PassLines}
 use Rattle.m11_passes.specs.Lines as lines
 use Rattle.m11_passes.specs.Operated.{change_after, mentions_after}
@@ -55,8 +58,6 @@ use Rattle.m11_passes.specs.Refusals.{given_by, line_fault}
 use Rattle.m11_passes.specs.States.{Going, GoesOnUntil, PassStands}
 use Rattle.m11_passes.specs.Turns.{LeavesAfter, Places, Said, SaysLive, SaysPlaced}
 use Rattle.m11_passes.specs.declared.begun.Begun.{Begun}
-use Rattle.m11_passes.specs.declared.fault.PassFault.{PassFault}
-use Rattle.m11_passes.specs.declared.fault.PassFault.TheVariants.{TooManySymbols, TooManySections, Unfold, NoMemory}
 use Rattle.m11_listing.specs.declared.items.Item.{Item}
 use Rattle.m11_passes.specs.declared.placed.LiveLine.{LiveLine}
 use Rattle.m11_passes.specs.declared.placed.PlacedLine.{PlacedLine}
@@ -66,13 +67,13 @@ use Rattle.m11_passes.specs.declared.placed.PlacedLine.{PlacedLine}
 module _ (unfolder : Unfolding) (kept : Kept) (gathered mentioned : Gathered)
     (is_fresh : unfolder ≡ record { stage = start []; has_statement = false; fault = None })
     (matches : Matches kept first_table) (same : gathered ≡ mentioned) where
-  pub new_sound : (fault : Option PassFault) → fault ≡ None → length mentioned.names ≤ most_names
+  pub new_sound : (fault : Option AsmFault) → fault ≡ None → length mentioned.names ≤ most_names
       → IsSoundUntil fault unfolder.stage.taken kept gathered × GoesOnUntil fault unfolder.fault
   new_sound fault none few =
       let N : Gathered → Type 0 = λ g. length g.names ≤ most_names in
       let S : Unfolding → Type 0 = λ u. IsSound u.stage.taken kept gathered in
       let G : Unfolding → Type 0 = λ u. u.fault ≡ None in
-      let P : Option PassFault → Type 0 = λ f. IsSoundUntil f unfolder.stage.taken kept gathered × GoesOnUntil f unfolder.fault in
+      let P : Option AsmFault → Type 0 = λ f. IsSoundUntil f unfolder.stage.taken kept gathered × GoesOnUntil f unfolder.fault in
       subst P (sym none)
       (subst S (sym is_fresh) (first_sound kept gathered matches (subst N (sym same) few)), subst G (sym is_fresh) refl)
 
@@ -144,7 +145,7 @@ module _ (map_ : Map) (live : Live) (old middle : Going) (does : code.Deed) (beg
   }
 
   -- mentions pass a limit
-  pub mention_fails : (fault : PassFault)
+  pub mention_fails : (fault : AsmFault)
       → Refuses fault (most_names < length (with_all (mentions_after stood.table text done.notes done.arguments of) named).names) ⊥
       → (table : Table) → Matches old.kept table → Fails (line_fault map_ table old.gathered.names live before) fault
   mention_fails TooManySymbols many table matches =
@@ -155,9 +156,8 @@ module _ (map_ : Map) (live : Live) (old middle : Going) (does : code.Deed) (beg
       (with_all (mentions_after stood.table text done.notes done.arguments (deed done.is_own text)) g).names in
       mentions_refused map_ table live before middle.unfolder.stage done stood old.gathered here.matches acts here.fits
       (subst Q begins.named (subst P begins.deed_is many))
-  mention_fails TooManySections many table matches = absurd many
-  mention_fails (Unfold inner) many table matches = absurd many
   mention_fails NoMemory many table matches = tt
+  mention_fails other many table matches = absurd many
 
   module _ (all : Gathered) (all_are : all ≡ with_all (mentions_after stood.table text done.notes done.arguments of) named)
       (few : length all.names ≤ most_names) (symbols : stood.local_symbols ≤ most_local_symbols) where
@@ -166,21 +166,18 @@ module _ (map_ : Map) (live : Live) (old middle : Going) (does : code.Deed) (beg
         all_are ∙ ap (λ (d : Deed). with_all (mentions_after stood.table text done.notes done.arguments d) named) begins.deed_is
 
     -- the section of a line is one too many
-    change_fails : (fault : PassFault)
+    change_fails : (fault : AsmFault)
         → ((table : Table) → Matches stood table → Refuses fault ⊥ (most_sections < length
         (changed map_ text (change_after stood.table text done.arguments of) table).sections))
         → (table : Table) → Matches old.kept table → Fails (line_fault map_ table old.gathered.names live before) fault
-    change_fails TooManySymbols many table matches =
-        absurd (many (labels_stand table text) (begins.labels table matches).matches)
     change_fails TooManySections many table matches =
         let here = begins.labels table matches in
         let P : Deed → Type 0 = λ d. most_sections < length
         (changed map_ text (change_after stood.table text done.arguments d) (labels_stand table text)).sections in
         sections_refused map_ table live before middle.unfolder.stage done stood old.gathered here.matches acts here.fits named
         begins.named all all_told few symbols (subst P begins.deed_is (many (labels_stand table text) here.matches))
-    change_fails (Unfold inner) many table matches =
-        absurd (many (labels_stand table text) (begins.labels table matches).matches)
     change_fails NoMemory many table matches = tt
+    change_fails other many table matches = absurd (many (labels_stand table text) (begins.labels table matches).matches)
 
     -- the pass stands after the line
     leaves : (new : Going) → new.unfolder ≡ middle.unfolder → new.gathered ≡ all
@@ -221,7 +218,7 @@ module _ (map_ : Map) (live : Live) (old middle : Going) (does : code.Deed) (beg
         )
 
     -- what the line changes is done, or its section is one too many
-    pub finishes : (new : Going) → new.unfolder ≡ middle.unfolder → new.gathered ≡ all → (result : Result (Option Item) PassFault)
+    pub finishes : (new : Going) → new.unfolder ≡ middle.unfolder → new.gathered ≡ all → (result : Result (Option Item) AsmFault)
         → IfOk result (λ _. Follows stood new.kept (λ t. changed map_ text (change_after stood.table text done.arguments of) t))
         → IfOk result (λ _. new.kept.local_symbols ≡ stood.local_symbols)
         → IfOk result (λ _. length new.kept.table.sections ≤ most_sections)
@@ -317,22 +314,22 @@ begins_still map_ live old middle does begun put begins = record {
 
 -- ---- a refusal that is handed on
 
-pub places_fails : (map_ : Map) (live : Live) (stage : Stage) (old new : Going) (fault : PassFault) (said : Said)
-    (result : Result (Unit {0}) PassFault)
+pub places_fails : (map_ : Map) (live : Live) (stage : Stage) (old new : Going) (fault : AsmFault) (said : Said)
+    (result : Result (Unit {0}) AsmFault)
     → ((table : Table) → Matches old.kept table → Fails (line_fault map_ table old.gathered.names live stage) fault)
     → IsErrAnd result (λ f. f ≡ fault) → Places map_ live stage old new said result
 places_fails map_ live stage old new fault said (Ok _) fails is = absurd is
 places_fails map_ live stage old new fault said (Err other) fails is = λ table matches.
-    let P : PassFault → Type 0 = λ f. Fails (line_fault map_ table old.gathered.names live stage) f in
+    let P : AsmFault → Type 0 = λ f. Fails (line_fault map_ table old.gathered.names live stage) f in
     subst P (sym is) (fails table matches)
 
-pub finish_fails : (map_ : Map) (live : Live) (stage : Stage) (old new : Going) (fault : PassFault)
-    (result : Result (Option Item) PassFault)
+pub finish_fails : (map_ : Map) (live : Live) (stage : Stage) (old new : Going) (fault : AsmFault)
+    (result : Result (Option Item) AsmFault)
     → ((table : Table) → Matches old.kept table → Fails (line_fault map_ table old.gathered.names live stage) fault)
     → IsErrAnd result (λ f. f ≡ fault) → Finishes map_ live stage old new result
 finish_fails map_ live stage old new fault (Ok _) fails is = absurd is
 finish_fails map_ live stage old new fault (Err other) fails is = λ table matches.
-    let P : PassFault → Type 0 = λ f. Fails (line_fault map_ table old.gathered.names live stage) f in
+    let P : AsmFault → Type 0 = λ f. Fails (line_fault map_ table old.gathered.names live stage) f in
     subst P (sym is) (fails table matches)
 
 -- ---- room
@@ -393,7 +390,7 @@ changed_room taken map_ stood new line arguments of room follows few =
 -- the line is done, and the pass is sound after it
 pub settled : (map_ : Map) (first new : Kept) (gathered : Gathered) (line : Bytes) (arguments : Option ℕ) (doing : Deed) (taken : ℕ)
     → HasRoom taken 1 1 first.table → first.local_symbols ≤ most_local_symbols → length gathered.names ≤ most_names
-    → {A : Type 0} (result : Result A PassFault)
+    → {A : Type 0} (result : Result A AsmFault)
     → IfOk result (λ _. tables.Follows first.table new.table (λ t. changed map_ line (change_after first.table line arguments doing) t))
     → IfOk result (λ _. length new.table.sections ≤ most_sections) → IfOk result (λ _. new.local_symbols ≡ first.local_symbols)
     → IfOk result (λ _. IsSound taken new gathered)

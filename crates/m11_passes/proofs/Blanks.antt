@@ -7,6 +7,7 @@ use Rattle.std.specs.List.{flat_map}
 use Rattle.std.specs.Option.{option_to_list}
 use Rattle.m11_arguments.specs.Directives.{operator_in}
 use Rattle.m11_arguments.specs.LeftOvers.{rest_letters, skip_letters}
+use Rattle.m11_asm_faults.specs.declared.fault.AsmFault.TheVariants.{TooManySymbols}
 use Rattle.m11_base.specs.Devices.{Bytes}
 use Rattle.m11_base.specs.Rad50.{Name}
 use Rattle.m11_listing.specs.declared.items.Item.{Item}
@@ -45,7 +46,6 @@ use Rattle.m11_passes.specs.Placed.{IsLive, IsPlaced, all_letters, live_in}
 use Rattle.m11_passes.specs.Refusals.{given_by, labels_fault, line_fault, of_limit}
 use Rattle.m11_passes.specs.States.{Going}
 use Rattle.m11_passes.specs.Turns.{LeavesAfter, Places, Said}
-use Rattle.m11_passes.specs.declared.fault.PassFault.TheVariants.{TooManySymbols}
 use Rattle.m11_passes.specs.declared.placed.LiveLine.{LiveLine}
 use Rattle.m11_passes.specs.declared.placed.PlacedLine.{PlacedLine}
 

@@ -1,6 +1,7 @@
 mod Assembling
 mod Blanks
 pub mod Counting
+mod Faults
 mod Placing
 pub mod Resting
 mod Settling

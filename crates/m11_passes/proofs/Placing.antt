@@ -4,6 +4,8 @@ use Rattle.std.proofs.lemmas.Bool.Decides.{nat_tests}
 use Rattle.std.specs.Prelude.{nat_lt}
 use Rattle.m11_arguments.specs.Expressions.{Known}
 use Rattle.m11_arguments.specs.Notes.{Notes}
+use Rattle.m11_asm_faults.specs.Faults.{of_unfolding}
+use Rattle.m11_asm_faults.specs.declared.fault.AsmFault.TheVariants.{TooManySymbols, TooManySections}
 use Rattle.m11_base.specs.Devices.{Bytes}
 use Rattle.m11_base.specs.Rad50.{Name}
 use Rattle.m11_unfolding.specs.Acting.{act, act_fault}
@@ -36,11 +38,9 @@ use Rattle.m11_placing.specs.Lines.{mentions_by}
 use Rattle.m11_placing.specs.Mentioned.{Gathered, with_all}
 use Rattle.m11_placing.specs.Passes.{Follows, Kept, Matches}
 use Rattle.m11_table.specs.Alike.{Alike}
-use Rattle.m11_passes.specs.Faults.{of_unfolding}
 use Rattle.m11_passes.specs.Lines.{acted}
 use Rattle.m11_passes.specs.Operated.{change_after, mentions_after}
 use Rattle.m11_passes.specs.Refusals.{given_by, labels_fault, line_fault, mentions_of_labels, of_limit}
-use Rattle.m11_passes.specs.declared.fault.PassFault.TheVariants.{TooManySymbols, TooManySections}
 
 -- ---- what unfolding is told
 

@@ -2,6 +2,9 @@
 use Rattle.std.proofs.Common.{◌≡◌, ◌∙◌, List, [], ◌∷◌, ◌++◌, length, Some, None, refl, sym, ap, subst}
 use Rattle.std.proofs.lemmas.List.{map-append}
 use Rattle.std.specs.Prelude.{false, Result, Ok, Err}
+use Rattle.m11_asm_faults.specs.Faults.{of_unfolding}
+use Rattle.m11_asm_faults.specs.declared.fault.AsmFault.{AsmFault}
+use Rattle.m11_asm_faults.specs.declared.fault.AsmFault.TheVariants.{Read, Write, TooMuchSource, NoMemory}
 use Rattle.m11_base.specs.Rad50.{Name}
 use Rattle.m11_lines.specs.Line.{SourceLine}
 use Rattle.m11_unfold.specs.Unfolder.{Comes, Stops}
@@ -18,7 +21,8 @@ use Rattle.m11_placement.specs.Placements.{after_lines, table_after}
 use Rattle.m11_placement.specs.Tables.{Table, first_table}
 use Rattle.m11_placing.specs.Mentioned.{Gathered, with_all}
 use Rattle.m11_placing.specs.Passes.{Kept, Matches}
-use Rattle.m11_passes.specs.Faults.{Fails, of_unfolding}
+use Rattle.m11_passes.proofs.Faults.{IsOfPass, line_fault_is_of_pass}
+use Rattle.m11_passes.specs.Faults.{Fails}
 use Rattle.m11_passes.specs.Lines.{Numbered, PassLines, acted, givens, names_at, numbered, table_at, with_line}
 use Rattle.m11_passes.specs.Lines as lines
 use Rattle.m11_passes.specs.Placed.{live_in}
@@ -28,8 +32,6 @@ use Rattle.m11_passes.specs.Refusals.{given_by, line_fault}
 use Rattle.m11_passes.specs.States.{Going, PassStands, fed, gathered_after}
 use Rattle.m11_passes.specs.Turns.{FailsAt, IsUnplaced, PlacesAfter, PlacesNext, Said, SaysLive, SaysPlaced, Turns}
 use Rattle.m11_passes.specs.Turns as turning
-use Rattle.m11_passes.specs.declared.fault.PassFault.{PassFault}
-use Rattle.m11_passes.specs.declared.fault.PassFault.TheVariants.{TooManySymbols, TooManySections, Unfold, NoMemory}
 use Rattle.m11_passes.specs.declared.placed.LiveLine.{LiveLine}
 use Rattle.m11_passes.specs.declared.placed.PlacedLine.{PlacedLine}
 use Rattle.m11_passes.specs.declared.turns.Turn.{Turn}
@@ -110,18 +112,22 @@ module _ (map_ : Map) (before : Gathered) where
           lines.PassLines.Placing source all comes.middle stage live (passing comes.middle comes.passing) comes.is_within comes.gives
           (sym fault_so ∙ fits)
 
-      pub exceeds : (fault : PassFault) → line_fault map_ (table_at map_ all) old.gathered.names live stage ≡ Some fault
+      pub exceeds : (fault : AsmFault) → line_fault map_ (table_at map_ all) old.gathered.names live stage ≡ Some fault
           → Exceeds map_ before.names source all fault
       exceeds fault refused =
           reaching.Exceeds.AtLine comes.middle stage live (passing comes.middle comes.passing) comes.is_within comes.gives
           (sym fault_so ∙ refused)
 
-      fails_so : (fault : PassFault) → Fails (line_fault map_ (table_at map_ all) old.gathered.names live stage) fault
+      of_line : (fault : AsmFault) → line_fault map_ (table_at map_ all) old.gathered.names live stage ≡ Some fault → IsOfPass fault
+      of_line fault refused = line_fault_is_of_pass map_ (table_at map_ all) old.gathered.names live stage fault refused
+
+      fails_so : (fault : AsmFault) → Fails (line_fault map_ (table_at map_ all) old.gathered.names live stage) fault
           → Refused map_ before.names source all fault
-      fails_so TooManySymbols fails = exceeds TooManySymbols fails
-      fails_so TooManySections fails = exceeds TooManySections fails
-      fails_so (Unfold inner) fails = exceeds (Unfold inner) fails
       fails_so NoMemory fails = tt
+      fails_so Read fails = of_line Read fails
+      fails_so (Write output) fails = of_line (Write output) fails
+      fails_so TooMuchSource fails = of_line TooMuchSource fails
+      fails_so other fails = exceeds other fails
 
     places : (new : Going) (live : Live) (said : Said) → PlacesNext map_ old new live said → PlacesLine map_ before source all new live said
     places new live said next =
@@ -151,13 +157,13 @@ module _ (map_ : Map) (before : Gathered) where
         reaching.Exceeds.BeforeLine stops.middle limit.TooManyMacros (passing stops.middle stops.passing) stops.passes refl
     before_line limit.NoMemory stops = tt
 
-    refused : (fault : PassFault) → FailsAt map_ old fault → Refused map_ before.names source all fault
+    refused : (fault : AsmFault) → FailsAt map_ old fault → Refused map_ before.names source all fault
     refused fault (turning.FailsAt.BeforeLine inner is stops) =
-        let P : PassFault → Type 0 = λ f. Refused map_ before.names source all f in subst P (sym is) (before_line inner stops)
+        let P : AsmFault → Type 0 = λ f. Refused map_ before.names source all f in subst P (sym is) (before_line inner stops)
     refused fault (turning.FailsAt.AtLine live stage comes fails) =
         fails_so live stage comes fault (fails (table_at map_ all) stands.matches)
 
-    turned : (new : Going) (live : Live) (said : Said) (result : Result Turn PassFault) → Turns map_ old new live said result
+    turned : (new : Going) (live : Live) (said : Said) (result : Result Turn AsmFault) → Turns map_ old new live said result
         → Reaches map_ before source all new live said result
     turned new live said (Ok NeedLine) (stepped, unplaced) =
         (rests new unplaced (passing new.unfolder.stage stepped.0), stepped.1, stepped.2)
@@ -166,20 +172,20 @@ module _ (map_ : Map) (before : Gathered) where
     turned new live said (Err fault) fails = refused fault fails
 
 turns : (map_ : Map) (before : Gathered) (source : List SourceLine) (all : List Numbered) (old new : Going)
-    (live : Live) (said : Said) (result : Result Turn PassFault) → PassStands map_ before source all old
+    (live : Live) (said : Said) (result : Result Turn AsmFault) → PassStands map_ before source all old
     → Turns map_ old new live said result → Reaches map_ before source all new live said result
 turns map_ before source all old new live said result stands turned_so =
     turned map_ before source all old stands new live said result turned_so
 
 pub next_turns : (map_ : Map) (before : Gathered) (source : List SourceLine) (all : List Numbered) (old new : Going)
-    (placed : PlacedLine) (result : Result Turn PassFault) → PassStands map_ before source all old
+    (placed : PlacedLine) (result : Result Turn AsmFault) → PassStands map_ before source all old
     → Turns map_ old new (live_in placed.live) (SaysPlaced map_ placed new.put) result
     → Reaches map_ before source all new (live_in placed.live) (SaysPlaced map_ placed new.put) result
 next_turns map_ before source all old new placed result stands turned_so =
     turns map_ before source all old new (live_in placed.live) (SaysPlaced map_ placed new.put) result stands turned_so
 
 pub define_turns : (before : Gathered) (source : List SourceLine) (all : List Numbered) (old new : Going)
-    (live : LiveLine) (result : Result Turn PassFault) → PassStands empty_map before source all old
+    (live : LiveLine) (result : Result Turn AsmFault) → PassStands empty_map before source all old
     → Turns empty_map old new (live_in live) (SaysLive live) result
     → Reaches empty_map before source all new (live_in live) (SaysLive live) result
 define_turns before source all old new live result stands turned_so =

@@ -1,5 +1,7 @@
 -- What the calls below a pass's own come to.
 use Rattle.std.proofs.Common.{Bool, ◌≡◌, ◌∙◌, ◌<◌, ◌≤◌, ℕ, ◌+◌, ◌*◌, List, [], ◌++◌, length, Result, Ok, Err, IfErr, IsErrAnd, refl, sym, ap, subst, arith}
+use Rattle.m11_asm_faults.specs.Faults.{of_unfolding}
+use Rattle.m11_asm_faults.specs.declared.fault.AsmFault.{AsmFault}
 use Rattle.m11_unfold.specs.Unfolder.{Comes, Steps, Stops, live_of}
 use Rattle.m11_lines.specs.Line.{SourceLine}
 use Rattle.m11_unfold.specs.declared.steps.Step.{Step}
@@ -14,51 +16,33 @@ use Rattle.m11_placement.specs.Tables.{Table, first_table}
 use Rattle.m11_placement.specs.declared.sections.Section.{Section}
 use Rattle.m11_placement.specs.declared.settings.Settings.{Settings}
 use Rattle.m11_placing.proofs.Gathering.{added_then, failed_first}
-use Rattle.m11_placing.specs.Faults as placing
+use Rattle.m11_placing.proofs.Refusals.{handed_on}
+use Rattle.m11_placing.specs.Faults.{Refuses}
 use Rattle.m11_placing.specs.Mentioned.{Gathered, StaysFew, with_all}
 use Rattle.m11_placing.specs.Passes.{Kept, Matches}
-use Rattle.m11_placing.specs.declared.fault.PlacingFault.{PlacingFault}
-use Rattle.m11_placing.specs.declared.fault.PlacingFault.TheVariants as limit
 use Rattle.m11_passes.proofs.Counting.{leads_takes}
 use Rattle.m11_passes.specs.Bounds.{HasRoom, IsSound}
-use Rattle.m11_passes.specs.Faults.{Fails, Refuses, of_placing, of_unfolding}
+use Rattle.m11_passes.specs.Faults.{Fails}
 use Rattle.m11_passes.specs.Refusals.{given_by, line_fault}
 use Rattle.m11_passes.specs.States.{Going}
 use Rattle.m11_passes.specs.Turns.{FailsAt, Places, PlacesAfter, PlacesNext, Said, Turns}
 use Rattle.m11_passes.specs.Turns as turning
-use Rattle.m11_passes.specs.declared.fault.PassFault.{PassFault}
 use Rattle.m11_passes.specs.declared.turns.Turn.{Turn}
-
--- a fault that is handed on as another one
-pub handed_on : {A : Type 0} (P : PassFault → Type 0) (fault : PassFault) (result : Result A PassFault) → P fault
-    → IsErrAnd result (λ f. f ≡ fault) → IfErr result P
-handed_on P fault (Ok value) holds is = tt
-handed_on P fault (Err other) holds is = subst P (sym is) holds
 
 -- ---- mentions
 
-as_placing : (fault : PlacingFault) (symbols : Type 0) → placing.Refuses fault symbols ⊥ → Refuses (of_placing fault) symbols ⊥
-as_placing limit.TooManySymbols symbols refuses = refuses
-as_placing limit.TooManySections symbols refuses = refuses
-as_placing limit.NoMemory symbols refuses = tt
-
-module _ {A : Type 0} (first second : List Mention) (old : Gathered) (fault : PlacingFault) (result : Result A PassFault)
-    (is : IsErrAnd result (λ f. f ≡ of_placing fault)) where
-  abbrev Past : PassFault → Type 0
+module _ {A : Type 0} (first second : List Mention) (old : Gathered) (fault : AsmFault) (result : Result A AsmFault)
+    (is : IsErrAnd result (λ f. f ≡ fault)) where
+  abbrev Past : AsmFault → Type 0
   Past f = Refuses f (most_names < length (with_all (first ++ second) old).names) ⊥
 
-  pub first_refused : placing.Refuses fault (most_names < length (with_all first old).names) ⊥ → IfErr result Past
-  first_refused refuses =
-      handed_on Past (of_placing fault) result
-      (as_placing fault (most_names < length (with_all (first ++ second) old).names)
-      (failed_first first second old old fault (Err fault) refuses refl)) is
+  pub first_refused : Refuses fault (most_names < length (with_all first old).names) ⊥ → IfErr result Past
+  first_refused refuses = handed_on Past fault result (failed_first first second old old fault (Err fault) refuses refl) is
 
   pub second_refused : (middle : Gathered) → (middle ≡ with_all first old) × StaysFew old middle
-      → placing.Refuses fault (most_names < length (with_all second middle).names) ⊥ → IfErr result Past
+      → Refuses fault (most_names < length (with_all second middle).names) ⊥ → IfErr result Past
   second_refused middle e refuses =
-      handed_on Past (of_placing fault) result
-      (as_placing fault (most_names < length (with_all (first ++ second) old).names)
-      (added_then first second old middle middle (Err fault) e refuses)) is
+      handed_on Past fault result (added_then first second old middle middle (Err fault) e refuses) is
 
 -- ---- room
 
@@ -138,18 +122,18 @@ taken_ends before after line next is stepped =
 -- ---- turns
 
 module _ (map_ : Map) (old new : Going) (said : Said) where
-  pub unfolding_fails : (fault : UnfoldFault) (live : Live) (result : Result Turn PassFault) → Stops old.unfolder.stage fault
+  pub unfolding_fails : (fault : UnfoldFault) (live : Live) (result : Result Turn AsmFault) → Stops old.unfolder.stage fault
       → IsErrAnd result (λ f. f ≡ of_unfolding fault) → Turns map_ old new live said result
   unfolding_fails fault live (Ok turn) stops is = absurd is
   unfolding_fails fault live (Err other) stops is = turning.FailsAt.BeforeLine fault is stops
 
-  pub line_fails : (live here : Live) (stage : Stage) (fault : PassFault) (result : Result Turn PassFault)
+  pub line_fails : (live here : Live) (stage : Stage) (fault : AsmFault) (result : Result Turn AsmFault)
       → Comes old.unfolder.stage live stage
       → ((table : Table) → Matches old.kept table → Fails (line_fault map_ table old.gathered.names live stage) fault)
       → IsErrAnd result (λ f. f ≡ fault) → Turns map_ old new here said result
   line_fails live here stage fault (Ok turn) comes fails is = absurd is
   line_fails live here stage fault (Err other) comes fails is =
-      let P : PassFault → Type 0 = λ f. FailsAt map_ old f in
+      let P : AsmFault → Type 0 = λ f. FailsAt map_ old f in
       subst P (sym is) (turning.FailsAt.AtLine live stage comes fails)
 
   pub line_places : (middle : Going) (live here : Live) (stage : Stage) → here ≡ live

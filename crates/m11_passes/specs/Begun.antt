@@ -1,6 +1,7 @@
 -- Where a pass stands within a live line: its labels stand, and unfolding has done its operator. (This project's own.)
 use Rattle.std.specs.Prelude.{◌≡◌, Option, Result, Ok, Err}
 use Rattle.std.specs.Option.{option_to_list}
+use Rattle.m11_asm_faults.specs.declared.fault.AsmFault.{AsmFault}
 use Rattle.m11_fields.specs.Reads.{fields_seen}
 use Rattle.m11_listing.specs.declared.items.Item.{Item}
 use Rattle.m11_scan.specs.Views.{bits_of}
@@ -25,7 +26,6 @@ use Rattle.m11_passes.specs.Refusals.{given_by, line_fault, mentions_of_labels}
 use Rattle.m11_passes.specs.States.{Going}
 use Rattle.m11_passes.specs.Turns.{LeavesAfter}
 use Rattle.m11_passes.specs.declared.begun.Begun.{Begun}
-use Rattle.m11_passes.specs.declared.fault.PassFault.{PassFault}
 
 -- what is known of a statement without its labels
 pub record States (live : Live) (statement : Statement) : Type 0 where
@@ -42,7 +42,7 @@ pub record Begins (map : Map) (live : Live) (old new : Going) (does : Deed) (beg
   pub fields_are : fields_seen begun.fields ≡ deed_fields new.kept.table live.line.text does
 
 -- from there to the end of the line, with what a listing shows of what it assigns; or the line passes a limit
-abbrev pub Finishes : Map → Live → Stage → Going → Going → Result (Option Item) PassFault → Type 0
+abbrev pub Finishes : Map → Live → Stage → Going → Going → Result (Option Item) AsmFault → Type 0
 Finishes map live stage old new (Ok item) = (table : Table) → Matches old.kept table
     → LeavesAfter map table live stage old new × (option_to_list item ≡ assigned_items map table (given_by table live stage))
 Finishes map live stage old new (Err fault) =

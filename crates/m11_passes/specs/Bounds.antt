@@ -1,11 +1,11 @@
 -- How far the settings of a table and the counts of a pass have gone. (This project's own: each live line is a line taken, of which there
 -- are at most 200,000.)
 use Rattle.std.specs.Prelude.{◌<◌, ◌≤◌, ℕ, ◌+◌, ◌*◌, length, Option, Some, None}
+use Rattle.m11_asm_faults.specs.declared.fault.AsmFault.{AsmFault}
 use Rattle.m11_placement.specs.Limits.{most_local_symbols, most_names, most_sections}
 use Rattle.m11_placement.specs.Tables.{Table}
 use Rattle.m11_placing.specs.Mentioned.{Gathered}
 use Rattle.m11_placing.specs.Passes.{Kept}
-use Rattle.m11_passes.specs.declared.fault.PassFault.{PassFault}
 
 -- a line opens a block of local symbols for each of its labels, of which it has 66 at most, and one for the section that it selects
 abbrev pub blocks_of_line : ℕ
@@ -31,6 +31,6 @@ pub record IsSound (taken : ℕ) (kept : Kept) (gathered : Gathered) : Type 0 wh
   pub few : IsFew kept gathered
 
 -- until a fault comes
-abbrev pub IsSoundUntil : Option PassFault → ℕ → Kept → Gathered → Type 0
+abbrev pub IsSoundUntil : Option AsmFault → ℕ → Kept → Gathered → Type 0
 IsSoundUntil None taken kept gathered = IsSound taken kept gathered
 IsSoundUntil (Some fault) taken kept gathered = Unit {0}

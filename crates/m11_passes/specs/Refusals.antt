@@ -4,6 +4,9 @@
 use Rattle.std.specs.Prelude.{◌||◌, nat_lt, if◌then◌else◌, List, length, Option, Some, None}
 use Rattle.std.specs.List.{flat_map}
 use Rattle.std.specs.Option.{option_or}
+use Rattle.m11_asm_faults.specs.Faults.{of_unfolding}
+use Rattle.m11_asm_faults.specs.declared.fault.AsmFault.{AsmFault}
+use Rattle.m11_asm_faults.specs.declared.fault.AsmFault.TheVariants.{TooManySymbols, TooManySections}
 use Rattle.m11_base.specs.Devices.{Bytes}
 use Rattle.m11_base.specs.Rad50.{Name}
 use Rattle.m11_statements.specs.Labels.{labels_at}
@@ -20,15 +23,12 @@ use Rattle.m11_placement.specs.Meanings.{Map}
 use Rattle.m11_placement.specs.Mentions.{Mention, label_mentions, mentions}
 use Rattle.m11_placement.specs.Tables.{Table}
 use Rattle.m11_placement.specs.Unfolded.{known_after_labels}
-use Rattle.m11_passes.specs.Faults.{of_unfolding}
-use Rattle.m11_passes.specs.declared.fault.PassFault.{PassFault}
-use Rattle.m11_passes.specs.declared.fault.PassFault.TheVariants.{TooManySymbols, TooManySections}
 
-abbrev pub act_refused : Option UnfoldFault → Option PassFault
+abbrev pub act_refused : Option UnfoldFault → Option AsmFault
 act_refused (Some fault) = Some (of_unfolding fault)
 act_refused None = None
 
-abbrev pub of_limit : Option LimitFault → Option PassFault
+abbrev pub of_limit : Option LimitFault → Option AsmFault
 of_limit (Some limits.TooManySymbols) = Some TooManySymbols
 of_limit (Some limits.TooManySections) = Some TooManySections
 of_limit None = None
@@ -38,7 +38,7 @@ of_limit None = None
 abbrev pub mentions_of_labels : Bytes → List Mention
 mentions_of_labels line = flat_map (label_mentions line) (labels_at line)
 
-abbrev pub labels_fault : List Name → Table → Bytes → Option PassFault
+abbrev pub labels_fault : List Name → Table → Bytes → Option AsmFault
 labels_fault names table line =
     if nat_lt most_names (length (with_mentions (mentions_of_labels line) names))
     || nat_lt most_local_symbols (local_count (labels_stand table line)) then Some TooManySymbols else None
@@ -49,12 +49,12 @@ labels_fault names table line =
 abbrev pub given_by : Table → Live → Stage → Given
 given_by table live stage = given (known_after_labels (labels_stand table live.line.text)) live stage
 
-abbrev pub placing_fault : Map → Table → List Name → Given → Option PassFault
+abbrev pub placing_fault : Map → Table → List Name → Given → Option AsmFault
 placing_fault map table names given =
     of_limit (limit_fault (with_mentions (mentions table given) names) (after_line map table given))
 
 -- of a line that became live, after a table and after names
-abbrev pub line_fault : Map → Table → List Name → Live → Stage → Option PassFault
+abbrev pub line_fault : Map → Table → List Name → Live → Stage → Option AsmFault
 line_fault map table names live stage =
     option_or (labels_fault names table live.line.text)
     (option_or (act_refused (act_fault stage live.line.text)) (placing_fault map table names (given_by table live stage)))

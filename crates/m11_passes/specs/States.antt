@@ -1,5 +1,6 @@
 -- What a pass keeps between two calls, and after which lines it stands. (This project's own.)
 use Rattle.std.specs.Prelude.{◌≡◌, false, List, [], ◌∷◌, Option, Some, None}
+use Rattle.m11_asm_faults.specs.declared.fault.AsmFault.{AsmFault}
 use Rattle.m11_lines.specs.Line.{SourceLine}
 use Rattle.m11_unfold.specs.Unfolder.{Unfolding}
 use Rattle.m11_unfolding.specs.Unfolding.{Given}
@@ -12,7 +13,6 @@ use Rattle.m11_placement.specs.Tables.{Table, first_table}
 use Rattle.m11_placing.specs.Mentioned.{Gathered, with_all}
 use Rattle.m11_placing.specs.Passes.{Kept, Matches}
 use Rattle.m11_passes.specs.Lines.{Numbered, PassLines, givens, table_at, with_line}
-use Rattle.m11_passes.specs.declared.fault.PassFault.{PassFault}
 use Rattle.m11_passes.specs.declared.state.State.{State}
 
 -- the unfolding, what counts of the table, the names that were mentioned, and what the last line put
@@ -25,7 +25,7 @@ pub record Going : Type 0 where
 -- and the fault that ended the pass, if one did
 pub record PassState : Type 0 where
   pub going : Going
-  pub fault : Option PassFault
+  pub fault : Option AsmFault
 
 abbrev pub going_of : State → Going
 going_of state = record { unfolder = state.unfolder; kept = state.pass; gathered = state.mentioned; put = state.put }
@@ -41,7 +41,7 @@ fed line going = record going {
 }
 
 -- until a fault comes, unfolding has none
-abbrev pub GoesOnUntil : Option PassFault → Option UnfoldFault → Type 0
+abbrev pub GoesOnUntil : Option AsmFault → Option UnfoldFault → Type 0
 GoesOnUntil None fault = fault ≡ None
 GoesOnUntil (Some stopped) fault = Unit {0}
 

@@ -1,5 +1,7 @@
 -- What the calls of a pass do. (This project's own.)
 use Rattle.std.specs.Prelude.{◌≡◌, ◌<◌, ◌≤◌, ℕ, [], None, Result, Ok, Err}
+use Rattle.m11_asm_faults.specs.Faults.{of_unfolding}
+use Rattle.m11_asm_faults.specs.declared.fault.AsmFault.{AsmFault}
 use Rattle.m11_unfold.specs.Unfolder.{Comes, Steps, Stops}
 use Rattle.m11_unfold.specs.declared.steps.Step.TheVariants as step
 use Rattle.m11_unfolding.specs.Limits.{most_lines}
@@ -14,12 +16,11 @@ use Rattle.m11_placement.specs.Mentions.{mentions}
 use Rattle.m11_placement.specs.Tables.{Table}
 use Rattle.m11_placing.specs.Mentioned.{with_all}
 use Rattle.m11_placing.specs.Passes.{Matches}
-use Rattle.m11_passes.specs.Faults.{Fails, of_unfolding}
+use Rattle.m11_passes.specs.Faults.{Fails}
 use Rattle.m11_passes.specs.Lines.{acted}
 use Rattle.m11_passes.specs.Placed.{IsLive, IsPlaced}
 use Rattle.m11_passes.specs.Refusals.{given_by, line_fault}
 use Rattle.m11_passes.specs.States.{Going}
-use Rattle.m11_passes.specs.declared.fault.PassFault.{PassFault}
 use Rattle.m11_passes.specs.declared.placed.LiveLine.{LiveLine}
 use Rattle.m11_passes.specs.declared.placed.PlacedLine.{PlacedLine}
 use Rattle.m11_passes.specs.declared.turns.Turn.{Turn}
@@ -48,7 +49,7 @@ pub record PlacesAfter (map : Map) (table : Table) (live : Live) (stage : Stage)
   pub is_said : said table (given_by table live stage)
 
 -- whatever table it is of which the pass keeps what counts; or the line passes a limit
-abbrev pub Places : Map → Live → Stage → Going → Going → Said → Result (Unit {0}) PassFault → Type 0
+abbrev pub Places : Map → Live → Stage → Going → Going → Said → Result (Unit {0}) AsmFault → Type 0
 Places map live stage old new said (Ok _) =
     (table : Table) → Matches old.kept table → PlacesAfter map table live stage old new said
 Places map live stage old new said (Err fault) =
@@ -66,14 +67,14 @@ pub record PlacesNext (map : Map) (old new : Going) (live : Live) (said : Said) 
   pub places : Places map live stage old new said (Ok tt)
 
 -- a limit is passed before a line becomes live, or at one that becomes live
-pub data FailsAt (map : Map) (old : Going) (fault : PassFault) : Type 0 where
+pub data FailsAt (map : Map) (old : Going) (fault : AsmFault) : Type 0 where
   BeforeLine : (inner : UnfoldFault) → fault ≡ of_unfolding inner → Stops old.unfolder.stage inner → FailsAt map old fault
   AtLine : (live : Live) (stage : Stage) → Comes old.unfolder.stage live stage
       → ((table : Table) → Matches old.kept table → Fails (line_fault map table old.gathered.names live stage) fault)
       → FailsAt map old fault
 
 -- from one live line to the next, which stands where the call puts it, or to the end of what is left
-abbrev pub Turns : Map → Going → Going → Live → Said → Result Turn PassFault → Type 0
+abbrev pub Turns : Map → Going → Going → Live → Said → Result Turn AsmFault → Type 0
 Turns map old new live said (Ok NeedLine) =
     Steps old.unfolder.stage new.unfolder.stage live.line (Ok step.NeedLine) × IsUnplaced old new
 Turns map old new live said (Ok End) = Steps old.unfolder.stage new.unfolder.stage live.line (Ok step.End) × IsUnplaced old new
@@ -81,14 +82,14 @@ Turns map old new live said (Ok Line) = PlacesNext map old new live said
 Turns map old new live said (Err fault) = FailsAt map old fault
 
 -- a line is needed only where nothing is left
-abbrev pub IsEmpty : Stage → Result Turn PassFault → Type 0
+abbrev pub IsEmpty : Stage → Result Turn AsmFault → Type 0
 IsEmpty after (Ok NeedLine) = after.left ≡ []
 IsEmpty after (Ok End) = Unit {0}
 IsEmpty after (Ok Line) = Unit {0}
 IsEmpty after (Err fault) = Unit {0}
 
 -- and at a live line more lines were taken than before, within the limit
-abbrev pub IsNext : ℕ → Stage → Result Turn PassFault → Type 0
+abbrev pub IsNext : ℕ → Stage → Result Turn AsmFault → Type 0
 IsNext taken after (Ok NeedLine) = after.left ≡ []
 IsNext taken after (Ok End) = Unit {0}
 IsNext taken after (Ok Line) = (taken < after.taken) × (after.taken ≤ most_lines)

@@ -17,11 +17,11 @@ ghost use Rattle.m11_passes.specs.Placed.{live_in};
 ghost use Rattle.m11_passes.specs.Refusals.{line_fault};
 ghost use Rattle.m11_passes.specs.States.{going_of};
 
-use crate::fault::PassFault;
 use crate::labelling::define_labels;
 use crate::placed::LiveLine;
 use crate::state::State;
 use m11_arguments::operator_in;
+use m11_asm_faults::AsmFault;
 use m11_fields::Fields;
 use m11_placing::{LabelLetters, Pass, deed_after_labels, deed_fields};
 use m11_scan::Line;
@@ -47,7 +47,7 @@ impl State {
         map: &Map<'_>,
         live: &mut LiveLine,
         statement: &Statement,
-    ) -> Result<Begun, PassFault>
+    ) -> Result<Begun, AsmFault>
         requires unlabelled { statement.now.labels_end ≡ 0 → labels_at live.old.line.text ≡ [] }
         requires lone { IfSome statement.now.lone_label (λ label. labels_at live.old.line.text ≡ label ∷ []) }
         requires states { States (live_in live.old) statement.now }

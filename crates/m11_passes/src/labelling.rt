@@ -12,7 +12,7 @@ ghost use Rattle.m11_passes.specs.Faults.{Fails};
 ghost use Rattle.m11_passes.specs.Labelled.{Labels};
 ghost use Rattle.m11_passes.specs.Refusals.{labels_fault, mentions_of_labels};
 
-use crate::fault::PassFault;
+use m11_asm_faults::AsmFault;
 use m11_placing::{LabelLetters, Mentioned, Pass};
 use m11_scan::Line;
 use m11_statements::{Label, labels_of};
@@ -26,7 +26,7 @@ pub(crate) fn define_labels(
     line: &Line,
     labels_end: u8,
     lone_label: Option<Label>,
-) -> Result<LabelLetters, PassFault>
+) -> Result<LabelLetters, AsmFault>
     requires unlabelled { labels_end ≡ 0 → labels_at line.now.text ≡ [] }
     requires lone { IfSome lone_label (λ label. labels_at line.now.text ≡ label ∷ []) }
     requires blocks { pass.old.table.settings.block + 66 < 2 ^ 64 }
@@ -57,7 +57,7 @@ fn define_listed(
     mentioned: &mut Mentioned,
     map: &Map<'_>,
     line: &Line,
-) -> Result<LabelLetters, PassFault>
+) -> Result<LabelLetters, AsmFault>
     requires blocks { pass.old.table.settings.block + 66 < 2 ^ 64 }
     requires few { IsFew pass.old mentioned.old }
     ensures stand { IfOk result (λ letters. Labels map.now mentioned.old.names line.now.text pass.old pass.new letters) }
@@ -79,7 +79,7 @@ fn define_all(
     map: &Map<'_>,
     line: &Line,
     labels: &[Label],
-) -> Result<LabelLetters, PassFault>
+) -> Result<LabelLetters, AsmFault>
     requires are { labels.now ≡ labels_at line.now.text }
     requires blocks { pass.old.table.settings.block + length labels.now < 2 ^ 64 }
     requires few { IsFew pass.old mentioned.old }

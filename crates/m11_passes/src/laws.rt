@@ -1,6 +1,7 @@
 //! That the calls of a pass place the lines of a source. It is the contract of a function that does nothing.
 
 ghost use Rattle.std.specs.Prelude.{◌≡◌, ◌++◌, ◌∷◌, List, [], Result, false};
+ghost use Rattle.m11_asm_faults.specs.declared.fault.AsmFault.{AsmFault};
 ghost use Rattle.m11_lines.specs.Line.{SourceLine};
 ghost use Rattle.m11_placement.specs.Meanings.{Map, empty_map};
 ghost use Rattle.m11_placing.specs.Mentioned.{Gathered};
@@ -9,7 +10,6 @@ ghost use Rattle.m11_passes.specs.Reaching.{Reaches};
 ghost use Rattle.m11_passes.specs.States.{Going, PassStands, fed};
 ghost use Rattle.m11_passes.specs.Placed.{live_in};
 ghost use Rattle.m11_passes.specs.Turns.{SaysLive, SaysPlaced, Turns};
-ghost use Rattle.m11_passes.specs.declared.fault.PassFault.{PassFault};
 ghost use Rattle.m11_passes.specs.declared.placed.LiveLine.{LiveLine};
 ghost use Rattle.m11_passes.specs.declared.placed.PlacedLine.{PlacedLine};
 ghost use Rattle.m11_passes.specs.declared.turns.Turn.{Turn};
@@ -23,11 +23,11 @@ pub fn the_calls_place_the_lines_of_a_source()
         → PassStands map before source lines going → going.unfolder.stage.left ≡ [] → going.unfolder.stage.has_ended ≡ false
         → PassStands map before (source ++ line ∷ []) lines (fed line going) }
     ensures turns { (map : Map) (before : Gathered) (source : List SourceLine) (lines : List Numbered) (old new : Going)
-        (placed : PlacedLine) (result : Result Turn PassFault) → PassStands map before source lines old
+        (placed : PlacedLine) (result : Result Turn AsmFault) → PassStands map before source lines old
         → Turns map old new (live_in placed.live) (SaysPlaced map placed new.put) result
         → Reaches map before source lines new (live_in placed.live) (SaysPlaced map placed new.put) result }
     ensures defines { (before : Gathered) (source : List SourceLine) (lines : List Numbered) (old new : Going)
-        (live : LiveLine) (result : Result Turn PassFault) → PassStands empty_map before source lines old
+        (live : LiveLine) (result : Result Turn AsmFault) → PassStands empty_map before source lines old
         → Turns empty_map old new (live_in live) (SaysLive live) result
         → Reaches empty_map before source lines new (live_in live) (SaysLive live) result }
 {}

@@ -5,7 +5,6 @@
 
 mod begun;
 mod blank;
-mod fault;
 mod labelling;
 mod laws;
 mod operating;
@@ -14,7 +13,6 @@ mod source_pass;
 mod state;
 mod turns;
 
-pub use fault::PassFault;
 pub use laws::the_calls_place_the_lines_of_a_source;
 pub use placed::{LiveLine, PlacedLine};
 pub use source_pass::SourcePass;

@@ -17,17 +17,17 @@ ghost use Rattle.m11_placement.specs.declared.meanings.Context.TheVariants.{Know
 ghost use Rattle.m11_placing.specs.Mentioned.{Adds, with_all};
 ghost use Rattle.m11_placing.specs.Passes.{Follows, Matches};
 ghost use Rattle.m11_table.specs.Alike as tables;
-ghost use Rattle.m11_passes.specs.Faults.{Refuses};
+ghost use Rattle.m11_placing.specs.Faults.{Refuses};
 ghost use Rattle.m11_passes.specs.Operated.{change_after, mentions_after};
 
-use crate::fault::PassFault;
 use m11_arguments::Notes;
+use m11_asm_faults::AsmFault;
 use m11_base::Name;
 use m11_fields::{Fields, is_even};
 use m11_listing::Item;
 use m11_operators::{Put, place_for};
 use m11_placement::{Context, Operator};
-use m11_placing::{Deed, Mentioned, Pass, PlacingFault, put_deed};
+use m11_placing::{Deed, Mentioned, Pass, put_deed};
 use m11_scan::Line;
 use m11_table::Map;
 
@@ -40,7 +40,7 @@ pub(crate) fn put_line(
     arguments: Option<u16>,
     deed: &Deed,
     fields: &Fields,
-) -> Result<(), PassFault>
+) -> Result<(), AsmFault>
     requires within { IsWithin (length line.now.text) deed.now }
     requires listed { IsTrue (is_listed deed.now) }
     requires fields { fields_seen fields.now ≡ deed_fields pass.now.table line.now.text deed.now }
@@ -55,7 +55,7 @@ pub(crate) fn put_line(
 }
 
 // The symbols that unfolding read.
-fn mention_read(mentioned: &mut Mentioned, notes: &Notes) -> Result<(), PlacingFault>
+fn mention_read(mentioned: &mut Mentioned, notes: &Notes) -> Result<(), AsmFault>
     ensures { Adds (map (mention Knows) notes.now.symbols) mentioned.old mentioned.new result }
 {
     match notes.symbols() {
@@ -75,7 +75,7 @@ pub(crate) fn mention_line(
     arguments: Option<u16>,
     deed: &Deed,
     fields: &Fields,
-) -> Result<(), PassFault>
+) -> Result<(), AsmFault>
     requires within { IsWithin (length line.now.text) deed.now }
     requires terms { AreDeedTerms line.now.text deed.now fields.now.list.items fields.now.terms }
     ensures mentions { (table : LineTable) → fields_seen fields.now ≡ deed_fields table line.now.text deed.now → IfOk result
@@ -100,7 +100,7 @@ pub(crate) fn change_line(
     arguments: Option<u16>,
     deed: &Deed,
     fields: &Fields,
-) -> Result<Option<Item>, PassFault>
+) -> Result<Option<Item>, AsmFault>
     requires within { IsWithin (length line.now.text) deed.now }
     requires fields { fields_seen fields.now ≡ deed_fields pass.old.table line.now.text deed.now }
     requires terms { AreDeedTerms line.now.text deed.now fields.now.list.items fields.now.terms }
@@ -140,7 +140,7 @@ fn operate_line(
     operator: Operator,
     start: u8,
     fields: &Fields,
-) -> Result<Option<Item>, PassFault>
+) -> Result<Option<Item>, AsmFault>
     requires within { start ≤ length line.now.text }
     requires fields { fields_seen fields.now ≡ operator_fields pass.old.table line.now.text start operator }
     requires terms { AreTerms line.now.text fields.now.list.items fields.now.terms }
@@ -181,7 +181,7 @@ fn change_any(
     arguments: Option<u16>,
     deed: &Deed,
     fields: &Fields,
-) -> Result<Option<Item>, PassFault>
+) -> Result<Option<Item>, AsmFault>
     requires within { IsWithin (length line.now.text) deed.now }
     requires fields { fields_seen fields.now ≡ deed_fields pass.old.table line.now.text deed.now }
     requires terms { AreDeedTerms line.now.text deed.now fields.now.list.items fields.now.terms }

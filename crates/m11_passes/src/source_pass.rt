@@ -12,11 +12,11 @@ ghost use Rattle.m11_passes.specs.States.{PassStands, fed};
 ghost use Rattle.m11_passes.specs.Turns.{IsEmpty, IsNext, SaysLive, SaysPlaced, Turns};
 ghost use Rattle.m11_placement.specs.Meanings.{Map as Meanings, empty_map};
 
-use crate::fault::PassFault;
 use crate::operating::section_name;
 use crate::placed::{LiveLine, PlacedLine};
 use crate::state::State;
 use crate::turns::Turn;
+use m11_asm_faults::AsmFault;
 use m11_base::Latch;
 use m11_object_text::PieceContent;
 use m11_placing::{Mentioned, Pass};
@@ -30,7 +30,7 @@ use std::marker::Model;
 #[derive(Drop)]
 pub struct SourcePass {
     state: State,
-    fault: Latch<PassFault>,
+    fault: Latch<AsmFault>,
 }
 
 impl Model for SourcePass {
@@ -79,10 +79,10 @@ impl SourcePass {
     ///
     /// Errors: `Unfold` where a limit of unfolding is passed, `TooManySymbols`, `TooManySections`, the first one in the order of the lines,
     /// and within a line in that of labels, operator and arguments; and `NoMemory`.
-    pub fn next(&mut self, map: &Map<'_>, placed: &mut PlacedLine) -> Result<Turn, PassFault>
+    pub fn next(&mut self, map: &Map<'_>, placed: &mut PlacedLine) -> Result<Turn, AsmFault>
         ensures turns { self.old.fault ≡ None → Turns map.now self.old.going self.new.going (live_in placed.new.live)
             (SaysPlaced map.now placed.new self.new.going.put) result }
-        ensures again { (fault : PassFault) → self.old.fault ≡ Some fault → result ≡ Err fault }
+        ensures again { (fault : AsmFault) → self.old.fault ≡ Some fault → result ≡ Err fault }
         ensures fault { self.new.fault ≡ result_err result }
         ensures empty { IsEmpty self.new.going.unfolder.stage result }
         ensures next { self.old.fault ≡ None → IsNext self.old.going.unfolder.stage.taken self.new.going.unfolder.stage result }
@@ -94,10 +94,10 @@ impl SourcePass {
 
     /// What comes next in a first pass, where the whole source has given its names nothing. A line that becomes live stands in `live`, and
     /// what it puts is not asked for. Errors as those of `next`.
-    pub fn define(&mut self, live: &mut LiveLine) -> Result<Turn, PassFault>
+    pub fn define(&mut self, live: &mut LiveLine) -> Result<Turn, AsmFault>
         ensures turns { self.old.fault ≡ None → Turns empty_map self.old.going self.new.going (live_in live.new)
             (SaysLive live.new) result }
-        ensures again { (fault : PassFault) → self.old.fault ≡ Some fault → result ≡ Err fault }
+        ensures again { (fault : AsmFault) → self.old.fault ≡ Some fault → result ≡ Err fault }
         ensures fault { self.new.fault ≡ result_err result }
         ensures empty { IsEmpty self.new.going.unfolder.stage result }
         ensures next { self.old.fault ≡ None → IsNext self.old.going.unfolder.stage.taken self.new.going.unfolder.stage result }

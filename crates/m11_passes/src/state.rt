@@ -19,12 +19,12 @@ ghost use Rattle.m11_passes.specs.Turns.{IsEmpty, IsNext, Places, SaysLive, Says
 
 use crate::begun::Begun;
 use crate::blank::{is_blank, place_blank};
-use crate::fault::PassFault;
 use crate::operating::{
     change_line, counter, is_shown, mention_line, put_line, put_place, section_name,
 };
 use crate::placed::{LiveLine, PlacedLine};
 use crate::turns::Turn;
+use m11_asm_faults::AsmFault;
 use m11_listing::Item;
 use m11_operators::Put;
 use m11_placing::{Deed, Mentioned, Pass, line_letters};
@@ -67,7 +67,7 @@ impl State {
     }
 
     // What comes next. A line that becomes live is placed in `placed`.
-    pub(crate) fn next(&mut self, map: &Map<'_>, placed: &mut PlacedLine) -> Result<Turn, PassFault>
+    pub(crate) fn next(&mut self, map: &Map<'_>, placed: &mut PlacedLine) -> Result<Turn, AsmFault>
         requires goes_on { self.old.unfolder.fault ≡ None }
         requires sound { IsSound self.old.unfolder.stage.taken self.old.pass self.old.mentioned }
         ensures turns { Turns map.now (going_of self.old) (going_of self.new) (live_in placed.new.live)
@@ -89,7 +89,7 @@ impl State {
     }
 
     // What comes next, where nothing is put: a line that becomes live stands in `live`.
-    pub(crate) fn define_next(&mut self, live: &mut LiveLine) -> Result<Turn, PassFault>
+    pub(crate) fn define_next(&mut self, live: &mut LiveLine) -> Result<Turn, AsmFault>
         requires goes_on { self.old.unfolder.fault ≡ None }
         requires sound { IsSound self.old.unfolder.stage.taken self.old.pass self.old.mentioned }
         ensures turns { Turns empty_map (going_of self.old) (going_of self.new) (live_in live.new) (SaysLive live.new) result }
@@ -110,7 +110,7 @@ impl State {
     }
 
     // Places a line that became live.
-    fn place(&mut self, map: &Map<'_>, placed: &mut PlacedLine) -> Result<(), PassFault>
+    fn place(&mut self, map: &Map<'_>, placed: &mut PlacedLine) -> Result<(), AsmFault>
         requires goes_on { self.old.unfolder.fault ≡ None }
         requires kept { IsKept self.old.unfolder.stage }
         requires free { self.old.unfolder.has_statement ≡ false }
@@ -149,7 +149,7 @@ impl State {
     }
 
     // Defines what a line that became live defines.
-    fn define(&mut self, live: &mut LiveLine) -> Result<(), PassFault>
+    fn define(&mut self, live: &mut LiveLine) -> Result<(), AsmFault>
         requires goes_on { self.old.unfolder.fault ≡ None }
         requires kept { IsKept self.old.unfolder.stage }
         requires free { self.old.unfolder.has_statement ≡ false }
@@ -182,7 +182,7 @@ impl State {
         map: &Map<'_>,
         live: &LiveLine,
         begun: &Begun,
-    ) -> Result<Option<Item>, PassFault>
+    ) -> Result<Option<Item>, AsmFault>
         requires within { IsWithin (length live.now.line.text) live.now.deed }
         requires fields { fields_seen begun.now.fields ≡ deed_fields self.old.pass.table live.now.line.text live.now.deed }
         requires terms { AreDeedTerms live.now.line.text live.now.deed begun.now.fields.list.items begun.now.fields.terms }

@@ -1,9 +1,9 @@
 -- Sources at a limit and one past it. (MACRO-11 Language Reference Manual, "Program section directives".)
 use Rattle.std.specs.Prelude.{ℕ, zero, suc, ◌+◌, ◌/◌, ◌%◌, List, [], ◌∷◌, ◌++◌, codes, map, Option, Some, None}
+use Rattle.m11_asm_faults.specs.declared.fault.AsmFault.{AsmFault}
+use Rattle.m11_asm_faults.specs.declared.fault.AsmFault.TheVariants.{TooManySections}
 use Rattle.m11_base.specs.Devices.{Bytes}
 use Rattle.m11_passes.specs.Refusals.{placing_fault}
-use Rattle.m11_passes.specs.declared.fault.PassFault.{PassFault}
-use Rattle.m11_passes.specs.declared.fault.PassFault.TheVariants.{TooManySections}
 use Rattle.m11_placement.specs.Limits.{names_after}
 use Rattle.m11_placement.specs.Meanings.{Map, empty_map}
 use Rattle.m11_placement.specs.Placements.{program_map, table_after}
@@ -21,17 +21,17 @@ sections zero = []
 sections (suc number) = section_line number ∷ sections number
 
 -- a line after others, each of which passes no limit
-abbrev pub fault_after : Map → List Given → Given → Option PassFault
+abbrev pub fault_after : Map → List Given → Given → Option AsmFault
 fault_after map lines line = placing_fault map (table_after map lines) (names_after map first_table lines []) line
 
 -- in the first pass, and in the second
-abbrev pub first_fault : List Bytes → Bytes → Option PassFault
+abbrev pub first_fault : List Bytes → Bytes → Option AsmFault
 first_fault lines line = fault_after empty_map (map plain lines) (plain line)
 
-abbrev pub second_fault : List Bytes → Bytes → Option PassFault
+abbrev pub second_fault : List Bytes → Bytes → Option AsmFault
 second_fault lines line = fault_after (program_map (map plain (line ∷ lines))) (map plain lines) (plain line)
 
-abbrev pub faults : List (Option PassFault)
+abbrev pub faults : List (Option AsmFault)
 faults =
     first_fault (sections 61) (section_line 61)
     ∷ first_fault (sections 62) (section_line 62)
@@ -39,5 +39,5 @@ faults =
     ∷ second_fault (sections 62) (section_line 62)
     ∷ []
 
-abbrev pub worked_faults : List (Option PassFault)
+abbrev pub worked_faults : List (Option AsmFault)
 worked_faults = None ∷ Some TooManySections ∷ None ∷ Some TooManySections ∷ []

@@ -2,6 +2,7 @@
 use Rattle.std.proofs.Common.{◌≡◌, ◌∙◌, ◌≤◌, ℕ, ◌-◌, ◌&&◌, not, Bool, true, false, if◌then◌else◌, List, [], ◌∷◌, ◌++◌, drop, get_or, length, take, Option, Some, None, Result, Ok, Err, IfOk, sym, ap, subst, arith}
 use Rattle.std.proofs.lemmas.List.{append-nil, append_assoc, take_all}
 use Rattle.m11_arguments.specs.Expressions.{symbols_at, value_at}
+use Rattle.m11_asm_faults.specs.declared.fault.AsmFault.{AsmFault}
 use Rattle.m11_base.specs.Devices.{Bytes}
 use Rattle.m11_base.specs.Rad50.{Name}
 use Rattle.m11_operators.specs.Changes.{names_among}
@@ -20,7 +21,6 @@ use Rattle.m11_table.specs.Alike.{Alike}
 use Rattle.m11_values.specs.Quantities.{Quantity}
 use Rattle.m11_placing.proofs.Alike.{alike_assigned, alike_labelled}
 use Rattle.m11_placing.specs.Passes.{Follows, Kept, Matches}
-use Rattle.m11_placing.specs.declared.fault.PlacingFault.{PlacingFault}
 
 -- ---- assignments
 
@@ -37,7 +37,7 @@ gives map name line start table value firm definition is value_is firm_is =
     ∙ ap (given name (value_at (known_at map Knows table (place table)) line start)) firm_is
 
 pub assigns : {A : Type 0} (map : Map) (key : Key) (line : Bytes) (start : ℕ) (old new : Kept) (definition : Definition)
-    (result : Result A PlacingFault) → definition ≡ assigned map old.table key line start
+    (result : Result A AsmFault) → definition ≡ assigned map old.table key line start
     → IfOk result (λ _. Follows old new (with_definition definition))
     → IfOk result (λ _. Follows old new (λ told. with_definition (assigned map told key line start) told))
 assigns map key line start old new definition (Ok value) e follows = λ told matches.
@@ -46,7 +46,7 @@ assigns map key line start old new definition (Ok value) e follows = λ told mat
 assigns map key line start old new definition (Err fault) e follows = tt
 
 pub assigns_so : {A : Type 0} (map : Map) (key : Key) (line : Bytes) (start : ℕ) (old new : Table) (definition : Definition)
-    (result : Result A PlacingFault) → definition ≡ assigned map old key line start
+    (result : Result A AsmFault) → definition ≡ assigned map old key line start
     → IfOk result (λ _. tables.Follows old new (with_definition definition))
     → IfOk result (λ _. tables.Follows old new (λ told. with_definition (assigned map told key line start) told))
 assigns_so map key line start old new definition (Ok value) e follows = λ told alike.
@@ -56,7 +56,7 @@ assigns_so map key line start old new definition (Err fault) e follows = tt
 
 -- ---- a label's name becomes doubled, and any other one is defined
 
-numbers_so : {A : Type 0} (name : Name) (number : ℕ) (is_known : Bool) (old new : Table) (result : Result A PlacingFault)
+numbers_so : {A : Type 0} (name : Name) (number : ℕ) (is_known : Bool) (old new : Table) (result : Result A AsmFault)
     → is_labelled (Named name) old.definitions ≡ is_known
     → IfOk result (λ _. tables.Follows old new
     (λ told. if is_known then with_doubled (Named name) told else with_definition (numbered name number) told))
@@ -67,12 +67,12 @@ numbers_so name number is_known old new (Ok value) is follows = λ told alike.
     subst P (sym is ∙ alike_labelled old told alike (Named name)) (follows told alike)
 numbers_so name number is_known old new (Err fault) is follows = tt
 
-pub number_doubles : {A : Type 0} (name : Name) (number : ℕ) (old new : Table) (result : Result A PlacingFault)
+pub number_doubles : {A : Type 0} (name : Name) (number : ℕ) (old new : Table) (result : Result A AsmFault)
     → is_labelled (Named name) old.definitions ≡ true → IfOk result (λ _. tables.Follows old new (with_doubled (Named name)))
     → IfOk result (λ _. tables.Follows old new (with_number name number))
 number_doubles name number old new result is follows = numbers_so name number true old new result is follows
 
-pub number_defines : {A : Type 0} (name : Name) (number : ℕ) (old new : Table) (result : Result A PlacingFault)
+pub number_defines : {A : Type 0} (name : Name) (number : ℕ) (old new : Table) (result : Result A AsmFault)
     → is_labelled (Named name) old.definitions ≡ false
     → IfOk result (λ _. tables.Follows old new (with_definition (numbered name number)))
     → IfOk result (λ _. tables.Follows old new (with_number name number))
@@ -97,7 +97,7 @@ module _ (map : Map) (name : Name) (line : Bytes) (start : ℕ) (old new : Table
   doubles_only true follows = follows
   doubles_only false follows = follows
 
-  pub value_doubles : {A : Type 0} (is_global : Bool) (result : Result A PlacingFault)
+  pub value_doubles : {A : Type 0} (is_global : Bool) (result : Result A AsmFault)
       → is_labelled (Named name) old.definitions ≡ true → IfOk result (λ _. tables.Follows old new (with_doubled (Named name)))
       → IfOk result (λ _. tables.Follows old new (with_value map name is_global line start))
   value_doubles is_global (Ok value) is follows = values_so is_global true is (doubles_only is_global follows)
@@ -150,7 +150,7 @@ none_first : 1 ≤ 0 → ⊥
 none_first e = omega (arith, e)
 
 pub exports_then : {A : Type 0} (names : List (Option Name)) (name other : Option Name) (old middle new : Kept)
-    (result : Result A PlacingFault) → 1 ≤ length names → get_or names 0 other ≡ name
+    (result : Result A AsmFault) → 1 ≤ length names → get_or names 0 other ≡ name
     → Follows old middle (with_globals (names_among (name ∷ [])))
     → IfOk result (λ _. Follows middle new (with_globals (names_among (take (length names - 1) (drop 1 names)))))
     → IfOk result (λ _. Follows old new (with_globals (names_among names)))
@@ -164,7 +164,7 @@ exports_then (first ∷ names) name other old middle new (Ok value) some is one 
 exports_then (first ∷ names) name other old middle new (Err fault) some is one rest = tt
 
 pub exports_so : {A : Type 0} (names : List (Option Name)) (name other : Option Name) (old middle new : Table)
-    (result : Result A PlacingFault) → 1 ≤ length names → get_or names 0 other ≡ name
+    (result : Result A AsmFault) → 1 ≤ length names → get_or names 0 other ≡ name
     → tables.Follows old middle (with_globals (names_among (name ∷ [])))
     → IfOk result (λ _. tables.Follows middle new (with_globals (names_among (take (length names - 1) (drop 1 names)))))
     → IfOk result (λ _. tables.Follows old new (with_globals (names_among names)))

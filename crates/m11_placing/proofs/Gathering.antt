@@ -3,6 +3,8 @@ use Rattle.std.proofs.Common.{◌≡◌, ◌∙◌, ℕ, zero, suc, ◌<◌, ◌
 use Rattle.std.specs.List.{list_any}
 use Rattle.std.proofs.lemmas.List.{take_all}
 use Rattle.std.proofs.lemmas.Option.{none-some}
+use Rattle.m11_asm_faults.specs.declared.fault.AsmFault.{AsmFault}
+use Rattle.m11_asm_faults.specs.declared.fault.AsmFault.TheVariants.{TooManySymbols, NoMemory}
 use Rattle.m11_base.specs.Rad50.{Name, is_same_name}
 use Rattle.m11_operators.specs.Changes.{names_among}
 use Rattle.m11_placement.specs.Limits.{is_counted, most_names, with_mentions, with_symbol}
@@ -10,8 +12,6 @@ use Rattle.m11_placement.specs.Mentions.{Mention, defined, mention, named}
 use Rattle.m11_placement.specs.declared.meanings.Context.{Context}
 use Rattle.m11_placing.specs.Faults.{Refuses}
 use Rattle.m11_placing.specs.Mentioned.{Adds, Gathered, StaysFew, in_context, is_register, names_referred, noted, registers_mentioned, with_all, with_name, with_reference, with_register}
-use Rattle.m11_placing.specs.declared.fault.PlacingFault.{PlacingFault}
-use Rattle.m11_placing.specs.declared.fault.PlacingFault.TheVariants.{TooManySymbols, TooManySections, NoMemory}
 use Rattle.m11_values.specs.declared.names.Symbol.{Symbol}
 use Rattle.m11_values.specs.declared.names.Symbol.TheVariants.{Ordinary, Local, Counter}
 
@@ -76,7 +76,7 @@ mentions_more (mention ∷ mentions) names =
 
 -- ---- one part after another
 
-pub added_then : (first second : List Mention) (old middle new : Gathered) (result : Result (Unit {0}) PlacingFault)
+pub added_then : (first second : List Mention) (old middle new : Gathered) (result : Result (Unit {0}) AsmFault)
     → (middle ≡ with_all first old) × StaysFew old middle → Adds second middle new result → Adds (first ++ second) old new result
 added_then first second old middle new (Ok _) added adds =
     (adds.0 ∙ ap (with_all second) added.0 ∙ sym (all_joined first second old), λ few. adds.1 (added.1 few))
@@ -84,7 +84,7 @@ added_then first second old middle new (Err fault) added refuses =
     let P : Gathered → Type 0 = λ g. Refuses fault (most_names < length g.names) ⊥ in
     subst P (ap (with_all second) added.0 ∙ sym (all_joined first second old)) refuses
 
-refused_more : (fault : PlacingFault) (first second : List Mention) (old : Gathered)
+refused_more : (fault : AsmFault) (first second : List Mention) (old : Gathered)
     → Refuses fault (most_names < length (with_all first old).names) ⊥
     → Refuses fault (most_names < length (with_all (first ++ second) old).names) ⊥
 refused_more TooManySymbols first second old refuses =
@@ -93,16 +93,16 @@ refused_more TooManySymbols first second old refuses =
     (let more : length (with_all first old).names ≤ length (with_all second (with_all first old)).names
     = mentions_more second (with_all first old).names in
     omega (arith, refuses, more))
-refused_more TooManySections first second old refuses = refuses
 refused_more NoMemory first second old refuses = tt
+refused_more other first second old refuses = refuses
 
 -- a fault of the first part is that of the whole
-pub failed_first : (first second : List Mention) (old new : Gathered) (fault : PlacingFault) (result : Result (Unit {0}) PlacingFault)
+pub failed_first : (first second : List Mention) (old new : Gathered) (fault : AsmFault) (result : Result (Unit {0}) AsmFault)
     → Refuses fault (most_names < length (with_all first old).names) ⊥ → IsErrAnd result (λ f. f ≡ fault)
     → Adds (first ++ second) old new result
 failed_first first second old new fault (Ok done) refuses is = absurd is
 failed_first first second old new fault (Err other) refuses is =
-    let P : PlacingFault → Type 0 = λ f. Refuses f (most_names < length (with_all (first ++ second) old).names) ⊥ in
+    let P : AsmFault → Type 0 = λ f. Refuses f (most_names < length (with_all (first ++ second) old).names) ⊥ in
     subst P (sym is) (refused_more fault first second old refuses)
 
 none_first : 1 ≤ 0 → ⊥
@@ -113,8 +113,8 @@ others_all item items = take_all (length (item ∷ items) - 1) items (omega arit
 
 -- of a list as a slice has it: the first item, and those after it
 module _ {A : Type 0} (mentions : A → List Mention) (items : List A) (item other : A) (old : Gathered)
-    (result : Result (Unit {0}) PlacingFault) where
-  pub failed_item : (new : Gathered) (fault : PlacingFault) → 1 ≤ length items → get_or items 0 other ≡ item
+    (result : Result (Unit {0}) AsmFault) where
+  pub failed_item : (new : Gathered) (fault : AsmFault) → 1 ≤ length items → get_or items 0 other ≡ item
       → Refuses fault (most_names < length (with_all (mentions item) old).names) ⊥ → IsErrAnd result (λ f. f ≡ fault)
       → Adds (flat_map mentions items) old new result
   failed_item new fault some first refuses is = by_items items some first
@@ -145,8 +145,8 @@ defined_joined : (name : Option Name) (names : List (Option Name))
 defined_joined (Some name) names = refl
 defined_joined None names = refl
 
-pub failed_name : (names : List (Option Name)) (name other : Option Name) (old new : Gathered) (fault : PlacingFault)
-    (result : Result (Unit {0}) PlacingFault) → 1 ≤ length names → get_or names 0 other ≡ name
+pub failed_name : (names : List (Option Name)) (name other : Option Name) (old new : Gathered) (fault : AsmFault)
+    (result : Result (Unit {0}) AsmFault) → 1 ≤ length names → get_or names 0 other ≡ name
     → Refuses fault (most_names < length (with_all (defined name) old).names) ⊥ → IsErrAnd result (λ f. f ≡ fault)
     → Adds (map named (names_among names)) old new result
 failed_name [] name other old new fault result some first refuses is = absurd (none_first some)
@@ -156,8 +156,8 @@ failed_name (found ∷ names) name other old new fault result some first refuses
     subst Q (defined_joined found names)
     (failed_first (defined found) (map named (names_among names)) old new fault result (subst P (sym first) refuses) is)
 
-pub failed_symbol : (context : Context) (symbols : List Symbol) (symbol other : Symbol) (old new : Gathered) (fault : PlacingFault)
-    (result : Result (Unit {0}) PlacingFault) → 1 ≤ length symbols → get_or symbols 0 other ≡ symbol
+pub failed_symbol : (context : Context) (symbols : List Symbol) (symbol other : Symbol) (old new : Gathered) (fault : AsmFault)
+    (result : Result (Unit {0}) AsmFault) → 1 ≤ length symbols → get_or symbols 0 other ≡ symbol
     → Refuses fault (most_names < length (with_all (mention context symbol ∷ []) old).names) ⊥
     → IsErrAnd result (λ f. f ≡ fault) → Adds (in_context context symbols) old new result
 failed_symbol context [] symbol other old new fault result some first refuses is = absurd (none_first some)

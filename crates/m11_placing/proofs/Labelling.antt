@@ -2,6 +2,7 @@
 use Rattle.std.proofs.Common.{◌≡◌, ◌∙◌, ◌<◌, ◌≤◌, ℕ, ◌+◌, ◌-◌, Bool, true, false, cond, if◌then◌else◌, List, [], ◌∷◌, drop, get_or, length, take, Option, Some, None, refl, sym, ap, subst, arith}
 use Rattle.std.proofs.lemmas.List.{take_all}
 use Rattle.std.specs.Int.RustNames.{bit_or}
+use Rattle.m11_asm_faults.specs.declared.fault.AsmFault.{AsmFault}
 use Rattle.m11_base.specs.Devices.{Bytes}
 use Rattle.m11_base.specs.Rad50.{Name}
 use Rattle.m11_placement.specs.Definitions.{is_defined}
@@ -19,7 +20,6 @@ use Rattle.m11_placing.proofs.Alike.{alike_defined, same_labelled}
 use Rattle.m11_placing.proofs.Passes.{counted_more}
 use Rattle.m11_placing.proofs.Refusals.{refuses_more}
 use Rattle.m11_placing.specs.Faults.{Refuses}
-use Rattle.m11_placing.specs.declared.fault.PlacingFault.{PlacingFault}
 use Rattle.m11_placing.specs.Labels.{Defines, DefinesAll}
 use Rattle.m11_placing.specs.Passes.{Follows, Kept, Matches}
 
@@ -112,7 +112,7 @@ module _ (old new : Kept) (block number : ℕ) (is : block ≡ old.table.setting
       symbols_begin old new number letters (subst P is defined) none
       (subst Q is (labels_here old new (Numbered block number) definition e follows))
 
-  pub blocks_refuse : (fault : PlacingFault) (definition : Definition) → is_defined (Numbered block number) old.table.definitions ≡ false
+  pub blocks_refuse : (fault : AsmFault) (definition : Definition) → is_defined (Numbered block number) old.table.definitions ≡ false
       → definition ≡ labelled old.table (Numbered block number)
       → ((told : Table) → Matches old told
       → Refuses fault (most_local_symbols < local_count (with_definition definition told)) ⊥)
@@ -211,7 +211,7 @@ first_defined line (label ∷ others) other old middle new letters more some fir
     let P : List Label → Type 0 = λ ls. DefinesAll line ls middle new more in
     labels_defined line label others old middle new letters more first (subst P (others_all label others) rest)
 
-pub first_refused : (line : Bytes) (labels : List Label) (other : Label) (fault : PlacingFault) (old : Kept) → 1 ≤ length labels
+pub first_refused : (line : Bytes) (labels : List Label) (other : Label) (fault : AsmFault) (old : Kept) → 1 ≤ length labels
     → ((told : Table) → Matches old told
     → Refuses fault (most_local_symbols < local_count (with_label line told (get_or labels 0 other))) ⊥)
     → (told : Table) → Matches old told

@@ -9,6 +9,6 @@ pub mod LinesAlike
 pub mod LinesTaken
 pub mod Passes
 mod NameLists
-mod Refusals
+pub mod Refusals
 mod SectionCounts
 mod Sizes

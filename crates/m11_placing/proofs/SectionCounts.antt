@@ -1,5 +1,6 @@
 -- What makes no new section.
 use Rattle.std.proofs.Common.{◌≡◌, ◌∙◌, ◌≤◌, ℕ, Bool, true, false, if◌then◌else◌, List, length, Option, Some, None, Result, Ok, Err, IfOk, refl, sym, subst}
+use Rattle.m11_asm_faults.specs.declared.fault.AsmFault.{AsmFault}
 use Rattle.m11_base.specs.Devices.{Bytes}
 use Rattle.m11_base.specs.Rad50.{Name}
 use Rattle.m11_placement.specs.Assigning.{assignment_to}
@@ -15,7 +16,6 @@ use Rattle.m11_placement.specs.declared.definitions.Key.TheVariants.{Named}
 use Rattle.m11_placement.specs.declared.sections.Section.{Section}
 use Rattle.m11_table.specs.Alike.{Follows}
 use Rattle.m11_placing.proofs.Alike.{alike_itself}
-use Rattle.m11_placing.specs.declared.fault.PlacingFault.{PlacingFault}
 
 global_sections : (is_global : Bool) (name : Name) (table : Table) → (global_if is_global name table).sections ≡ table.sections
 global_sections true name table = refl
@@ -49,7 +49,7 @@ sections_stay old new change follows same few =
     let P : List Section → Type 0 = λ s. length s ≤ 64 in
     subst P (sym ((follows old (alike_itself old)).sections ∙ same)) few
 
-pub sections_kept : {A : Type 0} (old new : Table) (change : Table → Table) (result : Result A PlacingFault)
+pub sections_kept : {A : Type 0} (old new : Table) (change : Table → Table) (result : Result A AsmFault)
     → (change old).sections ≡ old.sections → length old.sections ≤ 64
     → IfOk result (λ _. Follows old new change) → IfOk result (λ _. length new.sections ≤ 64)
 sections_kept old new change (Ok value) same few follows = sections_stay old new change follows same few

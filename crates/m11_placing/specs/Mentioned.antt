@@ -2,6 +2,7 @@
 -- ".GLOBL directive". Which of them count against the limit, is this project's own.)
 use Rattle.std.specs.Prelude.{◌≡◌, ◌<◌, ◌≤◌, ℕ, ◌==◌, ◌||◌, Bool, if◌then◌else◌, List, [], ◌∷◌, ◌++◌, length, map, Result, Ok, Err}
 use Rattle.std.specs.List.{list_any}
+use Rattle.m11_asm_faults.specs.declared.fault.AsmFault.{AsmFault}
 use Rattle.m11_base.specs.Rad50.{Name, is_same_name}
 use Rattle.m11_placement.specs.Definitions.{is_defined, registers}
 use Rattle.m11_placement.specs.Limits.{most_names, with_mentions, with_symbol}
@@ -10,7 +11,6 @@ use Rattle.m11_placement.specs.declared.definitions.Key.TheVariants.{Named}
 use Rattle.m11_placement.specs.declared.meanings.Context.{Context}
 use Rattle.m11_placement.specs.declared.meanings.Context.TheVariants.{Refers}
 use Rattle.m11_placing.specs.Faults.{Refuses}
-use Rattle.m11_placing.specs.declared.fault.PlacingFault.{PlacingFault}
 use Rattle.m11_values.specs.declared.names.Symbol.{Symbol}
 use Rattle.m11_values.specs.declared.names.Symbol.TheVariants.{Ordinary, Local, Counter}
 
@@ -72,7 +72,7 @@ abbrev pub StaysFew : Gathered → Gathered → Type 0
 StaysFew old new = length old.names ≤ most_names → length new.names ≤ most_names
 
 -- they are added within the limit, or one of them is a name too many
-abbrev pub Adds : List Mention → Gathered → Gathered → Result (Unit {0}) PlacingFault → Type 0
+abbrev pub Adds : List Mention → Gathered → Gathered → Result (Unit {0}) AsmFault → Type 0
 Adds mentions old new (Ok _) = (new ≡ with_all mentions old) × StaysFew old new
 Adds mentions old new (Err fault) = Refuses fault (most_names < length (with_all mentions old).names) ⊥
 

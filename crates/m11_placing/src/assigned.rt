@@ -3,6 +3,7 @@
 ghost use Rattle.std.specs.Prelude.{◌≡◌, ◌∷◌, [], ◌≤◌, false, IfOk, IfErr, IfSome, length};
 ghost use Rattle.std.specs.Option.{option_to_list};
 ghost use Rattle.m11_arguments.specs.Expressions.{IsAlone, symbols_at, symbols_in, value_at};
+ghost use Rattle.m11_asm_faults.specs.declared.fault.AsmFault.TheVariants.{NoMemory};
 ghost use Rattle.m11_placement.specs.Assigning.{assignment};
 ghost use Rattle.m11_placement.specs.Assignments as assignments;
 ghost use Rattle.m11_placement.specs.Changes.{changed, with_value};
@@ -14,16 +15,15 @@ ghost use Rattle.m11_placement.specs.Tables.{place};
 ghost use Rattle.m11_placement.specs.declared.definitions.Key.TheVariants.{Named};
 ghost use Rattle.m11_placement.specs.declared.meanings.Context.TheVariants.{Knows};
 ghost use Rattle.m11_placing.specs.Passes.{Follows};
-ghost use Rattle.m11_placing.specs.declared.fault.PlacingFault.TheVariants.{NoMemory};
 ghost use Rattle.m11_scan.specs.Views.{lexeme};
 ghost use Rattle.m11_table.specs.Alike as tables;
 ghost use Rattle.m11_values.specs.Quantities.{quantity};
 
-use crate::fault::PlacingFault;
 use crate::items::value_item;
 use crate::pass::Pass;
 use bitflags::Flags;
 use m11_arguments::{Notes, note_symbols};
+use m11_asm_faults::AsmFault;
 use m11_base::Name;
 use m11_listing::Item;
 use m11_operators::{known_value_by, target};
@@ -42,7 +42,7 @@ impl Pass {
         line: &Line,
         made: Assignment,
         term: Option<Token>,
-    ) -> Result<Option<Item>, PlacingFault>
+    ) -> Result<Option<Item>, AsmFault>
         requires within { made.value ≤ length line.now.text }
         requires term { IfSome term (λ term. IsAlone line.now.text made.value term) }
         requires sections { length self.old.table.sections ≤ most_sections }
@@ -71,7 +71,7 @@ impl Pass {
         start: usize,
         term: Option<Token>,
         value: &Value,
-    ) -> Result<(), PlacingFault>
+    ) -> Result<(), AsmFault>
         requires within { start ≤ length line.now.text }
         requires term { IfSome term (λ term. IsAlone line.now.text start term) }
         ensures takes { (map : LineMap)
@@ -100,7 +100,7 @@ impl Pass {
         start: usize,
         term: Option<Token>,
         value: &Value,
-    ) -> Result<(), PlacingFault>
+    ) -> Result<(), AsmFault>
         requires within { start ≤ length line.now.text }
         requires term { IfSome term (λ term. IsAlone line.now.text start term) }
         ensures assigns { (map : LineMap)
@@ -130,7 +130,7 @@ impl Pass {
         start: usize,
         term: Option<Token>,
         value: &Value,
-    ) -> Result<(), PlacingFault>
+    ) -> Result<(), AsmFault>
         requires within { start ≤ length line.now.text }
         requires term { IfSome term (λ term. IsAlone line.now.text start term) }
         ensures defines { (map : LineMap)

@@ -3,6 +3,7 @@
 
 ghost use Rattle.std.specs.Prelude.{◌≡◌, ◌∷◌, [], ◌<◌, ◌≤◌, ◌+◌, ◌^◌, ℕ, Option, IfOk, IfErr, length};
 ghost use Rattle.std.specs.Option.{option_to_list};
+ghost use Rattle.m11_asm_faults.specs.declared.fault.AsmFault.TheVariants.{NoMemory};
 ghost use Rattle.m11_fields.specs.Reads.{fields_seen};
 ghost use Rattle.m11_operators.specs.Changes.{change_seen, names_among};
 ghost use Rattle.m11_operators.specs.Reading.{operator_fields};
@@ -19,14 +20,13 @@ ghost use Rattle.m11_placement.specs.declared.operators.Operator.TheVariants.{In
 ghost use Rattle.m11_placing.specs.Deeds.{AreDeedTerms, IsWithin, deed_fields, deed_seen};
 ghost use Rattle.m11_placing.specs.Faults.{Refuses};
 ghost use Rattle.m11_placing.specs.Passes.{Follows, Matches};
-ghost use Rattle.m11_placing.specs.declared.fault.PlacingFault.TheVariants.{NoMemory};
 ghost use Rattle.m11_scan.specs.Cutting.{tokens_from};
 ghost use Rattle.m11_table.specs.Alike as tables;
 
 use crate::deeds::Deed;
-use crate::fault::PlacingFault;
 use crate::items::number_item;
 use crate::pass::Pass;
+use m11_asm_faults::AsmFault;
 use m11_base::{Name, Op};
 use m11_fields::Fields;
 use m11_listing::Item;
@@ -51,7 +51,7 @@ impl Pass {
         arguments: Option<u16>,
         deed: &Deed,
         fields: &Fields,
-    ) -> Result<Option<Item>, PlacingFault>
+    ) -> Result<Option<Item>, AsmFault>
         requires within { IsWithin (length line.now.text) deed.now }
         requires fields { fields_seen fields.now ≡ deed_fields self.old.table line.now.text deed.now }
         requires terms { AreDeedTerms line.now.text deed.now fields.now.list.items fields.now.terms }
@@ -85,7 +85,7 @@ impl Pass {
     }
 
     // Does what `.=` changes.
-    fn take_counter(&mut self, line: &Line, start: u8) -> Result<(), PlacingFault>
+    fn take_counter(&mut self, line: &Line, start: u8) -> Result<(), AsmFault>
         requires within { start ≤ length line.now.text }
         requires block { self.old.table.settings.block + 1 < 2 ^ 64 }
         requires section { self.old.table.settings.section < 64 }
@@ -112,7 +112,7 @@ impl Pass {
         arguments: Option<u16>,
         operator: Operator,
         fields: &Fields,
-    ) -> Result<Option<Item>, PlacingFault>
+    ) -> Result<Option<Item>, AsmFault>
         requires within { start ≤ length line.now.text }
         requires fields { fields_seen fields.now ≡ operator_fields self.old.table line.now.text start operator }
         requires listed { self.old.table.settings.listed + 1 < 2 ^ 64 }
@@ -139,7 +139,7 @@ impl Pass {
     }
 
     // Does what a line changes that assigns no expression, once its labels stand.
-    fn take(&mut self, line: &Line, change: &Change) -> Result<(), PlacingFault>
+    fn take(&mut self, line: &Line, change: &Change) -> Result<(), AsmFault>
         requires block { self.old.table.settings.block + 1 < 2 ^ 64 }
         requires section { self.old.table.settings.section < 64 }
         requires sections { length self.old.table.sections ≤ most_sections }
@@ -186,7 +186,7 @@ impl Pass {
     }
 
     // A name is assigned a number.
-    fn number(&mut self, name: Name, number: u16) -> Result<(), PlacingFault>
+    fn number(&mut self, name: Name, number: u16) -> Result<(), AsmFault>
         ensures numbers { IfOk result (λ _. Follows self.old self.new (with_number name number)) }
         ensures tables { IfOk result (λ _. tables.Follows self.old.table self.new.table (with_number name number)) }
         ensures symbols { IfOk result (λ _. self.new.local_symbols ≡ self.old.local_symbols) }
@@ -200,7 +200,7 @@ impl Pass {
     }
 
     // The names of the list at a place become global.
-    fn export_list(&mut self, line: &Line, start: u8) -> Result<(), PlacingFault>
+    fn export_list(&mut self, line: &Line, start: u8) -> Result<(), AsmFault>
         ensures exports { IfOk result (λ _. Follows self.old self.new (with_globals (listed_names line.now.text start))) }
         ensures tables { IfOk result (λ _. tables.Follows self.old.table self.new.table
             (with_globals (listed_names line.now.text start))) }
@@ -211,7 +211,7 @@ impl Pass {
     }
 
     // Names become global, in order. An element that is none is passed over.
-    fn export_all(&mut self, names: &[Option<Name>]) -> Result<(), PlacingFault>
+    fn export_all(&mut self, names: &[Option<Name>]) -> Result<(), AsmFault>
         ensures exports { IfOk result (λ _. Follows self.old self.new (with_globals (names_among names.now))) }
         ensures tables { IfOk result (λ _. tables.Follows self.old.table self.new.table (with_globals (names_among names.now))) }
         ensures symbols { IfOk result (λ _. self.new.local_symbols ≡ self.old.local_symbols) }
@@ -226,7 +226,7 @@ impl Pass {
         }
     }
 
-    fn export_one(&mut self, name: Option<Name>) -> Result<(), PlacingFault>
+    fn export_one(&mut self, name: Option<Name>) -> Result<(), AsmFault>
         ensures exports { IfOk result (λ _. Follows self.old self.new (with_globals (names_among (name ∷ [])))) }
         ensures tables { IfOk result (λ _. tables.Follows self.old.table self.new.table (with_globals (names_among (name ∷ [])))) }
         ensures symbols { IfOk result (λ _. self.new.local_symbols ≡ self.old.local_symbols) }

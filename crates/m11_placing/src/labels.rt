@@ -2,6 +2,7 @@
 //! symbols".)
 
 ghost use Rattle.std.specs.Prelude.{◌≡◌, ◌<◌, ◌≤◌, ◌+◌, ◌^◌, IfOk, IfErr, length};
+ghost use Rattle.m11_asm_faults.specs.declared.fault.AsmFault.TheVariants.{NoMemory};
 ghost use Rattle.m11_placement.specs.Labels as spec;
 ghost use Rattle.m11_placement.specs.Labels.{letter_M, with_definition};
 ghost use Rattle.m11_placement.specs.Limits.{local_count, most_local_symbols};
@@ -12,12 +13,11 @@ ghost use Rattle.m11_placing.specs.Moved.{moved_key, moved_kind, moved_letters, 
 ghost use Rattle.m11_placing.specs.Passes.{Follows, Matches};
 ghost use Rattle.m11_table.specs.Alike as tables;
 ghost use Rattle.m11_placement.specs.declared.definitions.Key.TheVariants.{Named, Numbered};
-ghost use Rattle.m11_placing.specs.declared.fault.PlacingFault.TheVariants.{NoMemory};
 ghost use Rattle.m11_scan.specs.Views.{bits_of};
 
-use crate::fault::PlacingFault;
 use crate::moved::moved_letter;
 use crate::pass::Pass;
+use m11_asm_faults::AsmFault;
 use m11_base::Name;
 use m11_placement::{Definition, Key, Standing};
 use m11_scan::{Letters, Line, read_name};
@@ -78,7 +78,7 @@ impl Pass {
         map: &Map<'_>,
         line: &Line,
         labels: &[Label],
-    ) -> Result<LabelLetters, PlacingFault>
+    ) -> Result<LabelLetters, AsmFault>
         requires { self.old.table.settings.block + length labels.now < 2 ^ 64 }
         ensures defines { IfOk result (λ letters. DefinesAll line.now.text labels.now self.old self.new (bits_of letters.doubled)) }
         ensures moved { IfOk result (λ letters. (before : LineTable) → Matches self.old before
@@ -108,7 +108,7 @@ impl Pass {
         map: &Map<'_>,
         line: &Line,
         label: &Label,
-    ) -> Result<LabelLetters, PlacingFault>
+    ) -> Result<LabelLetters, AsmFault>
         requires { self.old.table.settings.block + 1 < 2 ^ 64 }
         ensures defines { IfOk result (λ letters. Defines self.old self.new (bits_of letters.doubled)
             (λ before. spec.with_label line.now.text before label.now)
@@ -138,7 +138,7 @@ impl Pass {
         map: &Map<'_>,
         name: Option<Name>,
         is_global: bool,
-    ) -> Result<LabelLetters, PlacingFault>
+    ) -> Result<LabelLetters, AsmFault>
         requires { self.old.table.settings.block + 1 < 2 ^ 64 }
         ensures defines { IfOk result (λ letters. Defines self.old self.new (bits_of letters.doubled)
             (λ before. spec.with_name is_global before name) (λ before. spec.name_letters before name)) }
@@ -164,7 +164,7 @@ impl Pass {
     }
 
     // A name that is new.
-    fn define_new_name(&mut self, name: Name, is_global: bool) -> Result<(), PlacingFault>
+    fn define_new_name(&mut self, name: Name, is_global: bool) -> Result<(), AsmFault>
         requires { self.old.table.settings.block + 1 < 2 ^ 64 }
         ensures defines { IfOk result (λ _. Follows self.old self.new
             (λ before. spec.global_if is_global name (spec.with_block (with_definition (spec.labelled before (Named name)) before)))) }
@@ -184,7 +184,7 @@ impl Pass {
     }
 
     // A local symbol belongs to the block that is open.
-    fn define_local(&mut self, map: &Map<'_>, number: u16) -> Result<LabelLetters, PlacingFault>
+    fn define_local(&mut self, map: &Map<'_>, number: u16) -> Result<LabelLetters, AsmFault>
         ensures defines { IfOk result (λ letters. Defines self.old self.new (bits_of letters.doubled)
             (λ before. spec.with_key (Numbered before.settings.block number) before)
             (λ before. spec.key_letters before (Numbered before.settings.block number))) }

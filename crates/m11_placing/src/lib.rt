@@ -5,7 +5,6 @@
 mod assigned;
 mod changing;
 mod deeds;
-mod fault;
 mod items;
 mod labels;
 mod laws;
@@ -16,7 +15,6 @@ mod moved;
 mod pass;
 
 pub use deeds::{Deed, deed_after_labels, deed_fields};
-pub use fault::PlacingFault;
 pub use items::{add_content_items, is_shown};
 pub use labels::LabelLetters;
 pub use laws::a_line_goes_through_a_pass;

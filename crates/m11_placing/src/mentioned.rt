@@ -7,8 +7,8 @@ ghost use Rattle.m11_placing.specs.Faults.{Refuses};
 ghost use Rattle.m11_placing.specs.Mentioned as spec;
 ghost use Rattle.m11_placing.specs.Mentioned.{Adds, StaysFew, in_context, none_gathered, noted, with_referred};
 
-use crate::fault::PlacingFault;
 use indexmap::IndexSet;
+use m11_asm_faults::AsmFault;
 use m11_base::Name;
 use m11_placement::Context;
 use m11_values::Symbol;
@@ -76,7 +76,7 @@ impl Mentioned {
     /// Errors: `TooManySymbols` where there would be more than 4,096 names besides those of the registers, and `NoMemory`.
     // Inline: each line comes here, and most read none.
     #[inline(always)]
-    pub fn add_all(&mut self, symbols: &[Symbol], context: Context) -> Result<(), PlacingFault>
+    pub fn add_all(&mut self, symbols: &[Symbol], context: Context) -> Result<(), AsmFault>
         ensures { Adds (in_context context symbols.now) self.old self.new result }
     {
         match symbols {
@@ -85,7 +85,7 @@ impl Mentioned {
         }
     }
 
-    fn add_each(&mut self, symbols: &[Symbol], context: Context) -> Result<(), PlacingFault>
+    fn add_each(&mut self, symbols: &[Symbol], context: Context) -> Result<(), AsmFault>
         ensures { Adds (in_context context symbols.now) self.old self.new result }
     {
         match symbols {
@@ -98,7 +98,7 @@ impl Mentioned {
     }
 
     /// A symbol that is mentioned. Errors are those of `add_all`.
-    pub fn add(&mut self, symbol: Symbol, context: Context) -> Result<(), PlacingFault>
+    pub fn add(&mut self, symbol: Symbol, context: Context) -> Result<(), AsmFault>
         ensures { Adds (mention context symbol ∷ []) self.old self.new result }
     {
         match symbol {
@@ -107,7 +107,7 @@ impl Mentioned {
         }
     }
 
-    fn add_name(&mut self, name: Name, context: Context) -> Result<(), PlacingFault>
+    fn add_name(&mut self, name: Name, context: Context) -> Result<(), AsmFault>
         ensures { Adds (mention context (Symbol.Ordinary name) ∷ []) self.old self.new result }
     {
         self.note_name(name)?;
@@ -117,7 +117,7 @@ impl Mentioned {
 
     // A name that is mentioned anywhere.
     #[tactic(auto, using(crate::proofs::Gathering::noted_register, crate::proofs::Gathering::noted_other))]
-    fn note_name(&mut self, name: Name) -> Result<(), PlacingFault>
+    fn note_name(&mut self, name: Name) -> Result<(), AsmFault>
         ensures notes { IfOk result (λ _. self.new ≡ noted name self.old) }
         ensures few { IfOk result (λ _. StaysFew self.old self.new) }
         ensures refuses { IfErr result (λ fault. Refuses fault (most_names < length (noted name self.old).names) ⊥) }
@@ -155,7 +155,7 @@ impl Mentioned {
     }
 
     // A name that is none of a register's.
-    fn count_name(&mut self, name: Name) -> Result<(), PlacingFault>
+    fn count_name(&mut self, name: Name) -> Result<(), AsmFault>
         ensures notes { IfOk result (λ _. self.new ≡ record self.old { names = spec.with_name name self.old.names }) }
         ensures few { IfOk result (λ _. StaysFew self.old self.new) }
         ensures refuses { IfErr result (λ fault. Refuses fault
@@ -163,7 +163,7 @@ impl Mentioned {
     {
         // most sources have far fewer, and then it is looked for once, as it is put in
         if self.names.len() >= MOST_NAMES && !self.names.contains(&name) {
-            return Err(PlacingFault::TooManySymbols);
+            return Err(AsmFault::TooManySymbols);
         }
         self.names.insert(name)?;
         Ok(())

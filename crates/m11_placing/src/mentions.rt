@@ -19,9 +19,9 @@ ghost use Rattle.m11_scan.specs.Views.{lexeme};
 
 use crate::changing::within;
 use crate::deeds::Deed;
-use crate::fault::PlacingFault;
 use crate::mentioned::Mentioned;
 use m11_arguments::{Notes, lone_term, note_symbols};
+use m11_asm_faults::AsmFault;
 use m11_base::Name;
 use m11_fields::{FieldTerms, Fields, elements_at};
 use m11_operators::{Change, argument_count, character_count, listed_names, parts_at};
@@ -32,7 +32,7 @@ use m11_values::{Symbol, symbol_of};
 
 impl Mentioned {
     /// The labels of a line. Errors as those of `add_all`.
-    pub fn add_labels(&mut self, line: &Line, labels: &[Label]) -> Result<(), PlacingFault>
+    pub fn add_labels(&mut self, line: &Line, labels: &[Label]) -> Result<(), AsmFault>
         ensures { Adds (flat_map (spec.label_mentions line.now.text) labels.now) self.old self.new result }
     {
         match labels {
@@ -44,7 +44,7 @@ impl Mentioned {
         }
     }
 
-    fn add_label(&mut self, line: &Line, label: &Label) -> Result<(), PlacingFault>
+    fn add_label(&mut self, line: &Line, label: &Label) -> Result<(), AsmFault>
         ensures { Adds (spec.label_mentions line.now.text label.now) self.old self.new result }
     {
         match label.kind {
@@ -57,7 +57,7 @@ impl Mentioned {
     }
 
     // A name that is defined.
-    fn define(&mut self, name: Option<Name>) -> Result<(), PlacingFault>
+    fn define(&mut self, name: Option<Name>) -> Result<(), AsmFault>
         ensures { Adds (spec.defined name) self.old self.new result }
     {
         match name {
@@ -76,7 +76,7 @@ impl Mentioned {
         arguments: Option<u16>,
         deed: &Deed,
         fields: &Fields,
-    ) -> Result<(), PlacingFault>
+    ) -> Result<(), AsmFault>
         requires within { IsWithin (length line.now.text) deed.now }
         requires terms { AreDeedTerms line.now.text deed.now fields.now.list.items fields.now.terms }
         ensures { (table : LineTable) → fields_seen fields.now ≡ deed_fields table line.now.text deed.now
@@ -101,7 +101,7 @@ impl Mentioned {
         arguments: Option<u16>,
         operator: Operator,
         fields: &Fields,
-    ) -> Result<(), PlacingFault>
+    ) -> Result<(), AsmFault>
         requires within { start ≤ length line.now.text }
         requires terms { AreTerms line.now.text fields.now.list.items fields.now.terms }
         ensures { (table : LineTable) → fields_seen fields.now ≡ operator_fields table line.now.text start operator
@@ -122,7 +122,7 @@ impl Mentioned {
         line: &Line,
         assignment: Assignment,
         term: Option<Token>,
-    ) -> Result<(), PlacingFault>
+    ) -> Result<(), AsmFault>
         requires { IfSome term (λ term. IsAlone line.now.text assignment.value term) }
         ensures { Adds (spec.defined (target line.now.text assignment.name) ++ spec.read_at Knows line.now.text assignment.value) self.old self.new result }
     {
@@ -131,7 +131,7 @@ impl Mentioned {
     }
 
     // The symbols of the expression at a place. Most expressions are one term, of which no list need be made.
-    fn read(&mut self, line: &Line, start: u8, context: Context) -> Result<(), PlacingFault>
+    fn read(&mut self, line: &Line, start: u8, context: Context) -> Result<(), AsmFault>
         ensures { Adds (spec.read_at context line.now.text start) self.old self.new result }
     {
         let place = within(line, start);
@@ -148,7 +148,7 @@ impl Mentioned {
         start: u8,
         term: Option<Token>,
         context: Context,
-    ) -> Result<(), PlacingFault>
+    ) -> Result<(), AsmFault>
         requires { IfSome term (λ term. IsAlone line.now.text start term) }
         ensures { Adds (spec.read_at context line.now.text start) self.old self.new result }
     {
@@ -158,7 +158,7 @@ impl Mentioned {
         }
     }
 
-    fn read_term(&mut self, line: &Line, term: &Token, context: Context) -> Result<(), PlacingFault>
+    fn read_term(&mut self, line: &Line, term: &Token, context: Context) -> Result<(), AsmFault>
         ensures { Adds (in_context context (symbols_in (lexeme line.now.text term.now ∷ []))) self.old self.new result }
     {
         match symbol_of(term, line) {
@@ -167,7 +167,7 @@ impl Mentioned {
         }
     }
 
-    fn read_all(&mut self, line: &Line, place: usize, context: Context) -> Result<(), PlacingFault>
+    fn read_all(&mut self, line: &Line, place: usize, context: Context) -> Result<(), AsmFault>
         requires { place ≤ length line.now.text }
         ensures { Adds (in_context context (symbols_at line.now.text place)) self.old self.new result }
     {
@@ -183,7 +183,7 @@ impl Mentioned {
         line: &Line,
         fields: &[Field],
         terms: &FieldTerms,
-    ) -> Result<(), PlacingFault>
+    ) -> Result<(), AsmFault>
         requires { AreTerms line.now.text fields.now terms.now }
         ensures { Adds (flat_map (spec.field_mentions line.now.text) fields.now) self.old self.new result }
     {
@@ -196,12 +196,7 @@ impl Mentioned {
         }
     }
 
-    fn add_field(
-        &mut self,
-        line: &Line,
-        field: Field,
-        term: Option<Token>,
-    ) -> Result<(), PlacingFault>
+    fn add_field(&mut self, line: &Line, field: Field, term: Option<Token>) -> Result<(), AsmFault>
         requires { IfSome term (λ term. IsFieldTerm line.now.text field term) }
         ensures { Adds (spec.field_mentions line.now.text field) self.old self.new result }
     {
@@ -215,7 +210,7 @@ impl Mentioned {
     }
 
     // The word after an instruction may refer to another object. A register may not.
-    fn add_form(&mut self, line: &Line, form: Form, term: Option<Token>) -> Result<(), PlacingFault>
+    fn add_form(&mut self, line: &Line, form: Form, term: Option<Token>) -> Result<(), AsmFault>
         requires { IfSome term (λ term. IsFormTerm line.now.text form term) }
         ensures { Adds (spec.form_mentions line.now.text form) self.old self.new result }
     {
@@ -240,7 +235,7 @@ impl Mentioned {
         start: u8,
         arguments: Option<u16>,
         directive: Directive,
-    ) -> Result<(), PlacingFault>
+    ) -> Result<(), AsmFault>
         requires { start ≤ length line.now.text }
         ensures { Adds (spec.directive_mentions line.now.text start arguments directive) self.old self.new result }
     {
@@ -261,7 +256,7 @@ impl Mentioned {
 
     // The list at a place, by a call: in the caller, room for the elements of one would be cleared for each directive.
     #[inline(never)]
-    fn add_list(&mut self, line: &Line, start: usize) -> Result<(), PlacingFault>
+    fn add_list(&mut self, line: &Line, start: usize) -> Result<(), AsmFault>
         requires { start ≤ length line.now.text }
         ensures { Adds (spec.element_mentions line.now.text start) self.old self.new result }
     {
@@ -271,7 +266,7 @@ impl Mentioned {
 
     // The names that become global or weak, by a call for the same reason.
     #[inline(never)]
-    fn add_exports(&mut self, line: &Line, start: usize) -> Result<(), PlacingFault>
+    fn add_exports(&mut self, line: &Line, start: usize) -> Result<(), AsmFault>
         requires { start ≤ length line.now.text }
         ensures { Adds (map spec.named (listed_names line.now.text start)) self.old self.new result }
     {
@@ -280,7 +275,7 @@ impl Mentioned {
     }
 
     // The elements of a list of words or bytes.
-    fn add_elements(&mut self, line: &Line, places: &[u8]) -> Result<(), PlacingFault>
+    fn add_elements(&mut self, line: &Line, places: &[u8]) -> Result<(), AsmFault>
         ensures { Adds (flat_map (spec.read_at Context.Refers line.now.text) places.now) self.old self.new result }
     {
         match places {
@@ -294,7 +289,7 @@ impl Mentioned {
 
     // The expressions among the parts of a text, by a call for the same reason.
     #[inline(never)]
-    fn add_text(&mut self, line: &Line, start: usize, context: Context) -> Result<(), PlacingFault>
+    fn add_text(&mut self, line: &Line, start: usize, context: Context) -> Result<(), AsmFault>
         requires { start ≤ length line.now.text }
         ensures { Adds (spec.part_mentions context line.now.text start) self.old self.new result }
     {
@@ -302,12 +297,7 @@ impl Mentioned {
         self.add_parts(line, parts.list.as_slice(), context)
     }
 
-    fn add_parts(
-        &mut self,
-        line: &Line,
-        parts: &[Part],
-        context: Context,
-    ) -> Result<(), PlacingFault>
+    fn add_parts(&mut self, line: &Line, parts: &[Part], context: Context) -> Result<(), AsmFault>
         ensures { Adds (flat_map (λ part. spec.part_mention context line.now.text part part.kind) parts.now) self.old self.new result }
     {
         match parts {
@@ -319,7 +309,7 @@ impl Mentioned {
         }
     }
 
-    fn add_part(&mut self, line: &Line, part: &Part, context: Context) -> Result<(), PlacingFault>
+    fn add_part(&mut self, line: &Line, part: &Part, context: Context) -> Result<(), AsmFault>
         ensures { Adds (spec.part_mention context line.now.text part.now part.now.kind) self.old self.new result }
     {
         match part.kind {
@@ -329,7 +319,7 @@ impl Mentioned {
     }
 
     // The names of a list. An element that is none is passed over.
-    fn add_names(&mut self, names: &[Option<Name>]) -> Result<(), PlacingFault>
+    fn add_names(&mut self, names: &[Option<Name>]) -> Result<(), AsmFault>
         ensures { Adds (map spec.named (names_among names.now)) self.old self.new result }
     {
         match names {
@@ -342,7 +332,7 @@ impl Mentioned {
     }
 
     // The name that is assigned a number.
-    fn add_number(&mut self, change: &Change) -> Result<(), PlacingFault>
+    fn add_number(&mut self, change: &Change) -> Result<(), AsmFault>
         ensures { Adds (spec.numbered_mention (change_seen change.now)) self.old self.new result }
     {
         match change {

@@ -2,6 +2,7 @@
 //! section directives".)
 
 ghost use Rattle.std.specs.Prelude.{◌≡◌, ◌<◌, ◌≤◌, ◌+◌, ◌^◌, IfOk, IfErr, length};
+ghost use Rattle.m11_asm_faults.specs.declared.fault.AsmFault.TheVariants.{NoMemory};
 ghost use Rattle.m11_operators.specs.Changes.{move_seen};
 ghost use Rattle.m11_placement.specs.Changes.{with_move, with_section, with_settings};
 ghost use Rattle.m11_placement.specs.Labels.{new_block, with_block, with_definition, with_doubled, with_global};
@@ -10,10 +11,9 @@ ghost use Rattle.m11_placement.specs.Tables.{Table as LineTable, first_table};
 ghost use Rattle.m11_placing.specs.Faults.{Refuses};
 ghost use Rattle.m11_placing.specs.Passes.{Follows, Matches, no_sizes, size_at, with_size};
 ghost use Rattle.m11_table.specs.Alike as tables;
-ghost use Rattle.m11_placing.specs.declared.fault.PlacingFault.TheVariants.{NoMemory};
 ghost use Rattle.m11_placement.specs.declared.definitions.Key.TheVariants.{Named, Numbered};
 
-use crate::fault::PlacingFault;
+use m11_asm_faults::AsmFault;
 use m11_base::Name;
 use m11_operators::Move;
 use m11_placement::{Definition, Key, Settings};
@@ -87,7 +87,7 @@ impl Pass {
         &mut self,
         name: Name,
         definition: &Definition,
-    ) -> Result<(), PlacingFault>
+    ) -> Result<(), AsmFault>
         requires { definition.now.key ≡ Named name }
         ensures defines { IfOk result (λ _. Follows self.old self.new (with_definition definition.now)) }
         ensures tables { IfOk result (λ _. tables.Follows self.old.table self.new.table (with_definition definition.now)) }
@@ -105,7 +105,7 @@ impl Pass {
         block: u64,
         number: u16,
         definition: &Definition,
-    ) -> Result<(), PlacingFault>
+    ) -> Result<(), AsmFault>
         requires { definition.now.key ≡ Numbered block number }
         ensures defines { IfOk result (λ _. Follows self.old self.new (with_definition definition.now)) }
         ensures tables { IfOk result (λ _. tables.Follows self.old.table self.new.table (with_definition definition.now)) }
@@ -115,7 +115,7 @@ impl Pass {
             → Refuses fault (most_local_symbols < local_count (with_definition definition.now before)) ⊥) }
     {
         if self.local_symbols >= MOST_LOCAL_SYMBOLS {
-            return Err(PlacingFault::TooManySymbols);
+            return Err(AsmFault::TooManySymbols);
         }
         self.table.insert(definition)?;
         self.local_symbols += 1;
@@ -123,7 +123,7 @@ impl Pass {
     }
 
     // A key is doubled from here on.
-    pub(crate) fn double(&mut self, key: &Key) -> Result<(), PlacingFault>
+    pub(crate) fn double(&mut self, key: &Key) -> Result<(), AsmFault>
         ensures doubles { IfOk result (λ _. Follows self.old self.new (with_doubled key.now)) }
         ensures tables { IfOk result (λ _. tables.Follows self.old.table self.new.table (with_doubled key.now)) }
         ensures symbols { IfOk result (λ _. self.new.local_symbols ≡ self.old.local_symbols) }
@@ -135,7 +135,7 @@ impl Pass {
     }
 
     // A name is global from here on.
-    pub(crate) fn export(&mut self, name: Name) -> Result<(), PlacingFault>
+    pub(crate) fn export(&mut self, name: Name) -> Result<(), AsmFault>
         ensures exports { IfOk result (λ _. Follows self.old self.new (with_global name)) }
         ensures tables { IfOk result (λ _. tables.Follows self.old.table self.new.table (with_global name)) }
         ensures symbols { IfOk result (λ _. self.new.local_symbols ≡ self.old.local_symbols) }
@@ -167,7 +167,7 @@ impl Pass {
     }
 
     // A section is selected. One whose name is new has these attributes.
-    pub(crate) fn select(&mut self, name: Name, attributes: u8) -> Result<(), PlacingFault>
+    pub(crate) fn select(&mut self, name: Name, attributes: u8) -> Result<(), AsmFault>
         requires blocks { self.old.table.settings.block + 1 < 2 ^ 64 }
         requires sections { length self.old.table.sections ≤ most_sections }
         ensures selects { IfOk result (λ _. Follows self.old self.new (with_section name attributes)) }
@@ -179,7 +179,7 @@ impl Pass {
     {
         let is_new = self.table.section_number(name).is_none();
         if is_new && self.table.section_count() >= MOST_SECTIONS {
-            return Err(PlacingFault::TooManySections);
+            return Err(AsmFault::TooManySections);
         }
         self.table.select(name, attributes)?;
         Ok(())

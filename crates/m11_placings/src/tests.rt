@@ -13,7 +13,7 @@ mod sizes;
 mod texts;
 
 use crate::tests::texts::{put_line, put_number};
-use m11_passes::{PassFault, SourcePass, Turn};
+use m11_passes::{SourcePass, Turn};
 use m11_placing::Mentioned;
 use m11_scan::Line;
 use m11_table::Map;
@@ -22,7 +22,7 @@ use std::process::Abort;
 
 // Takes what is left. Returns whether the next line of the source is needed. The letters of placed lines and what they put are added to a
 // text.
-fn take_rest(pass: &mut SourcePass, map: &Map<'_>, text: &mut Vec<u8>) -> Result<bool, PassFault>
+fn take_rest(pass: &mut SourcePass, map: &Map<'_>, text: &mut Vec<u8>) -> Result<bool, AsmFault>
     ensures { result ≡ Ok true → pass.new.going.unfolder.stage.left ≡ [] }
 {
     let mut line = pass.room_for_line();
@@ -42,7 +42,7 @@ fn go_over(
     map: &Map<'_>,
     source: &[&str],
     text: &mut Vec<u8>,
-) -> Result<(), PassFault>
+) -> Result<(), AsmFault>
     requires { pass.old.going.unfolder.stage.left ≡ [] }
 {
     'source: for line in source {
@@ -60,7 +60,7 @@ fn read(
     map: &Map<'_>,
     source: &[&str],
     text: &mut Vec<u8>,
-) -> Result<SourcePass, PassFault> {
+) -> Result<SourcePass, AsmFault> {
     text.clear();
     let mut pass = SourcePass::new(alloc, Mentioned::new(alloc))?;
     match go_over(&mut pass, map, source, text) {
@@ -78,7 +78,7 @@ fn read_changed(
     before: &[&str],
     source: &[&str],
     text: &mut Vec<u8>,
-) -> Result<(), PassFault> {
+) -> Result<(), AsmFault> {
     let first = read(alloc, &Map::none(), before, text)?;
     let outcome = read(alloc, &Map::of(first.table()), source, text);
     drop(first);
@@ -92,7 +92,7 @@ fn read_changed(
 }
 
 // The first pass over a source. The text is that of the sizes that it leaves.
-fn read_sizes(alloc: Global, source: &[&str], text: &mut Vec<u8>) -> Result<(), PassFault> {
+fn read_sizes(alloc: Global, source: &[&str], text: &mut Vec<u8>) -> Result<(), AsmFault> {
     let first = read(alloc, &Map::none(), source, text)?;
     let outcome = put_sizes(&first, text);
     drop(first);
@@ -100,7 +100,7 @@ fn read_sizes(alloc: Global, source: &[&str], text: &mut Vec<u8>) -> Result<(), 
 }
 
 // The sizes of all sections, in the order of their numbers, each with a blank after it.
-fn put_sizes(pass: &SourcePass, text: &mut Vec<u8>) -> Result<(), PassFault> {
+fn put_sizes(pass: &SourcePass, text: &mut Vec<u8>) -> Result<(), AsmFault> {
     text.clear();
     'sections: for number in 0..64 {
         if number < pass.table().section_count() {
@@ -132,7 +132,7 @@ fn check_sizes(rt: &impl Abort, alloc: Global, rows: &[Row]) {
     }
 }
 
-fn check_text(rt: &impl Abort, outcome: Result<(), PassFault>, text: &[u8], wanted: &str) {
+fn check_text(rt: &impl Abort, outcome: Result<(), AsmFault>, text: &[u8], wanted: &str) {
     assert!(rt; outcome == Ok(()), "{wanted}");
     assert_eq!(rt; str::from_utf8(text), Ok(wanted), "{wanted}");
 }

@@ -3,6 +3,7 @@ use Rattle.std.proofs.Common.{◌≡◌, ◌∙◌, Bool, true, false, List, [],
 use Rattle.std.specs.Option.{option_or}
 use Rattle.std.specs.Prelude.{◌⊎◌, if◌then◌else◌}
 use Rattle.m11_arguments.specs.Expressions.{Known}
+use Rattle.m11_asm_faults.specs.declared.fault.AsmFault.{AsmFault}
 use Rattle.m11_base.specs.Rad50.{Name}
 use Rattle.m11_expansions.specs.Conditions.{OpenConditions}
 use Rattle.m11_expansions.specs.Left.{Left, Line, End}
@@ -11,7 +12,6 @@ use Rattle.m11_passes.specs.Lines.{Numbered, PassLines, acted, givens, names_at,
 use Rattle.m11_passes.specs.Reaching.{Exceeds}
 use Rattle.m11_passes.specs.Reaching as reaching
 use Rattle.m11_passes.specs.Refusals.{act_refused, given_by, labels_fault, line_fault, placing_fault}
-use Rattle.m11_passes.specs.declared.fault.PassFault.{PassFault}
 use Rattle.m11_placement.specs.Meanings.{Map}
 use Rattle.m11_placement.specs.Tables.{Table, first_table}
 use Rattle.m11_placement.specs.Unfolded.{AreLines}
@@ -131,10 +131,10 @@ EndsOnce = (tells : List Given → Live → Known) (before first second : Stage)
     → (done ≡ later) × (first ≡ second)
 
 -- a line that passes no limit has no fault
-no_fault : (labels : Option PassFault) (acting : Option UnfoldFault) (placing : Option PassFault) → labels ≡ None → acting ≡ None
+no_fault : (labels : Option AsmFault) (acting : Option UnfoldFault) (placing : Option AsmFault) → labels ≡ None → acting ≡ None
     → placing ≡ None → option_or labels (option_or (act_refused acting) placing) ≡ None
 no_fault labels acting placing none none' none'' =
-    ap (λ (f : Option PassFault). option_or f (option_or (act_refused acting) placing)) none
+    ap (λ (f : Option AsmFault). option_or f (option_or (act_refused acting) placing)) none
     ∙ ap (λ (f : Option UnfoldFault). option_or (act_refused f) placing) none' ∙ none''
 
 module _ (compare : Compared) (once : EndsOnce) (map_ : Map) (names : List Name) (all : List SourceLine) where
@@ -218,14 +218,14 @@ module _ (compare : Compared) (once : EndsOnce) (map_ : Map) (names : List Name)
             no_fault (labels_fault named table live.line.text) (act_fault there live.line.text) (placing_fault map_ table named one) here.0 acts
             here.1
 
-        no_fault_at : (fault : PassFault) → line_fault map_ table named live there ≡ Some fault → ⊥
+        no_fault_at : (fault : AsmFault) → line_fault map_ table named live there ≡ Some fault → ⊥
         no_fault_at fault is = by (act_fault there live.line.text) refl
           where
             by : (acting : Option UnfoldFault) → act_fault there live.line.text ≡ acting → ⊥
             by (Some inner) acts = no_limit (Acting inner live there moves acts)
             by None acts = let bad : Some fault ≡ None = sym is ∙ within acts in cc
 
-    never_exceeds : (source more : List SourceLine) (placed_lines : List Numbered) (fault : PassFault) → source ++ more ≡ all
+    never_exceeds : (source more : List SourceLine) (placed_lines : List Numbered) (fault : AsmFault) → source ++ more ≡ all
         → Exceeds map_ names source placed_lines fault → ⊥
     never_exceeds source more placed_lines fault parts (reaching.Exceeds.BeforeLine stage inner passes exceeds is) =
         no_limit source more placed_lines parts stage passes (Taking inner exceeds)

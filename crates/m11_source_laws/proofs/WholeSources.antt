@@ -3,13 +3,13 @@ use Rattle.std.proofs.Common.{◌≡◌, ◌∙◌, List, [], ◌∷◌, ◌++�
 use Rattle.std.specs.Option.{option_or}
 use Rattle.std.proofs.lemmas.List.{map-append}
 use Rattle.m11_arguments.specs.Expressions.{Known}
+use Rattle.m11_asm_faults.specs.declared.fault.AsmFault.{AsmFault}
 use Rattle.m11_base.specs.Rad50.{Name}
 use Rattle.m11_expansions.specs.Left.{Left}
 use Rattle.m11_lines.specs.Line.{SourceLine}
 use Rattle.m11_passes.specs.Lines.{Numbered, PassLines, acted, given_in, givens, names_at, numbered, table_at, with_line}
 use Rattle.m11_passes.specs.Lines as lines
 use Rattle.m11_passes.specs.Refusals.{act_refused, given_by, labels_fault, line_fault, placing_fault}
-use Rattle.m11_passes.specs.declared.fault.PassFault.{PassFault}
 use Rattle.m11_placement.specs.Labels.{labels_stand}
 use Rattle.m11_placement.specs.Limits.{names_after, with_mentions}
 use Rattle.m11_placement.specs.Lines.{after_line, stands}
@@ -34,11 +34,11 @@ use Rattle.m11_source_laws.specs.WholeSources.{AreAllLines, KeepLimits}
 
 -- ---- a line that passes no limit
 
-pub first_none : (first second : Option PassFault) → option_or first second ≡ None → first ≡ None
+pub first_none : (first second : Option AsmFault) → option_or first second ≡ None → first ≡ None
 first_none None second is = refl
 first_none (Some fault) second is = absurd (let bad : Some fault ≡ None = is in cc)
 
-pub second_none : (first second : Option PassFault) → option_or first second ≡ None → second ≡ None
+pub second_none : (first second : Option AsmFault) → option_or first second ≡ None → second ≡ None
 second_none None second is = is
 second_none (Some fault) second is = absurd (let bad : Some fault ≡ None = is in cc)
 
@@ -49,8 +49,8 @@ not_refused (Some fault) is = absurd (let bad = is in cc)
 pub acts_within : (map_ : Map) (table : Table) (names : List Name) (live : Live) (after : Stage)
     → line_fault map_ table names live after ≡ None → act_fault after live.line.text ≡ None
 acts_within map_ table names live after within =
-    let acting : Option PassFault = act_refused (act_fault after live.line.text) in
-    let placing : Option PassFault = placing_fault map_ table names (given_by table live after) in
+    let acting : Option AsmFault = act_refused (act_fault after live.line.text) in
+    let placing : Option AsmFault = placing_fault map_ table names (given_by table live after) in
     not_refused (act_fault after live.line.text)
     (first_none acting placing (second_none (labels_fault names table live.line.text) (option_or acting placing) within))
 
@@ -183,9 +183,9 @@ module _ (map_ : Map) (names : List Name) where
       let table : Table = table_at map_ placed_lines in
       let named : List Name = names_at map_ names placed_lines in
       let one : Numbered = numbered (length source) (given_by table live after) in
-      let acting : Option PassFault = act_refused (act_fault after live.line.text) in
-      let placing : Option PassFault = placing_fault map_ table named one.given in
-      let labels : Option PassFault = labels_fault named table live.line.text in
+      let acting : Option AsmFault = act_refused (act_fault after live.line.text) in
+      let placing : Option AsmFault = placing_fault map_ table named one.given in
+      let labels : Option AsmFault = labels_fault named table live.line.text in
       let P : List Given → Type 0 = KeepLimits map_ first_table names in
       subst P (sym (map-append given_in placed_lines (one ∷ [])))
       (kept_more map_ first_table names (givens placed_lines) one.given (keeps source placed_lines stage before)

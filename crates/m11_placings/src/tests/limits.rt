@@ -1,12 +1,12 @@
 //! Each limit of names, local symbols and sections at its last accepted value, and one past it.
 
 use super::read_sizes;
-use m11_passes::PassFault;
+use m11_asm_faults::AsmFault;
 use std::alloc::Global;
 use std::process::Abort;
 
 // A source, and what becomes of it.
-type Row = (&'static [&'static str], Result<(), PassFault>);
+type Row = (&'static [&'static str], Result<(), AsmFault>);
 
 // Each round names one more, and X is one.
 static NAMES: [Row; 2] = [
@@ -34,7 +34,7 @@ static NAMES: [Row; 2] = [
             "X=X+1",
             ".ENDR",
         ],
-        Err(PassFault::TooManySymbols),
+        Err(AsmFault::TooManySymbols),
     ),
 ];
 
@@ -55,7 +55,7 @@ static LOCAL_SYMBOLS: [Row; 2] = [
             ".ENDR",
             "1$:",
         ],
-        Err(PassFault::TooManySymbols),
+        Err(AsmFault::TooManySymbols),
     ),
 ];
 
@@ -85,7 +85,7 @@ static SECTIONS: [Row; 2] = [
             "X=X+1",
             ".ENDR",
         ],
-        Err(PassFault::TooManySections),
+        Err(AsmFault::TooManySections),
     ),
 ];
 

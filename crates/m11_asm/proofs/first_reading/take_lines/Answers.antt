@@ -30,18 +30,19 @@ lines-preserved g c = record {
       first_goes_on g.F.Feed.text g.F.Feed.faults c.args.feeds.now c.lines.feeds c.lines.reader c.lines.first so
       (sym c.has_ended.ensures ∙ c.if-has_ended.false) c.next.new.feeds c.next.new.self c.line.result.now
       (subst P (sym c.line.ensures) (rw c.in-Ok-true.field-0-test at (c.in-Ok-true.ensures.reads c.lines.invariant.sound))) c.in-Ok-true.ensures.keeps
-      c.line-in-Ok-true.new.self (c.in-Ok.ensures.takes so.source so.stands);
+      c.line-in-Ok-true.new.self (c.in_ok-line-in-Ok-true.ensures.takes so.source so.stands);
 }
 
-pub returns-in-Err-line : goal.returns-in-Err-line
-returns-in-Err-line g c = λ stands.
+pub returns-in_err-line-in-Ok-true : goal.returns-in_err-line-in-Ok-true
+returns-in_err-line-in-Ok-true g c = λ stands.
     let so = c.lines.invariant.so_far stands in
     let P : SourceLine → Type 0 = λ l. ReadsNext (place g.F.Feed.text g.F.Feed.faults c.lines.feeds c.lines.reader)
     (place g.F.Feed.text g.F.Feed.faults c.next.new.feeds c.next.new.self) (Ok (Some l)) in
     first_refuses g.F.Feed.text g.F.Feed.faults c.args.feeds.now c.lines.feeds c.lines.reader c.lines.first so
     (sym c.has_ended.ensures ∙ c.if-has_ended.false) c.next.new.feeds c.next.new.self c.line.result.now
     (subst P (sym c.line.ensures) (rw c.in-Ok-true.field-0-test at (c.in-Ok-true.ensures.reads c.lines.invariant.sound))) c.in-Ok-true.ensures.keeps
-    c.line-in-Ok-true.new.self c.in-Err-line.fault c.of_pass.result c.of_pass.ensures (c.in-Err-line.ensures.takes so.source so.stands)
+    c.line-in-Ok-true.new.self c.in_err-line-in-Ok-true.field-0.0 c.from_residual.result (c.in_err-line-in-Ok-true.ensures.takes so.source so.stands)
+    c.from_residual.ensures.1
 
 pub returns-in-Ok-false : goal.returns-in-Ok-false
 returns-in-Ok-false g c = λ stands.

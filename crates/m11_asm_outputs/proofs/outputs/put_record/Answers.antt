@@ -1,5 +1,5 @@
 use Rattle.std.proofs.Common.{refl}
-use Rattle.m11_asm_outputs.specs.declared.fault.AsmFault.TheVariants.{NoMemory}
+use Rattle.m11_asm_faults.specs.declared.fault.AsmFault.TheVariants.{NoMemory}
 use Rattle.m11_asm_outputs.specs.Outputs.{assembly}
 use Rattle.m11_writes.proofs.Writing.{refused_first}
 use Rattle.m11_asm_outputs.proofs.outputs.put_record.Goals as goal

@@ -3,7 +3,6 @@
 
 use m11_asm::{AsmDone, AsmFault, First, Second, Symbols};
 use m11_base::MemorySink;
-use m11_passes::PassFault;
 use m11_scan::Line;
 use m11_unfolding::UnfoldFault;
 use std::alloc::{AllocError, Global};
@@ -11,7 +10,7 @@ use std::process::Abort;
 use std::test::Fail;
 
 // Takes lines in the first pass.
-fn take_lines(first: &mut First, source: &[&str]) -> Result<(), PassFault> {
+fn take_lines(first: &mut First, source: &[&str]) -> Result<(), AsmFault> {
     for line in source {
         first.line(&Line::from_bytes(line.as_bytes()))?;
     }
@@ -19,7 +18,7 @@ fn take_lines(first: &mut First, source: &[&str]) -> Result<(), PassFault> {
 }
 
 // What the first pass gives.
-fn symbols_of(alloc: Global, source: &[&str]) -> Result<Symbols, PassFault> {
+fn symbols_of(alloc: Global, source: &[&str]) -> Result<Symbols, AsmFault> {
     let mut first = First::new(alloc)?;
     match take_lines(&mut first, source) {
         Ok(()) => first.end(),
@@ -204,7 +203,7 @@ const ENDLESS: &[&str] = &[".WORD 1", ".MACRO M", "M", ".ENDM", "M"];
 
 // Whether a first pass returns its fault again at a further line, and at its end.
 fn first_returns_again(alloc: Global) -> Result<bool, AllocError> {
-    let fault = PassFault::Unfold(UnfoldFault::TooDeep);
+    let fault = AsmFault::Unfold(UnfoldFault::TooDeep);
     let mut first = First::new(alloc)?;
     let shown = take_lines(&mut first, ENDLESS) == Err(fault)
         && take_lines(&mut first, &[".END"]) == Err(fault);
@@ -228,7 +227,7 @@ fn returns_again(mut second: Second, outputs: &mut Outputs) -> bool {
 }
 
 // The same of a second pass whose first one met no line.
-fn second_returns_again(alloc: Global) -> Result<bool, PassFault> {
+fn second_returns_again(alloc: Global) -> Result<bool, AsmFault> {
     let second = Second::new(alloc, symbols_of(alloc, &[])?)?;
     let mut outputs = Outputs::new(alloc);
     let shown = returns_again(second, &mut outputs);

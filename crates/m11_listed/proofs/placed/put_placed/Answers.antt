@@ -1,6 +1,6 @@
 use Rattle.std.proofs.Common.{◌∙◌, refl, sym}
+use Rattle.m11_asm_faults.specs.declared.fault.AsmFault.TheVariants.{NoMemory}
 use Rattle.m11_asm_outputs.specs.Outputs.{assembly}
-use Rattle.m11_asm_outputs.specs.declared.fault.AsmFault.TheVariants.{NoMemory}
 use Rattle.m11_scan.specs.Views.{bits_of}
 use Rattle.m11_writes.proofs.Writing.{refused_first}
 use Rattle.m11_listed.proofs.LinesListed.{absent, shown_so, unlisted}

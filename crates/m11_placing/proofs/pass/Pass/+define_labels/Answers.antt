@@ -1,4 +1,5 @@
 use Rattle.std.proofs.Common.{◌∙◌, ◌<◌, refl}
+use Rattle.m11_asm_faults.specs.declared.fault.AsmFault.{AsmFault}
 use Rattle.m11_placement.specs.Labels.{with_labels}
 use Rattle.m11_placement.specs.Limits.{local_count, most_local_symbols}
 use Rattle.m11_placement.specs.Tables.{Table}
@@ -7,12 +8,11 @@ use Rattle.m11_placing.proofs.Labelling.{first_defined, first_refused}
 use Rattle.m11_placing.proofs.Refusals.{handed_on}
 use Rattle.m11_placing.specs.Faults.{Refuses}
 use Rattle.m11_placing.specs.Passes.{Matches}
-use Rattle.m11_placing.specs.declared.fault.PlacingFault.{PlacingFault}
 use Rattle.m11_placing.proofs.pass.Pass.+define_labels.Goals as goal
 
 pub returns-in_err-letters-in-len1-up-clause-refuses : goal.returns-in_err-letters-in-len1-up-clause-refuses
 returns-in_err-letters-in-len1-up-clause-refuses t c =
-    let P : PlacingFault → Type 0 = λ fault. (told : Table) → Matches c.args.self.now told
+    let P : AsmFault → Type 0 = λ fault. (told : Table) → Matches c.args.self.now told
     → Refuses fault (most_local_symbols < local_count (with_labels c.args.line.now.text told c.args.labels.now)) ⊥ in
     handed_on P c.in_err-letters-in-len1-up.field-0.0 c.from_residual.result
     (first_refused c.args.line.now.text c.args.labels.now _ c.in_err-letters-in-len1-up.field-0.0 c.args.self.now

@@ -1,4 +1,5 @@
 use Rattle.std.proofs.Common.{◌∙◌, ◌<◌, ap, sym}
+use Rattle.m11_asm_faults.specs.declared.fault.AsmFault.{AsmFault}
 use Rattle.m11_placement.specs.Definitions.{is_defined}
 use Rattle.m11_placement.specs.Labels.{labelled, with_key}
 use Rattle.m11_placement.specs.Limits.{local_count, most_local_symbols}
@@ -10,12 +11,11 @@ use Rattle.m11_placing.proofs.Labelling.{blocks_begin, blocks_double, blocks_ref
 use Rattle.m11_placing.proofs.Refusals.{handed_on}
 use Rattle.m11_placing.specs.Faults.{Refuses}
 use Rattle.m11_placing.specs.Passes.{Kept, Matches}
-use Rattle.m11_placing.specs.declared.fault.PlacingFault.{PlacingFault}
 use Rattle.m11_placing.proofs.pass.Pass.define_local.Goals as goal
 
 pub returns-in_err-define_symbol-clause-refuses : goal.returns-in_err-define_symbol-clause-refuses
 returns-in_err-define_symbol-clause-refuses c =
-    let P : PlacingFault → Type 0 = λ fault. (told : Table) → Matches c.args.self.now told
+    let P : AsmFault → Type 0 = λ fault. (told : Table) → Matches c.args.self.now told
     → Refuses fault (most_local_symbols < local_count (with_key (Numbered told.settings.block c.args.number) told)) ⊥ in
     handed_on P c.in_err-define_symbol.field-0.0 c.from_residual-in_err-define_symbol.result
     (blocks_refuse c.args.self.now c.define_symbol.new.self c.settings-block.result.block c.args.number

@@ -1,4 +1,5 @@
 use Rattle.std.proofs.Common.{◌<◌, IfErr, IfOk, length, subst, sym}
+use Rattle.m11_asm_faults.specs.declared.fault.AsmFault.{AsmFault}
 use Rattle.m11_placement.specs.Assigning.{counter_change}
 use Rattle.m11_placement.specs.Changes.{changed}
 use Rattle.m11_placement.specs.Limits.{most_sections}
@@ -9,13 +10,12 @@ use Rattle.m11_placing.specs.Deeds.{deed_seen}
 use Rattle.m11_placing.specs.Faults.{Refuses}
 use Rattle.m11_placing.specs.Passes.{Follows, Matches}
 use Rattle.m11_placing.specs.declared.deeds.Deed.{Deed}
-use Rattle.m11_placing.specs.declared.fault.PlacingFault.{PlacingFault}
 use Rattle.m11_table.specs.Alike as tables
 use Rattle.m11_placing.proofs.pass.Pass.take_deed.Goals as goal
 
 pub returns-in_err-take_counter-in-Sets-clause-refuses : goal.returns-in_err-take_counter-in-Sets-clause-refuses
 returns-in_err-take_counter-in-Sets-clause-refuses c =
-    let F : PlacingFault → Type 0 = λ fault. (before : Table) → Matches c.args.self.now before → Refuses fault ⊥ (most_sections < length
+    let F : AsmFault → Type 0 = λ fault. (before : Table) → Matches c.args.self.now before → Refuses fault ⊥ (most_sections < length
     (changed c.args.map.now c.args.line.now.text
     (counter_change (firm_table c.args.self.now.table) c.args.line.now.text c.in-Sets.start) before).sections) in
     let P : Deed → Type 0 = λ d. IfErr c.from_residual.result (λ fault. (before : Table) → Matches c.args.self.now before

@@ -1,8 +1,8 @@
 //! What can go wrong in an assembly, each with its number and name.
 
 ghost use Rattle.std.specs.Prelude.{◌≡◌};
-ghost use Rattle.m11_asm_outputs.specs.Fault.{of_lines, of_unfolding};
-ghost use Rattle.m11_asm_outputs.specs.declared.fault.AsmFault.TheVariants.{NoMemory};
+ghost use Rattle.m11_asm_faults.specs.Faults.{of_lines, of_unfolding};
+ghost use Rattle.m11_asm_faults.specs.declared.fault.AsmFault.TheVariants.{NoMemory};
 
 use m11_lines::LineFault;
 use m11_unfolding::UnfoldFault;
@@ -35,7 +35,7 @@ pub enum AsmFault {
     /// 4: more than 64 sections, with the two that each assembly has.
     #[error("too many sections")]
     TooManySections,
-    /// 5: a limit of macros, repeats and conditions was passed.
+    /// 5: a limit of macros, repeats and conditions was passed. Where they want memory it is `NoMemory` instead.
     #[error("the source can't be unfolded")]
     Unfold(UnfoldFault),
     /// 6: more source bytes than 4,194,304, or more source lines than 65,535.
@@ -47,7 +47,7 @@ pub enum AsmFault {
 }
 
 impl AsmOutput {
-    ghost use Rattle.m11_asm_outputs.specs.Fault.{output_name};
+    ghost use Rattle.m11_asm_faults.specs.Faults.{output_name};
 
     /// The name that the line of a write fault has for this output.
     pub fn name(self) -> &'static str
@@ -62,7 +62,7 @@ impl AsmOutput {
 }
 
 impl AsmFault {
-    ghost use Rattle.m11_asm_outputs.specs.Fault.{name_of, number_of};
+    ghost use Rattle.m11_asm_faults.specs.Faults.{name_of, number_of};
 
     /// The fault's number, which its printed line shows.
     pub fn number(self) -> u8

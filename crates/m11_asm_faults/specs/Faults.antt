@@ -5,10 +5,10 @@ use Rattle.m11_lines.specs.declared.fault.LineFault.{LineFault}
 use Rattle.m11_lines.specs.declared.fault.LineFault.TheVariants as line
 use Rattle.m11_unfolding.specs.declared.fault.UnfoldFault.{UnfoldFault}
 use Rattle.m11_unfolding.specs.declared.fault.UnfoldFault.TheVariants as unfolded
-use Rattle.m11_asm_outputs.specs.declared.fault.AsmFault.{AsmFault}
-use Rattle.m11_asm_outputs.specs.declared.fault.AsmFault.TheVariants.{Read, Write, TooManySymbols, TooManySections, Unfold, TooMuchSource, NoMemory}
-use Rattle.m11_asm_outputs.specs.declared.fault.AsmOutput.{AsmOutput}
-use Rattle.m11_asm_outputs.specs.declared.fault.AsmOutput.TheVariants.{Object, Listing, Messages}
+use Rattle.m11_asm_faults.specs.declared.fault.AsmFault.{AsmFault}
+use Rattle.m11_asm_faults.specs.declared.fault.AsmFault.TheVariants.{Read, Write, TooManySymbols, TooManySections, Unfold, TooMuchSource, NoMemory}
+use Rattle.m11_asm_faults.specs.declared.fault.AsmOutput.{AsmOutput}
+use Rattle.m11_asm_faults.specs.declared.fault.AsmOutput.TheVariants.{Object, Listing, Messages}
 
 -- the number of a fault
 abbrev pub number_of : AsmFault → ℕ
