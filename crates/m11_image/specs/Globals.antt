@@ -13,8 +13,12 @@ use Rattle.m11_layout.specs.declared.definition.Definition as layout
 use Rattle.m11_layout.specs.declared.definition.GlobalPlace.{GlobalPlace}
 use Rattle.m11_layout.specs.declared.definition.GlobalPlace.TheVariants.{Absolute, In}
 use Rattle.m11_link_text.specs.Relocation.{modulo}
-use Rattle.m11_placement.specs.Definitions.{Definition, Known, Named, Standing, Unknown, last_definition}
-use Rattle.m11_placement.specs.Sections.{Section}
+use Rattle.m11_placement.specs.declared.definitions.Definition.{Definition}
+use Rattle.m11_placement.specs.declared.definitions.Key.TheVariants.{Named}
+use Rattle.m11_placement.specs.declared.definitions.Standing.{Standing}
+use Rattle.m11_placement.specs.declared.definitions.Standing.TheVariants.{Known, Unknown}
+use Rattle.m11_placement.specs.Definitions.{last_definition}
+use Rattle.m11_placement.specs.declared.sections.Section.{Section}
 use Rattle.m11_placement.specs.Tables.{Table}
 use Rattle.m11_values.specs.declared.kinds.Kind.{Kind}
 use Rattle.m11_values.specs.declared.kinds.Kind.TheVariants as kind

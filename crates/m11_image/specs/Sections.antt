@@ -11,7 +11,7 @@ use Rattle.m11_directory.specs.FirstPass.{DirectoryFacts}
 use Rattle.m11_layout.specs.Sections.{attribute_bits, base_entered, is_relocatable, names_before, offset_after, size_under, total}
 use Rattle.m11_link_text.specs.Relocation.{modulo}
 use Rattle.m11_modules.specs.Places.{distinct}
-use Rattle.m11_placement.specs.Sections.{Section}
+use Rattle.m11_placement.specs.declared.sections.Section.{Section}
 use Rattle.m11_image.specs.Sources.{Source}
 
 -- ---- the sections that sources have
