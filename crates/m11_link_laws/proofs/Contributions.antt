@@ -298,7 +298,7 @@ distinct_found name seen (other ∷ names) e =
     by true f e h = distinct_kept name (insert_key is_same_name seen other) names (key_new name seen other f)
     by false f e h = h e
 
-is_section : (parts : List Part) (index : ℕ) (name : Name) (size : ℕ) → entered_at parts index name ≡ Some size
+pub is_section : (parts : List Part) (index : ℕ) (name : Name) (size : ℕ) → entered_at parts index name ≡ Some size
     → list_any (is_same_name name) (section_names parts) ≡ true
 unfolding section_names distinct
 is_section parts index name size e = distinct_found name [] (keys_of (sections_in parts))
@@ -329,7 +329,7 @@ below : (base size : ℕ) → nat_lt 57344 (base + size) ≡ false → base + si
 below base size e = grind (arith, nat_tests)
 
 -- a relocatable section ends by octal 160000
-ends_low : (bottom : ℕ) (parts : List Part) (name : Name) → is_too_large bottom parts ≡ false
+pub ends_low : (bottom : ℕ) (parts : List Part) (name : Name) → is_too_large bottom parts ≡ false
     → is_relocatable (first_attributes parts name) ≡ true → list_any (is_same_name name) (section_names parts) ≡ true
     → section_base bottom parts name + section_size parts name ≤ 57344
 unfolding is_too_large

@@ -58,12 +58,12 @@ within_items (content ∷ contents) room bytes h le =
     (within_items contents left h.0 h.2 (omega (arith, shorter, le)))
 
 -- what an object yields where its items have no fault
-record Found (bytes : List ℕ) (items : List Item) : Type 0 where
+pub record Found (bytes : List ℕ) (items : List Item) : Type 0 where
   pub contents : List (List ℕ)
   pub read : AreRead contents bytes
   pub is : items ≡ blocks contents ++ ObjectEnds ∷ []
 
-found : (room : ℕ) (bytes : List ℕ) (items : List Item) → ObjectItems room bytes items
+pub found : (room : ℕ) (bytes : List ℕ) (items : List Item) → ObjectItems room bytes items
     → (before parts : List Part) → taken before items ≡ Ok parts → Found bytes items
 found room bytes _ (objects.ObjectItems.Begins {left = left} {rest = rest} {content = content} {items = items} e f h)
     before parts t =

@@ -157,7 +157,7 @@ same_bytes found module_index own address relocation text e =
     (bytes_stored found module_index own (modulo (address + index)) relocation.is_byte relocation.target e)
     ∙ same_either (lies_within relocation (length text)) (replaced text index []) text (none_replaced text index)
 
-same_text : (found : Findings) (text : PlacedText) (relocation : Relocation)
+pub same_text : (found : Findings) (text : PlacedText) (relocation : Relocation)
     → not (only_selects relocation.target) ≡ false → with_relocation found text relocation ≡ text
 same_text found text relocation e = ap (λ bytes. let t : PlacedText = record text { bytes = bytes } in t)
     (same_bytes found text.module_index text.base text.address relocation text.bytes e)

@@ -64,7 +64,7 @@ taken_sound items parts e = items_sound [] items parts nothing_sound e
 
 -- ---- and they end between two modules
 
-taken_both : (before : List Part) (xs ys : List Item) (parts : List Part) → taken before (xs ++ ys) ≡ Ok parts
+pub taken_both : (before : List Part) (xs ys : List Item) (parts : List Part) → taken before (xs ++ ys) ≡ Ok parts
     → (middle : List Part) × (taken before xs ≡ Ok middle) × (taken middle ys ≡ Ok parts)
 taken_both before [] ys parts e = (before, refl, e)
 taken_both before (x ∷ xs) ys parts e =

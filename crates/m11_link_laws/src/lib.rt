@@ -1,5 +1,5 @@
 //! Laws of links: what the definitions of the linker yield, in words of their own. Each is the contract of a
-//! function that does nothing; no other crate names them.
+//! function that does nothing. Laws on what sources give to a link cite definitions and lemmas of this crate.
 #![tactic(auto)]
 
 mod joining;
