@@ -1,3 +1,4 @@
 pub mod Sources
 pub mod Sections
 pub mod Globals
+pub mod Objects

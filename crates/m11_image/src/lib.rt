@@ -2,3 +2,7 @@
 //! the assembler and the linker: what a linker reads of the object of a source, and that the tape of a link holds the image. Each law is
 //! the contract of a function that does nothing.
 #![tactic(auto)]
+
+mod objects;
+
+pub use objects::{directories_are_read_back, objects_are_read_back, texts_are_read_back};
