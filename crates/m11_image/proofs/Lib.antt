@@ -6,3 +6,4 @@ pub mod ReadGlobals
 pub mod ReadTexts
 pub mod ReadDirectories
 pub mod ReadRecords
+pub mod YieldedParts

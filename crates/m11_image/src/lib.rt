@@ -5,4 +5,7 @@
 
 mod objects;
 
-pub use objects::{directories_are_read_back, objects_are_read_back, texts_are_read_back};
+pub use objects::{
+    directories_are_read_back, objects_are_read_back, objects_yield_their_parts,
+    texts_are_read_back,
+};

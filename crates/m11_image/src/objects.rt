@@ -1,6 +1,10 @@
 //! What a linker reads of the objects of sources.
 
-ghost use Rattle.m11_image.specs.Objects.{HasDirectory, HasTexts, IsReadBack, SourceFits};
+ghost use Rattle.std.specs.Prelude.{◌≡◌, List, [], map, Ok};
+ghost use Rattle.std.specs.List.{AllByRecursion};
+ghost use Rattle.m11_link.specs.Objects.{AreItems, Item, taken};
+ghost use Rattle.m11_modules.specs.Parts.{Part};
+ghost use Rattle.m11_image.specs.Objects.{HasDirectory, HasTexts, IsReadBack, SourceFits, link_parts, object_of};
 ghost use Rattle.m11_image.specs.Sources.{Source};
 
 /// Each block of a source's object is read as the record that it was written for, and the records are one module.
@@ -18,4 +22,11 @@ pub fn directories_are_read_back()
 /// the relocations of them. The pieces of these texts, one after another, are those of the source.
 pub fn texts_are_read_back()
     ensures { (source : Source) → HasTexts source }
+{}
+
+/// Where a link takes the objects of sources, it takes the parts of the first source and the end of its file, then those of the next one, and
+/// no others.
+pub fn objects_yield_their_parts()
+    ensures { (sources : List Source) (items : List Item) (parts : List Part) → AllByRecursion SourceFits sources
+        → AreItems (map object_of sources) items → taken [] items ≡ Ok parts → parts ≡ link_parts sources }
 {}
