@@ -7,3 +7,9 @@ pub mod ReadTexts
 pub mod ReadDirectories
 pub mod ReadRecords
 pub mod YieldedParts
+pub mod LinkedSources
+pub mod LinkedPlaces
+pub mod LinkedTexts
+pub mod BoundedTexts
+pub mod TextsInside
+pub mod AbsoluteSection
