@@ -13,3 +13,4 @@ pub mod LinkedTexts
 pub mod BoundedTexts
 pub mod TextsInside
 pub mod AbsoluteSection
+pub mod LinkedTapes

@@ -29,7 +29,7 @@ use Rattle.m11_values.specs.declared.kinds.Kind.TheVariants as kind
 use Rattle.m11_values.specs.Quantities.{Quantity}
 use Rattle.m11_image.specs.Globals.{global_by, global_standing, global_under, globals_of, globals_under, in_source}
 use Rattle.m11_image.proofs.ReadEntries.{definition_said, entries_by}
-use Rattle.m11_image.proofs.ReadParts.{Seen, seen_after}
+use Rattle.m11_image.proofs.ReadParts.{Seen, onto, seen_after}
 
 abbrev Defined : Type 0
 Defined = Name × layout.Definition
@@ -46,10 +46,6 @@ row_after seen row = seen_after seen (Entry (entry_of row))
 abbrev rows_after : Seen → List DirectoryRow → Seen
 rows_after seen [] = seen
 rows_after seen (first ∷ rows) = rows_after (row_after seen first) rows
-
-onto : {X : Type 0} (found : Option X) (xs ys : List X) → cons_option found (xs ++ ys) ≡ cons_option found xs ++ ys
-onto None xs ys = refl
-onto (Some x) xs ys = refl
 
 defined_then : (seen : Seen) (rows more : List DirectoryRow)
     → defined_by seen (rows ++ more) ≡ defined_by seen rows ++ defined_by (rows_after seen rows) more

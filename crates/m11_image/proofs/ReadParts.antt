@@ -125,7 +125,7 @@ abbrev pub seen_after_all : Seen → List Part → Seen
 seen_after_all seen [] = seen
 seen_after_all seen (part ∷ parts) = seen_after_all (seen_after seen part) parts
 
-onto : {X : Type 0} (found : Option X) (xs ys : List X) → cons_option found (xs ++ ys) ≡ cons_option found xs ++ ys
+pub onto : {X : Type 0} (found : Option X) (xs ys : List X) → cons_option found (xs ++ ys) ≡ cons_option found xs ++ ys
 onto None xs ys = refl
 onto (Some x) xs ys = refl
 

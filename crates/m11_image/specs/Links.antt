@@ -1,17 +1,26 @@
 -- What a link of the objects of sources reads of all of them, one after another. (RT-11 Volume and File Formats Manual, "Object file
 -- format".)
-use Rattle.std.specs.Prelude.{◌≡◌, ℕ, ◌+◌, ◌≤◌, List, length, map}
+use Rattle.std.specs.Prelude.{◌≡◌, ℕ, ◌+◌, ◌≤◌, false, List, [], length, map, filter, find, None}
 use Rattle.std.specs.List.{enumerate_from, filter_map, flat_map}
+use Rattle.std.specs.Option.{unwrap_or}
 use Rattle.m11_asm_outputs.specs.Object.{texts_of}
+use Rattle.m11_base.specs.Devices.{Bytes}
 use Rattle.m11_base.specs.Rad50.{Name}
+use Rattle.m11_blocks.specs.Tapes.{IsTape}
 use Rattle.m11_layout.specs.declared.definition.Transfer.{Transfer}
+use Rattle.m11_layout.specs.declared.fault.LinkOutput.TheVariants.{Tape}
 use Rattle.m11_layout.specs.Globals.{definitions_of}
-use Rattle.m11_layout.specs.Sections.{attributes_in, module_base, top}
-use Rattle.m11_layout.specs.Transfers.{transfers_of}
-use Rattle.m11_link_laws.specs.LinkedTexts.{ObjectText, object_texts}
+use Rattle.m11_layout.specs.Sections.{attributes_in, is_too_large, module_base, top}
+use Rattle.m11_layout.specs.Transfers.{is_even, transfers_of}
+use Rattle.m11_link.specs.Outputs.{link}
+use Rattle.m11_link.specs.Written.{link_writes}
+use Rattle.m11_link_laws.specs.LinkedTexts.{ObjectText, has_data, linked_text, object_texts}
 use Rattle.m11_link_text.specs.Findings.{findings_of}
-use Rattle.m11_link_text.specs.Relocation.{symbol}
+use Rattle.m11_link_text.specs.Relocation.{modulo, symbol}
+use Rattle.m11_modules.specs.Parts.{Part}
 use Rattle.m11_modules.specs.Places.{sections_in}
+use Rattle.m11_modules.specs.Rules.{first_fault}
+use Rattle.m11_writes.specs.Writes.{gained}
 use Rattle.m11_image.specs.Globals.{all_globals, global}
 use Rattle.m11_image.specs.Objects.{link_parts, stored_alone, text_in, transfer_at}
 use Rattle.m11_image.specs.Sections.{all_sections, attributes_entered, contribution, size_entered, top_of}
@@ -52,3 +61,27 @@ pub record LiesBySources (bottom : ℕ) (sources : List Source) : Type 0 where
 abbrev pub EndsInside : ℕ → List Source → ObjectText → Type 0
 EndsInside bottom sources text =
     contribution bottom sources text.module_index text.section + text.address + length text.bytes ≤ 0o200000
+
+-- ---- what is written
+
+-- where the program begins by a transfer entry, as an address
+abbrev pub beginning_at : ℕ → List Source → Transfer → ℕ
+beginning_at bottom sources transfer =
+    modulo (contribution bottom sources transfer.module_index transfer.section + transfer.value)
+
+-- the first even one; without one it is 1, where no program begins
+abbrev pub beginning : ℕ → List Source → ℕ
+beginning bottom sources = unwrap_or (find is_even (map (beginning_at bottom sources) (all_transfers sources))) 1
+
+-- the texts of the sources that have data, each at its address with what its relocations store
+abbrev pub linked_blocks : ℕ → List Source → List (ℕ × Bytes)
+linked_blocks bottom sources =
+    filter (λ text. has_data text.1) (map (linked_text (findings_of bottom (link_parts sources))) (all_texts sources))
+
+-- a link of the objects has these parts, and its tape holds the texts of the sources
+pub record AreLinked (bottom : ℕ) (sources : List Source) (parts : List Part) : Type 0 where
+  pub parts_are : parts ≡ link_parts sources
+  pub sound : first_fault [] parts ≡ None
+  pub low : is_too_large bottom parts ≡ false
+  pub tape : IsTape (linked_blocks bottom sources) (beginning bottom sources)
+      (gained link Tape (link_writes (findings_of bottom parts) parts))

@@ -8,7 +8,8 @@ mod objects;
 
 pub use links::{
     linked_texts_end_by_the_last_address, links_have_the_texts_of_their_sources,
-    links_lie_by_their_sources, links_read_their_sources, the_absolute_section_lies_at_0,
+    links_lie_by_their_sources, links_read_their_sources, links_write_the_texts_of_their_sources,
+    the_absolute_section_lies_at_0,
 };
 pub use objects::{
     directories_are_read_back, objects_are_read_back, objects_yield_their_parts,

@@ -1,14 +1,16 @@
 //! What a linker reads of the objects of several sources, and where it has what they contribute.
 
-ghost use Rattle.std.specs.Prelude.{◌≡◌, ℕ, false, List, [], map, None};
+ghost use Rattle.std.specs.Prelude.{◌≡◌, ℕ, false, List, [], map, None, Ok};
 ghost use Rattle.std.specs.List.{AllByRecursion};
 ghost use Rattle.m11_base.specs.Names.{absolute_name};
 ghost use Rattle.m11_layout.specs.Sections.{is_too_large};
+ghost use Rattle.m11_link.specs.Objects.{AreItems, Item, outcome};
 ghost use Rattle.m11_link_laws.specs.LinkedTexts.{linked_text, linked_texts};
 ghost use Rattle.m11_link_text.specs.Findings.{Findings};
+ghost use Rattle.m11_modules.specs.Parts.{Part};
 ghost use Rattle.m11_modules.specs.Rules.{first_fault};
-ghost use Rattle.m11_image.specs.Links.{EndsInside, HasSources, LiesBySources, all_texts};
-ghost use Rattle.m11_image.specs.Objects.{SourceFits, link_parts};
+ghost use Rattle.m11_image.specs.Links.{AreLinked, EndsInside, HasSources, LiesBySources, all_texts};
+ghost use Rattle.m11_image.specs.Objects.{SourceFits, link_parts, object_of};
 ghost use Rattle.m11_image.specs.Sections.{contribution};
 ghost use Rattle.m11_image.specs.Sources.{Source};
 
@@ -35,6 +37,13 @@ pub fn linked_texts_end_by_the_last_address()
     ensures { (bottom : ℕ) (sources : List Source) → AllByRecursion SourceFits sources
         → first_fault [] (link_parts sources) ≡ None → is_too_large bottom (link_parts sources) ≡ false
         → AllByRecursion (EndsInside bottom sources) (all_texts sources) }
+{}
+
+/// Where a link takes the objects of sources that fit, it has their parts, and its tape has a block for each text of the sources that has data, and
+/// begins where the first source says that gives an even address.
+pub fn links_write_the_texts_of_their_sources()
+    ensures { (bottom : ℕ) (sources : List Source) (items : List Item) (parts : List Part) → AllByRecursion SourceFits sources
+        → AreItems (map object_of sources) items → outcome bottom items ≡ Ok parts → AreLinked bottom sources parts }
 {}
 
 /// `. ABS.` lies at 0 in each source of such a link, so that what counts from no section of a source counts from its beginning.
