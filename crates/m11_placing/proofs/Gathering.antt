@@ -11,7 +11,9 @@ use Rattle.m11_placement.specs.Limits.{is_counted, most_names, with_mentions, wi
 use Rattle.m11_placement.specs.Mentions.{Mention, defined, mention, named}
 use Rattle.m11_placement.specs.declared.meanings.Context.{Context}
 use Rattle.m11_placing.specs.Faults.{Refuses}
-use Rattle.m11_placing.specs.Mentioned.{Adds, Gathered, StaysFew, in_context, is_register, names_referred, noted, registers_mentioned, with_all, with_name, with_reference, with_register}
+use Rattle.m11_placing.specs.Labels.{FitsUpToLabel}
+use Rattle.m11_placing.specs.Mentioned.{Adds, Gathered, in_context, is_register, names_referred, noted, registers_mentioned, with_all, with_name, with_reference, with_register}
+use Rattle.m11_statements.specs.declared.labels.Label.{Label}
 use Rattle.m11_values.specs.declared.names.Symbol.{Symbol}
 use Rattle.m11_values.specs.declared.names.Symbol.TheVariants.{Ordinary, Local, Counter}
 
@@ -77,12 +79,12 @@ mentions_more (mention ∷ mentions) names =
 -- ---- one part after another
 
 pub added_then : (first second : List Mention) (old middle new : Gathered) (result : Result (Unit {0}) AsmFault)
-    → (middle ≡ with_all first old) × StaysFew old middle → Adds second middle new result → Adds (first ++ second) old new result
+    → middle ≡ with_all first old → Adds second middle new result → Adds (first ++ second) old new result
 added_then first second old middle new (Ok _) added adds =
-    (adds.0 ∙ ap (with_all second) added.0 ∙ sym (all_joined first second old), λ few. adds.1 (added.1 few))
+    adds ∙ ap (with_all second) added ∙ sym (all_joined first second old)
 added_then first second old middle new (Err fault) added refuses =
     let P : Gathered → Type 0 = λ g. Refuses fault (most_names < length g.names) ⊥ in
-    subst P (ap (with_all second) added.0 ∙ sym (all_joined first second old)) refuses
+    subst P (ap (with_all second) added ∙ sym (all_joined first second old)) refuses
 
 refused_more : (fault : AsmFault) (first second : List Mention) (old : Gathered)
     → Refuses fault (most_names < length (with_all first old).names) ⊥
@@ -126,7 +128,7 @@ module _ {A : Type 0} (mentions : A → List Mention) (items : List A) (item oth
           failed_first (mentions found) (flat_map mentions rest) old new fault result (subst P (sym first) refuses) is
 
   pub item_then : (middle new : Gathered) → 1 ≤ length items → get_or items 0 other ≡ item
-      → (middle ≡ with_all (mentions item) old) × StaysFew old middle
+      → middle ≡ with_all (mentions item) old
       → Adds (flat_map mentions (take (length items - 1) (drop 1 items))) middle new result
       → Adds (flat_map mentions items) old new result
   item_then middle new some first adds rest = by_items items some first rest
@@ -138,7 +140,7 @@ module _ {A : Type 0} (mentions : A → List Mention) (items : List A) (item oth
       by_items (found ∷ more) some first rest =
           let P : List A → Type 0 = λ l. Adds (flat_map mentions l) middle new result in
           added_then (mentions found) (flat_map mentions more) old middle new result
-          (adds.0 ∙ ap (λ (i : A). with_all (mentions i) old) (sym first), adds.1) (subst P (others_all found more) rest)
+          (adds ∙ ap (λ (i : A). with_all (mentions i) old) (sym first)) (subst P (others_all found more) rest)
 
 defined_joined : (name : Option Name) (names : List (Option Name))
     → defined name ++ map named (names_among names) ≡ map named (names_among (name ∷ names))
@@ -164,3 +166,36 @@ failed_symbol context [] symbol other old new fault result some first refuses is
 failed_symbol context (found ∷ symbols) symbol other old new fault result some first refuses is =
     let P : Symbol → Type 0 = λ s. Refuses fault (most_names < length (with_all (mention context s ∷ []) old).names) ⊥ in
     failed_first (mention context found ∷ []) (in_context context symbols) old new fault result (subst P (sym first) refuses) is
+
+-- ---- memory is refused at a label, and up to it no name is one too many
+
+pub first_label : (mentions : Label → List Mention) (labels : List Label) (other : Label) (old : Gathered) → 1 ≤ length labels
+    → length (with_all (mentions (get_or labels 0 other)) old).names ≤ most_names
+    → FitsUpToLabel labels (λ some. length (with_all (flat_map mentions some) old).names ≤ most_names)
+first_label mentions [] other old some fits = absurd (none_first some)
+first_label mentions (label ∷ others) other old some fits =
+    let P : Gathered → Type 0 = λ g. length g.names ≤ most_names in
+    record {
+      done = [];
+      label = label;
+      rest = others;
+      are = refl;
+      fits = subst P (sym (all_joined (mentions label) [] old)) fits;
+    }
+
+pub later_label : (mentions : Label → List Mention) (labels : List Label) (other : Label) (old middle : Gathered) → 1 ≤ length labels
+    → middle ≡ with_all (mentions (get_or labels 0 other)) old
+    → FitsUpToLabel (take (length labels - 1) (drop 1 labels))
+    (λ some. length (with_all (flat_map mentions some) middle).names ≤ most_names)
+    → FitsUpToLabel labels (λ some. length (with_all (flat_map mentions some) old).names ≤ most_names)
+later_label mentions [] other old middle some first later = absurd (none_first some)
+later_label mentions (label ∷ others) other old middle some first later =
+    let P : Gathered → Type 0 = λ g. length g.names ≤ most_names in
+    let rest : List Mention = flat_map mentions (later.done ++ later.label ∷ []) in
+    record {
+      done = label ∷ later.done;
+      label = later.label;
+      rest = later.rest;
+      are = ap (λ (ls : List Label). label ∷ ls) (sym (others_all label others) ∙ later.are);
+      fits = subst P (ap (with_all rest) first ∙ sym (all_joined (mentions label) rest old)) later.fits;
+    }

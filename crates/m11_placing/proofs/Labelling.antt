@@ -1,5 +1,5 @@
 -- What labels do to what a pass keeps.
-use Rattle.std.proofs.Common.{◌≡◌, ◌∙◌, ◌<◌, ◌≤◌, ℕ, ◌+◌, ◌-◌, Bool, true, false, cond, if◌then◌else◌, List, [], ◌∷◌, drop, get_or, length, take, Option, Some, None, refl, sym, ap, subst, arith}
+use Rattle.std.proofs.Common.{◌≡◌, ◌∙◌, ◌<◌, ◌≤◌, ℕ, ◌+◌, ◌-◌, Bool, true, false, cond, if◌then◌else◌, List, [], ◌∷◌, ◌++◌, drop, get_or, length, take, Option, Some, None, refl, sym, ap, subst, arith}
 use Rattle.std.proofs.lemmas.List.{take_all}
 use Rattle.std.specs.Int.RustNames.{bit_or}
 use Rattle.m11_asm_faults.specs.declared.fault.AsmFault.{AsmFault}
@@ -20,7 +20,7 @@ use Rattle.m11_placing.proofs.Alike.{alike_defined, same_labelled}
 use Rattle.m11_placing.proofs.Passes.{counted_more}
 use Rattle.m11_placing.proofs.Refusals.{refuses_more}
 use Rattle.m11_placing.specs.Faults.{Refuses}
-use Rattle.m11_placing.specs.Labels.{Defines, DefinesAll}
+use Rattle.m11_placing.specs.Labels.{Defines, DefinesAll, FitsUpToLabel}
 use Rattle.m11_placing.specs.Passes.{Follows, Kept, Matches}
 
 -- ---- one key
@@ -112,21 +112,31 @@ module _ (old new : Kept) (block number : ℕ) (is : block ≡ old.table.setting
       symbols_begin old new number letters (subst P is defined) none
       (subst Q is (labels_here old new (Numbered block number) definition e follows))
 
-  pub blocks_refuse : (fault : AsmFault) (definition : Definition) → is_defined (Numbered block number) old.table.definitions ≡ false
+  -- what is said of the count of local symbols with the definition, is said of that with the label
+  pub blocks_said : (Said : ℕ → Type 0) (definition : Definition) → is_defined (Numbered block number) old.table.definitions ≡ false
       → definition ≡ labelled old.table (Numbered block number)
-      → ((told : Table) → Matches old told
-      → Refuses fault (most_local_symbols < local_count (with_definition definition told)) ⊥)
-      → (told : Table) → Matches old told
-      → Refuses fault (most_local_symbols < local_count (with_key (Numbered told.settings.block number) told)) ⊥
-  blocks_refuse fault definition defined e refuses told matches =
+      → ((told : Table) → Matches old told → Said (local_count (with_definition definition told)))
+      → (told : Table) → Matches old told → Said (local_count (with_key (Numbered told.settings.block number) told))
+  blocks_said Said definition defined e says told matches =
       let P : ℕ → Type 0 = λ b. is_defined (Numbered b number) old.table.definitions ≡ false in
-      let R : ℕ → Type 0 = λ n. Refuses fault (most_local_symbols < n) ⊥ in
-      subst R
+      subst Said
       (ap (λ (d : Definition). local_count (with_definition d told))
       (e ∙ labelled_there old told (Numbered block number) matches
       ∙ ap (λ (b : ℕ). labelled told (Numbered b number)) is)
       ∙ symbol_counted old new number told matches (subst P is defined))
-      (refuses told matches)
+      (says told matches)
+
+  -- a local symbol that is defined before is none more
+  pub blocks_known : is_defined (Numbered block number) old.table.definitions ≡ true → old.local_symbols ≤ most_local_symbols
+      → (told : Table) → Matches old told
+      → local_count (with_key (Numbered told.settings.block number) told) ≤ most_local_symbols
+  blocks_known defined few told matches =
+      let P : ℕ → Type 0 = λ b. is_defined (Numbered b number) told.definitions ≡ true in
+      let N : ℕ → Type 0 = λ n. n ≤ most_local_symbols in
+      let there : is_defined (Numbered told.settings.block number) told.definitions ≡ true
+      = subst P (is ∙ ap (λ (s : Settings). s.block) matches.alike.settings)
+      (sym (defined_there old told (Numbered block number) matches) ∙ defined) in
+      rw there (subst N matches.local_symbols few)
 
 -- ---- labels one after the other
 
@@ -220,3 +230,58 @@ first_refused line [] other fault old some refuses told matches = absurd (none_f
 first_refused line (label ∷ others) other fault old some refuses told matches =
     refuses_more fault most_local_symbols (local_count (with_label line told label)) (local_count (with_labels line told (label ∷ others)))
     (labels_count line (with_label line told label) others) (refuses told matches)
+
+-- ---- memory is refused at a label, and up to it there are no more local symbols than may be
+
+new_counts : (is_known is_global : Bool) (name : Name) (told : Table)
+    → local_count (if is_known then with_doubled (Named name) told
+    else global_if is_global name (with_block (with_definition (labelled told (Named name)) told))) ≡ local_count told
+new_counts true is_global name told = refl
+new_counts false is_global name told =
+    let same : local_count (global_if is_global name (with_block (with_definition (labelled told (Named name)) told)))
+    ≡ local_count (with_definition (labelled told (Named name)) told)
+    = global_counts is_global name (with_block (with_definition (labelled told (Named name)) told)) in
+    let none : local_count (with_definition (labelled told (Named name)) told) ≡ local_count told + 0
+    = counted_more (labelled told (Named name)) told.definitions told refl in
+    omega (arith, same, none)
+
+named_fits : (is_global : Bool) (told : Table) (name : Option Name) → local_count told ≤ most_local_symbols
+    → local_count (with_name is_global told name) ≤ most_local_symbols
+named_fits is_global told (Some name) few =
+    let N : ℕ → Type 0 = λ n. n ≤ most_local_symbols in
+    subst N (sym (new_counts (is_defined (Named name) told.definitions) is_global name told)) few
+named_fits is_global told None few = few
+
+-- only a local label adds one
+pub kind_fits : (told : Table) (name : Option Name) (of : LabelKind) → local_count told ≤ most_local_symbols
+    → ((number : ℕ) → of ≡ kind.Local number
+    → local_count (with_key (Numbered told.settings.block number) told) ≤ most_local_symbols)
+    → local_count (with_kind told name of) ≤ most_local_symbols
+kind_fits told name kind.Ordinary few local = named_fits false told name few
+kind_fits told name kind.Global few local = named_fits true told name few
+kind_fits told name (kind.Local number) few local = local number refl
+kind_fits told name kind.Outside few local = few
+
+pub few_told : (old : Kept) (told : Table) → Matches old told → old.local_symbols ≤ most_local_symbols
+    → local_count told ≤ most_local_symbols
+few_told old told matches few = let N : ℕ → Type 0 = λ n. n ≤ most_local_symbols in subst N matches.local_symbols few
+
+pub first_fits : (line : Bytes) (told : Table) (labels : List Label) (other : Label) → 1 ≤ length labels
+    → local_count (with_label line told (get_or labels 0 other)) ≤ most_local_symbols
+    → FitsUpToLabel labels (λ some. local_count (with_labels line told some) ≤ most_local_symbols)
+first_fits line told [] other some fits = absurd (none_first some)
+first_fits line told (label ∷ others) other some fits =
+    record { done = []; label = label; rest = others; are = refl; fits = fits }
+
+pub later_fits : (line : Bytes) (told : Table) (labels : List Label) (other : Label) → 1 ≤ length labels
+    → FitsUpToLabel (take (length labels - 1) (drop 1 labels))
+    (λ some. local_count (with_labels line (with_label line told (get_or labels 0 other)) some) ≤ most_local_symbols)
+    → FitsUpToLabel labels (λ some. local_count (with_labels line told some) ≤ most_local_symbols)
+later_fits line told [] other some later = absurd (none_first some)
+later_fits line told (label ∷ others) other some later = record {
+  done = label ∷ later.done;
+  label = later.label;
+  rest = later.rest;
+  are = ap (λ (ls : List Label). label ∷ ls) (sym (others_all label others) ∙ later.are);
+  fits = later.fits;
+}

@@ -10,5 +10,4 @@ pub mod LinesTaken
 pub mod Passes
 mod NameLists
 pub mod Refusals
-mod SectionCounts
 mod Sizes

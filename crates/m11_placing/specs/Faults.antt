@@ -3,7 +3,8 @@ use Rattle.m11_asm_faults.specs.declared.fault.AsmFault.{AsmFault}
 use Rattle.m11_asm_faults.specs.declared.fault.AsmFault.TheVariants.{TooManySymbols, TooManySections, NoMemory}
 
 -- too many symbols where the first holds, too many sections where the second does; memory may be refused at any time, and no other fault
--- comes of a line
+-- comes of a line. A call that adds one thing asks its limit before anything grows, and says beside this that memory is refused only where
+-- the limit isn't passed
 abbrev pub Refuses : AsmFault → Type 0 → Type 0 → Type 0
 Refuses TooManySymbols symbols sections = symbols
 Refuses TooManySections symbols sections = sections

@@ -1,5 +1,5 @@
 -- What the labels of a line do to what a pass keeps. (MACRO-11 Language Reference Manual, "Label field".)
-use Rattle.std.specs.Prelude.{◌≡◌, ℕ, List}
+use Rattle.std.specs.Prelude.{◌≡◌, ℕ, List, [], ◌∷◌, ◌++◌}
 use Rattle.m11_base.specs.Devices.{Bytes}
 use Rattle.m11_placement.specs.Labels.{labels_letters, with_labels}
 use Rattle.m11_placement.specs.Tables.{Table}
@@ -14,3 +14,11 @@ Defines old new letters change letters_of =
 abbrev pub DefinesAll : Bytes → List Label → Kept → Kept → ℕ → Type 0
 DefinesAll line labels old new letters =
     Defines old new letters (λ table. with_labels line table labels) (λ table. labels_letters line table labels)
+
+-- labels are taken one after the other, and up to one of them all fits
+pub record FitsUpToLabel (labels : List Label) (Fits : List Label → Type 0) : Type 0 where
+  pub done : List Label
+  pub label : Label
+  pub rest : List Label
+  pub are : labels ≡ done ++ label ∷ rest
+  pub fits : Fits (done ++ label ∷ [])

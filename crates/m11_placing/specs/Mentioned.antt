@@ -1,6 +1,6 @@
 -- The names that lines mention, as a pass gathers them. (MACRO-11 Language Reference Manual, "Table of contents and symbol table" and
 -- ".GLOBL directive". Which of them count against the limit, is this project's own.)
-use Rattle.std.specs.Prelude.{◌≡◌, ◌<◌, ◌≤◌, ℕ, ◌==◌, ◌||◌, Bool, if◌then◌else◌, List, [], ◌∷◌, ◌++◌, length, map, Result, Ok, Err}
+use Rattle.std.specs.Prelude.{◌≡◌, ◌<◌, ℕ, ◌==◌, ◌||◌, Bool, if◌then◌else◌, List, [], ◌∷◌, ◌++◌, length, map, Result, Ok, Err}
 use Rattle.std.specs.List.{list_any}
 use Rattle.m11_asm_faults.specs.declared.fault.AsmFault.{AsmFault}
 use Rattle.m11_base.specs.Rad50.{Name, is_same_name}
@@ -67,13 +67,9 @@ with_all mentions gathered = record {
   referred = names_referred mentions gathered.referred;
 }
 
--- where names were within the limit, they are so still
-abbrev pub StaysFew : Gathered → Gathered → Type 0
-StaysFew old new = length old.names ≤ most_names → length new.names ≤ most_names
-
--- they are added within the limit, or one of them is a name too many
+-- they are added, or one of them is a name too many
 abbrev pub Adds : List Mention → Gathered → Gathered → Result (Unit {0}) AsmFault → Type 0
-Adds mentions old new (Ok _) = (new ≡ with_all mentions old) × StaysFew old new
+Adds mentions old new (Ok _) = new ≡ with_all mentions old
 Adds mentions old new (Err fault) = Refuses fault (most_names < length (with_all mentions old).names) ⊥
 
 abbrev pub in_context : Context → List Symbol → List Mention

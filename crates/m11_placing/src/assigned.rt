@@ -9,7 +9,6 @@ ghost use Rattle.m11_placement.specs.Assignments as assignments;
 ghost use Rattle.m11_placement.specs.Changes.{changed, with_value};
 ghost use Rattle.m11_placement.specs.Items.{value_items};
 ghost use Rattle.m11_placement.specs.Labels.{with_definition};
-ghost use Rattle.m11_placement.specs.Limits.{most_sections};
 ghost use Rattle.m11_placement.specs.Meanings.{Map as LineMap, known_at};
 ghost use Rattle.m11_placement.specs.Tables.{place};
 ghost use Rattle.m11_placement.specs.declared.definitions.Key.TheVariants.{Named};
@@ -45,12 +44,10 @@ impl Pass {
     ) -> Result<Option<Item>, AsmFault>
         requires within { made.value ≤ length line.now.text }
         requires term { IfSome term (λ term. IsAlone line.now.text made.value term) }
-        requires sections { length self.old.table.sections ≤ most_sections }
         ensures takes { IfOk result (λ _. Follows self.old self.new (λ before. changed map.now line.now.text
             (assignment line.now.text made.name made.is_global made.value) before)) }
         ensures tables { IfOk result (λ _. tables.Follows self.old.table self.new.table (λ before. changed map.now line.now.text
             (assignment line.now.text made.name made.is_global made.value) before)) }
-        ensures sections { IfOk result (λ _. length self.new.table.sections ≤ most_sections) }
         ensures symbols { IfOk result (λ _. self.new.local_symbols ≡ self.old.local_symbols) }
         ensures shows { IfOk result (λ item. option_to_list item
             ≡ value_items (value_at (known_at map.now Knows self.old.table (place self.old.table)) line.now.text made.value)) }

@@ -59,12 +59,10 @@ impl Pass {
         requires unlisted { self.old.table.settings.unlisted + 1 < 2 ^ 64 }
         requires block { self.old.table.settings.block + 1 < 2 ^ 64 }
         requires section { self.old.table.settings.section < 64 }
-        requires sections { length self.old.table.sections ≤ most_sections }
         ensures takes { IfOk result (λ _. Follows self.old self.new (λ before. changed map.now line.now.text
             (change_of (firm_table self.old.table) line.now.text arguments (deed_seen deed.now)) before)) }
         ensures tables { IfOk result (λ _. tables.Follows self.old.table self.new.table (λ before. changed map.now line.now.text
             (change_of (firm_table self.old.table) line.now.text arguments (deed_seen deed.now)) before)) }
-        ensures sections { IfOk result (λ _. length self.new.table.sections ≤ most_sections) }
         ensures symbols { IfOk result (λ _. self.new.local_symbols ≡ self.old.local_symbols) }
         ensures shows { IfOk result (λ item. option_to_list item ≡ deed_items map.now self.old.table line.now.text
             (change_of (firm_table self.old.table) line.now.text arguments (deed_seen deed.now)) (deed_seen deed.now)) }
@@ -89,12 +87,10 @@ impl Pass {
         requires within { start ≤ length line.now.text }
         requires block { self.old.table.settings.block + 1 < 2 ^ 64 }
         requires section { self.old.table.settings.section < 64 }
-        requires sections { length self.old.table.sections ≤ most_sections }
         ensures takes { (map : LineMap) → IfOk result (λ _. Follows self.old self.new (λ before. changed map line.now.text
             (assigning.counter_change (firm_table self.old.table) line.now.text start) before)) }
         ensures tables { (map : LineMap) → IfOk result (λ _. tables.Follows self.old.table self.new.table (λ before. changed map
             line.now.text (assigning.counter_change (firm_table self.old.table) line.now.text start) before)) }
-        ensures sections { IfOk result (λ _. length self.new.table.sections ≤ most_sections) }
         ensures symbols { IfOk result (λ _. self.new.local_symbols ≡ self.old.local_symbols) }
         ensures refuses { (map : LineMap) → IfErr result (λ fault. (before : LineTable) → Matches self.old before
             → Refuses fault ⊥ (most_sections < length (changed map line.now.text
@@ -119,12 +115,10 @@ impl Pass {
         requires unlisted { self.old.table.settings.unlisted + 1 < 2 ^ 64 }
         requires block { self.old.table.settings.block + 1 < 2 ^ 64 }
         requires section { self.old.table.settings.section < 64 }
-        requires sections { length self.old.table.sections ≤ most_sections }
         ensures takes { (map : LineMap) → IfOk result (λ _. Follows self.old self.new (λ before. changed map line.now.text
             (operator_change (firm_table self.old.table) line.now.text start arguments operator) before)) }
         ensures tables { (map : LineMap) → IfOk result (λ _. tables.Follows self.old.table self.new.table (λ before. changed map
             line.now.text (operator_change (firm_table self.old.table) line.now.text start arguments operator) before)) }
-        ensures sections { IfOk result (λ _. length self.new.table.sections ≤ most_sections) }
         ensures symbols { IfOk result (λ _. self.new.local_symbols ≡ self.old.local_symbols) }
         ensures shows { IfOk result (λ item. option_to_list item
             ≡ number_items (operator_change (firm_table self.old.table) line.now.text start arguments operator)) }
@@ -142,12 +136,10 @@ impl Pass {
     fn take(&mut self, line: &Line, change: &Change) -> Result<(), AsmFault>
         requires block { self.old.table.settings.block + 1 < 2 ^ 64 }
         requires section { self.old.table.settings.section < 64 }
-        requires sections { length self.old.table.sections ≤ most_sections }
         ensures takes { (map : LineMap)
             → IfOk result (λ _. Follows self.old self.new (λ before. changed map line.now.text (change_seen change.now) before)) }
         ensures tables { (map : LineMap) → IfOk result (λ _. tables.Follows self.old.table self.new.table
             (λ before. changed map line.now.text (change_seen change.now) before)) }
-        ensures sections { IfOk result (λ _. length self.new.table.sections ≤ most_sections) }
         ensures symbols { IfOk result (λ _. self.new.local_symbols ≡ self.old.local_symbols) }
         ensures refuses { (map : LineMap) → IfErr result (λ fault. (before : LineTable) → Matches self.old before → Refuses fault ⊥
             (most_sections < length (changed map line.now.text (change_seen change.now) before).sections)) }
@@ -173,12 +165,10 @@ impl Pass {
     pub fn step_over(&mut self, line: &Line, start: u8, operation: Op, fields: &Fields)
         requires fields { fields_seen fields.now ≡ operator_fields self.old.table line.now.text start (Instruction operation) }
         requires section { self.old.table.settings.section < 64 }
-        requires sections { length self.old.table.sections ≤ most_sections }
         ensures takes { (map : LineMap) (arguments : Option ℕ) → Follows self.old self.new (λ before. changed map line.now.text
             (operator_change (firm_table self.old.table) line.now.text start arguments (Instruction operation)) before) }
         ensures tables { (map : LineMap) (arguments : Option ℕ) → tables.Follows self.old.table self.new.table (λ before. changed map
             line.now.text (operator_change (firm_table self.old.table) line.now.text start arguments (Instruction operation)) before) }
-        ensures sections { length self.new.table.sections ≤ most_sections }
         ensures symbols { self.new.local_symbols ≡ self.old.local_symbols }
     {
         let steps = instruction_steps(&self.table, line, usize::from(start), operation, fields);

@@ -8,7 +8,7 @@ ghost use Rattle.m11_placement.specs.Labels.{letter_M, with_definition};
 ghost use Rattle.m11_placement.specs.Limits.{local_count, most_local_symbols};
 ghost use Rattle.m11_placement.specs.Tables.{Table as LineTable};
 ghost use Rattle.m11_placing.specs.Faults.{Refuses};
-ghost use Rattle.m11_placing.specs.Labels.{Defines, DefinesAll};
+ghost use Rattle.m11_placing.specs.Labels.{Defines, DefinesAll, FitsUpToLabel};
 ghost use Rattle.m11_placing.specs.Moved.{moved_key, moved_kind, moved_letters, moved_name};
 ghost use Rattle.m11_placing.specs.Passes.{Follows, Matches};
 ghost use Rattle.m11_table.specs.Alike as tables;
@@ -72,7 +72,8 @@ impl Pass {
     /// Defines the labels of a line, one after the other. M for each whose name or local symbol is defined before it, and P for each other
     /// one whose last definition in the map isn't the place where it stands.
     ///
-    /// Errors: `TooManySymbols` where more than 16,384 local symbols would be defined, and `NoMemory`.
+    /// Errors: `TooManySymbols` where more than 16,384 local symbols would be defined, and `NoMemory`, at a label up to which there are no
+    /// more.
     pub fn define_labels(
         &mut self,
         map: &Map<'_>,
@@ -85,9 +86,10 @@ impl Pass {
             → bits_of letters.moved ≡ moved_letters map.now line.now.text before labels.now) }
         ensures tables { IfOk result (λ _. tables.Follows self.old.table self.new.table
             (λ before. spec.with_labels line.now.text before labels.now)) }
-        ensures few { IfOk result (λ _. self.old.local_symbols ≤ most_local_symbols → self.new.local_symbols ≤ most_local_symbols) }
         ensures refuses { IfErr result (λ fault. (before : LineTable) → Matches self.old before
             → Refuses fault (most_local_symbols < local_count (spec.with_labels line.now.text before labels.now)) ⊥) }
+        ensures limit_first { IfErr result (λ fault. fault ≡ NoMemory → (before : LineTable) → Matches self.old before
+            → FitsUpToLabel labels.now (λ some. local_count (spec.with_labels line.now.text before some) ≤ most_local_symbols)) }
     {
         match labels {
             [] => Ok(LabelLetters::none()),
@@ -102,7 +104,7 @@ impl Pass {
         }
     }
 
-    // Defines a label.
+    // Defines a label. The limit is asked before anything grows.
     fn define_label(
         &mut self,
         map: &Map<'_>,
@@ -117,11 +119,13 @@ impl Pass {
             ≡ moved_kind map.now self.old.table (spec.label_name line.now.text label.now) label.now.kind) }
         ensures tables { IfOk result (λ _. tables.Follows self.old.table self.new.table
             (λ before. spec.with_label line.now.text before label.now)) }
-        ensures few { IfOk result (λ _. self.old.local_symbols ≤ most_local_symbols → self.new.local_symbols ≤ most_local_symbols) }
         ensures block { IfOk result (λ _. self.new.table.settings.block ≤ self.old.table.settings.block + 1) }
         ensures refuses { IfErr result (λ fault. (before : LineTable) → Matches self.old before
             → Refuses fault (most_local_symbols < local_count (spec.with_label line.now.text before label.now)) ⊥) }
+        ensures limit_first { IfErr result (λ fault. fault ≡ NoMemory → (before : LineTable) → Matches self.old before
+            → local_count (spec.with_label line.now.text before label.now) ≤ most_local_symbols) }
     {
+        self.counts_are_within_the_limits();
         match label.kind {
             LabelKind::Ordinary => {
                 self.define_name_of(map, read_name(label.name.text(line)), false)
@@ -145,7 +149,6 @@ impl Pass {
         ensures moved { IfOk result (λ letters. bits_of letters.moved ≡ moved_name map.now self.old.table name) }
         ensures tables { IfOk result (λ _. tables.Follows self.old.table self.new.table
             (λ before. spec.with_name is_global before name)) }
-        ensures few { IfOk result (λ _. self.old.local_symbols ≤ most_local_symbols → self.new.local_symbols ≤ most_local_symbols) }
         ensures block { IfOk result (λ _. self.new.table.settings.block ≤ self.old.table.settings.block + 1) }
         ensures refuses { IfErr result (λ fault. fault ≡ NoMemory) }
     {
@@ -192,10 +195,11 @@ impl Pass {
             ≡ moved_key map.now self.old.table (Numbered self.old.table.settings.block number)) }
         ensures tables { IfOk result (λ _. tables.Follows self.old.table self.new.table
             (λ before. spec.with_key (Numbered before.settings.block number) before)) }
-        ensures few { IfOk result (λ _. self.old.local_symbols ≤ most_local_symbols → self.new.local_symbols ≤ most_local_symbols) }
         ensures block { IfOk result (λ _. self.new.table.settings.block ≤ self.old.table.settings.block) }
         ensures refuses { IfErr result (λ fault. (before : LineTable) → Matches self.old before
             → Refuses fault (most_local_symbols < local_count (spec.with_key (Numbered before.settings.block number) before)) ⊥) }
+        ensures limit_first { IfErr result (λ fault. fault ≡ NoMemory → (before : LineTable) → Matches self.old before
+            → local_count (spec.with_key (Numbered before.settings.block number) before) ≤ most_local_symbols) }
     {
         let block = self.table.settings().block;
         let key = Key::Numbered(block, number);

@@ -1,11 +1,12 @@
 //! The names that lines mention. (MACRO-11 Language Reference Manual, "Table of contents and symbol table" and ".GLOBL directive".)
 
-ghost use Rattle.std.specs.Prelude.{◌≡◌, ◌<◌, ◌∷◌, [], IfOk, IfErr, length, true};
+ghost use Rattle.std.specs.Prelude.{◌≡◌, ◌<◌, ◌≤◌, ◌∷◌, [], IfOk, IfErr, length, true};
 ghost use Rattle.m11_placement.specs.Limits.{most_names};
 ghost use Rattle.m11_placement.specs.Mentions.{mention};
 ghost use Rattle.m11_placing.specs.Faults.{Refuses};
 ghost use Rattle.m11_placing.specs.Mentioned as spec;
-ghost use Rattle.m11_placing.specs.Mentioned.{Adds, StaysFew, in_context, none_gathered, noted, with_referred};
+ghost use Rattle.m11_placing.specs.Mentioned.{Adds, in_context, none_gathered, noted, with_all, with_referred};
+ghost use Rattle.m11_asm_faults.specs.declared.fault.AsmFault.TheVariants.{NoMemory};
 
 use indexmap::IndexSet;
 use m11_asm_faults::AsmFault;
@@ -18,7 +19,7 @@ use std::marker::Model;
 /// The most names of a source besides those of the registers.
 const MOST_NAMES: usize = 4096;
 
-/// The names that lines mention, each once, in the order in which they appear.
+/// The names that lines mention, each once, in the order in which they appear: 4,096 at most besides those of the registers.
 #[derive(Drop)]
 pub struct Mentioned {
     pub(crate) alloc: Global,
@@ -30,11 +31,15 @@ pub struct Mentioned {
 }
 
 impl Model for Mentioned {
+    ghost use Rattle.std.specs.Prelude.{◌≤◌, length};
+    ghost use Rattle.m11_placement.specs.Limits.{most_names};
     ghost use Rattle.m11_placing.specs.Mentioned.{Gathered};
 
     ghost Value = { Gathered };
 
     ghost view = { λ m. record { names = m.names.keys; registers = m.registers.keys; referred = m.referred.keys } };
+
+    ghost invariant = { λ m. length m.names.keys ≤ most_names };
 }
 
 impl Mentioned {
@@ -48,6 +53,14 @@ impl Mentioned {
             registers: IndexSet::new(alloc),
             referred: IndexSet::new(alloc),
         }
+    }
+
+    /// The limit on names holds of all that is gathered, after a refusal too. It does nothing.
+    #[inline(always)]
+    pub fn names_are_within_the_limit(&self)
+        ensures { length self.now.names ≤ most_names }
+    {
+        let _names = &self.names;
     }
 
     /// The names besides those of the registers.
@@ -73,7 +86,8 @@ impl Mentioned {
 
     /// Symbols that are mentioned one after the other.
     ///
-    /// Errors: `TooManySymbols` where there would be more than 4,096 names besides those of the registers, and `NoMemory`.
+    /// Errors: `TooManySymbols` where there would be more than 4,096 names besides those of the registers, and `NoMemory`. Memory may be
+    /// refused at a symbol before the one whose name is one too many.
     // Inline: each line comes here, and most read none.
     #[inline(always)]
     pub fn add_all(&mut self, symbols: &[Symbol], context: Context) -> Result<(), AsmFault>
@@ -97,9 +111,11 @@ impl Mentioned {
         }
     }
 
-    /// A symbol that is mentioned. Errors are those of `add_all`.
+    /// A symbol that is mentioned. Errors are those of `add_all`, but `NoMemory` only where its name isn't one too many.
     pub fn add(&mut self, symbol: Symbol, context: Context) -> Result<(), AsmFault>
-        ensures { Adds (mention context symbol ∷ []) self.old self.new result }
+        ensures adds { Adds (mention context symbol ∷ []) self.old self.new result }
+        ensures limit_first { IfErr result (λ fault. fault ≡ NoMemory
+            → length (with_all (mention context symbol ∷ []) self.old).names ≤ most_names) }
     {
         match symbol {
             Symbol::Ordinary(name) => self.add_name(name, context),
@@ -108,21 +124,24 @@ impl Mentioned {
     }
 
     fn add_name(&mut self, name: Name, context: Context) -> Result<(), AsmFault>
-        ensures { Adds (mention context (Symbol.Ordinary name) ∷ []) self.old self.new result }
+        ensures adds { Adds (mention context (Symbol.Ordinary name) ∷ []) self.old self.new result }
+        ensures limit_first { IfErr result (λ fault. fault ≡ NoMemory → length (noted name self.old).names ≤ most_names) }
     {
         self.note_name(name)?;
+        self.names_are_within_the_limit();
         self.note_reference(name, context)?;
         Ok(())
     }
 
-    // A name that is mentioned anywhere.
+    // A name that is mentioned anywhere. The limit is asked before anything grows.
     #[tactic(auto, using(crate::proofs::Gathering::noted_register, crate::proofs::Gathering::noted_other))]
     fn note_name(&mut self, name: Name) -> Result<(), AsmFault>
         ensures notes { IfOk result (λ _. self.new ≡ noted name self.old) }
-        ensures few { IfOk result (λ _. StaysFew self.old self.new) }
         ensures refuses { IfErr result (λ fault. Refuses fault (most_names < length (noted name self.old).names) ⊥) }
+        ensures limit_first { IfErr result (λ fault. fault ≡ NoMemory → length (noted name self.old).names ≤ most_names) }
     {
         if is_register(name) {
+            self.names_are_within_the_limit();
             self.note_register(name)?;
             Ok(())
         } else {
@@ -157,9 +176,10 @@ impl Mentioned {
     // A name that is none of a register's.
     fn count_name(&mut self, name: Name) -> Result<(), AsmFault>
         ensures notes { IfOk result (λ _. self.new ≡ record self.old { names = spec.with_name name self.old.names }) }
-        ensures few { IfOk result (λ _. StaysFew self.old self.new) }
         ensures refuses { IfErr result (λ fault. Refuses fault
             (most_names < length (spec.with_name name self.old.names)) ⊥) }
+        ensures limit_first { IfErr result (λ fault. fault ≡ NoMemory
+            → length (spec.with_name name self.old.names) ≤ most_names) }
     {
         // most sources have far fewer, and then it is looked for once, as it is put in
         if self.names.len() >= MOST_NAMES && !self.names.contains(&name) {

@@ -1,7 +1,7 @@
 //! The symbols that a line defines or reads. (MACRO-11 Language Reference Manual, "Symbols", "Table of contents and symbol table" and
 //! ".GLOBL directive".)
 
-ghost use Rattle.std.specs.Prelude.{◌≡◌, ◌≤◌, ◌++◌, ◌∷◌, [], length, map, IfSome};
+ghost use Rattle.std.specs.Prelude.{◌≡◌, ◌≤◌, ◌++◌, ◌∷◌, [], length, map, IfErr, IfSome};
 ghost use Rattle.std.specs.List.{flat_map};
 ghost use Rattle.m11_arguments.specs.Expressions.{IsAlone, symbols_at, symbols_in};
 ghost use Rattle.m11_operators.specs.Changes.{change_seen, names_among};
@@ -11,10 +11,13 @@ ghost use Rattle.m11_operators.specs.Reading.{operator_fields};
 ghost use Rattle.m11_placement.specs.Assigning.{target};
 ghost use Rattle.m11_placement.specs.declared.meanings.Context.TheVariants.{Knows};
 ghost use Rattle.m11_placement.specs.Elements.{listed_names};
+ghost use Rattle.m11_placement.specs.Limits.{most_names};
 ghost use Rattle.m11_placement.specs.Mentions as spec;
 ghost use Rattle.m11_placement.specs.Tables.{Table as LineTable};
 ghost use Rattle.m11_placing.specs.Deeds.{AreDeedTerms, IsWithin, deed_fields, deed_seen};
-ghost use Rattle.m11_placing.specs.Mentioned.{Adds, in_context};
+ghost use Rattle.m11_placing.specs.Labels.{FitsUpToLabel};
+ghost use Rattle.m11_placing.specs.Mentioned.{Adds, in_context, with_all};
+ghost use Rattle.m11_asm_faults.specs.declared.fault.AsmFault.TheVariants.{NoMemory};
 ghost use Rattle.m11_scan.specs.Views.{lexeme};
 
 use crate::changing::within;
@@ -31,9 +34,11 @@ use m11_statements::{Assignment, Label, LabelKind, Part, PartKind};
 use m11_values::{Symbol, symbol_of};
 
 impl Mentioned {
-    /// The labels of a line. Errors as those of `add_all`.
+    /// The labels of a line. Errors as those of `add_all`, but `NoMemory` only at a label up to which no name is one too many.
     pub fn add_labels(&mut self, line: &Line, labels: &[Label]) -> Result<(), AsmFault>
-        ensures { Adds (flat_map (spec.label_mentions line.now.text) labels.now) self.old self.new result }
+        ensures adds { Adds (flat_map (spec.label_mentions line.now.text) labels.now) self.old self.new result }
+        ensures limit_first { IfErr result (λ fault. fault ≡ NoMemory → FitsUpToLabel labels.now
+            (λ some. length (with_all (flat_map (spec.label_mentions line.now.text) some) self.old).names ≤ most_names)) }
     {
         match labels {
             [] => Ok(()),
@@ -45,7 +50,9 @@ impl Mentioned {
     }
 
     fn add_label(&mut self, line: &Line, label: &Label) -> Result<(), AsmFault>
-        ensures { Adds (spec.label_mentions line.now.text label.now) self.old self.new result }
+        ensures adds { Adds (spec.label_mentions line.now.text label.now) self.old self.new result }
+        ensures limit_first { IfErr result (λ fault. fault ≡ NoMemory
+            → length (with_all (spec.label_mentions line.now.text label.now) self.old).names ≤ most_names) }
     {
         match label.kind {
             LabelKind::Ordinary | LabelKind::Global => self.define(read_name(
@@ -58,7 +65,9 @@ impl Mentioned {
 
     // A name that is defined.
     fn define(&mut self, name: Option<Name>) -> Result<(), AsmFault>
-        ensures { Adds (spec.defined name) self.old self.new result }
+        ensures adds { Adds (spec.defined name) self.old self.new result }
+        ensures limit_first { IfErr result (λ fault. fault ≡ NoMemory
+            → length (with_all (spec.defined name) self.old).names ≤ most_names) }
     {
         match name {
             Some(name) => self.add(Symbol::Ordinary(name), Context::Knows),

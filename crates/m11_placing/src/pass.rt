@@ -28,6 +28,7 @@ const MOST_LOCAL_SYMBOLS: u32 = 16384;
 const MOST_SECTIONS: usize = 64;
 
 /// What one pass over a source keeps from line to line: the table, and the sizes of sections so far.
+/// It has 16,384 local symbols at most.
 #[derive(Drop)]
 pub struct Pass {
     pub(crate) alloc: Global,
@@ -39,11 +40,15 @@ pub struct Pass {
 }
 
 impl Model for Pass {
+    ghost use Rattle.std.specs.Prelude.{◌≤◌};
+    ghost use Rattle.m11_placement.specs.Limits.{most_local_symbols};
     ghost use Rattle.m11_placing.specs.Passes.{Kept};
 
     ghost Value = { Kept };
 
     ghost view = { λ p. record { table = p.table; local_symbols = p.local_symbols; sizes = p.sizes } };
+
+    ghost invariant = { λ p. p.local_symbols ≤ most_local_symbols };
 }
 
 impl Pass {
@@ -57,6 +62,15 @@ impl Pass {
             local_symbols: 0,
             sizes: no_sizes(),
         })
+    }
+
+    /// The limits on local symbols and sections hold of each pass, after a refusal too. It does nothing.
+    #[inline(always)]
+    pub fn counts_are_within_the_limits(&self)
+        ensures symbols { self.now.local_symbols ≤ most_local_symbols }
+        ensures sections { length self.now.table.sections ≤ most_sections }
+    {
+        self.table.sections_are_within_the_limit();
     }
 
     /// What the lines so far leave for the next one.
@@ -99,7 +113,7 @@ impl Pass {
         Ok(())
     }
 
-    // One more definition of a local symbol, where there is room for one.
+    // One more definition of a local symbol, where there is room for one: the limit is asked before anything grows.
     pub(crate) fn define_symbol(
         &mut self,
         block: u64,
@@ -109,10 +123,11 @@ impl Pass {
         requires { definition.now.key ≡ Numbered block number }
         ensures defines { IfOk result (λ _. Follows self.old self.new (with_definition definition.now)) }
         ensures tables { IfOk result (λ _. tables.Follows self.old.table self.new.table (with_definition definition.now)) }
-        ensures few { IfOk result (λ _. self.new.local_symbols ≤ most_local_symbols) }
         ensures settings { IfOk result (λ _. self.new.table.settings ≡ self.old.table.settings) }
         ensures refuses { IfErr result (λ fault. (before : LineTable) → Matches self.old before
             → Refuses fault (most_local_symbols < local_count (with_definition definition.now before)) ⊥) }
+        ensures limit_first { IfErr result (λ fault. fault ≡ NoMemory → (before : LineTable) → Matches self.old before
+            → local_count (with_definition definition.now before) ≤ most_local_symbols) }
     {
         if self.local_symbols >= MOST_LOCAL_SYMBOLS {
             return Err(AsmFault::TooManySymbols);
@@ -166,19 +181,22 @@ impl Pass {
         self.table.set(settings);
     }
 
-    // A section is selected. One whose name is new has these attributes.
+    // A section is selected. One whose name is new has these attributes, where there is room for one: the limit is asked before anything
+    // grows.
     pub(crate) fn select(&mut self, name: Name, attributes: u8) -> Result<(), AsmFault>
-        requires blocks { self.old.table.settings.block + 1 < 2 ^ 64 }
-        requires sections { length self.old.table.sections ≤ most_sections }
+        requires { self.old.table.settings.block + 1 < 2 ^ 64 }
         ensures selects { IfOk result (λ _. Follows self.old self.new (with_section name attributes)) }
         ensures tables { IfOk result (λ _. tables.Follows self.old.table self.new.table (with_section name attributes)) }
-        ensures sections { IfOk result (λ _. length self.new.table.sections ≤ most_sections) }
         ensures symbols { IfOk result (λ _. self.new.local_symbols ≡ self.old.local_symbols) }
         ensures refuses { IfErr result (λ fault. (before : LineTable) → Matches self.old before
             → Refuses fault ⊥ (most_sections < length (with_section name attributes before).sections)) }
+        ensures limit_first { IfErr result (λ fault. fault ≡ NoMemory → (before : LineTable) → Matches self.old before
+            → length (with_section name attributes before).sections ≤ most_sections) }
     {
-        let is_new = self.table.section_number(name).is_none();
-        if is_new && self.table.section_count() >= MOST_SECTIONS {
+        self.table.sections_are_within_the_limit();
+        if self.table.section_count() >= MOST_SECTIONS
+            && self.table.section_number(name).is_none()
+        {
             return Err(AsmFault::TooManySections);
         }
         self.table.select(name, attributes)?;

@@ -1,10 +1,10 @@
--- A section whose name is new is put last.
-use Rattle.std.proofs.Common.{◌≡◌, ◌∙◌, ℕ, ◌+◌, Bool, true, false, if◌then◌else◌, not, cond, suc, nat_lt, List, [], ◌∷◌, ◌++◌, map, length, Some, None, refl, sym, ap, arith}
+-- A section whose name is new is put last, within the limit where there is room for one.
+use Rattle.std.proofs.Common.{◌≡◌, ◌∙◌, ◌<◌, ◌≤◌, ℕ, ◌+◌, Bool, true, false, if◌then◌else◌, not, cond, suc, nat_lt, List, [], ◌∷◌, ◌++◌, map, length, Some, None, refl, sym, ap, subst, arith}
 use Rattle.std.specs.List.{prefix_len}
 use Rattle.std.specs.Map.{keys_of}
 use Rattle.std.specs.Prelude.{position}
 use Rattle.std.proofs.lemmas.Bool.Decides.{nat_tests}
-use Rattle.std.proofs.lemmas.List.{map-append}
+use Rattle.std.proofs.lemmas.List.{length-append, length-map, map-append}
 use Rattle.indexmap.specs.IndexMap.{insert_entry}
 use Rattle.m11_base.specs.Rad50.{Name, is_same_name}
 use Rattle.m11_placement.specs.declared.sections.Section.{Section}
@@ -68,3 +68,27 @@ section_added names symbols doubled_names doubled_symbols globals sections count
     ap (λ (s : List (Name × ℕ)). listed (map section_in s)) (e ∙ put_last name attributes sections found)
     ∙ ap listed (map-append section_in sections ((name, attributes) ∷ []))
     ∙ ap (λ (t : Table). with_new_section (section name attributes) t) told
+
+pub room_added : (names : List (Name × Entry)) (symbols : List ((ℕ × ℕ) × Entry)) (doubled_names : List Name)
+    (doubled_symbols : List (ℕ × ℕ)) (globals : List Name) (sections : List (Name × ℕ)) (counters : List ℕ) (settings : Settings)
+    (old : Table) → table_with names symbols doubled_names doubled_symbols globals sections counters settings ≡ old
+    → (name : Name) (attributes : ℕ) (after : List (Name × ℕ)) → after ≡ insert_entry is_same_name sections name attributes
+    → number_of name old.sections ≡ None → length old.sections < 64 → length after ≤ 64
+room_added names symbols doubled_names doubled_symbols globals sections counters settings old told name attributes after e absent room =
+    let all : length (map section_in after) ≡ length (old.sections ++ section name attributes ∷ []) =
+    ap (λ (t : Table). length t.sections) (section_added names symbols doubled_names doubled_symbols globals sections counters settings
+    old told name attributes after e absent) in
+    let mapped : length (map section_in after) ≡ length after = length-map after section_in in
+    let one_more : length (old.sections ++ section name attributes ∷ []) ≡ length old.sections + 1
+    = length-append old.sections (section name attributes ∷ []) in
+    omega (arith, all, mapped, one_more, room)
+
+-- the sections that a table has are those that it keeps
+pub sections_kept : (names : List (Name × Entry)) (symbols : List ((ℕ × ℕ) × Entry)) (doubled_names : List Name)
+    (doubled_symbols : List (ℕ × ℕ)) (globals : List Name) (sections : List (Name × ℕ)) (counters : List ℕ) (settings : Settings)
+    (old : Table) → table_with names symbols doubled_names doubled_symbols globals sections counters settings ≡ old
+    → length sections ≤ 64 → length old.sections ≤ 64
+sections_kept names symbols doubled_names doubled_symbols globals sections counters settings old told few =
+    let P : Table → Type 0 = λ t. length t.sections ≤ 64 in
+    let mapped : length (map section_in sections) ≡ length sections = length-map sections section_in in
+    subst P told (omega (arith, mapped, few))

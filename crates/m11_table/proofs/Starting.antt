@@ -1,11 +1,12 @@
 -- What stands before the first line.
-use Rattle.std.proofs.Common.{◌≡◌, ◌∙◌, ℕ, zero, suc, [], ◌∷◌, Option, None, replicate, slice_get, refl, sym, ap, subst}
+use Rattle.std.proofs.Common.{◌≡◌, ◌∙◌, ◌<◌, ℕ, zero, suc, [], ◌∷◌, length, Option, None, replicate, slice_get, refl, sym, ap, subst, lit<}
 use Rattle.m11_base.specs.Names.{absolute_name, blank_name}
 use Rattle.m11_base.specs.Rad50.{Name}
 use Rattle.std.specs.Option.{unwrap_or}
 use Rattle.m11_base.proofs.NameWords.{absolute_words}
 use Rattle.m11_placement.specs.Places.{place_after, place_in}
 use Rattle.m11_placement.specs.Sections.{number_of, of_absolute, of_program, section}
+use Rattle.m11_placement.specs.declared.sections.Section.{Section}
 use Rattle.m11_placement.specs.Tables.{Table, first_table}
 use Rattle.m11_table.specs.Alike.{Alike, Follows}
 use Rattle.m11_table.specs.Entries.{counters_from, no_counters, empty_table, with_new_section, with_registers}
@@ -55,3 +56,11 @@ blank_is_new before with_absolute blank e f g =
     ap (λ (n : Name). number_of n with_absolute.sections) g
     ∙ ap (λ (t : Table). number_of blank_name t.sections) (f ∙ ap (with_new_section (section absolute_name of_absolute)) e)
     ∙ ap (λ (o : Option Name). number_of blank_name (section (unwrap_or o (0, 0)) of_absolute ∷ [])) absolute_words
+
+pub room_at_first : (before : Table) → before ≡ empty_table → length before.sections < 64
+room_at_first before e = let P : Table → Type 0 = λ t. length t.sections < 64 in subst P (sym e) (lit< tt)
+
+pub room_for_blank : (before with_absolute : Table) (absolute : Section) → before ≡ empty_table
+    → with_absolute ≡ with_new_section absolute before → length with_absolute.sections < 64
+room_for_blank before with_absolute absolute e f =
+    let P : Table → Type 0 = λ t. length t.sections < 64 in subst P (sym (f ∙ ap (with_new_section absolute) e)) (lit< tt)

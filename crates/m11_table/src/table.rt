@@ -1,13 +1,14 @@
 //! The table that the lines of a source fill. (MACRO-11 Language Reference Manual, "Symbols and expressions", "Local symbols", "Current
 //! location counter" and "Program section directives".)
 
-ghost use Rattle.std.specs.Prelude.{◌≡◌, ◌<◌, ◌+◌, ◌^◌, IfOk, IfSome, None, length, option_copied, slice_get};
+ghost use Rattle.std.specs.Prelude.{◌≡◌, ◌<◌, ◌≤◌, ◌+◌, ◌^◌, IfOk, IfSome, None, length, option_copied, slice_get};
 ghost use Rattle.std.specs.List.{list_any};
 ghost use Rattle.m11_base.specs.Names.{blank_name, name_in_words};
 ghost use Rattle.m11_base.specs.Rad50.{is_same_name};
 ghost use Rattle.m11_placement.specs.Changes.{in_number, with_move, with_section, with_settings};
 ghost use Rattle.m11_placement.specs.Definitions.{has_key, is_defined, is_labelled, last_definition, register_named};
 ghost use Rattle.m11_placement.specs.Labels.{with_block, with_definition, with_doubled, with_global};
+ghost use Rattle.m11_placement.specs.Limits.{most_sections};
 ghost use Rattle.m11_placement.specs.Meanings.{is_firm, is_firm_in};
 ghost use Rattle.m11_placement.specs.Places.{Goes, Steps};
 ghost use Rattle.m11_placement.specs.ProgramSections.{known_section};
@@ -37,7 +38,8 @@ const BLANK_ATTRIBUTES: u8 = 0o040;
 // The bit of REL in the attributes of a section.
 const RELOCATABLE: u8 = 0o040;
 
-/// What the lines done leave for the next one: of each name and local symbol the last definition, and where the counter of each section stands.
+/// What the lines done leave for the next one: of each name and local symbol the last definition, and where the counter of each section
+/// stands. It has 64 sections at most.
 #[derive(Drop)]
 pub struct Table {
     names: IndexMap<Name, Entry>,
@@ -53,6 +55,8 @@ pub struct Table {
 }
 
 impl Model for Table {
+    ghost use Rattle.std.specs.Prelude.{◌≤◌, length};
+    ghost use Rattle.m11_placement.specs.Limits.{most_sections};
     ghost use Rattle.m11_placement.specs.Tables.{Table as LineTable};
     ghost use Rattle.m11_table.specs.Entries.{table_of};
 
@@ -68,6 +72,8 @@ impl Model for Table {
       counters = t.counters;
       settings = t.settings;
     }) };
+
+    ghost invariant = { λ t. length t.sections.entries ≤ most_sections };
 }
 
 impl Table {
@@ -177,6 +183,14 @@ impl Table {
         ensures { result ≡ section_name self.now }
     {
         self.section(self.settings.section).name
+    }
+
+    /// The limit on sections holds of each table, after a refusal too. It does nothing.
+    #[inline(always)]
+    pub fn sections_are_within_the_limit(&self)
+        ensures { length self.now.sections ≤ most_sections }
+    {
+        let _sections = &self.sections;
     }
 
     /// How many sections there are.
@@ -349,11 +363,11 @@ impl Table {
 }
 
 impl Table {
-    /// A section is selected, and with it a new block of local symbols begins. One whose name is new has these attributes.
-    /// Error: memory may be refused.
+    /// A section is selected, and with it a new block of local symbols begins. One whose name is new has these attributes, and there is room
+    /// for it. Error: memory may be refused.
     pub fn select(&mut self, name: Name, attributes: u8) -> Result<(), AllocError>
         requires blocks { self.old.settings.block + 1 < 2 ^ 64 }
-        requires sections { length self.old.sections < 65535 }
+        requires room { number_of name self.old.sections ≡ None → length self.old.sections < most_sections }
         ensures { IfOk result (λ _. Follows self.old self.new (with_section name attributes)) }
     {
         match self.section_number(name) {
@@ -367,9 +381,10 @@ impl Table {
         Ok(())
     }
 
-    // A section whose name is new.
+    // A section whose name is new, where there is room for one.
     fn add_section(&mut self, name: Name, attributes: u8) -> Result<(), AllocError>
-        requires { number_of name self.old.sections ≡ None }
+        requires absent { number_of name self.old.sections ≡ None }
+        requires room { length self.old.sections < most_sections }
         ensures { IfOk result (λ _. self.new ≡ with_new_section (section name attributes) self.old) }
     {
         self.sections.insert(name, attributes)?;

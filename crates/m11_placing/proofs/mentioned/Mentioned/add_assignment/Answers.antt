@@ -17,5 +17,5 @@ returns-in_err-define c =
     failed_first (defined (target c.args.line.now.text c.args.assignment.name))
     (read_at Knows c.args.line.now.text c.args.assignment.value) c.args.self.now c.define.new.self c.in_err-define.field-0.0
     c.from_residual.result
-    (subst P (c.read_name.ensures.name ∙ ap (λ (t : List ℕ). name_of (six_of t)) c.text.ensures) c.in_err-define.ensures)
+    (subst P (c.read_name.ensures.name ∙ ap (λ (t : List ℕ). name_of (six_of t)) c.text.ensures) c.in_err-define.ensures.adds)
     c.from_residual.ensures.1

@@ -1,13 +1,16 @@
-use Rattle.std.proofs.Common.{◌∙◌, ◌<◌, refl}
+use Rattle.std.proofs.Common.{◌≡◌, ◌∙◌, ◌<◌, ◌≤◌, List, refl}
 use Rattle.m11_asm_faults.specs.declared.fault.AsmFault.{AsmFault}
+use Rattle.m11_asm_faults.specs.declared.fault.AsmFault.TheVariants.{NoMemory}
 use Rattle.m11_placement.specs.Labels.{with_labels}
 use Rattle.m11_placement.specs.Limits.{local_count, most_local_symbols}
 use Rattle.m11_placement.specs.Tables.{Table}
 use Rattle.m11_placing.proofs.LabelTables.{labels_then, moved_then}
-use Rattle.m11_placing.proofs.Labelling.{first_defined, first_refused}
+use Rattle.m11_placing.proofs.Labelling.{first_defined, first_fits, first_refused, later_fits}
 use Rattle.m11_placing.proofs.Refusals.{handed_on}
 use Rattle.m11_placing.specs.Faults.{Refuses}
+use Rattle.m11_placing.specs.Labels.{FitsUpToLabel}
 use Rattle.m11_placing.specs.Passes.{Matches}
+use Rattle.m11_statements.specs.declared.labels.Label.{Label}
 use Rattle.m11_placing.proofs.pass.Pass.+define_labels.Goals as goal
 
 pub returns-in_err-letters-in-len1-up-clause-refuses : goal.returns-in_err-letters-in-len1-up-clause-refuses
@@ -18,6 +21,26 @@ returns-in_err-letters-in-len1-up-clause-refuses t c =
     (first_refused c.args.line.now.text c.args.labels.now _ c.in_err-letters-in-len1-up.field-0.0 c.args.self.now
     c.in-len1-up.len_at_least c.in_err-letters-in-len1-up.ensures.refuses)
     c.from_residual.ensures.1
+
+pub returns-in_err-letters-in-len1-up-clause-limit_first : goal.returns-in_err-letters-in-len1-up-clause-limit_first
+returns-in_err-letters-in-len1-up-clause-limit_first t c =
+    let P : AsmFault → Type 0 = λ fault. fault ≡ NoMemory → (told : Table) → Matches c.args.self.now told
+    → FitsUpToLabel c.args.labels.now (λ (some : List Label).
+    local_count (with_labels c.args.line.now.text told some) ≤ most_local_symbols) in
+    handed_on P c.in_err-letters-in-len1-up.field-0.0 c.from_residual.result
+    (λ none told matches. first_fits c.args.line.now.text told c.args.labels.now _ c.in-len1-up.len_at_least
+    (c.in_err-letters-in-len1-up.ensures.limit_first none told matches))
+    c.from_residual.ensures.1
+
+pub returns-in_err-more-in-len1-up-clause-limit_first : goal.returns-in_err-more-in-len1-up-clause-limit_first
+returns-in_err-more-in-len1-up-clause-limit_first t c =
+    let P : AsmFault → Type 0 = λ fault. fault ≡ NoMemory → (told : Table) → Matches c.args.self.now told
+    → FitsUpToLabel c.args.labels.now (λ (some : List Label).
+    local_count (with_labels c.args.line.now.text told some) ≤ most_local_symbols) in
+    handed_on P c.in_err-more-in-len1-up.field-0.0 c.from_residual-in_err-more-in-len1-up.result
+    (λ none told matches. later_fits c.args.line.now.text told c.args.labels.now _ c.in-len1-up.len_at_least
+    (c.in_err-more-in-len1-up.ensures.limit_first none _ (c.in_ok-letters-in-len1-up.ensures.defines told matches).0))
+    c.from_residual-in_err-more-in-len1-up.ensures.1
 
 pub returns-in_ok-more-in-len1-up-clause-defines : goal.returns-in_ok-more-in-len1-up-clause-defines
 returns-in_ok-more-in-len1-up-clause-defines t c = λ told matches.

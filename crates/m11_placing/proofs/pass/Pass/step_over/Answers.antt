@@ -1,11 +1,9 @@
-use Rattle.std.proofs.Common.{◌∙◌, ℕ, refl, ap, sym, subst}
+use Rattle.std.proofs.Common.{◌∙◌, ℕ, ap, sym, subst}
 use Rattle.m11_operators.specs.Reading.{operator_fields}
-use Rattle.m11_placement.specs.Changes.{Change, changed, with_move}
+use Rattle.m11_placement.specs.Changes.{Change, changed}
 use Rattle.m11_placement.specs.Effects.{operator_change}
-use Rattle.m11_placement.specs.Places.{Steps}
 use Rattle.m11_placement.specs.Tables.{firm_table}
 use Rattle.m11_placement.specs.declared.operators.Operator.TheVariants.{Instruction}
-use Rattle.m11_placing.proofs.SectionCounts.{sections_stay}
 use Rattle.m11_placing.specs.Passes.{Follows, Kept}
 use Rattle.m11_table.specs.Alike as tables
 use Rattle.m11_placing.proofs.pass.Pass.step_over.Goals as goal
@@ -39,8 +37,3 @@ returns-clause-tables c = λ map arguments.
     ∙ ap (λ (k : Kept). operator_change (firm_table k.table) c.args.line.now.text c.args.start arguments (Instruction c.args.operation))
     c.self.view_is)
     c.count.ensures.tables
-
-pub returns-clause-sections : goal.returns-clause-sections
-returns-clause-sections c =
-    sections_stay c.args.self.now.table c.count.new.self.table (with_move (Steps c.instruction_steps-steps.result))
-    c.count.ensures.tables refl c.requires.sections

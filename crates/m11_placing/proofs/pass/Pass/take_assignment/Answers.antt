@@ -1,12 +1,11 @@
 use Rattle.std.proofs.Common.{◌∙◌, ℕ, ap, subst}
 use Rattle.m11_arguments.specs.Expressions.{value_at}
-use Rattle.m11_placement.specs.Assigning.{assignment, target}
+use Rattle.m11_placement.specs.Assigning.{assignment}
 use Rattle.m11_placement.specs.Changes.{changed}
 use Rattle.m11_placement.specs.Items.{value_items}
 use Rattle.m11_placement.specs.Meanings.{known_at}
 use Rattle.m11_placement.specs.Tables.{place}
 use Rattle.m11_placement.specs.declared.meanings.Context.TheVariants.{Knows}
-use Rattle.m11_placing.proofs.SectionCounts.{assignment_sections, sections_stay}
 use Rattle.m11_placing.specs.Passes.{Follows, Kept}
 use Rattle.m11_table.specs.Alike as tables
 use Rattle.m11_placing.proofs.pass.Pass.take_assignment.Goals as goal
@@ -30,19 +29,6 @@ returns-clause-tables c =
     (c.known_value_by-value.ensures
     ∙ ap (λ (k : Kept). value_at (known_at c.args.map.now Knows k.table (place k.table)) c.args.line.now.text c.from-start.result)
     c.self.view_is))
-
-pub returns-clause-sections : goal.returns-clause-sections
-returns-clause-sections c =
-    sections_stay c.args.self.now.table c.assign_to.new.self.table
-    (changed c.args.map.now c.args.line.now.text
-    (assignment c.args.line.now.text c.args.made.name c.args.made.is_global c.from-start.result))
-    (c.in_ok-assign_to.ensures.tables c.args.map.now
-    (c.known_value_by-value.ensures
-    ∙ ap (λ (k : Kept). value_at (known_at c.args.map.now Knows k.table (place k.table)) c.args.line.now.text c.from-start.result)
-    c.self.view_is))
-    (assignment_sections c.args.map.now (target c.args.line.now.text c.args.made.name) c.args.made.is_global c.args.line.now.text
-    c.from-start.result c.args.self.now.table)
-    c.requires.sections
 
 pub returns-clause-shows : goal.returns-clause-shows
 returns-clause-shows c =
