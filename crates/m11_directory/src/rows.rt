@@ -1,7 +1,7 @@
 //! The rows of an object's directory in their order. (RT-11 Volume and File Formats Manual, "Object file format", GSD block; MACRO-11
 //! Language Reference Manual, ".TITLE directive" and ".IDENT directive".)
 
-ghost use Rattle.std.specs.Prelude.{◌≡◌, ◌<◌, ◌≤◌, ◌++◌, IfOk, length};
+ghost use Rattle.std.specs.Prelude.{◌≡◌, ◌<◌, ◌++◌, IfOk};
 ghost use Rattle.m11_directory.specs.FirstPass.{directory_facts};
 ghost use Rattle.m11_directory.specs.Names.{ordered};
 ghost use Rattle.m11_directory.specs.References.{references};
@@ -81,11 +81,11 @@ fn push_sections(
     globals: &[Name],
     needed: &[Name],
 ) -> Result<(), AllocError>
-    requires sections { length first.now.table.now.sections ≤ 64 }
     requires globals { globals.now ≡ ordered first.now.table.now.globals }
     requires needed { needed.now ≡ references (directory_facts first.now) }
     ensures { IfOk result (λ _. rows.new.items ≡ rows.old.items ++ all_section_rows (directory_facts first.now)) }
 {
+    first.table.sections_are_within_the_limit();
     let count = first.table.section_count();
     'sections: for number in 0..count {
         push_section(rows, first, number as u16, globals, needed)?;
@@ -108,7 +108,6 @@ fn push_identification(
 /// The rows of the directory of a source: its module, its identification, each section with the globals that it defines, the references
 /// under the absolute section, and where the program begins. Error: memory may be refused.
 pub fn directory_rows(alloc: Global, first: &FirstPass<'_>) -> Result<Vec<DirectoryRow>, AllocError>
-    requires { length first.now.table.now.sections ≤ 64 }
     ensures { IfOk result (λ rows. rows.items ≡ directory_rows (directory_facts first.now)) }
 {
     let globals = ordered_names(alloc, first.table.globals())?;

@@ -1,7 +1,7 @@
 //! The sections of the symbol table. (MACRO-11 Language Reference Manual, "Table of contents and symbol table" and "Program section
 //! directives".)
 
-ghost use Rattle.std.specs.Prelude.{◌≡◌, ◌<◌, ◌≤◌, IfOk, length};
+ghost use Rattle.std.specs.Prelude.{◌≡◌, ◌<◌, IfOk};
 ghost use Rattle.m11_directory.specs.FirstPass.{directory_facts};
 ghost use Rattle.m11_placement.specs.Sections.{numbered};
 ghost use Rattle.m11_symbols.specs.Sections as spec;
@@ -31,9 +31,9 @@ pub fn section_entries(
     alloc: Global,
     first: &FirstPass<'_>,
 ) -> Result<Vec<SectionEntry>, AllocError>
-    requires { length first.now.table.now.sections ≤ 64 }
     ensures { IfOk result (λ entries. entries.items ≡ spec.section_entries (directory_facts first.now)) }
 {
+    first.table.sections_are_within_the_limit();
     let mut entries = Vec::new(alloc);
     let count = first.table.section_count();
     'sections: for number in 0..count {

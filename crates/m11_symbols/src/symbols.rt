@@ -1,6 +1,6 @@
 //! The names of the symbol table. (MACRO-11 Language Reference Manual, "Table of contents and symbol table" and ".GLOBL directive".)
 
-ghost use Rattle.std.specs.Prelude.{◌≡◌, ◌≤◌, ◌++◌, IfOk, length, map};
+ghost use Rattle.std.specs.Prelude.{◌≡◌, ◌++◌, IfOk, map};
 ghost use Rattle.m11_directory.specs.FirstPass.{directory_facts};
 ghost use Rattle.m11_directory.specs.Names.{ordered};
 ghost use Rattle.m11_symbols.specs.Symbols as spec;
@@ -30,7 +30,6 @@ fn is_global(first: &FirstPass<'_>, name: Name) -> bool
 
 // The entry of a name by its last definition, if it has one.
 fn symbol_entry(first: &FirstPass<'_>, name: Name) -> SymbolEntry
-    requires { length first.now.table.now.sections ≤ 64 }
     ensures { result ≡ spec.symbol_entry (directory_facts first.now) name }
 {
     let is_global = is_global(first, name);
@@ -56,7 +55,6 @@ fn push_symbols(
     first: &FirstPass<'_>,
     names: &[Name],
 ) -> Result<(), AllocError>
-    requires { length first.now.table.now.sections ≤ 64 }
     ensures { IfOk result (λ _. entries.new.items
         ≡ entries.old.items ++ map (spec.symbol_entry (directory_facts first.now)) names.now) }
 {
@@ -77,8 +75,8 @@ fn joined_names(alloc: Global, names: &[Name], registers: &[Name]) -> Result<Vec
     ordered_names(alloc, list.as_slice())
 }
 
-/// The entries of the names that lines mention, and of the registers that they mention, by the two words of their names. A table has 64
-/// sections at most. Error: memory may be refused.
+/// The entries of the names that lines mention, and of the registers that they mention, by the two words of their names. Error: memory may
+/// be refused.
 #[tactic(auto, unfolding(crate::specs::Symbols::symbol_entries))]
 pub fn symbol_entries(
     alloc: Global,
@@ -86,7 +84,6 @@ pub fn symbol_entries(
     names: &IndexSet<Name>,
     registers: &IndexSet<Name>,
 ) -> Result<Vec<SymbolEntry>, AllocError>
-    requires { length first.now.table.now.sections ≤ 64 }
     ensures { IfOk result (λ entries. entries.items
         ≡ spec.symbol_entries (directory_facts first.now) (names.now.keys ++ registers.now.keys)) }
 {

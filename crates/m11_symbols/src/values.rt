@@ -1,6 +1,6 @@
 //! The values that the symbol table shows. (MACRO-11 Language Reference Manual, "Table of contents and symbol table".)
 
-ghost use Rattle.std.specs.Prelude.{◌≡◌, ◌≤◌, length};
+ghost use Rattle.std.specs.Prelude.{◌≡◌};
 ghost use Rattle.m11_placement.specs.Sections.{number_of};
 ghost use Rattle.m11_symbols.specs.Values as spec;
 
@@ -12,9 +12,9 @@ use m11_values::Kind;
 
 // A place, with the number of its section.
 fn place_value(table: &Table, number: u16, name: Name) -> SymbolValue
-    requires { length table.now.sections ≤ 64 }
     ensures { result ≡ spec.place_value number (number_of name table.now.sections) }
 {
+    table.sections_are_within_the_limit();
     match table.section_number(name) {
         Some(section) => SymbolValue::Relocatable {
             place: number,
@@ -25,7 +25,6 @@ fn place_value(table: &Table, number: u16, name: Name) -> SymbolValue
 }
 
 fn known_value(table: &Table, number: u16, kind: Kind) -> SymbolValue
-    requires { length table.now.sections ≤ 64 }
     ensures { result ≡ spec.known_value table.now.sections number kind }
 {
     match kind {
@@ -35,9 +34,8 @@ fn known_value(table: &Table, number: u16, kind: Kind) -> SymbolValue
     }
 }
 
-/// The value that a definition gives. A table has 64 sections at most.
+/// The value that a definition gives.
 pub(crate) fn value_of(table: &Table, standing: Standing) -> SymbolValue
-    requires { length table.now.sections ≤ 64 }
     ensures { result ≡ spec.value_of table.now.sections standing }
 {
     match standing {
