@@ -47,7 +47,7 @@ use Rattle.m11_passes.proofs.Placing.{Act, IsActOf, all_so, change_is, deed_so, 
 use Rattle.m11_passes.proofs.Settling.{change_modest, changed_moves, labels_blocks}
 use Rattle.m11_passes.proofs.Turning.{first_sound}
 use Rattle.m11_passes.specs.Begun.{Begins, Finishes, States}
-use Rattle.m11_passes.specs.Bounds.{HasRoom, IsSound, IsSoundUntil}
+use Rattle.m11_passes.specs.Bounds.{HasRoom, IsSoundUntil}
 use Rattle.m11_passes.specs.Faults.{Fails}
 use Rattle.m11_placing.specs.Faults.{Refuses}
 use Rattle.m11_passes.specs.Lines.{PassLines}
@@ -67,15 +67,13 @@ use Rattle.m11_passes.specs.declared.placed.PlacedLine.{PlacedLine}
 module _ (unfolder : Unfolding) (kept : Kept) (gathered mentioned : Gathered)
     (is_fresh : unfolder ≡ record { stage = start []; has_statement = false; fault = None })
     (matches : Matches kept first_table) (same : gathered ≡ mentioned) where
-  pub new_sound : (fault : Option AsmFault) → fault ≡ None → length mentioned.names ≤ most_names
-      → IsSoundUntil fault unfolder.stage.taken kept gathered × GoesOnUntil fault unfolder.fault
-  new_sound fault none few =
-      let N : Gathered → Type 0 = λ g. length g.names ≤ most_names in
-      let S : Unfolding → Type 0 = λ u. IsSound u.stage.taken kept gathered in
+  pub new_sound : (fault : Option AsmFault) → fault ≡ None
+      → IsSoundUntil fault unfolder.stage.taken kept.table × GoesOnUntil fault unfolder.fault
+  new_sound fault none =
+      let S : Unfolding → Type 0 = λ u. HasRoom u.stage.taken 0 0 kept.table in
       let G : Unfolding → Type 0 = λ u. u.fault ≡ None in
-      let P : Option AsmFault → Type 0 = λ f. IsSoundUntil f unfolder.stage.taken kept gathered × GoesOnUntil f unfolder.fault in
-      subst P (sym none)
-      (subst S (sym is_fresh) (first_sound kept gathered matches (subst N (sym same) few)), subst G (sym is_fresh) refl)
+      let P : Option AsmFault → Type 0 = λ f. IsSoundUntil f unfolder.stage.taken kept.table × GoesOnUntil f unfolder.fault in
+      subst P (sym none) (subst S (sym is_fresh) (first_sound kept matches), subst G (sym is_fresh) refl)
 
   pub new_stands : (put : Put) (map_ : Map)
       → PassStands map_ mentioned [] [] (record { unfolder = unfolder; kept = kept; gathered = gathered; put = put })
@@ -182,15 +180,13 @@ module _ (map_ : Map) (live : Live) (old middle : Going) (does : code.Deed) (beg
     -- the pass stands after the line
     leaves : (new : Going) → new.unfolder ≡ middle.unfolder → new.gathered ≡ all
         → Follows stood new.kept (λ t. changed map_ text (change_after stood.table text done.arguments of) t)
-        → new.kept.local_symbols ≡ stood.local_symbols → length new.kept.table.sections ≤ most_sections
-        → (item : Option Item)
+        → new.kept.local_symbols ≤ most_local_symbols → length new.kept.table.sections ≤ most_sections → (item : Option Item)
         → option_to_list item ≡ deed_items map_ stood.table text (change_after stood.table text done.arguments of) of
         → (table : Table) → Matches old.kept table → LeavesAfter map_ table live before old new
         × (option_to_list item ≡ assigned_items map_ table (given_by table live before))
-    leaves new unfolder_is gathered_is follows symbols_are sections item shows table matches =
+    leaves new unfolder_is gathered_is follows fewer sections item shows table matches =
         let here = begins.labels table matches in
         let line : Given = given_by table live before in
-        let N : ℕ → Type 0 = λ n. n ≤ most_local_symbols in
         let F : Deed → Type 0 = λ d. Follows stood new.kept
         (λ t. changed map_ text (change_after stood.table text done.arguments d) t) in
         let follows_so = subst F begins.deed_is follows in
@@ -201,7 +197,7 @@ module _ (map_ : Map) (live : Live) (old middle : Going) (does : code.Deed) (beg
         begins.named all all_told in (
           record {
             fits = line_fits map_ table live before middle.unfolder.stage done stood old.gathered here.matches acts here.fits named
-                begins.named all all_told few new.kept follows_so (subst N (sym symbols_are) symbols) sections;
+                begins.named all all_told few new.kept follows_so fewer sections;
             stage_is = ap (λ (u : Unfolding). u.stage) unfolder_is
                 ∙ stage_so map_ table live before middle.unfolder.stage done stood old.gathered here.matches acts;
             matches = matches_so map_ table live before middle.unfolder.stage done stood old.gathered here.matches acts here.fits named
@@ -220,16 +216,15 @@ module _ (map_ : Map) (live : Live) (old middle : Going) (does : code.Deed) (beg
     -- what the line changes is done, or its section is one too many
     pub finishes : (new : Going) → new.unfolder ≡ middle.unfolder → new.gathered ≡ all → (result : Result (Option Item) AsmFault)
         → IfOk result (λ _. Follows stood new.kept (λ t. changed map_ text (change_after stood.table text done.arguments of) t))
-        → IfOk result (λ _. new.kept.local_symbols ≡ stood.local_symbols)
-        → IfOk result (λ _. length new.kept.table.sections ≤ most_sections)
+        → new.kept.local_symbols ≤ most_local_symbols → length new.kept.table.sections ≤ most_sections
         → IfOk result (λ item. option_to_list item
         ≡ deed_items map_ stood.table text (change_after stood.table text done.arguments of) of)
         → IfErr result (λ fault. (table : Table) → Matches stood table → Refuses fault ⊥ (most_sections < length
         (changed map_ text (change_after stood.table text done.arguments of) table).sections))
         → Finishes map_ live before old new result
-    finishes new unfolder_is gathered_is (Ok item) follows symbols_are sections shows refuses =
-        leaves new unfolder_is gathered_is follows symbols_are sections item shows
-    finishes new unfolder_is gathered_is (Err fault) follows symbols_are sections shows refuses = change_fails fault refuses
+    finishes new unfolder_is gathered_is (Ok item) follows fewer sections shows refuses =
+        leaves new unfolder_is gathered_is follows fewer sections item shows
+    finishes new unfolder_is gathered_is (Err fault) follows fewer sections shows refuses = change_fails fault refuses
 
   -- ---- the line is placed
 
@@ -344,7 +339,6 @@ stood_room taken old stood line room follows few =
     let U : Settings → Type 0 = λ s. s.unlisted + 1 ≤ taken in
     let at : ℕ → Type 0 = λ n. n < length stood.sections in
     let same : List Section → Type 0 = λ l. old.settings.section < length l in
-    let M : List Section → Type 0 = λ l. length l ≤ most_sections in
     let sections : stood.sections ≡ old.sections = alike.sections ∙ blocks.sections in
     let section : stood.settings.section ≡ old.settings.section = ap (λ (s : Settings). s.section) alike.settings ∙ blocks.section in
     let more = blocks.block in
@@ -358,13 +352,12 @@ stood_room taken old stood line room follows few =
       listed = subst L (sym alike.settings) (omega (arith, listed, listed_same));
       unlisted = subst U (sym alike.settings) (omega (arith, unlisted, unlisted_same));
       section = subst at (sym section) (subst same (sym sections) room.section);
-      sections = subst M (sym sections) room.sections;
     }
 
 pub changed_room : (taken : ℕ) (map_ : Map) (stood new : Table) (line : Bytes) (arguments : Option ℕ) (of : Deed)
     → HasRoom taken 1 1 stood → tables.Follows stood new (λ t. changed map_ line (change_after stood line arguments of) t)
-    → length new.sections ≤ most_sections → HasRoom taken 0 0 new
-changed_room taken map_ stood new line arguments of room follows few =
+    → HasRoom taken 0 0 new
+changed_room taken map_ stood new line arguments of room follows =
     let alike = follows stood (alike_itself stood) in
     let change : Change = change_after stood line arguments of in
     let moves = changed_moves map_ line change stood (change_modest (firm_table stood) line arguments of) in
@@ -384,20 +377,13 @@ changed_room taken map_ stood new line arguments of room follows few =
       listed = subst L (sym alike.settings) (omega (arith, listed, had_listed));
       unlisted = subst U (sym alike.settings) (omega (arith, unlisted, had_unlisted));
       section = subst at (sym alike.settings) (subst all (sym alike.sections) (moves.section room.section));
-      sections = few;
     }
 
--- the line is done, and the pass is sound after it
-pub settled : (map_ : Map) (first new : Kept) (gathered : Gathered) (line : Bytes) (arguments : Option ℕ) (doing : Deed) (taken : ℕ)
-    → HasRoom taken 1 1 first.table → first.local_symbols ≤ most_local_symbols → length gathered.names ≤ most_names
+-- the line is done, and there is room after it
+pub settled : (map_ : Map) (first new : Table) (line : Bytes) (arguments : Option ℕ) (doing : Deed) (taken : ℕ) → HasRoom taken 1 1 first
     → {A : Type 0} (result : Result A AsmFault)
-    → IfOk result (λ _. tables.Follows first.table new.table (λ t. changed map_ line (change_after first.table line arguments doing) t))
-    → IfOk result (λ _. length new.table.sections ≤ most_sections) → IfOk result (λ _. new.local_symbols ≡ first.local_symbols)
-    → IfOk result (λ _. IsSound taken new gathered)
-settled map_ first new gathered line arguments doing taken room symbols names (Ok unit) follows sections same =
-    let N : ℕ → Type 0 = λ n. n ≤ most_local_symbols in
-    record {
-      room = changed_room taken map_ first.table new.table line arguments doing room follows sections;
-      few = record { symbols = subst N (sym same) symbols; names = names };
-    }
-settled map_ first new gathered line arguments doing taken room symbols names (Err fault) follows sections same = tt
+    → IfOk result (λ _. tables.Follows first new (λ t. changed map_ line (change_after first line arguments doing) t))
+    → IfOk result (λ _. HasRoom taken 0 0 new)
+settled map_ first new line arguments doing taken room (Ok unit) follows =
+    changed_room taken map_ first new line arguments doing room follows
+settled map_ first new line arguments doing taken room (Err fault) follows = tt

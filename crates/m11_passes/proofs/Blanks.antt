@@ -40,7 +40,6 @@ use Rattle.m11_placing.specs.Passes.{Kept, Matches}
 use Rattle.m11_placing.specs.declared.deeds.Deed.TheVariants as code
 use Rattle.m11_passes.proofs.Placing.{fits_limits, within}
 use Rattle.m11_passes.specs.Blank.{IsBlank}
-use Rattle.m11_passes.specs.Bounds.{IsFew}
 use Rattle.m11_passes.specs.Lines.{acted}
 use Rattle.m11_passes.specs.Placed.{IsLive, IsPlaced, all_letters, live_in}
 use Rattle.m11_passes.specs.Refusals.{given_by, labels_fault, line_fault, of_limit}
@@ -165,8 +164,8 @@ module _ (live : Live) (stage : Stage) (blank : IsBlank live.line.text) (table :
 
 -- ---- the pass after it
 
-module _ (live : Live) (old : Going) (blank : IsBlank live.line.text) (few : IsFew old.kept old.gathered)
-    (sections : length old.kept.table.sections ≤ most_sections) where
+module _ (live : Live) (old : Going) (blank : IsBlank live.line.text) (symbols : old.kept.local_symbols ≤ most_local_symbols)
+    (sections : length old.kept.table.sections ≤ most_sections) (names : length old.gathered.names ≤ most_names) where
   leaves : (map_ : Map) (table : Table) (put : Put) → Matches old.kept table
       → LeavesAfter map_ table live old.unfolder.stage old (record old { put = put })
   leaves map_ table put matches =
@@ -174,7 +173,7 @@ module _ (live : Live) (old : Going) (blank : IsBlank live.line.text) (few : IsF
       let S : List Section → Type 0 = λ l. length l ≤ most_sections in
       let T : Table → Type 0 = λ t. Matches old.kept t in
       record {
-        fits = line_fits live old.unfolder.stage blank table map_ old.gathered.names few.names (subst N matches.local_symbols few.symbols)
+        fits = line_fits live old.unfolder.stage blank table map_ old.gathered.names names (subst N matches.local_symbols symbols)
             (subst S matches.alike.sections sections);
         stage_is = stage_so live old.unfolder.stage blank table;
         matches = subst T (sym (after_so live old.unfolder.stage blank table map_)) matches;

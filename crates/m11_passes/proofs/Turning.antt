@@ -18,10 +18,10 @@ use Rattle.m11_placement.specs.declared.settings.Settings.{Settings}
 use Rattle.m11_placing.proofs.Gathering.{added_then, failed_first}
 use Rattle.m11_placing.proofs.Refusals.{handed_on}
 use Rattle.m11_placing.specs.Faults.{Refuses}
-use Rattle.m11_placing.specs.Mentioned.{Gathered, StaysFew, with_all}
+use Rattle.m11_placing.specs.Mentioned.{Gathered, with_all}
 use Rattle.m11_placing.specs.Passes.{Kept, Matches}
 use Rattle.m11_passes.proofs.Counting.{leads_takes}
-use Rattle.m11_passes.specs.Bounds.{HasRoom, IsSound}
+use Rattle.m11_passes.specs.Bounds.{HasRoom}
 use Rattle.m11_passes.specs.Faults.{Fails}
 use Rattle.m11_passes.specs.Refusals.{given_by, line_fault}
 use Rattle.m11_passes.specs.States.{Going}
@@ -39,7 +39,7 @@ module _ {A : Type 0} (first second : List Mention) (old : Gathered) (fault : As
   pub first_refused : Refuses fault (most_names < length (with_all first old).names) ⊥ → IfErr result Past
   first_refused refuses = handed_on Past fault result (failed_first first second old old fault (Err fault) refuses refl) is
 
-  pub second_refused : (middle : Gathered) → (middle ≡ with_all first old) × StaysFew old middle
+  pub second_refused : (middle : Gathered) → middle ≡ with_all first old
       → Refuses fault (most_names < length (with_all second middle).names) ⊥ → IfErr result Past
   second_refused middle e refuses =
       handed_on Past fault result (added_then first second old middle middle (Err fault) e refuses) is
@@ -56,48 +56,33 @@ room_more table before after more room =
       listed = omega (arith, listed, more);
       unlisted = omega (arith, unlisted, more);
       section = room.section;
-      sections = room.sections;
     }
 
-pub sound_more : (before after : ℕ) (kept : Kept) (gathered : Gathered) → before ≤ after → IsSound before kept gathered
-    → IsSound after kept gathered
-sound_more before after kept gathered more sound =
-    let block = sound.room.block in
-    let listed = sound.room.listed in
-    let unlisted = sound.room.unlisted in
+pub sound_more : (table : Table) (before after : ℕ) → before ≤ after → HasRoom before 0 0 table → HasRoom after 0 0 table
+sound_more table before after more room =
+    let block = room.block in
+    let listed = room.listed in
+    let unlisted = room.unlisted in
     record {
-      room = record {
-        block = omega (arith, block, more);
-        listed = omega (arith, listed, more);
-        unlisted = omega (arith, unlisted, more);
-        section = sound.room.section;
-        sections = sound.room.sections;
-      };
-      few = sound.few;
+      block = omega (arith, block, more);
+      listed = omega (arith, listed, more);
+      unlisted = omega (arith, unlisted, more);
+      section = room.section;
     }
 
-pub first_sound : (kept : Kept) (gathered : Gathered) → Matches kept first_table → length gathered.names ≤ most_names
-    → IsSound 0 kept gathered
-first_sound kept gathered matches few =
+pub first_sound : (kept : Kept) → Matches kept first_table → HasRoom 0 0 0 kept.table
+first_sound kept matches =
     let B : Settings → Type 0 = λ s. s.block + 0 ≤ 67 * 0 in
     let L : Settings → Type 0 = λ s. s.listed + 0 ≤ 0 in
     let U : Settings → Type 0 = λ s. s.unlisted + 0 ≤ 0 in
     let same = sym matches.alike.settings in
     let S : List Section → Type 0 = λ l. kept.table.settings.section < length l in
     let N : Settings → Type 0 = λ s. s.section < length first_table.sections in
-    let M : List Section → Type 0 = λ l. length l ≤ 64 in
     record {
-      room = record {
-        block = subst B same (omega arith);
-        listed = subst L same (omega arith);
-        unlisted = subst U same (omega arith);
-        section = subst S (sym matches.alike.sections) (subst N same (omega arith));
-        sections = subst M (sym matches.alike.sections) (omega arith);
-      };
-      few = record {
-        symbols = let P : ℕ → Type 0 = λ n. n ≤ 16384 in subst P (sym matches.local_symbols) (omega arith);
-        names = few;
-      };
+      block = subst B same (omega arith);
+      listed = subst L same (omega arith);
+      unlisted = subst U same (omega arith);
+      section = subst S (sym matches.alike.sections) (subst N same (omega arith));
     }
 
 -- ---- what comes of a step of unfolding

@@ -1,17 +1,22 @@
 -- What the labels of a line leave. (MACRO-11 Language Reference Manual, "Label field", "Local symbols" and "Diagnostic error message
 -- summary", M and P.)
-use Rattle.std.specs.Prelude.{◌≡◌, List, None}
+use Rattle.std.specs.Prelude.{◌≡◌, ◌≤◌, ◌⊎◌, List, None, length}
+use Rattle.std.specs.List.{flat_map}
 use Rattle.m11_base.specs.Devices.{Bytes}
 use Rattle.m11_base.specs.Rad50.{Name}
 use Rattle.m11_scan.specs.Views.{bits_of}
 use Rattle.m11_statements.specs.Labels.{labels_at}
-use Rattle.m11_placement.specs.Labels.{labels_letters, labels_stand}
+use Rattle.m11_placement.specs.Labels.{labels_letters, labels_stand, with_labels}
+use Rattle.m11_placement.specs.Limits.{local_count, most_local_symbols, most_names}
 use Rattle.m11_placement.specs.Meanings.{Map}
+use Rattle.m11_placement.specs.Mentions.{label_mentions}
 use Rattle.m11_placement.specs.Tables.{Table}
+use Rattle.m11_placing.specs.Labels.{FitsUpToLabel}
+use Rattle.m11_placing.specs.Mentioned.{Gathered, with_all}
 use Rattle.m11_placing.specs.Moved.{moved_letters}
 use Rattle.m11_placing.specs.Passes.{Kept, Matches}
 use Rattle.m11_placing.specs.declared.labels.LabelLetters.{LabelLetters}
-use Rattle.m11_passes.specs.Refusals.{labels_fault}
+use Rattle.m11_passes.specs.Refusals.{labels_fault, mentions_of_labels}
 
 pub record LabelsStand (map : Map) (names : List Name) (line : Bytes) (table : Table) (new : Kept) (letters : LabelLetters) : Type 0 where
   pub fits : labels_fault names table line ≡ None
@@ -23,3 +28,11 @@ pub record LabelsStand (map : Map) (names : List Name) (line : Bytes) (table : T
 abbrev pub Labels : Map → List Name → Bytes → Kept → Kept → LabelLetters → Type 0
 Labels map names line old new letters =
     (table : Table) → Matches old table → LabelsStand map names line table new letters
+
+-- memory was refused at one of the labels: the names up to it are none too many, or all names are none too many, and neither are the local
+-- symbols up to it
+abbrev pub FitUpToOne : Gathered → Table → Bytes → Type 0
+FitUpToOne old table line =
+    FitsUpToLabel (labels_at line) (λ some. length (with_all (flat_map (label_mentions line) some) old).names ≤ most_names)
+    ⊎ ((length (with_all (mentions_of_labels line) old).names ≤ most_names)
+    × FitsUpToLabel (labels_at line) (λ some. local_count (with_labels line table some) ≤ most_local_symbols))

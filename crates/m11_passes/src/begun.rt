@@ -11,7 +11,7 @@ ghost use Rattle.m11_statements.specs.Labels.{labels_at};
 ghost use Rattle.m11_unfold.specs.Kept.{IsKept};
 ghost use Rattle.m11_unfold.specs.Unfolder as steps;
 ghost use Rattle.m11_passes.specs.Begun.{Begins, States};
-ghost use Rattle.m11_passes.specs.Bounds.{HasRoom, IsFew};
+ghost use Rattle.m11_passes.specs.Bounds.{HasRoom};
 ghost use Rattle.m11_passes.specs.Faults.{Fails};
 ghost use Rattle.m11_passes.specs.Placed.{live_in};
 ghost use Rattle.m11_passes.specs.Refusals.{line_fault};
@@ -55,7 +55,6 @@ impl State {
         requires kept { IsKept self.old.unfolder.stage }
         requires free { self.old.unfolder.has_statement ≡ false }
         requires room { HasRoom self.old.unfolder.stage.taken 67 1 self.old.pass.table }
-        requires few { IsFew self.old.pass self.old.mentioned }
         ensures same { live_in live.new ≡ live_in live.old }
         ensures begins { IfOk result (λ begun. Begins map.now (live_in live.new) (going_of self.old) (going_of self.new) live.new.deed begun) }
         ensures fails { IfErr result (λ fault. (table : LineTable) → Matches self.old.pass table
@@ -65,7 +64,6 @@ impl State {
         ensures terms { IfOk result (λ begun. AreDeedTerms live.old.line.text live.new.deed begun.fields.list.items begun.fields.terms) }
         ensures listed { IfOk result (λ _. IsTrue (is_listed live.new.deed)) }
         ensures room { IfOk result (λ _. HasRoom self.old.unfolder.stage.taken 1 1 self.new.pass.table) }
-        ensures few { IfOk result (λ _. IsFew self.new.pass self.new.mentioned) }
         ensures taken { IfOk result (λ _. self.new.unfolder.stage.taken ≡ self.old.unfolder.stage.taken) }
         ensures kept { IfOk result (λ _. IsKept self.new.unfolder.stage) }
         ensures goes_on { IfOk result (λ _. self.new.unfolder.fault ≡ None) }

@@ -7,10 +7,10 @@ ghost use Rattle.m11_placing.specs.Mentioned.{with_all};
 ghost use Rattle.m11_placing.specs.Passes.{Matches};
 ghost use Rattle.m11_statements.specs.Labels.{labels_at};
 ghost use Rattle.m11_table.specs.Alike as tables;
-ghost use Rattle.m11_passes.specs.Bounds.{IsFew};
 ghost use Rattle.m11_passes.specs.Faults.{Fails};
-ghost use Rattle.m11_passes.specs.Labelled.{Labels};
+ghost use Rattle.m11_passes.specs.Labelled.{FitUpToOne, Labels};
 ghost use Rattle.m11_passes.specs.Refusals.{labels_fault, mentions_of_labels};
+ghost use Rattle.m11_asm_faults.specs.declared.fault.AsmFault.TheVariants.{NoMemory};
 
 use m11_asm_faults::AsmFault;
 use m11_placing::{LabelLetters, Mentioned, Pass};
@@ -30,13 +30,13 @@ pub(crate) fn define_labels(
     requires unlabelled { labels_end ≡ 0 → labels_at line.now.text ≡ [] }
     requires lone { IfSome lone_label (λ label. labels_at line.now.text ≡ label ∷ []) }
     requires blocks { pass.old.table.settings.block + 66 < 2 ^ 64 }
-    requires few { IsFew pass.old mentioned.old }
     ensures stand { IfOk result (λ letters. Labels map.now mentioned.old.names line.now.text pass.old pass.new letters) }
     ensures mentions { IfOk result (λ _. mentioned.new ≡ with_all (mentions_of_labels line.now.text) mentioned.old) }
     ensures tables { IfOk result (λ _. tables.Follows pass.old.table pass.new.table (λ before. labels_stand before line.now.text)) }
-    ensures few { IfOk result (λ _. IsFew pass.new mentioned.new) }
     ensures refuses { IfErr result (λ fault. (before : LineTable) → Matches pass.old before
         → Fails (labels_fault mentioned.old.names before line.now.text) fault) }
+    ensures limit_first { IfErr result (λ fault. fault ≡ NoMemory → (before : LineTable) → Matches pass.old before
+        → FitUpToOne mentioned.old before line.now.text) }
     ensures fits { length (labels_at line.now.text) ≤ 66 }
 {
     // most lines have none, and most others one
@@ -58,14 +58,14 @@ fn define_listed(
     map: &Map<'_>,
     line: &Line,
 ) -> Result<LabelLetters, AsmFault>
-    requires blocks { pass.old.table.settings.block + 66 < 2 ^ 64 }
-    requires few { IsFew pass.old mentioned.old }
+    requires { pass.old.table.settings.block + 66 < 2 ^ 64 }
     ensures stand { IfOk result (λ letters. Labels map.now mentioned.old.names line.now.text pass.old pass.new letters) }
     ensures mentions { IfOk result (λ _. mentioned.new ≡ with_all (mentions_of_labels line.now.text) mentioned.old) }
     ensures tables { IfOk result (λ _. tables.Follows pass.old.table pass.new.table (λ before. labels_stand before line.now.text)) }
-    ensures few { IfOk result (λ _. IsFew pass.new mentioned.new) }
     ensures refuses { IfErr result (λ fault. (before : LineTable) → Matches pass.old before
         → Fails (labels_fault mentioned.old.names before line.now.text) fault) }
+    ensures limit_first { IfErr result (λ fault. fault ≡ NoMemory → (before : LineTable) → Matches pass.old before
+        → FitUpToOne mentioned.old before line.now.text) }
     ensures fits { length (labels_at line.now.text) ≤ 66 }
 {
     let labels = labels_of(line);
@@ -82,15 +82,18 @@ fn define_all(
 ) -> Result<LabelLetters, AsmFault>
     requires are { labels.now ≡ labels_at line.now.text }
     requires blocks { pass.old.table.settings.block + length labels.now < 2 ^ 64 }
-    requires few { IsFew pass.old mentioned.old }
     ensures stand { IfOk result (λ letters. Labels map.now mentioned.old.names line.now.text pass.old pass.new letters) }
     ensures mentions { IfOk result (λ _. mentioned.new ≡ with_all (mentions_of_labels line.now.text) mentioned.old) }
     ensures tables { IfOk result (λ _. tables.Follows pass.old.table pass.new.table (λ before. labels_stand before line.now.text)) }
-    ensures few { IfOk result (λ _. IsFew pass.new mentioned.new) }
     ensures refuses { IfErr result (λ fault. (before : LineTable) → Matches pass.old before
         → Fails (labels_fault mentioned.old.names before line.now.text) fault) }
+    ensures limit_first { IfErr result (λ fault. fault ≡ NoMemory → (before : LineTable) → Matches pass.old before
+        → FitUpToOne mentioned.old before line.now.text) }
 {
-    // the limit on names is asked first, so that want of memory for a label hides no limit
+    // the names are noted before any label is defined, so that want of memory for a label hides no limit on names
     mentioned.add_labels(line, labels)?;
-    Ok(pass.define_labels(map, line, labels)?)
+    mentioned.names_are_within_the_limit();
+    let letters = pass.define_labels(map, line, labels)?;
+    pass.counts_are_within_the_limits();
+    Ok(letters)
 }

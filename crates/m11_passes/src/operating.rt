@@ -80,8 +80,6 @@ pub(crate) fn mention_line(
     requires terms { AreDeedTerms line.now.text deed.now fields.now.list.items fields.now.terms }
     ensures mentions { (table : LineTable) → fields_seen fields.now ≡ deed_fields table line.now.text deed.now → IfOk result
         (λ _. mentioned.new ≡ with_all (mentions_after table line.now.text notes.now arguments (deed_seen deed.now)) mentioned.old) }
-    ensures few { (table : LineTable) → fields_seen fields.now ≡ deed_fields table line.now.text deed.now → IfOk result
-        (λ _. length mentioned.old.names ≤ most_names → length mentioned.new.names ≤ most_names) }
     ensures refuses { (table : LineTable) → fields_seen fields.now ≡ deed_fields table line.now.text deed.now → IfErr result
         (λ fault. Refuses fault (most_names < length
         (with_all (mentions_after table line.now.text notes.now arguments (deed_seen deed.now)) mentioned.old).names) ⊥) }
@@ -108,12 +106,10 @@ pub(crate) fn change_line(
     requires unlisted { pass.old.table.settings.unlisted + 1 < 2 ^ 64 }
     requires block { pass.old.table.settings.block + 1 < 2 ^ 64 }
     requires section { pass.old.table.settings.section < 64 }
-    requires sections { length pass.old.table.sections ≤ most_sections }
     ensures changes { IfOk result (λ _. Follows pass.old pass.new (λ before. changed map.now line.now.text
         (change_after pass.old.table line.now.text arguments (deed_seen deed.now)) before)) }
     ensures tables { IfOk result (λ _. tables.Follows pass.old.table pass.new.table (λ before. changed map.now line.now.text
         (change_after pass.old.table line.now.text arguments (deed_seen deed.now)) before)) }
-    ensures sections { IfOk result (λ _. length pass.new.table.sections ≤ most_sections) }
     ensures symbols { IfOk result (λ _. pass.new.local_symbols ≡ pass.old.local_symbols) }
     ensures shows { IfOk result (λ item. option_to_list item ≡ deed_items map.now pass.old.table line.now.text
         (change_after pass.old.table line.now.text arguments (deed_seen deed.now)) (deed_seen deed.now)) }
@@ -148,12 +144,10 @@ fn operate_line(
     requires unlisted { pass.old.table.settings.unlisted + 1 < 2 ^ 64 }
     requires block { pass.old.table.settings.block + 1 < 2 ^ 64 }
     requires section { pass.old.table.settings.section < 64 }
-    requires sections { length pass.old.table.sections ≤ most_sections }
     ensures changes { IfOk result (λ _. Follows pass.old pass.new (λ before. changed map.now line.now.text
         (operator_change (firm_table pass.old.table) line.now.text start arguments operator) before)) }
     ensures tables { IfOk result (λ _. tables.Follows pass.old.table pass.new.table (λ before. changed map.now line.now.text
         (operator_change (firm_table pass.old.table) line.now.text start arguments operator) before)) }
-    ensures sections { IfOk result (λ _. length pass.new.table.sections ≤ most_sections) }
     ensures symbols { IfOk result (λ _. pass.new.local_symbols ≡ pass.old.local_symbols) }
     ensures shows { IfOk result (λ item. option_to_list item
         ≡ number_items (operator_change (firm_table pass.old.table) line.now.text start arguments operator)) }
@@ -189,12 +183,10 @@ fn change_any(
     requires unlisted { pass.old.table.settings.unlisted + 1 < 2 ^ 64 }
     requires block { pass.old.table.settings.block + 1 < 2 ^ 64 }
     requires section { pass.old.table.settings.section < 64 }
-    requires sections { length pass.old.table.sections ≤ most_sections }
     ensures changes { IfOk result (λ _. Follows pass.old pass.new (λ before. changed map.now line.now.text
         (change_after pass.old.table line.now.text arguments (deed_seen deed.now)) before)) }
     ensures tables { IfOk result (λ _. tables.Follows pass.old.table pass.new.table (λ before. changed map.now line.now.text
         (change_after pass.old.table line.now.text arguments (deed_seen deed.now)) before)) }
-    ensures sections { IfOk result (λ _. length pass.new.table.sections ≤ most_sections) }
     ensures symbols { IfOk result (λ _. pass.new.local_symbols ≡ pass.old.local_symbols) }
     ensures shows { IfOk result (λ item. option_to_list item ≡ deed_items map.now pass.old.table line.now.text
         (change_after pass.old.table line.now.text arguments (deed_seen deed.now)) (deed_seen deed.now)) }

@@ -1,9 +1,8 @@
 //! One pass over a source. (MACRO-11 Language Reference Manual, "Source program format" and "Symbols and expressions".)
 
-ghost use Rattle.std.specs.Prelude.{◌≡◌, ◌<◌, ◌≤◌, [], None, Some, Err, IfOk, length};
+ghost use Rattle.std.specs.Prelude.{◌≡◌, ◌<◌, [], None, Some, Err, IfOk};
 ghost use Rattle.std.specs.Result.{result_err};
 ghost use Rattle.m11_lines.specs.Line.{no_line};
-ghost use Rattle.m11_placement.specs.Limits.{most_names, most_sections};
 ghost use Rattle.m11_placing.specs.Passes.{size_at};
 ghost use Rattle.m11_unfold.specs.Unfolder.{needs_line};
 ghost use Rattle.m11_unfolding.specs.Stages.{start};
@@ -41,7 +40,7 @@ impl Model for SourcePass {
 
     ghost view = { λ p. record { going = going_of p.state; fault = p.fault } };
 
-    ghost invariant = { λ p. IsSoundUntil p.fault p.state.unfolder.stage.taken p.state.pass p.state.mentioned
+    ghost invariant = { λ p. IsSoundUntil p.fault p.state.unfolder.stage.taken p.state.pass.table
         × GoesOnUntil p.fault p.state.unfolder.fault };
 }
 
@@ -49,7 +48,6 @@ impl SourcePass {
     /// Before the first line. The names that an earlier pass mentioned count with those of this one. Error: memory may be
     /// refused.
     pub fn new(alloc: Global, mentioned: Mentioned) -> Result<SourcePass, AllocError>
-        requires { length mentioned.names ≤ most_names }
         ensures stands { IfOk result (λ pass. (map : Meanings) → PassStands map mentioned [] [] pass.going) }
         ensures begins { IfOk result (λ pass. pass.going.unfolder.stage ≡ start []) }
         ensures goes_on { IfOk result (λ pass. pass.fault ≡ None) }
@@ -129,13 +127,10 @@ impl SourcePass {
         self.state.pass.size(number)
     }
 
-    /// What the pass leaves: its table with the sizes of sections, and the names that its lines mention. No limit is passed, where no fault
-    /// came.
+    /// What the pass leaves: its table with the sizes of sections, and the names that its lines mention.
     pub fn end(self) -> (Pass, Mentioned)
         ensures pass { result.0 ≡ self.going.kept }
         ensures mentioned { result.1 ≡ self.going.gathered }
-        ensures sections { self.fault ≡ None → length result.0.table.sections ≤ most_sections }
-        ensures names { self.fault ≡ None → length result.1.names ≤ most_names }
     {
         let state = self.state;
         (state.pass, state.mentioned)

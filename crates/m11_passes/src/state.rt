@@ -1,7 +1,8 @@
 //! What a pass keeps from line to line, and how a live line goes through it. (MACRO-11 Language Reference Manual, "Source program format".)
 
-ghost use Rattle.std.specs.Prelude.{◌≡◌, [], IfOk, false, None, length};
+ghost use Rattle.std.specs.Prelude.{◌≡◌, ◌≤◌, [], IfOk, false, None, length};
 ghost use Rattle.std.specs.Int.RustNames.{bit_or};
+ghost use Rattle.m11_placement.specs.Limits.{most_local_symbols, most_names, most_sections};
 ghost use Rattle.m11_placement.specs.Meanings.{empty_map};
 ghost use Rattle.m11_placement.specs.Tables.{first_table};
 ghost use Rattle.m11_fields.specs.Reads.{fields_seen};
@@ -12,7 +13,7 @@ ghost use Rattle.m11_scan.specs.Views.{bits_of};
 ghost use Rattle.m11_unfold.specs.Kept.{IsKept};
 ghost use Rattle.m11_unfolding.specs.Stages.{start};
 ghost use Rattle.m11_passes.specs.Begun.{Begins, Finishes};
-ghost use Rattle.m11_passes.specs.Bounds.{HasRoom, IsFew, IsSound};
+ghost use Rattle.m11_passes.specs.Bounds.{HasRoom};
 ghost use Rattle.m11_passes.specs.Placed.{live_in};
 ghost use Rattle.m11_passes.specs.States.{Going, going_of};
 ghost use Rattle.m11_passes.specs.Turns.{IsEmpty, IsNext, Places, SaysLive, SaysPlaced, Turns};
@@ -69,13 +70,13 @@ impl State {
     // What comes next. A line that becomes live is placed in `placed`.
     pub(crate) fn next(&mut self, map: &Map<'_>, placed: &mut PlacedLine) -> Result<Turn, AsmFault>
         requires goes_on { self.old.unfolder.fault ≡ None }
-        requires sound { IsSound self.old.unfolder.stage.taken self.old.pass self.old.mentioned }
+        requires sound { HasRoom self.old.unfolder.stage.taken 0 0 self.old.pass.table }
         ensures turns { Turns map.now (going_of self.old) (going_of self.new) (live_in placed.new.live)
             (SaysPlaced map.now placed.new self.new.put) result }
         ensures empty { IsEmpty self.new.unfolder.stage result }
         ensures next { IsNext self.old.unfolder.stage.taken self.new.unfolder.stage result }
         ensures goes_on { IfOk result (λ _. self.new.unfolder.fault ≡ None) }
-        ensures sound { IfOk result (λ _. IsSound self.new.unfolder.stage.taken self.new.pass self.new.mentioned) }
+        ensures sound { IfOk result (λ _. HasRoom self.new.unfolder.stage.taken 0 0 self.new.pass.table) }
     {
         match self.unfolder.next(&mut placed.live.line)? {
             Step::NeedLine => Ok(Turn::NeedLine),
@@ -91,12 +92,12 @@ impl State {
     // What comes next, where nothing is put: a line that becomes live stands in `live`.
     pub(crate) fn define_next(&mut self, live: &mut LiveLine) -> Result<Turn, AsmFault>
         requires goes_on { self.old.unfolder.fault ≡ None }
-        requires sound { IsSound self.old.unfolder.stage.taken self.old.pass self.old.mentioned }
+        requires sound { HasRoom self.old.unfolder.stage.taken 0 0 self.old.pass.table }
         ensures turns { Turns empty_map (going_of self.old) (going_of self.new) (live_in live.new) (SaysLive live.new) result }
         ensures empty { IsEmpty self.new.unfolder.stage result }
         ensures next { IsNext self.old.unfolder.stage.taken self.new.unfolder.stage result }
         ensures goes_on { IfOk result (λ _. self.new.unfolder.fault ≡ None) }
-        ensures sound { IfOk result (λ _. IsSound self.new.unfolder.stage.taken self.new.pass self.new.mentioned) }
+        ensures sound { IfOk result (λ _. HasRoom self.new.unfolder.stage.taken 0 0 self.new.pass.table) }
     {
         match self.unfolder.next(&mut live.line)? {
             Step::NeedLine => Ok(Turn::NeedLine),
@@ -115,15 +116,15 @@ impl State {
         requires kept { IsKept self.old.unfolder.stage }
         requires free { self.old.unfolder.has_statement ≡ false }
         requires room { HasRoom self.old.unfolder.stage.taken 67 1 self.old.pass.table }
-        requires few { IsFew self.old.pass self.old.mentioned }
         ensures same { live_in placed.new.live ≡ live_in placed.old.live }
         ensures places { Places map.now (live_in placed.old.live) self.old.unfolder.stage (going_of self.old) (going_of self.new)
             (SaysPlaced map.now placed.new self.new.put) result }
         ensures taken { IfOk result (λ _. self.new.unfolder.stage.taken ≡ self.old.unfolder.stage.taken) }
         ensures kept { IfOk result (λ _. IsKept self.new.unfolder.stage) }
         ensures goes_on { IfOk result (λ _. self.new.unfolder.fault ≡ None) }
-        ensures sound { IfOk result (λ _. IsSound self.new.unfolder.stage.taken self.new.pass self.new.mentioned) }
+        ensures sound { IfOk result (λ _. HasRoom self.new.unfolder.stage.taken 0 0 self.new.pass.table) }
     {
+        self.counts_are_within_the_limits();
         let statement = statement(&placed.live.line);
         if is_blank(&statement) {
             place_blank(&self.pass, &mut self.put, &statement, placed);
@@ -154,15 +155,15 @@ impl State {
         requires kept { IsKept self.old.unfolder.stage }
         requires free { self.old.unfolder.has_statement ≡ false }
         requires room { HasRoom self.old.unfolder.stage.taken 67 1 self.old.pass.table }
-        requires few { IsFew self.old.pass self.old.mentioned }
         ensures same { live_in live.new ≡ live_in live.old }
         ensures places { Places empty_map (live_in live.old) self.old.unfolder.stage (going_of self.old) (going_of self.new)
             (SaysLive live.new) result }
         ensures taken { IfOk result (λ _. self.new.unfolder.stage.taken ≡ self.old.unfolder.stage.taken) }
         ensures kept { IfOk result (λ _. IsKept self.new.unfolder.stage) }
         ensures goes_on { IfOk result (λ _. self.new.unfolder.fault ≡ None) }
-        ensures sound { IfOk result (λ _. IsSound self.new.unfolder.stage.taken self.new.pass self.new.mentioned) }
+        ensures sound { IfOk result (λ _. HasRoom self.new.unfolder.stage.taken 0 0 self.new.pass.table) }
     {
+        self.counts_are_within_the_limits();
         let statement = statement(&live.line);
         if is_blank(&statement) {
             live.deed = Deed::Rests;
@@ -188,12 +189,11 @@ impl State {
         requires terms { AreDeedTerms live.now.line.text live.now.deed begun.now.fields.list.items begun.now.fields.terms }
         requires kept { IsKept self.old.unfolder.stage }
         requires room { HasRoom self.old.unfolder.stage.taken 1 1 self.old.pass.table }
-        requires few { IsFew self.old.pass self.old.mentioned }
         ensures finishes { (old : Going) → Begins map.now (live_in live.now) old (going_of self.old) live.now.deed begun.now
             → Finishes map.now (live_in live.now) old.unfolder.stage old (going_of self.new) result }
         ensures unfolder { self.new.unfolder ≡ self.old.unfolder }
         ensures put { self.new.put ≡ self.old.put }
-        ensures sound { IfOk result (λ _. IsSound self.new.unfolder.stage.taken self.new.pass self.new.mentioned) }
+        ensures sound { IfOk result (λ _. HasRoom self.new.unfolder.stage.taken 0 0 self.new.pass.table) }
     {
         let line = &live.line;
         let arguments = begun.act.arguments;
@@ -205,14 +205,28 @@ impl State {
             &live.deed,
             &begun.fields,
         )?;
-        change_line(
+        self.counts_are_within_the_limits();
+        let changed = change_line(
             &mut self.pass,
             map,
             line,
             arguments,
             &live.deed,
             &begun.fields,
-        )
+        );
+        self.pass.counts_are_within_the_limits();
+        changed
+    }
+
+    // The limits hold of each pass. It does nothing.
+    #[inline(always)]
+    fn counts_are_within_the_limits(&self)
+        ensures symbols { self.now.pass.local_symbols ≤ most_local_symbols }
+        ensures sections { length self.now.pass.table.sections ≤ most_sections }
+        ensures names { length self.now.mentioned.names ≤ most_names }
+    {
+        self.pass.counts_are_within_the_limits();
+        self.mentioned.names_are_within_the_limit();
     }
 }
 

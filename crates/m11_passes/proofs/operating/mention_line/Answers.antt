@@ -21,12 +21,6 @@ returns-in_err-add_deed-clause-refuses c = λ table are.
 
 pub returns-clause-mentions : goal.returns-clause-mentions
 returns-clause-mentions c = λ table are.
-    (added_then (map (mention Knows) c.args.notes.now.symbols)
+    added_then (map (mention Knows) c.args.notes.now.symbols)
     (deed_mentions table c.args.line.now.text c.args.arguments (deed_seen c.args.deed.now)) c.args.mentioned.now
-    c.mention_read.new.mentioned c.add_deed.new.self (Ok tt) c.in_ok-mention_read.ensures (c.in_ok-add_deed.ensures table are)).0
-
-pub returns-clause-few : goal.returns-clause-few
-returns-clause-few c = λ table are.
-    (added_then (map (mention Knows) c.args.notes.now.symbols)
-    (deed_mentions table c.args.line.now.text c.args.arguments (deed_seen c.args.deed.now)) c.args.mentioned.now
-    c.mention_read.new.mentioned c.add_deed.new.self (Ok tt) c.in_ok-mention_read.ensures (c.in_ok-add_deed.ensures table are)).1
+    c.mention_read.new.mentioned c.add_deed.new.self (Ok tt) c.in_ok-mention_read.ensures (c.in_ok-add_deed.ensures table are)

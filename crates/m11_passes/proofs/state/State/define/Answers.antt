@@ -20,7 +20,8 @@ returns-then-is_blank-clause-places c =
       unlabelled = c.statement-statement.ensures.unlabelled (c.is_blank.ensures.unlabelled c.if-is_blank.true);
       bodiless = sym c.statement-statement.ensures.body ∙ c.is_blank.ensures.bodiless c.if-is_blank.true;
     } in
-    blank_places (live_in live) old blank c.requires.few c.requires.room.sections empty_map old.put (SaysLive live)
+    blank_places (live_in live) old blank c.counts_are_within_the_limits.ensures.symbols
+    c.counts_are_within_the_limits.ensures.sections c.counts_are_within_the_limits.ensures.names empty_map old.put (SaysLive live)
     (λ table matches. live_so (live_in live) old.unfolder.stage blank table live refl refl)
 
 pub returns-in_err-finish-clause-places : goal.returns-in_err-finish-clause-places

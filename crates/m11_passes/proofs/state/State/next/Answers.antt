@@ -16,7 +16,7 @@ place-requires-clause-room c =
     (comes_takes c.args.self.now.unfolder.stage c.next.new.self.stage (live_of c.next.new.line c.in-Line.is_expanded)
     (comes_of c.args.self.now.unfolder.stage c.next.new.self.stage c.next.new.line c.in_ok-next.field-0 c.in-Line.is_expanded
     c.in-Line.is (c.in_ok-next.ensures.steps c.requires.goes_on)))
-    c.requires.sound.room
+    c.requires.sound
 
 pub returns-in_err-place-in-Line-clause-turns : goal.returns-in_err-place-in-Line-clause-turns
 returns-in_err-place-in-Line-clause-turns c =
@@ -28,13 +28,13 @@ returns-in_err-place-in-Line-clause-turns c =
 
 pub returns-in-NeedLine-clause-sound : goal.returns-in-NeedLine-clause-sound
 returns-in-NeedLine-clause-sound c =
-    sound_more c.args.self.now.unfolder.stage.taken c.next.new.self.stage.taken c.args.self.now.pass c.args.self.now.mentioned
+    sound_more c.args.self.now.pass.table c.args.self.now.unfolder.stage.taken c.next.new.self.stage.taken
     (taken_rests c.args.self.now.unfolder.stage c.next.new.self.stage c.next.new.line c.in_ok-next.field-0 c.in-NeedLine.is
     (c.in_ok-next.ensures.steps c.requires.goes_on)) c.requires.sound
 
 pub returns-in-End-clause-sound : goal.returns-in-End-clause-sound
 returns-in-End-clause-sound c =
-    sound_more c.args.self.now.unfolder.stage.taken c.next.new.self.stage.taken c.args.self.now.pass c.args.self.now.mentioned
+    sound_more c.args.self.now.pass.table c.args.self.now.unfolder.stage.taken c.next.new.self.stage.taken
     (taken_ends c.args.self.now.unfolder.stage c.next.new.self.stage c.next.new.line c.in_ok-next.field-0 c.in-End.is
     (c.in_ok-next.ensures.steps c.requires.goes_on)) c.requires.sound
 

@@ -27,7 +27,8 @@ returns-then-is_blank-clause-places c =
       unlabelled = c.statement-statement.ensures.unlabelled (c.is_blank.ensures.unlabelled c.if-is_blank.true);
       bodiless = sym c.statement-statement.ensures.body ∙ c.is_blank.ensures.bodiless c.if-is_blank.true;
     } in
-    blank_places (live_in c.args.placed.now.live) old blank c.requires.few c.requires.room.sections map put
+    blank_places (live_in c.args.placed.now.live) old blank c.counts_are_within_the_limits.ensures.symbols
+    c.counts_are_within_the_limits.ensures.sections c.counts_are_within_the_limits.ensures.names map put
     (SaysPlaced map c.place_blank.new.placed put)
     (λ table matches. c.place_blank.ensures.placed map table old.unfolder.stage matches)
 
