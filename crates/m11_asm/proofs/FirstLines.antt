@@ -1,5 +1,5 @@
 -- The first pass over feeds, from line to line.
-use Rattle.std.proofs.Common.{◌≡◌, ◌∙◌, Bool, true, false, List, [], ◌∷◌, ◌++◌, ℕ, length, Option, Some, None, Result, Ok, Err, IfOk, IsErrAnd, refl, sym, ap, subst, inl, inr, ◌≤◌}
+use Rattle.std.proofs.Common.{◌≡◌, ◌∙◌, Bool, true, false, List, [], ◌∷◌, ◌++◌, ℕ, length, Option, Some, None, Result, Ok, Err, IfOk, IsErrAnd, refl, sym, ap, subst, inl, inr}
 use Rattle.std.specs.Result.{result_err}
 use Rattle.m11_asm_faults.specs.Faults.{of_lines}
 use Rattle.m11_asm_faults.specs.declared.fault.AsmFault.{AsmFault}
@@ -10,7 +10,6 @@ use Rattle.m11_lines.specs.Line.{SourceLine}
 use Rattle.m11_lines.specs.Reader.{LineReading, ReadsNext, place}
 use Rattle.m11_lines.specs.declared.fault.LineFault.{LineFault}
 use Rattle.m11_lines.specs.declared.fault.LineFault.TheVariants.{Read, TooMuchSource, TooManyLines}
-use Rattle.m11_placement.specs.Limits.{most_sections}
 use Rattle.m11_placement.specs.Meanings.{empty_map}
 use Rattle.m11_readings.specs.Readings.{Reading}
 use Rattle.m11_asm.specs.Written.{Ended}
@@ -145,10 +144,9 @@ no_fault first came none some = none_some (sym none ∙ some)
     none_some e = cc
 
 pub all_given : {F : Type 0} (pass : Pass F) (first : FirstState) → FirstTaken pass first → (result : Result Symbols AsmFault)
-    → IfOk result (λ symbols. symbols ≡ symbols_of first) → IfOk result (λ symbols. length symbols.kept.table.sections ≤ most_sections)
-    → result_err result ≡ first.fault → GivesSymbols pass result
-all_given pass first taken (Ok symbols) is few ends = (first, taken, is, few)
-all_given pass first taken (Err stopped) is few ends = absurd (no_fault first stopped taken.stands.goes_on (sym ends))
+    → IfOk result (λ symbols. symbols ≡ symbols_of first) → result_err result ≡ first.fault → GivesSymbols pass result
+all_given pass first taken (Ok symbols) is ends = (first, taken, is)
+all_given pass first taken (Err stopped) is ends = absurd (no_fault first stopped taken.stands.goes_on (sym ends))
 
 abbrev ended_at : List SourceLine → Ended
 ended_at source = record { read = length source; has_end = false }

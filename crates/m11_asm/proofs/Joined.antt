@@ -24,13 +24,14 @@ module _ {F : Type 0} (Untouched : Type 0) (first second : Pass F) (old new : Ou
   runs_by lines read (Ok done) reads = (lines, read, reads)
   runs_by lines read (Err stopped) reads = inr (lines, read, reads)
 
-  module _ (laws : LawsOfFirstPasses) (symbols : Symbols) (gives : GivesSymbols first (Ok symbols)) where
+  module _ (laws : LawsOfFirstPasses) (symbols : Symbols) (few : length symbols.kept.table.sections ≤ most_sections)
+      (gives : GivesSymbols first (Ok symbols)) where
     same : AlikePrograms (program_in symbols) (program_of (givens gives.1.stands.lines))
     same =
         let P : Symbols → Type 0 = λ s. length s.kept.table.sections ≤ most_sections in
         let Q : Symbols → Type 0 = λ s. AlikePrograms (program_in s) (program_of (givens gives.1.stands.lines)) in
         subst Q (sym gives.2)
-        (programs_alike gives.1.source gives.1.stands.lines gives.0 gives.1.stands.taken (subst P gives.2 gives.3) laws)
+        (programs_alike gives.1.source gives.1.stands.lines gives.0 gives.1.stands.taken (subst P gives.2 few) laws)
 
     pub asm_runs : (result : Result AsmDone AsmFault) → ReadsSecond second (program_in symbols) old new result
         → AsmRunsOr Untouched first second old new result

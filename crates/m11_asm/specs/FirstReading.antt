@@ -1,9 +1,8 @@
 -- The first pass over feeds, call by call. (This project's own.)
-use Rattle.std.specs.Prelude.{◌≡◌, ◌≤◌, Bool, true, false, List, ◌++◌, length, None, Result, Ok, Err}
+use Rattle.std.specs.Prelude.{◌≡◌, Bool, true, false, List, ◌++◌, None, Result, Ok, Err}
 use Rattle.m11_asm_faults.specs.declared.fault.AsmFault.{AsmFault}
 use Rattle.m11_first.specs.First.{FirstStands, FirstState, Symbols, symbols_of}
 use Rattle.m11_lines.specs.Line.{SourceLine}
-use Rattle.m11_placement.specs.Limits.{most_sections}
 use Rattle.m11_readings.specs.Readings.{Reading}
 use Rattle.m11_asm.specs.Passes.{Pass, Reads, ReadsFirst}
 
@@ -26,5 +25,4 @@ TakesLines pass first (Err stopped) = ReadsFirst pass (Err stopped)
 
 abbrev pub GivesSymbols : {F : Type 0} → Pass F → Result Symbols AsmFault → Type 0
 GivesSymbols pass (Ok symbols) = (first : FirstState) × FirstTaken pass first × (symbols ≡ symbols_of first)
-    × (length symbols.kept.table.sections ≤ most_sections)
 GivesSymbols pass (Err stopped) = ReadsFirst pass (Err stopped)

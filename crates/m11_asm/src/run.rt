@@ -46,6 +46,7 @@ pub fn asm_run<F: Feed, S: Sink, T: Sink, U: Sink>(
             first_passes_that_agree_have_the_same_rows();
             first_passes_that_agree_have_the_same_symbols();
             first_passes_that_agree_have_the_same_sections();
+            symbols.sections_are_within_the_limit();
             read_second(alloc, second, symbols, object, listing, messages)
         }
         Err(fault) => Err(fault),

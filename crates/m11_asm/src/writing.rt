@@ -12,7 +12,6 @@ ghost use Rattle.m11_passes.specs.Lines.{Numbered, table_at};
 ghost use Rattle.m11_passes.specs.Placed.{IsPlaced};
 ghost use Rattle.m11_placement.specs.Contents.{Put, pieces_from};
 ghost use Rattle.m11_placement.specs.Exports as exports;
-ghost use Rattle.m11_placement.specs.Limits.{most_sections};
 ghost use Rattle.m11_placement.specs.Meanings.{Map};
 ghost use Rattle.m11_placement.specs.Sources.{directed_in, end_in};
 ghost use Rattle.m11_placement.specs.Tables.{Table};
@@ -91,7 +90,6 @@ impl Writing {
         mentioned: &Mentioned,
         facts: &Facts,
     ) -> Result<Writing, AllocError>
-        requires { length first.now.table.sections ≤ most_sections }
         ensures { IfOk result (λ writing. WritingStands (program_kept first.now mentioned.now facts.now) [] writing) }
     {
         let first_pass = first_pass_of(first, mentioned, facts);

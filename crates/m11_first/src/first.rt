@@ -1,11 +1,10 @@
 //! The first pass of a source, line by line. (MACRO-11 Language Reference Manual, "Source program format", "Symbols and expressions" and
 //! ".END directive".)
 
-ghost use Rattle.std.specs.Prelude.{◌≡◌, ◌≤◌, [], List, None, Some, Err, IfOk, false, length};
+ghost use Rattle.std.specs.Prelude.{◌≡◌, [], List, None, Some, Err, IfOk, false};
 ghost use Rattle.std.specs.Result.{result_err};
 ghost use Rattle.m11_lines.specs.Line.{SourceLine};
 ghost use Rattle.m11_passes.specs.Lines.{Numbered};
-ghost use Rattle.m11_placement.specs.Limits.{most_sections};
 ghost use Rattle.m11_first.specs.First.{FirstStands, FirstTakes, Taken, TakesLeft, symbols_of};
 
 use crate::facts::Facts;
@@ -86,7 +85,6 @@ impl First {
     /// Errors: the fault that came, if one did.
     pub fn end(self) -> Result<Symbols, AsmFault>
         ensures symbols { IfOk result (λ symbols. symbols ≡ symbols_of self) }
-        ensures sections { IfOk result (λ symbols. length symbols.kept.table.sections ≤ most_sections) }
         ensures fault { result_err result ≡ self.fault }
     {
         match self.fault.check() {

@@ -8,4 +8,4 @@ returns-in_err-first g c = none_given g.F.Feed.text g.F.Feed.faults c.args.feeds
 pub returns-in-Ok : goal.returns-in-Ok
 returns-in-Ok g c =
     all_given (pass_of g.F.Feed.text g.F.Feed.faults c.args.feeds.now c.take_lines.new.feeds) c.take_lines.new.first
-    (c.in-Ok.ensures c.in_ok-first.ensures) c.end.result c.end.ensures.symbols c.end.ensures.sections c.end.ensures.fault
+    (c.in-Ok.ensures c.in_ok-first.ensures) c.end.result c.end.ensures.symbols c.end.ensures.fault

@@ -15,7 +15,7 @@ returns-in-Ok-clause-runs g c =
     (pass_of g.F.Feed.text g.F.Feed.faults c.args.second.now c.read_second.new.feeds)
     (outputs_of g.S.Sink g.T.Sink g.U.Sink c.args.object.now c.args.listing.now c.args.messages.now)
     (outputs_of g.S.Sink g.T.Sink g.U.Sink c.read_second.new.object c.read_second.new.listing c.read_second.new.messages)
-    laws c.in-Ok.symbols c.in-Ok.ensures c.read_second.result c.read_second.ensures
+    laws c.in-Ok.symbols c.sections_are_within_the_limit.ensures c.in-Ok.ensures c.read_second.result c.read_second.ensures
 
 pub returns-in-Ok-clause-untouched : goal.returns-in-Ok-clause-untouched
 returns-in-Ok-clause-untouched g c =
@@ -28,4 +28,4 @@ returns-in-Ok-clause-untouched g c =
     (pass_of g.F.Feed.text g.F.Feed.faults c.args.second.now c.read_second.new.feeds)
     (outputs_of g.S.Sink g.T.Sink g.U.Sink c.args.object.now c.args.listing.now c.args.messages.now)
     (outputs_of g.S.Sink g.T.Sink g.U.Sink c.read_second.new.object c.read_second.new.listing c.read_second.new.messages)
-    laws c.in-Ok.symbols c.in-Ok.ensures c.read_second.result c.read_second.ensures
+    laws c.in-Ok.symbols c.sections_are_within_the_limit.ensures c.in-Ok.ensures c.read_second.result c.read_second.ensures
