@@ -1,12 +1,14 @@
 -- The first pass over feeds, from line to line.
-use Rattle.std.proofs.Common.{◌≡◌, ◌∙◌, Bool, true, false, List, [], ◌∷◌, ◌++◌, ℕ, length, Option, Some, None, Result, Ok, Err, IfOk, IsErrAnd, refl, sym, ap, subst, inl, inr}
+use Rattle.std.proofs.Common.{◌≡◌, ◌∙◌, Bool, true, false, List, [], ◌∷◌, ◌++◌, ℕ, length, Option, Some, None, Result, Ok, Err, IfOk, IsErrAnd, refl, sym, ap, subst, inl, inr, arith}
 use Rattle.std.specs.Result.{result_err}
 use Rattle.m11_asm_faults.specs.Faults.{of_lines}
 use Rattle.m11_asm_faults.specs.declared.fault.AsmFault.{AsmFault}
 use Rattle.m11_asm_faults.specs.declared.fault.AsmFault.TheVariants as fault
 use Rattle.m11_base.specs.Feed.{NoneFailed, Text}
 use Rattle.m11_first.specs.First.{FirstFails, FirstStands, FirstState, FirstTakes, Symbols, symbols_of}
+use Rattle.m11_first.proofs.Counting.{one_longer}
 use Rattle.m11_lines.specs.Line.{SourceLine}
+use Rattle.m11_lines.specs.Lines.{most_lines}
 use Rattle.m11_lines.specs.Reader.{LineReading, ReadsNext, place}
 use Rattle.m11_lines.specs.declared.fault.LineFault.{LineFault}
 use Rattle.m11_lines.specs.declared.fault.LineFault.TheVariants.{Read, TooMuchSource, TooManyLines}
@@ -17,7 +19,7 @@ use Rattle.m11_asm.specs.FirstReading.{FirstTaken, GivesSymbols, IsTakenUp, Take
 use Rattle.m11_asm.specs.Outcome as outcome
 use Rattle.m11_asm.specs.Outcome.{Ends, Refuses, Unended}
 use Rattle.m11_asm.specs.Passes.{Pass, ReadsFirst, pass_of}
-use Rattle.m11_asm.proofs.LinesRead.{Begun, SoFar, all_read, begun, failed, one_more, too_many, too_much}
+use Rattle.m11_asm.proofs.LinesRead.{Begun, SoFar, all_read, begun, failed, few_read, one_more, too_many, too_much}
 
 -- where `.END` isn't live, nothing is left of the lines
 pub first_unended : (source : List SourceLine) (first : FirstState) → (stands : FirstStands source first) → first.has_ended ≡ false
@@ -102,17 +104,25 @@ module _ {F : Type 0} (text : F → Option Text) (faults : F → ℕ) (initial h
           true_false e = cc
       first_goes_on first' (inr took) = record { source = so.source ++ line ∷ []; read = more; stands = took.1 }
 
+      -- a reader gives no line past the limit
+      too_long : first.read ≡ most_lines → ⊥
+      too_long full =
+          let few = few_read text faults initial later reader' (so.source ++ line ∷ []) more in
+          let longer = one_longer so.source line in
+          let read = so.stands.read in
+          omega (arith, few, longer, read, full)
+
       refused_so : (stopped : AsmFault) → FirstFails (so.source ++ line ∷ []) first stopped
           → ReadsFirst (pass_of text faults initial later) (Err stopped)
       refused_so fault.NoMemory fails = begun_more.reads.0
-      refused_so fault.Read fails = absurd fails.refused
-      refused_so (fault.Write output) fails = absurd fails.refused
-      refused_so fault.TooMuchSource fails = absurd fails.refused
+      refused_so fault.Read fails = absurd fails.2
+      refused_so (fault.Write output) fails = absurd fails.2
+      refused_so fault.TooMuchSource fails = absurd (too_long fails.1)
       refused_so stopped fails = (
         begun_more.reading,
         begun_more.reads,
-        fails.lines,
-        outcome.Refuses.AtLimit (so.source ++ line ∷ []) begun_more.more stopped begun_more.are fails.refused refl,
+        fails.1,
+        outcome.Refuses.AtLimit (so.source ++ line ∷ []) begun_more.more stopped begun_more.are fails.2 refl,
       )
 
       pub first_refuses : (first' : FirstState) (stopped : AsmFault) (result : Result (Unit {0}) AsmFault)

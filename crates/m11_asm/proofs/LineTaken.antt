@@ -1,10 +1,11 @@
 -- One line more of the source: it is read, and what follows from it is taken.
-use Rattle.std.proofs.Common.{◌≡◌, ◌∙◌, ℕ, ◌+◌, Bool, false, List, [], ◌∷◌, ◌++◌, length, Option, None, Result, Ok, Err, IfOk, IfErr, IsErrAnd, sym, ap, subst, inr, length-append}
+use Rattle.std.proofs.Common.{◌≡◌, ◌∙◌, ℕ, ◌+◌, Bool, false, List, [], ◌∷◌, ◌++◌, length, Option, None, Result, Ok, Err, IfOk, IfErr, IsErrAnd, sym, ap, subst, inr}
 use Rattle.std.specs.Option.{option_or}
 use Rattle.std.specs.Result.{result_err}
 use Rattle.m11_asm_faults.specs.declared.fault.AsmFault.{AsmFault}
 use Rattle.m11_asm_faults.specs.declared.fault.AsmFault.TheVariants as fault
 use Rattle.m11_asm_outputs.specs.Outputs.{Outputs}
+use Rattle.m11_first.proofs.Counting.{one_longer}
 use Rattle.m11_lines.specs.Line.{SourceLine}
 use Rattle.m11_lines.specs.Lines.{most_lines}
 use Rattle.m11_passes.specs.Lines as lines
@@ -21,9 +22,6 @@ abbrev pub Feeds : Type 0
 Feeds = (map : Map) (before : Gathered) (source : List SourceLine) (lines : List Numbered) (line : SourceLine) (going : Going)
     → PassStands map before source lines going → going.unfolder.stage.left ≡ [] → going.unfolder.stage.has_ended ≡ false
     → PassStands map before (source ++ line ∷ []) lines (fed line going)
-
-one_longer : (source : List SourceLine) (line : SourceLine) → length (source ++ line ∷ []) ≡ length source + 1
-one_longer source line = length-append source (line ∷ [])
 
 abbrev pub state_of : Map → Going → Writing → ℕ → Bool → Option AsmFault → SecondState
 state_of map going writing read has_ended fault =
@@ -122,10 +120,3 @@ module _ (program : Program) (source : List SourceLine) (line : SourceLine) (fir
                 ∙ ap (λ (r : Result Bool AsmFault). result_err r) (sym same);
           },
         )
-
--- a latch keeps no fault of a call that was Ok
-pub keeps_none : (kept old : Option AsmFault) (numbers : Result ℕ AsmFault) (number : ℕ) → kept ≡ option_or old (result_err numbers)
-    → old ≡ None → Ok number ≡ numbers → kept ≡ None
-keeps_none kept old numbers number kept_is none same =
-    kept_is ∙ ap (λ (f : Option AsmFault). option_or f (result_err numbers)) none
-    ∙ ap (λ (r : Result ℕ AsmFault). result_err r) (sym same)

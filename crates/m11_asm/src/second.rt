@@ -1,11 +1,9 @@
 //! The second pass of a source, line by line. (MACRO-11 Language Reference Manual, "Source program format", "Symbols" and ".END directive".)
 
-ghost use Rattle.std.specs.Prelude.{◌≡◌, [], ◌+◌, List, Some, Err, IfOk, IfErr};
+ghost use Rattle.std.specs.Prelude.{◌≡◌, [], List, Some, Err, IfOk};
 ghost use Rattle.std.specs.Result.{result_err};
-ghost use Rattle.m11_asm_faults.specs.declared.fault.AsmFault.TheVariants as fault;
 ghost use Rattle.m11_asm_outputs.specs.Outputs.{Gains, Outputs, outputs_of};
 ghost use Rattle.m11_lines.specs.Line.{SourceLine};
-ghost use Rattle.m11_lines.specs.Lines.{most_lines};
 ghost use Rattle.m11_asm.specs.Program.{Program, program_in};
 ghost use Rattle.m11_asm.specs.Second.{SecondEnds, SecondStands, SecondTakes};
 
@@ -14,16 +12,13 @@ use crate::lines::take_left;
 use crate::writing::Writing;
 use m11_asm_faults::AsmFault;
 use m11_base::{Latch, Sink};
-use m11_first::Symbols;
+use m11_first::{Symbols, number_after};
 use m11_passes::{PlacedLine, SourcePass, the_calls_place_the_lines_of_a_source};
 use m11_placing::Pass;
 use m11_scan::Line;
 use m11_table::Map;
 use std::alloc::{AllocError, Global};
 use std::marker::Model;
-
-/// The most lines of all sources.
-const MOST_LINES: u16 = 65535;
 
 /// The second pass of a source, under what the first one gave: its lines go in one after the other, up to the one in which `.END` becomes
 /// live, and what each of them writes is written before the next one. Of the object only the text that is open is kept. After a fault each
@@ -187,17 +182,5 @@ impl Second {
         self.fault.check()?;
         let place = self.pass.table().place();
         self.writing.end(self.has_ended, self.read, place, object, listing, messages)
-    }
-}
-
-// The number of the line after that of a number.
-fn number_after(read: u16) -> Result<u16, AsmFault>
-    ensures counts { IfOk result (λ number. number ≡ read + 1) }
-    ensures refuses { IfErr result (λ stopped. (stopped ≡ fault.TooMuchSource) × (read ≡ most_lines)) }
-{
-    if read < MOST_LINES {
-        Ok(read + 1)
-    } else {
-        Err(AsmFault::TooMuchSource)
     }
 }

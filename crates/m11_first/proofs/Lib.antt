@@ -1,3 +1,4 @@
+pub mod Counting
 mod Naming
 mod Noting
 mod Taking

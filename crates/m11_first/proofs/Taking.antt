@@ -1,11 +1,12 @@
 -- What follows from a line of the source is taken: live lines, and what they say.
-use Rattle.std.proofs.Common.{◌≡◌, ◌∙◌, Bool, true, false, List, [], ◌∷◌, ◌++◌, length, Option, None, Result, Ok, Err, IfOk, IsErrAnd, refl, sym, ap, subst, inr}
+use Rattle.std.proofs.Common.{◌≡◌, ◌∙◌, ◌<◌, ℕ, ◌+◌, Bool, true, false, List, [], ◌∷◌, ◌++◌, length, Option, None, Result, Ok, Err, IfOk, IfErr, IsErrAnd, refl, sym, ap, subst, inr}
 use Rattle.std.proofs.lemmas.List.{map-append}
-use Rattle.std.specs.Prelude.{◌⊎◌}
 use Rattle.std.specs.Option.{option_or}
 use Rattle.std.specs.Result.{result_err}
 use Rattle.m11_asm_faults.specs.declared.fault.AsmFault.{AsmFault}
+use Rattle.m11_asm_faults.specs.declared.fault.AsmFault.TheVariants.{TooMuchSource}
 use Rattle.m11_lines.specs.Line.{SourceLine}
+use Rattle.m11_lines.specs.Lines.{most_lines}
 use Rattle.m11_unfolding.specs.Stages.{Stage, start}
 use Rattle.m11_unfolding.specs.Unfolding.{Given}
 use Rattle.m11_placement.specs.Lines.{after_line}
@@ -25,7 +26,8 @@ use Rattle.m11_passes.specs.declared.placed.LiveLine.{LiveLine}
 use Rattle.m11_passes.specs.declared.turns.Turn.{Turn}
 use Rattle.m11_passes.specs.declared.turns.Turn.TheVariants.{NeedLine, End, Line}
 use Rattle.m11_first.specs.Facts.{Facts, facts_of, no_facts, with_line}
-use Rattle.m11_first.specs.First.{FirstStands, FirstState, FirstTakes, GoesOn, Taken, TakesAll, TakesLeft}
+use Rattle.m11_first.specs.First.{FirstFails, FirstStands, FirstState, FirstTakes, GoesOn, HasRoom, Taken, TakesAll, TakesLeft}
+use Rattle.m11_first.proofs.Counting.{one_longer}
 use Rattle.m11_first.proofs.FactsFound.{finds_more}
 
 -- the law of the calls of a pass
@@ -119,12 +121,13 @@ module _ (turn : TurnsSo) (source : List SourceLine) (old new : Going) (live : L
 pub begins : (going : Going) (gathered : Gathered) (facts : Facts) (fault : Option AsmFault)
     → ((map : Map) → PassStands map gathered [] [] going) → gathered ≡ none_gathered → going.unfolder.stage ≡ start []
     → facts ≡ no_facts → fault ≡ None
-    → FirstStands [] (record { going = going; facts = facts; has_ended = false; fault = fault })
+    → FirstStands [] (record { going = going; facts = facts; read = 0; has_ended = false; fault = fault })
 begins going gathered facts fault stands none first untold goes =
     let P : Gathered → Type 0 = λ g. PassStands empty_map g [] [] going in
     record {
       lines = [];
       taken = record { stands = subst P none (stands empty_map); facts_are = untold };
+      read = refl;
       ended = sym (ap (λ (s : Stage). s.has_ended) first);
       needs = λ is. ap (λ (s : Stage). s.left) first;
       goes_on = goes;
@@ -137,55 +140,83 @@ begins_so pass fault first goes = record {
   needs = λ none is. ap (λ (s : Stage). s.left) first;
 }
 
-module _ (feeds : Feeds) (source : List SourceLine) (line : SourceLine) (pass read : PassState) (facts : Facts) (has_ended : Bool)
+module _ (source : List SourceLine) (line : SourceLine) (pass : PassState) (facts : Facts) (read : ℕ) (has_ended : Bool)
     (fault : Option AsmFault) (old : FirstState)
-    (view_is : record { going = pass.going; facts = facts; has_ended = has_ended; fault = fault } ≡ old)
-    (goes : has_ended ≡ false) (read_is : read ≡ record { going = fed line pass.going; fault = pass.fault })
-    (outcome : Result Bool AsmFault) (new_going : Going) (new_facts : Facts)
-    (takes : (source : List SourceLine) (lines : List Numbered) → Taken source lines read.going facts
-    → TakesLeft source new_going new_facts outcome)
-    (stands : FirstStands source old) where
+    (view_is : record { going = pass.going; facts = facts; read = read; has_ended = has_ended; fault = fault } ≡ old)
+    (goes : has_ended ≡ false) (numbers : Result ℕ AsmFault) where
   goes_so : old.has_ended ≡ false
   goes_so = sym (ap (λ (s : FirstState). s.has_ended) view_is) ∙ goes
 
-  left : TakesLeft (source ++ line ∷ []) new_going new_facts outcome
-  left =
-      let S : FirstState → Type 0 = λ s. FirstStands source s in
-      let here = subst S (sym view_is) stands in
-      let G : Going → Type 0 = λ g. Taken (source ++ line ∷ []) here.lines g facts in
-      takes (source ++ line ∷ []) here.lines (subst G (sym (ap (λ (p : PassState). p.going) read_is)) (record {
-        stands = feeds empty_map none_gathered source here.lines line pass.going here.taken.stands (here.needs goes)
-            (sym here.ended ∙ goes);
-        facts_are = here.taken.facts_are;
-      }))
+  -- there are too many lines
+  pub line_refused : (came : AsmFault) (new : FirstState) (result : Result (Unit {0}) AsmFault)
+      → IfErr numbers (λ f. (f ≡ TooMuchSource) × (read ≡ most_lines)) → Err came ≡ numbers → IsErrAnd result (λ f. f ≡ came)
+      → FirstTakes source line old new result
+  line_refused came new (Ok done) refuses same is = absurd is
+  line_refused came new (Err other) refuses same is =
+      let R : Result ℕ AsmFault → Type 0 = λ r. IfErr r (λ f. (f ≡ TooMuchSource) × (read ≡ most_lines)) in
+      let full : (came ≡ TooMuchSource) × (read ≡ most_lines) = subst R (sym same) refuses in
+      let P : AsmFault → Type 0 = λ f. FirstFails (source ++ line ∷ []) old f in
+      subst P (sym (is ∙ full.0)) (goes_so, sym (ap (λ (s : FirstState). s.read) view_is) ∙ full.1)
 
-  pub line_fails : (came : AsmFault) (new : FirstState) (result : Result (Unit {0}) AsmFault) → Err came ≡ outcome
-      → IsErrAnd result (λ f. f ≡ came) → FirstTakes source line old new result
-  line_fails came new (Ok done) same is = absurd is
-  line_fails came new (Err other) same is =
-      let P : Result Bool AsmFault → Type 0 = λ r. TakesLeft (source ++ line ∷ []) new_going new_facts r in
-      let here : TakesLeft (source ++ line ∷ []) new_going new_facts (Err came) = subst P (sym same) left in
-      let Q : AsmFault → Type 0 = λ f. Refused empty_map [] (source ++ line ∷ []) here.0 f in
-      record { reads = goes_so; lines = here.0; refused = subst Q (sym is) here.1 }
+  module _ (feeds : Feeds) (fed_pass : PassState) (fed_is : fed_pass ≡ record { going = fed line pass.going; fault = pass.fault })
+      (number : ℕ) (counts : IfOk numbers (λ n. n ≡ read + 1)) (fits : IfOk numbers (λ n. read < most_lines))
+      (number_is : Ok number ≡ numbers) (outcome : Result Bool AsmFault) (new_going : Going) (new_facts : Facts)
+      (takes : (source : List SourceLine) (lines : List Numbered) → Taken source lines fed_pass.going facts
+      → TakesLeft source new_going new_facts outcome)
+      (stands : FirstStands source old) where
+    number_so : number ≡ read + 1
+    number_so =
+        let R : Result ℕ AsmFault → Type 0 = λ r. IfOk r (λ n. n ≡ read + 1) in subst R (sym number_is) counts
 
-  pub line_takes : (ended : Bool) (kept : Option AsmFault) → Ok ended ≡ outcome
-      → IfOk outcome (λ e. e ≡ false → new_going.unfolder.stage.left ≡ [])
-      → kept ≡ option_or fault (result_err outcome) → fault ≡ None
-      → ((old.has_ended ≡ true) × (record { going = new_going; facts = new_facts; has_ended = ended; fault = kept } ≡ old))
-      ⊎ ((old.has_ended ≡ false) × FirstStands (source ++ line ∷ [])
-      (record { going = new_going; facts = new_facts; has_ended = ended; fault = kept }))
-  line_takes ended kept same needs kept_is none =
-      let P : Result Bool AsmFault → Type 0 = λ r. TakesLeft (source ++ line ∷ []) new_going new_facts r in
-      let N : Result Bool AsmFault → Type 0 = λ r. IfOk r (λ e. e ≡ false → new_going.unfolder.stage.left ≡ []) in
-      let here : TakesAll (source ++ line ∷ []) new_going new_facts ended = subst P (sym same) left in
-      inr (
-        goes_so,
-        record {
-          lines = here.lines;
-          taken = here.taken;
-          ended = here.ended;
-          needs = subst N (sym same) needs;
-          goes_on = kept_is ∙ ap (λ (f : Option AsmFault). option_or f (result_err outcome)) none
-              ∙ ap (λ (r : Result Bool AsmFault). result_err r) (sym same);
-        },
-      )
+    has_room : HasRoom old
+    has_room =
+        let R : Result ℕ AsmFault → Type 0 = λ r. IfOk r (λ n. read < most_lines) in
+        let N : ℕ → Type 0 = λ n. n < most_lines in
+        (goes_so, subst N (ap (λ (s : FirstState). s.read) view_is) (subst R (sym number_is) fits))
+
+    here : FirstStands source (record { going = pass.going; facts = facts; read = read; has_ended = has_ended; fault = fault })
+    here = let S : FirstState → Type 0 = λ s. FirstStands source s in subst S (sym view_is) stands
+
+    left : TakesLeft (source ++ line ∷ []) new_going new_facts outcome
+    left =
+        let G : Going → Type 0 = λ g. Taken (source ++ line ∷ []) here.lines g facts in
+        takes (source ++ line ∷ []) here.lines (subst G (sym (ap (λ (p : PassState). p.going) fed_is)) (record {
+          stands = feeds empty_map none_gathered source here.lines line pass.going here.taken.stands (here.needs goes)
+              (sym here.ended ∙ goes);
+          facts_are = here.taken.facts_are;
+        }))
+
+    fails_so : (stopped : AsmFault) → TakesLeft (source ++ line ∷ []) new_going new_facts (Err stopped)
+        → FirstFails (source ++ line ∷ []) old stopped
+    fails_so TooMuchSource fails = absurd fails.1
+    fails_so other fails = (has_room, fails.0, fails.1)
+
+    pub line_fails : (came : AsmFault) (new : FirstState) (result : Result (Unit {0}) AsmFault) → Err came ≡ outcome
+        → IsErrAnd result (λ f. f ≡ came) → FirstTakes source line old new result
+    line_fails came new (Ok done) same is = absurd is
+    line_fails came new (Err other) same is =
+        let P : Result Bool AsmFault → Type 0 = λ r. TakesLeft (source ++ line ∷ []) new_going new_facts r in
+        let Q : AsmFault → Type 0 = λ f. FirstFails (source ++ line ∷ []) old f in
+        subst Q (sym is) (fails_so came (subst P (sym same) left))
+
+    pub line_takes : (ended : Bool) (kept before_fault : Option AsmFault) → Ok ended ≡ outcome
+        → IfOk outcome (λ e. e ≡ false → new_going.unfolder.stage.left ≡ [])
+        → kept ≡ option_or before_fault (result_err outcome) → before_fault ≡ None
+        → FirstTakes source line old
+        (record { going = new_going; facts = new_facts; read = number; has_ended = ended; fault = kept }) (Ok tt)
+    line_takes ended kept before_fault same needs kept_is none =
+        let P : Result Bool AsmFault → Type 0 = λ r. TakesLeft (source ++ line ∷ []) new_going new_facts r in
+        let N : Result Bool AsmFault → Type 0 = λ r. IfOk r (λ e. e ≡ false → new_going.unfolder.stage.left ≡ []) in
+        let all : TakesAll (source ++ line ∷ []) new_going new_facts ended = subst P (sym same) left in
+        inr (
+          has_room,
+          record {
+            lines = all.lines;
+            taken = all.taken;
+            read = number_so ∙ ap (λ (n : ℕ). n + 1) here.read ∙ sym (one_longer source line);
+            ended = all.ended;
+            needs = subst N (sym same) needs;
+            goes_on = kept_is ∙ ap (λ (f : Option AsmFault). option_or f (result_err outcome)) none
+                ∙ ap (λ (r : Result Bool AsmFault). result_err r) (sym same);
+          },
+        )

@@ -1,8 +1,10 @@
 -- Where the first pass of a source stands between two of its lines, and what it gives in the end. (MACRO-11 Language Reference Manual,
--- "Source program format", "Symbols and expressions" and ".END directive".)
-use Rattle.std.specs.Prelude.{◌≡◌, ◌⊎◌, Bool, true, false, List, [], ◌∷◌, ◌++◌, Option, None, Result, Ok, Err}
+-- "Source program format", "Symbols and expressions" and ".END directive". That lines past the 65,535th are refused is this project's own.)
+use Rattle.std.specs.Prelude.{◌≡◌, ◌<◌, ◌⊎◌, ℕ, Bool, true, false, List, [], ◌∷◌, ◌++◌, length, Option, None, Result, Ok, Err}
 use Rattle.m11_asm_faults.specs.declared.fault.AsmFault.{AsmFault}
+use Rattle.m11_asm_faults.specs.declared.fault.AsmFault.TheVariants.{TooMuchSource}
 use Rattle.m11_lines.specs.Line.{SourceLine}
+use Rattle.m11_lines.specs.Lines.{most_lines}
 use Rattle.m11_placement.specs.Meanings.{empty_map}
 use Rattle.m11_placing.specs.Mentioned.{Gathered, none_gathered}
 use Rattle.m11_placing.specs.Passes.{Kept}
@@ -11,10 +13,12 @@ use Rattle.m11_passes.specs.Reaching.{Refused}
 use Rattle.m11_passes.specs.States.{Going, PassState, PassStands}
 use Rattle.m11_first.specs.Facts.{Facts, facts_of}
 
--- the pass, what the lines said beside names and places, whether `.END` became live, and the fault that ended the pass, if one did
+-- the pass, what the lines said beside names and places, how many were read, whether `.END` became live, and the fault that ended the
+-- pass, if one did
 pub record FirstState : Type 0 where
   pub going : Going
   pub facts : Facts
+  pub read : ℕ
   pub has_ended : Bool
   pub fault : Option AsmFault
 
@@ -32,20 +36,28 @@ pub record Taken (source : List SourceLine) (lines : List Numbered) (going : Goi
 pub record FirstStands (source : List SourceLine) (state : FirstState) : Type 0 where
   pub lines : List Numbered
   pub taken : Taken source lines state.going state.facts
+  pub read : state.read ≡ length source
   pub ended : state.has_ended ≡ state.going.unfolder.stage.has_ended
   pub needs : state.has_ended ≡ false → state.going.unfolder.stage.left ≡ []
   pub goes_on : state.fault ≡ None
 
--- the source passes a limit with this line, or memory is refused
-pub record FirstFails (source : List SourceLine) (old : FirstState) (fault : AsmFault) : Type 0 where
-  pub reads : old.has_ended ≡ false
-  pub lines : List Numbered
-  pub refused : Refused empty_map [] source lines fault
+-- one more line is read: `.END` isn't live, and the limit on lines leaves room
+abbrev pub HasRoom : FirstState → Type 0
+HasRoom state = (state.has_ended ≡ false) × (state.read < most_lines)
+
+-- or it is one too many
+abbrev pub IsFull : FirstState → Type 0
+IsFull state = (state.has_ended ≡ false) × (state.read ≡ most_lines)
+
+-- the source has a line too many, or it passes another limit with this line, or memory is refused
+abbrev pub FirstFails : List SourceLine → FirstState → AsmFault → Type 0
+FirstFails source old TooMuchSource = IsFull old
+FirstFails source old fault = HasRoom old × (lines : List Numbered) × Refused empty_map [] source lines fault
 
 -- one more line of the source: after `.END` became live none is read
 abbrev pub FirstTakes : List SourceLine → SourceLine → FirstState → FirstState → Result (Unit {0}) AsmFault → Type 0
 FirstTakes source line old new (Ok done) =
-    ((old.has_ended ≡ true) × (new ≡ old)) ⊎ ((old.has_ended ≡ false) × FirstStands (source ++ line ∷ []) new)
+    ((old.has_ended ≡ true) × (new ≡ old)) ⊎ (HasRoom old × FirstStands (source ++ line ∷ []) new)
 FirstTakes source line old new (Err fault) = FirstFails (source ++ line ∷ []) old fault
 
 -- ---- between the live lines of one line of the source

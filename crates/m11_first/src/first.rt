@@ -8,6 +8,7 @@ ghost use Rattle.m11_passes.specs.Lines.{Numbered};
 ghost use Rattle.m11_first.specs.First.{FirstStands, FirstTakes, Taken, TakesLeft, symbols_of};
 
 use crate::facts::Facts;
+use crate::numbers::number_after;
 use crate::symbols::Symbols;
 use m11_asm_faults::AsmFault;
 use m11_base::Latch;
@@ -23,6 +24,8 @@ use std::marker::Model;
 pub struct First {
     pass: SourcePass,
     facts: Facts,
+    // How many lines were read.
+    read: u16,
     has_ended: bool,
     fault: Latch<AsmFault>,
     // Where live lines are put, one after the other.
@@ -34,7 +37,13 @@ impl Model for First {
 
     ghost Value = { FirstState };
 
-    ghost view = { λ f. record { going = f.pass.going; facts = f.facts; has_ended = f.has_ended; fault = f.fault } };
+    ghost view = { λ f. record {
+      going = f.pass.going;
+      facts = f.facts;
+      read = f.read;
+      has_ended = f.has_ended;
+      fault = f.fault;
+    } };
 
     ghost invariant = { λ f. GoesOn f.fault f.has_ended f.pass };
 }
@@ -47,6 +56,7 @@ impl First {
         Ok(First {
             pass: SourcePass::new(alloc, Mentioned::new(alloc))?,
             facts: Facts::new(alloc),
+            read: 0,
             has_ended: false,
             fault: Latch::new(),
             live: LiveLine::new(),
@@ -55,8 +65,9 @@ impl First {
 
     /// The next line of the source. After `.END` became live it is not read.
     ///
-    /// Errors: `Unfold` where a limit of unfolding is passed, `TooManySymbols`, `TooManySections`, the first one in the order of the lines,
-    /// and within a line in that of labels, operator and arguments; and `NoMemory`.
+    /// Errors: `TooMuchSource` at a line past the 65,535th; `Unfold` where a limit of unfolding is passed, `TooManySymbols`,
+    /// `TooManySections`, the first one in the order of the lines, and within a line in that of labels, operator and arguments; and
+    /// `NoMemory`.
     pub fn line(&mut self, line: &Line) -> Result<(), AsmFault>
         ensures takes { (source : List SourceLine) → FirstStands source self.old → FirstTakes source line.now self.old self.new result }
         ensures again { (fault : AsmFault) → self.old.fault ≡ Some fault → (result ≡ Err fault) × (self.new ≡ self.old) }
@@ -67,6 +78,8 @@ impl First {
         if self.has_ended {
             return Ok(());
         }
+        let read = self.fault.keep(number_after(self.read))?;
+        self.read = read;
         self.pass.feed(line);
         let taken = take_left(&mut self.pass, &mut self.facts, &mut self.live);
         self.has_ended = self.fault.keep(taken)?;

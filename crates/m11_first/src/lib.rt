@@ -5,8 +5,10 @@
 
 mod facts;
 mod first;
+mod numbers;
 mod symbols;
 
 pub use facts::Facts;
 pub use first::First;
+pub use numbers::number_after;
 pub use symbols::Symbols;
