@@ -207,12 +207,17 @@ fn first_returns_again(alloc: Global) -> Result<bool, AllocError> {
     let mut first = First::new(alloc)?;
     let shown = take_lines(&mut first, ENDLESS) == Err(fault)
         && take_lines(&mut first, &[".END"]) == Err(fault);
+    Ok(ends_by(first, fault) && shown)
+}
+
+// Whether the end of a first pass returns this fault.
+fn ends_by(first: First, fault: AsmFault) -> bool {
     match first.end() {
         Ok(symbols) => {
             drop(symbols);
-            Ok(false)
+            false
         }
-        Err(found) => Ok(shown && found == fault),
+        Err(found) => found == fault,
     }
 }
 
@@ -233,6 +238,31 @@ fn second_returns_again(alloc: Global) -> Result<bool, AsmFault> {
     let shown = returns_again(second, &mut outputs);
     drop(outputs);
     Ok(shown)
+}
+
+// Takes empty lines in the first pass.
+fn take_empty_lines(first: &mut First, count: u16) -> Result<(), AsmFault> {
+    let line = Line::from_bytes(b"");
+    for _ in 0..count {
+        first.line(&line)?;
+    }
+    Ok(())
+}
+
+// Whether a first pass takes 65,535 lines, and returns that the next one is too many, again and at its end.
+fn first_counts_lines(alloc: Global) -> Result<bool, AllocError> {
+    let fault = AsmFault::TooMuchSource;
+    let mut first = First::new(alloc)?;
+    let shown = take_empty_lines(&mut first, 65_535) == Ok(())
+        && take_empty_lines(&mut first, 1) == Err(fault)
+        && take_lines(&mut first, &[".END"]) == Err(fault);
+    Ok(ends_by(first, fault) && shown)
+}
+
+#[test]
+fn a_first_pass_takes_at_most_65535_lines(rt: HostRuntime) -> Result<(), Fail> {
+    assert!(rt; first_counts_lines(rt.alloc())?);
+    Ok(())
 }
 
 #[test]
