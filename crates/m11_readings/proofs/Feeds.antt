@@ -11,7 +11,7 @@ use Rattle.m11_lines.proofs.Cuts.{bytes_of}
 use Rattle.m11_lines.proofs.Gaves.{gave_both}
 use Rattle.m11_readings.specs.Readings.{reading_of_input}
 use Rattle.m11_readings.specs.Calls.{HasRead, HaveReading, BeginReading, FailReading, start}
-use Rattle.m11_readings.proofs.Given.{GiveParts, GiveSources, Whole, parts_of, whole_of, ended}
+use Rattle.m11_readings.proofs.Given.{GiveParts, GiveSources, Whole, begins_with, parts_of, whole_of, ended}
 use Rattle.m11_readings.proofs.Reached.{Reached, after_lines, after_more, lines_go_on, reading_so_far, stops_at_bytes, stops_at_lines}
 
 head_is : (x y : ℕ) (xs ys : List ℕ) → x ∷ xs ≡ y ∷ ys → x ≡ y
@@ -49,7 +49,7 @@ module _ {F : Type 0} (text : F → Option Text) (faults : F → ℕ) where
   one_failed (x ∷ old) [] texts left later count [] beginning h here rises e = absurd (cc)
   one_failed (x ∷ old) (y ∷ new) texts left later count [] beginning h here rises e =
       let P : ℕ → Type 0 = λ n. Rises (faults x) n in (
-        h.1,
+        begins_with (text x) h.0 beginning h.1,
         subst P (sym (head_is (faults y) count (map faults new) (map faults old) e)) rises,
         none_failed old new (tail_is (faults y) count (map faults new) (map faults old) e),
       )

@@ -1,7 +1,7 @@
 -- Sources of which an input came.
 use Rattle.std.proofs.Common.{◌≡◌, ℕ, List, [], ◌∷◌, ◌++◌, Option, Some, None, refl, sym, ap, ◌∙◌, append_assoc}
 use Rattle.std.proofs.lemmas.List.{map-append}
-use Rattle.m11_base.specs.Feed.{Text, GivesByte, GivesEnd, HasBytes, BeginsWith, GiveAll}
+use Rattle.m11_base.specs.Feed.{Text, GivesByte, GivesBytes, GivesEnd, HasBytes, BeginsWith, GiveAll}
 use Rattle.m11_lines.specs.Lines.{input_of}
 use Rattle.m11_lines.specs.Reader.{Gave}
 use Rattle.m11_lines.proofs.Cuts.{bytes_of}
@@ -11,21 +11,21 @@ abbrev pub GiveParts : List (Option Text) → List (Option Text) → List (List 
 GiveParts [] new [] beginning = (new ≡ []) × (beginning ≡ [])
 GiveParts [] new (source ∷ sources) beginning = ⊥
 GiveParts (text ∷ texts) new [] beginning =
-    (text' : Option Text) × BeginsWith text beginning × (new ≡ text' ∷ texts)
+    (text' : Option Text) × GivesBytes text text' beginning × (new ≡ text' ∷ texts)
 GiveParts (text ∷ texts) new (source ∷ sources) beginning =
     HasBytes text source × GiveParts texts new sources beginning
 
 -- ---- what came, source by source
 
-begins_empty : (text : Option Text) → BeginsWith text []
-begins_empty None = tt
-begins_empty (Some t) = (t.bytes, refl)
+pub begins_with : (text text' : Option Text) (bytes : List ℕ) → GivesBytes text text' bytes → BeginsWith text bytes
+begins_with None text' bytes g = tt
+begins_with (Some t) text' bytes g = (g.0, g.1)
 
-more_begins : (text text' : Option Text) (byte : ℕ) (bytes : List ℕ) → GivesByte text text' byte
-    → BeginsWith text' bytes → BeginsWith text (byte ∷ bytes)
-more_begins None text' byte bytes g h = tt
-more_begins (Some t) text' byte bytes g h =
-    let rest = rw g.2 at h in (rest.0, g.1 ∙ ap (λ (t : List ℕ). byte ∷ t) rest.1)
+more_bytes : (text text' text'' : Option Text) (byte : ℕ) (bytes : List ℕ) → GivesByte text text' byte
+    → GivesBytes text' text'' bytes → GivesBytes text text'' (byte ∷ bytes)
+more_bytes None text' text'' byte bytes g h = tt
+more_bytes (Some t) text' text'' byte bytes g h =
+    let rest = rw g.2 at h in (rest.0, g.1 ∙ ap (λ (t : List ℕ). byte ∷ t) rest.1, rest.2)
 
 more_has : (text text' : Option Text) (byte : ℕ) (bytes : List ℕ) → GivesByte text text' byte → HasBytes text' bytes
     → HasBytes text (byte ∷ bytes)
@@ -52,7 +52,7 @@ module _ (text text' : Option Text) (texts new : List (Option Text)) (byte : ℕ
     sources = [];
     beginning = byte ∷ beginning;
     is = ap (λ (t : List (Option ℕ)). Some byte ∷ t) e;
-    give = (h.0, more_begins text text' byte beginning g h.1, h.2);
+    give = (h.0, more_bytes text text' h.0 byte beginning g h.1, h.2);
   }
   byte_part (source ∷ sources) e h = record {
     sources = (byte ∷ source) ∷ sources;
@@ -65,8 +65,7 @@ pub parts_of : (texts new : List (Option Text)) (input : List (Option ℕ)) → 
     → Parts texts new input
 parts_of [] new [] g = record { sources = []; beginning = []; is = refl; give = (g, refl) }
 parts_of [] new (symbol ∷ input) g = absurd g
-parts_of (text ∷ texts) new [] g =
-    record { sources = []; beginning = []; is = refl; give = (g.0, begins_empty text, g.2) }
+parts_of (text ∷ texts) new [] g = record { sources = []; beginning = []; is = refl; give = g }
 parts_of (text ∷ texts) new (Some byte ∷ input) g =
     let later = parts_of (g.0 ∷ texts) new input g.2 in
     byte_part text g.0 texts new byte input g.1 later.beginning later.sources later.is later.give
@@ -111,7 +110,7 @@ go_on [] new [] beginning h =
     record { sources = []; rest = []; is = ap (λ (b : List ℕ). bytes_of b ++ []) (sym h.1); give = tt }
 go_on [] new (source ∷ sources) beginning h = absurd h
 go_on (text ∷ texts) new [] beginning h =
-    let one = whole_source text beginning h.1 in
+    let one = whole_source text beginning (begins_with text h.0 beginning h.1) in
     let others = any_sources texts in
     let later = input_of others.0 in
     record {

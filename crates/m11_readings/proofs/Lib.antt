@@ -4,4 +4,5 @@ pub mod Passing
 pub mod Given
 pub mod Reached
 pub mod Feeds
+pub mod HowFar
 mod PlainLines

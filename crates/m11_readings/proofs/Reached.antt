@@ -1,5 +1,5 @@
 -- What calls have read so far, and the reading of it.
-use Rattle.std.proofs.Common.{◌≡◌, ℕ, ◌+◌, ◌<◌, ◌≤◌, true, false, cond, List, [], ◌∷◌, ◌++◌, length, map, Option, Some, None, refl, sym, ap, ◌∙◌, arith}
+use Rattle.std.proofs.Common.{◌≡◌, ℕ, ◌+◌, ◌<◌, ◌≤◌, true, false, cond, List, [], ◌∷◌, ◌++◌, length, map, Option, Some, None, refl, sym, ap, ◌∙◌, arith, append_assoc, inl, inr}
 use Rattle.std.specs.Prelude.{◌==◌}
 use Rattle.std.proofs.lemmas.List.{append-nil}
 use Rattle.m11_lines.specs.declared.fault.LineFault.{LineFault}
@@ -22,6 +22,7 @@ begins place = record {
   gave = gave_none place.texts;
   is_cut = refl;
   are = refl;
+  ends = inl refl;
   bytes_left = omega arith;
   lines_left = omega arith;
   faults = refl;
@@ -48,6 +49,7 @@ goes_on first middle now lines line h r =
           ∙ ap (λ (l : List SourceLine). lines_of h.pieces ++ (l ++ lines_of (r.raw ∷ []))) (sym (no_lines r.passed r.none))
           ∙ ap (λ (l : List SourceLine). lines_of h.pieces ++ l) (sym (lines_of-append r.passed (r.raw ∷ [])))
           ∙ sym (lines_of-append h.pieces pieces);
+      ends = inr (h.pieces ++ r.passed, r.raw, sym (append_assoc h.pieces r.passed (r.raw ∷ [])), r.some);
       bytes_left = omega (arith, h.bytes_left, r.bytes_left, size, bytes_in-append h.pieces pieces);
       lines_left = omega (arith, h.lines_left, r.lines_left, r.none, count, lines_in-append h.pieces pieces);
       faults = r.faults ∙ h.faults;

@@ -6,16 +6,18 @@ use Rattle.m11_base.specs.Feed.{Text, GiveAll, NoneFailed, OneFailed}
 use Rattle.m11_lines.specs.Line.{SourceLine}
 use Rattle.m11_lines.specs.Lines.{RawLine, input_of, cut, bytes_in, lines_in, most_bytes, most_lines}
 use Rattle.m11_lines.specs.Reader.{Place, place_at, Gave}
+use Rattle.m11_readings.specs.Extents.{EndWithLine}
 use Rattle.m11_readings.specs.Readings.{Reading, lines_of, reading_of, reading_of_input}
 
 -- calls that were Ok returned these lines: the sources gave pieces, all of them whole and within the limits, and the
--- lines are those among them
+-- lines are those among them, with nothing after the last one
 pub record HasRead (first now : Place) (lines : List SourceLine) : Type 0 where
   pub given : List (Option ℕ)
   pub pieces : List RawLine
   pub gave : Gave first.texts now.texts given
   pub is_cut : cut given ≡ record { lines = pieces; unclosed = [] }
   pub are : lines ≡ lines_of pieces
+  pub ends : EndWithLine pieces
   pub bytes_left : first.bytes_left ≡ bytes_in pieces + now.bytes_left
   pub lines_left : first.lines_left ≡ lines_in pieces + now.lines_left
   pub faults : now.faults ≡ first.faults

@@ -1,3 +1,4 @@
 pub mod Readings
 pub mod Calls
+pub mod Extents
 pub mod Laws

@@ -8,6 +8,7 @@ ghost use Rattle.m11_lines.specs.Line.{SourceLine, line_of};
 ghost use Rattle.m11_lines.specs.Lines.{most_bytes, most_lines};
 ghost use Rattle.m11_lines.specs.Reader.{Place, place_at, ReadsNext};
 ghost use Rattle.m11_readings.specs.Calls.{BeginReading, FailReading, HasRead, HaveReading, start};
+ghost use Rattle.m11_readings.specs.Extents.{GaveAll, GaveLines, GavePast, GaveTill};
 ghost use Rattle.m11_readings.specs.Laws.{HaveLines};
 ghost use Rattle.m11_readings.specs.Readings.{reading_of};
 
@@ -56,4 +57,27 @@ pub fn lines_read_are_those_of_the_sources<F>()
         (lines : List SourceLine) (middle : Place) → HasRead (start text faults old) middle lines
         → ReadsNext middle (place_at text faults new source bytes_left lines_left) (Err Read)
         → FailReading text faults old new (record { lines = lines; fault = None }) }
+{}
+
+/// Where the calls of a new reader returned some lines, the feeds have given just these, and no byte after them. At the end of the last
+/// source they have given all. Where one failed, or a limit was passed, they gave no more than what came till then.
+pub fn feeds_give_as_far_as_they_are_read<F>()
+    ensures lines { (text : F → Option Text) (faults : F → ℕ) (old new : List F) (source bytes_left lines_left : ℕ)
+        (lines : List SourceLine)
+        → HasRead (start text faults old) (place_at text faults new source bytes_left lines_left) lines
+        → GaveLines text old new lines }
+    ensures all { (text : F → Option Text) (faults : F → ℕ) (old new : List F) (source bytes_left lines_left : ℕ)
+        (lines : List SourceLine) (middle : Place) → HasRead (start text faults old) middle lines
+        → ReadsNext middle (place_at text faults new source bytes_left lines_left) (Ok None) → GaveAll text old new lines }
+    ensures failed { (text : F → Option Text) (faults : F → ℕ) (old new : List F) (source bytes_left lines_left : ℕ)
+        (lines : List SourceLine) (middle : Place) → HasRead (start text faults old) middle lines
+        → ReadsNext middle (place_at text faults new source bytes_left lines_left) (Err Read) → GaveTill text old new lines }
+    ensures too_much { (text : F → Option Text) (faults : F → ℕ) (old new : List F) (source bytes_left lines_left : ℕ)
+        (lines : List SourceLine) (middle : Place) → HasRead (start text faults old) middle lines
+        → ReadsNext middle (place_at text faults new source bytes_left lines_left) (Err TooMuchSource)
+        → GavePast text old new lines TooMuchSource }
+    ensures too_many { (text : F → Option Text) (faults : F → ℕ) (old new : List F) (source bytes_left lines_left : ℕ)
+        (lines : List SourceLine) (middle : Place) → HasRead (start text faults old) middle lines
+        → ReadsNext middle (place_at text faults new source bytes_left lines_left) (Err TooManyLines)
+        → GavePast text old new lines TooManyLines }
 {}
