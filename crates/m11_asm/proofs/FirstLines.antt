@@ -9,17 +9,23 @@ use Rattle.m11_first.specs.First.{FirstFails, FirstStands, FirstState, FirstTake
 use Rattle.m11_first.proofs.Counting.{one_longer}
 use Rattle.m11_lines.specs.Line.{SourceLine}
 use Rattle.m11_lines.specs.Lines.{most_lines}
-use Rattle.m11_lines.specs.Reader.{LineReading, ReadsNext, place}
+use Rattle.m11_lines.specs.Reader.{LineReading, ReadsNext, place, unread}
 use Rattle.m11_lines.specs.declared.fault.LineFault.{LineFault}
 use Rattle.m11_lines.specs.declared.fault.LineFault.TheVariants.{Read, TooMuchSource, TooManyLines}
+use Rattle.m11_passes.specs.Lines as lines
+use Rattle.m11_passes.specs.Lines.{with_line}
 use Rattle.m11_placement.specs.Meanings.{empty_map}
+use Rattle.m11_readings.specs.Extents.{GaveLines}
 use Rattle.m11_readings.specs.Readings.{Reading}
+use Rattle.m11_unfolding.specs.Stages.{start}
 use Rattle.m11_asm.specs.Written.{Ended}
-use Rattle.m11_asm.specs.FirstReading.{FirstTaken, GivesSymbols, IsTakenUp, TakesLines}
+use Rattle.m11_asm.specs.Extents as extents
+use Rattle.m11_asm.specs.Extents.{GivesToEnd, GivesToFault, HaveGiven}
+use Rattle.m11_asm.specs.FirstReading.{FirstStops, FirstTaken, GivesSymbols, IsTakenUp, TakesLines}
 use Rattle.m11_asm.specs.Outcome as outcome
 use Rattle.m11_asm.specs.Outcome.{Ends, Refuses, Unended}
 use Rattle.m11_asm.specs.Passes.{Pass, ReadsFirst, pass_of}
-use Rattle.m11_asm.proofs.LinesRead.{Begun, SoFar, all_read, begun, failed, few_read, one_more, too_many, too_much}
+use Rattle.m11_asm.proofs.LinesRead.{Begun, SoFar, all_read, begun, failed, few_read, one_more, too_many, too_much, given_all, given_till, lines_given, past_bytes, past_lines, reader_begins}
 
 -- where `.END` isn't live, nothing is left of the lines
 pub first_unended : (source : List SourceLine) (first : FirstState) → (stands : FirstStands source first) → first.has_ended ≡ false
@@ -45,7 +51,15 @@ module _ {F : Type 0} (text : F → Option Text) (faults : F → ℕ) (initial h
   first_ended ends =
       let b = begun text faults initial here reader so.source so.read in
       let P : Bool → Type 0 = λ e. IsTakenUp b.reading so.source e in
-      record { reading = b.reading; reads = b.reads; source = so.source; stands = so.stands; taken_up = subst P (sym ends) (b.more, b.are) }
+      let Q : Bool → Type 0 = λ e. HaveGiven (pass_of text faults initial here) so.source e in
+      record {
+        reading = b.reading;
+        reads = b.reads;
+        source = so.source;
+        stands = so.stands;
+        taken_up = subst P (sym ends) (b.more, b.are);
+        given = subst Q (sym ends) (lines_given text faults initial here reader so.source so.read);
+      }
 
   module _ (goes : first.has_ended ≡ false) (later : List F) (reader' : LineReading) where
     unended : Unended empty_map [] so.source so.stands.lines
@@ -56,36 +70,58 @@ module _ {F : Type 0} (text : F → Option Text) (faults : F → ℕ) (initial h
     first_read next =
         let reading : Reading = record { lines = so.source; fault = None } in
         let P : Bool → Type 0 = λ e. IsTakenUp reading so.source e in
+        let Q : Bool → Type 0 = λ e. HaveGiven (pass_of text faults initial later) so.source e in
         record {
           reading = reading;
           reads = all_read text faults initial here reader so.source so.read later reader' next;
           source = so.source;
           stands = so.stands;
           taken_up = subst P (sym goes) (refl, refl);
+          given = subst Q (sym goes) (given_all text faults initial here reader so.source so.read later reader' next);
         }
 
     stops_so : (fault : LineFault) → ReadsNext (place text faults here reader) (place text faults later reader') (Err fault)
-        → ReadsFirst (pass_of text faults initial later) (Err (of_lines fault))
-    stops_so Read next =
-        (so.source, failed text faults initial here reader so.source so.read later reader' next, so.stands.lines, unended)
+        → FirstStops (pass_of text faults initial later) (of_lines fault)
+    stops_so Read next = (
+      (so.source, failed text faults initial here reader so.source so.read later reader' next, so.stands.lines, unended),
+      (so.source, so.stands.lines, unended, given_till text faults initial here reader so.source so.read later reader' next),
+    )
     stops_so TooMuchSource next = (
-      record { lines = so.source; fault = Some TooMuchSource },
-      too_much text faults initial here reader so.source so.read later reader' next,
-      so.stands.lines,
-      outcome.Refuses.AtReading TooMuchSource refl refl unended,
+      (
+        record { lines = so.source; fault = Some TooMuchSource },
+        too_much text faults initial here reader so.source so.read later reader' next,
+        so.stands.lines,
+        outcome.Refuses.AtReading TooMuchSource refl refl unended,
+      ),
+      (
+        so.source,
+        so.stands.lines,
+        unended,
+        TooMuchSource,
+        past_bytes text faults initial here reader so.source so.read later reader' next,
+      ),
     )
     stops_so TooManyLines next = (
-      record { lines = so.source; fault = Some TooManyLines },
-      too_many text faults initial here reader so.source so.read later reader' next,
-      so.stands.lines,
-      outcome.Refuses.AtReading TooManyLines refl refl unended,
+      (
+        record { lines = so.source; fault = Some TooManyLines },
+        too_many text faults initial here reader so.source so.read later reader' next,
+        so.stands.lines,
+        outcome.Refuses.AtReading TooManyLines refl refl unended,
+      ),
+      (
+        so.source,
+        so.stands.lines,
+        unended,
+        TooManyLines,
+        past_lines text faults initial here reader so.source so.read later reader' next,
+      ),
     )
 
     pub first_stops : (came : LineFault) (stopped : AsmFault) → stopped ≡ of_lines came
         → ReadsNext (place text faults here reader) (place text faults later reader') (Err came)
-        → ReadsFirst (pass_of text faults initial later) (Err stopped)
+        → FirstStops (pass_of text faults initial later) stopped
     first_stops came stopped is next =
-        let P : AsmFault → Type 0 = λ f. ReadsFirst (pass_of text faults initial later) (Err f) in
+        let P : AsmFault → Type 0 = λ f. FirstStops (pass_of text faults initial later) f in
         subst P (sym is) (stops_so came next)
 
     module _ (line : SourceLine) (next : ReadsNext (place text faults here reader) (place text faults later reader') (Ok (Some line)))
@@ -95,6 +131,9 @@ module _ {F : Type 0} (text : F → Option Text) (faults : F → ℕ) (initial h
 
       begun_more : Begun (pass_of text faults initial later) (so.source ++ line ∷ [])
       begun_more = begun text faults initial later reader' (so.source ++ line ∷ []) more
+
+      given_more : GaveLines text initial later (so.source ++ line ∷ [])
+      given_more = lines_given text faults initial later reader' (so.source ++ line ∷ []) more
 
       pub first_goes_on : (first' : FirstState) → FirstTakes so.source line first first' (Ok tt)
           → FirstSoFar text faults initial later reader' first'
@@ -113,16 +152,23 @@ module _ {F : Type 0} (text : F → Option Text) (faults : F → ℕ) (initial h
           omega (arith, few, longer, read, full)
 
       refused_so : (stopped : AsmFault) → FirstFails (so.source ++ line ∷ []) first stopped
-          → ReadsFirst (pass_of text faults initial later) (Err stopped)
-      refused_so fault.NoMemory fails = begun_more.reads.0
+          → FirstStops (pass_of text faults initial later) stopped
+      refused_so fault.NoMemory fails = (
+        begun_more.reads.0,
+        extents.GivesToStop.InLine (so.source ++ line ∷ []) so.stands.lines (with_line line unended.stage)
+            (lines.PassLines.Reading so.source so.stands.lines unended.stage line unended.live unended.left unended.goes_on) given_more,
+      )
       refused_so fault.Read fails = absurd fails.2
       refused_so (fault.Write output) fails = absurd fails.2
       refused_so fault.TooMuchSource fails = absurd (too_long fails.1)
       refused_so stopped fails = (
-        begun_more.reading,
-        begun_more.reads,
-        fails.1,
-        outcome.Refuses.AtLimit (so.source ++ line ∷ []) begun_more.more stopped begun_more.are fails.2 refl,
+        (
+          begun_more.reading,
+          begun_more.reads,
+          fails.1,
+          outcome.Refuses.AtLimit (so.source ++ line ∷ []) begun_more.more stopped begun_more.are fails.2 refl,
+        ),
+        (so.source ++ line ∷ [], fails.1, fails.2, given_more),
       )
 
       pub first_refuses : (first' : FirstState) (stopped : AsmFault) (result : Result (Unit {0}) AsmFault)
@@ -130,7 +176,7 @@ module _ {F : Type 0} (text : F → Option Text) (faults : F → ℕ) (initial h
           → TakesLines (pass_of text faults initial later) first' result
       first_refuses first' stopped (Ok done) fails is = absurd is
       first_refuses first' stopped (Err other) fails is =
-          let P : AsmFault → Type 0 = λ f. ReadsFirst (pass_of text faults initial later) (Err f) in
+          let P : AsmFault → Type 0 = λ f. FirstStops (pass_of text faults initial later) f in
           subst P (sym is) (refused_so stopped fails)
 
 -- ---- before the first line, and after the last one
@@ -144,8 +190,12 @@ pub none_given : {F : Type 0} (text : F → Option Text) (faults : F → ℕ) (f
     → IsErrAnd result (λ e. e ≡ fault.NoMemory) → GivesSymbols (pass_of text faults feeds feeds) result
 none_given text faults feeds (Ok symbols) is = absurd is
 none_given text faults feeds (Err stopped) is =
-    let P : AsmFault → Type 0 = λ f. ReadsFirst (pass_of text faults feeds feeds) (Err f) in
-    subst P (sym is) (none_failed faults feeds)
+    let P : AsmFault → Type 0 = λ f. FirstStops (pass_of text faults feeds feeds) f in
+    subst P (sym is) (
+      none_failed faults feeds,
+      extents.GivesToStop.InLine [] [] (start []) lines.PassLines.Begins
+          (lines_given text faults feeds feeds unread [] (reader_begins text faults feeds unread refl)),
+    )
 
 no_fault : (first : FirstState) (came : AsmFault) → first.fault ≡ None → first.fault ≡ Some came → ⊥
 no_fault first came none some = none_some (sym none ∙ some)
@@ -180,3 +230,14 @@ module _ {F : Type 0} (pass : Pass F) (first : FirstState) (taken : FirstTaken p
     record { read = length taken.source; has_end = first.has_ended },
     ends_by first.has_ended refl taken.taken_up,
   )
+
+  given_by : (has_ended : Bool) → first.has_ended ≡ has_ended → HaveGiven pass taken.source has_ended
+      → GivesToEnd pass empty_map [] taken.stands.lines
+  given_by true is given =
+      extents.GivesToEnd.AtEnd taken.source first.going.unfolder.stage taken.stands.taken.stands.lines_are
+      (sym taken.stands.ended ∙ is) given
+  given_by false is given =
+      extents.GivesToEnd.WithoutEnd taken.source (first_unended taken.source first taken.stands is) given
+
+  pub first_gives : GivesToEnd pass empty_map [] taken.stands.lines
+  first_gives = given_by first.has_ended refl taken.given

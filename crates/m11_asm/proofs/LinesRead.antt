@@ -9,7 +9,9 @@ use Rattle.m11_lines.specs.Reader.{LineReading, ReadsNext, place, unread}
 use Rattle.m11_lines.specs.declared.fault.LineFault.TheVariants.{Read, TooMuchSource, TooManyLines}
 use Rattle.m11_readings.specs.Calls.{BeginReading, HasRead, start}
 use Rattle.m11_readings.specs.Readings.{Reading, lines_of, reading_of}
+use Rattle.m11_readings.specs.Extents.{GaveAll, GaveLines, GavePast, GaveTill}
 use Rattle.m11_readings.proofs.Feeds as feeds
+use Rattle.m11_readings.proofs.HowFar as how_far
 use Rattle.m11_readings.proofs.Reached.{begins, goes_on}
 use Rattle.m11_asm.specs.Passes.{Pass, Reads, ReadsTill, pass_of}
 
@@ -50,6 +52,9 @@ module _ {F : Type 0} (text : F → Option Text) (faults : F → ℕ) where
         let count = ap (λ (l : List SourceLine). length l) so.has.are ∙ lines_counted so.has.pieces in
         omega (arith, count, so.has.lines_left)
 
+    pub lines_given : GaveLines text initial here lines
+    lines_given = how_far.just_lines text faults initial here reader.source reader.bytes_left reader.lines_left lines so.has
+
     module _ (later : List F) (reader' : LineReading) where
       pub one_more : (line : SourceLine) → ReadsNext (place text faults here reader) (place text faults later reader') (Ok (Some line))
           → reader'.fault ≡ None → SoFar text faults initial later reader' (lines ++ line ∷ [])
@@ -80,4 +85,28 @@ module _ {F : Type 0} (text : F → Option Text) (faults : F → ℕ) where
           → ReadsTill (pass_of text faults initial later) lines
       failed next =
           feeds.failed text faults initial later reader'.source reader'.bytes_left reader'.lines_left lines
+          (place text faults here reader) so.has next
+
+      pub given_all : ReadsNext (place text faults here reader) (place text faults later reader') (Ok None)
+          → GaveAll text initial later lines
+      given_all next =
+          how_far.all_given text faults initial later reader'.source reader'.bytes_left reader'.lines_left lines
+          (place text faults here reader) so.has next
+
+      pub given_till : ReadsNext (place text faults here reader) (place text faults later reader') (Err Read)
+          → GaveTill text initial later lines
+      given_till next =
+          how_far.till_failure text faults initial later reader'.source reader'.bytes_left reader'.lines_left lines
+          (place text faults here reader) so.has next
+
+      pub past_bytes : ReadsNext (place text faults here reader) (place text faults later reader') (Err TooMuchSource)
+          → GavePast text initial later lines TooMuchSource
+      past_bytes next =
+          how_far.past_bytes text faults initial later reader'.source reader'.bytes_left reader'.lines_left lines
+          (place text faults here reader) so.has next
+
+      pub past_lines : ReadsNext (place text faults here reader) (place text faults later reader') (Err TooManyLines)
+          → GavePast text initial later lines TooManyLines
+      past_lines next =
+          how_far.past_lines text faults initial later reader'.source reader'.bytes_left reader'.lines_left lines
           (place text faults here reader) so.has next

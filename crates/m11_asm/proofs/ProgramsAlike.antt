@@ -37,6 +37,8 @@ use Rattle.m11_asm.specs.declared.done.AsmDone.{AsmDone}
 use Rattle.m11_unfolding.specs.Stages.{Stage}
 use Rattle.m11_unfolding.specs.Unfolding.{Given}
 use Rattle.m11_values.specs.Quantities.{Quantity}
+use Rattle.m11_asm.specs.Extents as extents
+use Rattle.m11_asm.specs.Extents.{GivesToEnd, GivesToFault, GivesToStop, SecondGives}
 use Rattle.m11_asm.specs.Outcome as outcome
 use Rattle.m11_asm.specs.Outcome.{Ends, Refuses, Unended}
 use Rattle.m11_asm.specs.Passes as passes
@@ -185,6 +187,12 @@ module _ (one other : Program) (alike : AlikePrograms one other) where
   unended_alike source all u =
       record { stage = u.stage; live = lines_alike source all u.stage u.live; left = u.left; goes_on = u.goes_on }
 
+  exceeds_alike : (source : List SourceLine) (all : List Numbered) (limit : AsmFault)
+      → Exceeds one.map one.mentioned.names source all limit → Exceeds other.map other.mentioned.names source all limit
+  exceeds_alike source all limit exceeds =
+      let P : List Name → Type 0 = λ ns. Exceeds other.map ns source all limit in
+      subst P names_alike (exceeds_same one.map other.map alike.maps one.mentioned.names source all limit exceeds)
+
   module _ (reading : Reading) where
     ends_alike : (all : List Numbered) (ended : Ended) → Ends one.map one.mentioned.names reading all ended
         → Ends other.map other.mentioned.names reading all ended
@@ -198,9 +206,7 @@ module _ (one other : Program) (alike : AlikePrograms one other) where
     refuses_alike all stopped (outcome.Refuses.AtReading fault some is u) =
         outcome.Refuses.AtReading fault some is (unended_alike reading.lines all u)
     refuses_alike all stopped (outcome.Refuses.AtLimit source more limit are exceeds is) =
-        let P : List Name → Type 0 = λ ns. Exceeds other.map ns source all limit in
-        outcome.Refuses.AtLimit source more limit are
-        (subst P names_alike (exceeds_same one.map other.map alike.maps one.mentioned.names source all limit exceeds)) is
+        outcome.Refuses.AtLimit source more limit are (exceeds_alike source all limit exceeds) is
 
     writes_alike : (writes : List Write) → AreWrites one reading writes → AreWrites other reading writes
     writes_alike _ (passes.AreWrites.SoFar source more all stage are live) =
@@ -234,3 +240,31 @@ module _ (one other : Program) (alike : AlikePrograms one other) where
     reads_alike (Err fault.NoMemory) s = (s.0, s.1, among_alike s.0 (StopsBetween old new) s.2)
     reads_alike (Err (fault.Write output)) s = (s.0, s.1, among_alike s.0 (StopsIn output old new) s.2)
     reads_alike (Err stopped) s = (s.0, s.1, s.2, refuses_alike s.0 s.2 stopped s.3, gains_alike old new s.2 s.4)
+
+  -- how far feeds have given
+
+  module _ {F : Type 0} (pass : Pass F) where
+    to_end_alike : (all : List Numbered) → GivesToEnd pass one.map one.mentioned.names all
+        → GivesToEnd pass other.map other.mentioned.names all
+    to_end_alike all (extents.GivesToEnd.AtEnd source stage live ends given) =
+        extents.GivesToEnd.AtEnd source stage (lines_alike source all stage live) ends given
+    to_end_alike all (extents.GivesToEnd.WithoutEnd source u given) =
+        extents.GivesToEnd.WithoutEnd source (unended_alike source all u) given
+
+    to_stop_alike : GivesToStop pass one.map one.mentioned.names → GivesToStop pass other.map other.mentioned.names
+    to_stop_alike (extents.GivesToStop.InLine source all stage live given) =
+        extents.GivesToStop.InLine source all stage (lines_alike source all stage live) given
+    to_stop_alike (extents.GivesToStop.AfterAll source all u given) =
+        extents.GivesToStop.AfterAll source all (unended_alike source all u) given
+
+    to_fault_alike : (stopped : AsmFault) → GivesToFault pass one.map one.mentioned.names stopped
+        → GivesToFault pass other.map other.mentioned.names stopped
+    to_fault_alike fault.Read s = (s.0, s.1, unended_alike s.0 s.1 s.2, s.3)
+    to_fault_alike fault.TooMuchSource s = (s.0, s.1, unended_alike s.0 s.1 s.2, s.3, s.4)
+    to_fault_alike fault.NoMemory s = to_stop_alike s
+    to_fault_alike (fault.Write output) s = to_stop_alike s
+    to_fault_alike stopped s = (s.0, s.1, exceeds_alike s.0 s.1 stopped s.2, s.3)
+
+    pub gives_alike : (result : Result AsmDone AsmFault) → SecondGives pass one result → SecondGives pass other result
+    gives_alike (Ok done) s = (s.0, to_end_alike s.0 s.1)
+    gives_alike (Err stopped) s = to_fault_alike stopped s

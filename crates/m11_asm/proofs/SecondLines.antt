@@ -11,6 +11,7 @@ use Rattle.m11_lines.specs.Reader.{LineReading, ReadsNext, place, unread}
 use Rattle.m11_lines.specs.declared.fault.LineFault.{LineFault}
 use Rattle.m11_lines.specs.declared.fault.LineFault.TheVariants.{Read, TooMuchSource, TooManyLines}
 use Rattle.m11_passes.specs.Lines as lines
+use Rattle.m11_readings.specs.Extents.{GaveLines}
 use Rattle.m11_readings.specs.Readings.{Reading}
 use Rattle.m11_asm.specs.Program.{Program}
 use Rattle.m11_asm.specs.Second.{SecondEnds, SecondFails, SecondStands, SecondState, SecondTakes, StopsAmong, ended_with}
@@ -18,13 +19,15 @@ use Rattle.m11_asm.specs.Written.{Ended, flagged_count, program_writes, written}
 use Rattle.m11_asm.specs.declared.done.AsmDone.{AsmDone}
 use Rattle.m11_unfolding.specs.Stages.{start}
 use Rattle.m11_writes.proofs.Writing.{refused_between}
+use Rattle.m11_asm.specs.Extents as extents
+use Rattle.m11_asm.specs.Extents.{GivesToEnd, GivesToStop, HaveGiven, SecondGives}
 use Rattle.m11_asm.specs.FirstReading.{IsTakenUp}
 use Rattle.m11_asm.specs.Outcome as outcome
 use Rattle.m11_asm.specs.Outcome.{Ends, Unended}
 use Rattle.m11_asm.specs.Passes as passes
-use Rattle.m11_asm.specs.Passes.{Pass, ReadsSecond, StopsAmongWrites, pass_of}
-use Rattle.m11_asm.specs.SecondReading.{SecondTaken}
-use Rattle.m11_asm.proofs.LinesRead.{Begun, SoFar, all_read, begun, failed, few_read, one_more, reader_begins, too_many, too_much}
+use Rattle.m11_asm.specs.Passes.{Pass, StopsAmongWrites, pass_of}
+use Rattle.m11_asm.specs.SecondReading.{PutsAll, SecondTaken}
+use Rattle.m11_asm.proofs.LinesRead.{Begun, SoFar, all_read, begun, failed, few_read, given_all, given_till, lines_given, one_more, past_bytes, past_lines, reader_begins, too_many, too_much}
 
 -- where `.END` isn't live, nothing is left of the lines
 second_unended : (program : Program) (source : List SourceLine) (old now : Outputs) (second : SecondState)
@@ -46,23 +49,27 @@ pub record SecondSoFar {F : Type 0} (text : F → Option Text) (faults : F → �
 
 module _ {F : Type 0} (text : F → Option Text) (faults : F → ℕ) (program : Program) (old : Outputs) where
   -- memory was refused before the first line
-  none_begins : (feeds : List F) → ReadsSecond (pass_of text faults feeds feeds) program old old (Err fault.NoMemory)
+  none_begins : (feeds : List F) → PutsAll (pass_of text faults feeds feeds) program old old (Err fault.NoMemory)
   none_begins feeds =
-      let b = begun text faults feeds feeds unread [] (reader_begins text faults feeds unread refl) in (
-        b.reading,
-        b.reads,
-        record {
-          writes = written program [];
-          are = passes.AreWrites.SoFar [] b.more [] (start []) b.are lines.PassLines.Begins;
-          stops = refused_between assembly old (written program []);
-        },
+      let none = reader_begins text faults feeds unread refl in
+      let b = begun text faults feeds feeds unread [] none in (
+        (
+          b.reading,
+          b.reads,
+          record {
+            writes = written program [];
+            are = passes.AreWrites.SoFar [] b.more [] (start []) b.are lines.PassLines.Begins;
+            stops = refused_between assembly old (written program []);
+          },
+        ),
+        extents.GivesToStop.InLine [] [] (start []) lines.PassLines.Begins (lines_given text faults feeds feeds unread [] none),
       )
 
   pub none_read : (feeds : List F) (result : Result AsmDone AsmFault) → IsErrAnd result (λ e. e ≡ fault.NoMemory)
-      → ReadsSecond (pass_of text faults feeds feeds) program old old result
+      → PutsAll (pass_of text faults feeds feeds) program old old result
   none_read feeds (Ok done) is = absurd is
   none_read feeds (Err stopped) is =
-      let P : AsmFault → Type 0 = λ f. ReadsSecond (pass_of text faults feeds feeds) program old old (Err f) in
+      let P : AsmFault → Type 0 = λ f. PutsAll (pass_of text faults feeds feeds) program old old (Err f) in
       subst P (sym is) (none_begins feeds)
 
   module _ (initial here : List F) (reader : LineReading) (now : Outputs) (second : SecondState)
@@ -72,7 +79,15 @@ module _ {F : Type 0} (text : F → Option Text) (faults : F → ℕ) (program :
     second_ended ends =
         let b = begun text faults initial here reader so.source so.read in
         let P : Bool → Type 0 = λ e. IsTakenUp b.reading so.source e in
-        record { reading = b.reading; reads = b.reads; source = so.source; stands = so.stands; taken_up = subst P (sym ends) (b.more, b.are) }
+        let Q : Bool → Type 0 = λ e. HaveGiven (pass_of text faults initial here) so.source e in
+        record {
+          reading = b.reading;
+          reads = b.reads;
+          source = so.source;
+          stands = so.stands;
+          taken_up = subst P (sym ends) (b.more, b.are);
+          given = subst Q (sym ends) (lines_given text faults initial here reader so.source so.read);
+        }
 
     module _ (goes : second.has_ended ≡ false) (later : List F) (reader' : LineReading) where
       unended : Unended program.map program.mentioned.names so.source so.stands.lines
@@ -83,44 +98,67 @@ module _ {F : Type 0} (text : F → Option Text) (faults : F → ℕ) (program :
       second_read next =
           let reading : Reading = record { lines = so.source; fault = None } in
           let P : Bool → Type 0 = λ e. IsTakenUp reading so.source e in
+          let Q : Bool → Type 0 = λ e. HaveGiven (pass_of text faults initial later) so.source e in
           record {
             reading = reading;
             reads = all_read text faults initial here reader so.source so.read later reader' next;
             source = so.source;
             stands = so.stands;
             taken_up = subst P (sym goes) (refl, refl);
+            given = subst Q (sym goes) (given_all text faults initial here reader so.source so.read later reader' next);
           }
 
       stops_so : (stopped : LineFault)
           → ReadsNext (place text faults here reader) (place text faults later reader') (Err stopped)
-          → ReadsSecond (pass_of text faults initial later) program old now (Err (of_lines stopped))
+          → PutsAll (pass_of text faults initial later) program old now (Err (of_lines stopped))
       stops_so Read next = (
-        so.source,
-        failed text faults initial here reader so.source so.read later reader' next,
-        so.stands.lines,
-        unended,
-        so.stands.taken.gains,
+        (
+          so.source,
+          failed text faults initial here reader so.source so.read later reader' next,
+          so.stands.lines,
+          unended,
+          so.stands.taken.gains,
+        ),
+        (so.source, so.stands.lines, unended, given_till text faults initial here reader so.source so.read later reader' next),
       )
       stops_so TooMuchSource next = (
-        record { lines = so.source; fault = Some TooMuchSource },
-        too_much text faults initial here reader so.source so.read later reader' next,
-        so.stands.lines,
-        outcome.Refuses.AtReading TooMuchSource refl refl unended,
-        so.stands.taken.gains,
+        (
+          record { lines = so.source; fault = Some TooMuchSource },
+          too_much text faults initial here reader so.source so.read later reader' next,
+          so.stands.lines,
+          outcome.Refuses.AtReading TooMuchSource refl refl unended,
+          so.stands.taken.gains,
+        ),
+        (
+          so.source,
+          so.stands.lines,
+          unended,
+          TooMuchSource,
+          past_bytes text faults initial here reader so.source so.read later reader' next,
+        ),
       )
       stops_so TooManyLines next = (
-        record { lines = so.source; fault = Some TooManyLines },
-        too_many text faults initial here reader so.source so.read later reader' next,
-        so.stands.lines,
-        outcome.Refuses.AtReading TooManyLines refl refl unended,
-        so.stands.taken.gains,
+        (
+          record { lines = so.source; fault = Some TooManyLines },
+          too_many text faults initial here reader so.source so.read later reader' next,
+          so.stands.lines,
+          outcome.Refuses.AtReading TooManyLines refl refl unended,
+          so.stands.taken.gains,
+        ),
+        (
+          so.source,
+          so.stands.lines,
+          unended,
+          TooManyLines,
+          past_lines text faults initial here reader so.source so.read later reader' next,
+        ),
       )
 
       pub second_stops : (came : LineFault) (stopped : AsmFault) → stopped ≡ of_lines came
           → ReadsNext (place text faults here reader) (place text faults later reader') (Err came)
-          → ReadsSecond (pass_of text faults initial later) program old now (Err stopped)
+          → PutsAll (pass_of text faults initial later) program old now (Err stopped)
       second_stops came stopped is next =
-          let P : AsmFault → Type 0 = λ f. ReadsSecond (pass_of text faults initial later) program old now (Err f) in
+          let P : AsmFault → Type 0 = λ f. PutsAll (pass_of text faults initial later) program old now (Err f) in
           subst P (sym is) (stops_so came next)
 
       module _ (line : SourceLine) (next : ReadsNext (place text faults here reader) (place text faults later reader') (Ok (Some line)))
@@ -133,6 +171,9 @@ module _ {F : Type 0} (text : F → Option Text) (faults : F → ℕ) (program :
 
         begun_more : Begun (pass_of text faults initial later) all
         begun_more = begun text faults initial later reader' all more
+
+        given_more : GaveLines text initial later all
+        given_more = lines_given text faults initial later reader' all more
 
         pub second_goes_on : SecondTakes program so.source line old (record { before = now; now = new; old = second; new = second' }) (Ok tt)
             → SecondSoFar text faults initial later reader' program old new second'
@@ -149,31 +190,46 @@ module _ {F : Type 0} (text : F → Option Text) (faults : F → ℕ) (program :
           stops = s.stops;
         }
 
+        gives_in_line : (Stop : List Write → Type 0) → StopsAmong Stop program all
+            → GivesToStop (pass_of text faults initial later) program.map program.mentioned.names
+        gives_in_line Stop s = extents.GivesToStop.InLine all s.lines s.stage s.live given_more
+
         too_long : length all ≡ most_lines + 1 → ⊥
         too_long many = let few = few_read text faults initial later reader' all more in omega (arith, many, few)
 
         fails_so : (stopped : AsmFault) → SecondFails program all old new stopped
-            → ReadsSecond (pass_of text faults initial later) program old new (Err stopped)
+            → PutsAll (pass_of text faults initial later) program old new (Err stopped)
         fails_so fault.Read s = absurd s
-        fails_so (fault.Write output) s = (begun_more.reading, begun_more.reads, among (StopsIn output old new) s)
-        fails_so fault.NoMemory s = (begun_more.reading, begun_more.reads, among (StopsBetween old new) s)
+        fails_so (fault.Write output) s = (
+          (begun_more.reading, begun_more.reads, among (StopsIn output old new) s),
+          gives_in_line (StopsIn output old new) s,
+        )
+        fails_so fault.NoMemory s =
+            ((begun_more.reading, begun_more.reads, among (StopsBetween old new) s), gives_in_line (StopsBetween old new) s)
         fails_so fault.TooMuchSource s = absurd (too_long s.too_many)
         fails_so stopped s = (
-          begun_more.reading,
-          begun_more.reads,
-          s.lines,
-          outcome.Refuses.AtLimit all begun_more.more stopped begun_more.are s.exceeds refl,
-          s.gains,
+          (
+            begun_more.reading,
+            begun_more.reads,
+            s.lines,
+            outcome.Refuses.AtLimit all begun_more.more stopped begun_more.are s.exceeds refl,
+            s.gains,
+          ),
+          (all, s.lines, s.exceeds, given_more),
         )
 
         pub second_refuses : (stopped : AsmFault) → SecondTakes program so.source line old (record { before = now; now = new; old = second; new = second' }) (Err stopped)
-            → ReadsSecond (pass_of text faults initial later) program old new (Err stopped)
+            → PutsAll (pass_of text faults initial later) program old new (Err stopped)
         second_refuses stopped s = fails_so stopped s.1
 
   -- ---- the end
 
   module _ (pass : Pass F) (now new : Outputs) (second : SecondState) (taken : SecondTaken pass program old now second)
       (result : Result AsmDone AsmFault) (ends : SecondEnds program taken.source old new second result) where
+    unended_so : second.has_ended ≡ false → Unended program.map program.mentioned.names taken.source ends.lines
+    unended_so is =
+        record { stage = ends.stage; live = ends.live; left = ends.needs is; goes_on = sym ends.ended ∙ is }
+
     ended_so : (has_ended : Bool) → second.has_ended ≡ has_ended → IsTakenUp taken.reading taken.source has_ended
         → Ends program.map program.mentioned.names taken.reading ends.lines (ended_with second)
     ended_so true is up =
@@ -183,8 +239,7 @@ module _ {F : Type 0} (text : F → Option Text) (faults : F → ℕ) (program :
     ended_so false is up =
         let at : ℕ → Bool → Ended = λ n b. record { read = n; has_end = b } in
         let P : List SourceLine → Type 0 = λ s. Unended program.map program.mentioned.names s ends.lines in
-        outcome.Ends.WithoutEnd
-        (subst P (sym up.0) (record { stage = ends.stage; live = ends.live; left = ends.needs is; goes_on = sym ends.ended ∙ is })) up.1
+        outcome.Ends.WithoutEnd (subst P (sym up.0) (unended_so is)) up.1
         (ap (λ (n : ℕ). at n second.has_ended) ends.read ∙ ap (at (length taken.source)) is
         ∙ ap (λ (s : List SourceLine). at (length s) false) (sym up.0))
 
@@ -199,17 +254,38 @@ module _ {F : Type 0} (text : F → Option Text) (faults : F → ℕ) (program :
       stops = s;
     }
 
+    gives_to_end : (has_ended : Bool) → second.has_ended ≡ has_ended → HaveGiven pass taken.source has_ended
+        → GivesToEnd pass program.map program.mentioned.names ends.lines
+    gives_to_end true is given =
+        extents.GivesToEnd.AtEnd taken.source ends.stage ends.live (sym ends.ended ∙ is) given
+    gives_to_end false is given = extents.GivesToEnd.WithoutEnd taken.source (unended_so is) given
+
+    -- an output or memory failed at the end
+    gives_to_stop : (has_ended : Bool) → second.has_ended ≡ has_ended → HaveGiven pass taken.source has_ended
+        → GivesToStop pass program.map program.mentioned.names
+    gives_to_stop true is given = extents.GivesToStop.InLine taken.source ends.lines ends.stage ends.live given
+    gives_to_stop false is given = extents.GivesToStop.AfterAll taken.source ends.lines (unended_so is) given
+
     ends_so : (result : Result AsmDone AsmFault) → Writes old new (program_writes program ends.lines (ended_with second)) result
         → IfOk result (λ done. done.flagged ≡ flagged_count program ends.lines second.has_ended)
-        → ReadsSecond pass program old new result
+        → PutsAll pass program old new result
     ends_so (Ok done) gains count = (
-      taken.reading,
-      taken.reads,
-      record { lines = ends.lines; ended = ended_with second; ends = all_ends; gains = gains; count = count },
+      (
+        taken.reading,
+        taken.reads,
+        record { lines = ends.lines; ended = ended_with second; ends = all_ends; gains = gains; count = count },
+      ),
+      (ends.lines, gives_to_end second.has_ended refl taken.given),
     )
-    ends_so (Err (fault.Write output)) stops count = (taken.reading, taken.reads, among_all (StopsIn output old new) stops)
-    ends_so (Err fault.NoMemory) stops count = (taken.reading, taken.reads, among_all (StopsBetween old new) stops)
+    ends_so (Err (fault.Write output)) stops count = (
+      (taken.reading, taken.reads, among_all (StopsIn output old new) stops),
+      gives_to_stop second.has_ended refl taken.given,
+    )
+    ends_so (Err fault.NoMemory) stops count = (
+      (taken.reading, taken.reads, among_all (StopsBetween old new) stops),
+      gives_to_stop second.has_ended refl taken.given,
+    )
     ends_so (Err other) stops count = absurd stops
 
-    pub second_ends : ReadsSecond pass program old new result
+    pub second_ends : PutsAll pass program old new result
     second_ends = ends_so result ends.writes ends.count

@@ -1,3 +1,4 @@
+pub mod Extents
 pub mod FirstReading
 pub mod Outcome
 pub mod Passes

@@ -1,6 +1,7 @@
 //! The run: sources in, object, listing and messages out.
 
 ghost use Rattle.std.specs.Prelude.{◌≡◌};
+ghost use Rattle.m11_asm.specs.Extents.{AsmGives};
 ghost use Rattle.m11_asm.specs.Passes.{pass_of};
 ghost use Rattle.m11_asm.specs.Run.{AsmRuns, AsmRunsOr};
 ghost use Rattle.m11_asm_outputs.specs.Outputs.{outputs_of};
@@ -19,11 +20,12 @@ use std::alloc::Global;
 /// Assembles sources, one after another as one text, into an object module, a listing where there is one, and messages. Each source is
 /// read twice, and one line of source is kept.
 ///
-/// `first` and `second` give the same sources for two passes, of which only the second one writes. Where a source has a `.END` that
-/// becomes live no later byte is read. Faults, the first in the order of the input: `Read` and `TooMuchSource` of reading;
-/// `TooManySymbols`, `TooManySections` and `Unfold` of a line. Where the first pass is refused nothing is written. Then `Write`, after which
-/// nothing more is written, and the same faults again where the second pass gives other bytes: what the live lines before the fault write
-/// is then written. `NoMemory` wherever memory is refused.
+/// `first` and `second` give the same sources for two passes, of which only the second one writes. Where `.END` becomes live, no byte after
+/// its line is taken from its feed or from a later one, neither by `next` nor by `pass`; where it doesn't, all feeds are read to their ends.
+/// Faults, the first in the order of the input: `Read` and `TooMuchSource` of reading; `TooManySymbols`, `TooManySections` and `Unfold` of a
+/// line, after which no byte is taken, either. Where the first pass is refused nothing is written. Then `Write`, after which nothing more is
+/// written, and the same faults again where the second pass gives other bytes: what the live lines before the fault write is then written.
+/// `NoMemory` wherever memory is refused.
 pub fn asm_run<F: Feed, S: Sink, T: Sink, U: Sink>(
     alloc: Global,
     first: &mut [F],
@@ -40,6 +42,7 @@ pub fn asm_run<F: Feed, S: Sink, T: Sink, U: Sink>(
         (pass_of F.text F.faults first.old first.new) (pass_of F.text F.faults second.old second.new)
         (outputs_of S.Sink T.Sink U.Sink object.old listing.old messages.old)
         (outputs_of S.Sink T.Sink U.Sink object.new listing.new messages.new) result }
+    ensures gives { AsmGives (pass_of F.text F.faults first.old first.new) (pass_of F.text F.faults second.old second.new) result }
 {
     match read_first(alloc, first) {
         Ok(symbols) => {

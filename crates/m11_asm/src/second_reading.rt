@@ -1,8 +1,8 @@
 //! The second pass: what the lines of the sources write.
 
 ghost use Rattle.std.specs.Prelude.{[]};
-ghost use Rattle.m11_asm.specs.Passes.{ReadsSecond, pass_of};
-ghost use Rattle.m11_asm.specs.SecondReading.{PutsLines};
+ghost use Rattle.m11_asm.specs.Passes.{pass_of};
+ghost use Rattle.m11_asm.specs.SecondReading.{PutsAll, PutsLines};
 ghost use Rattle.m11_asm_outputs.specs.Outputs.{Outputs, outputs_of};
 ghost use Rattle.m11_asm.specs.Program.{Program, program_in};
 ghost use Rattle.m11_asm.specs.Second.{SecondStands};
@@ -24,7 +24,7 @@ pub fn read_second<F: Feed, S: Sink, T: Sink, U: Sink>(
     listing: &mut Option<T>,
     messages: &mut U,
 ) -> Result<AsmDone, AsmFault>
-    ensures { ReadsSecond (pass_of F.text F.faults feeds.old feeds.new) (program_in symbols)
+    ensures { PutsAll (pass_of F.text F.faults feeds.old feeds.new) (program_in symbols)
         (outputs_of S.Sink T.Sink U.Sink object.old listing.old messages.old)
         (outputs_of S.Sink T.Sink U.Sink object.new listing.new messages.new) result }
 {
