@@ -1,6 +1,8 @@
 -- Where the second pass begins, and where it ends.
 use Rattle.std.proofs.Common.{◌≡◌, ◌∙◌, ◌≤◌, Bool, true, false, if◌then◌else◌, List, [], ◌∷◌, ◌++◌, length, Option, None, Result, IfOk, refl, sym, ap, subst, arith}
 use Rattle.std.proofs.lemmas.List.Sums.{count_by-le-length}
+use Rattle.std.specs.Prelude.{OnOk}
+use Rattle.m11_asm_outputs.specs.Object.{AllFit, object_contents}
 use Rattle.m11_asm_faults.specs.declared.fault.AsmFault.{AsmFault}
 use Rattle.m11_asm_outputs.specs.Outputs.{Gains, Outputs, Write, Writes, assembly}
 use Rattle.m11_first.specs.Facts.{Facts}
@@ -22,7 +24,7 @@ use Rattle.m11_writes.proofs.Writing.{writes_then}
 use Rattle.m11_asm.specs.Program.{Program, program_in, program_kept}
 use Rattle.m11_asm.specs.Second.{GoesOn, SecondEnds, SecondStands, SecondState, ended_with}
 use Rattle.m11_asm.specs.Writing.{Writing, WritingStands, most_counted}
-use Rattle.m11_asm.specs.Written.{flagged_count, flagged_in, is_flagged, last_place, last_writes, letters_after, written}
+use Rattle.m11_asm.specs.Written.{flagged_count, flagged_in, is_flagged, last_place, last_writes, letters_after, pieces_in, written}
 use Rattle.m11_asm.specs.declared.done.AsmDone.{AsmDone}
 use Rattle.m11_asm.proofs.LinesWritten.{nothing_written}
 
@@ -107,8 +109,9 @@ module _ (program : Program) (source : List SourceLine) (first now : Outputs) (s
 
   pub second_finishes : (new : Outputs) (result : Result AsmDone AsmFault) → Writes now new (last_writes program stands.lines (ended_with state)) result
       → IfOk result (λ done. done.flagged ≡ flagged_count program stands.lines state.has_ended)
+      → OnOk result (AllFit (object_contents program.rows (pieces_in program.map stands.lines)))
       → SecondEnds program source first new state result
-  second_finishes new result writes count = record {
+  second_finishes new result writes count fit = record {
     lines = stands.lines;
     stage = state.going.unfolder.stage;
     live = stands.taken.stands.lines_are;
@@ -118,4 +121,5 @@ module _ (program : Program) (source : List SourceLine) (first now : Outputs) (s
     writes = writes_then assembly first now new (written program stands.lines) (last_writes program stands.lines (ended_with state)) result
         stands.taken.gains writes;
     count = count;
+    fit = fit;
   }

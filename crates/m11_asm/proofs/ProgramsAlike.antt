@@ -2,6 +2,8 @@
 use Rattle.std.proofs.Common.{◌≡◌, ◌∙◌, ℕ, ◌+◌, Bool, if◌then◌else◌, count_by, List, [], ◌∷◌, ◌++◌, Option, Result, Ok, Err, refl, sym, ap, subst}
 use Rattle.std.specs.Int.RustNames.{bit_or}
 use Rattle.std.specs.List.{flat_map}
+use Rattle.m11_asm_outputs.proofs.Fitting.{fit_as}
+use Rattle.m11_asm_outputs.specs.Object.{object_contents}
 use Rattle.m11_asm_faults.specs.declared.fault.AsmFault.{AsmFault}
 use Rattle.m11_asm_faults.specs.declared.fault.AsmFault.TheVariants as fault
 use Rattle.m11_asm_outputs.specs.Object.{content_writes, head_contents, records_closed_by}
@@ -234,6 +236,9 @@ module _ (one other : Program) (alike : AlikePrograms one other) where
             ends = ends_alike s.0 s.2.lines s.2.ended s.2.ends;
             gains = subst P (program_alike s.2.lines s.2.ended) s.2.gains;
             count = s.2.count ∙ counts_alike s.2.lines s.2.ended.has_end;
+            fit = fit_as _ _
+                (ap (λ (rows : List DirectoryRow). object_contents rows (pieces_in one.map s.2.lines)) alike.rows
+                ∙ ap (object_contents other.rows) (pieces_alike s.2.lines)) s.2.fit;
           },
         )
     reads_alike (Err fault.Read) s = (s.0, s.1, s.2, unended_alike s.0 s.2 s.3, gains_alike old new s.2 s.4)

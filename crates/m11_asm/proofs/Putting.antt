@@ -4,7 +4,10 @@ use Rattle.std.specs.Prelude.{◌==◌}
 use Rattle.std.specs.Int.RustNames.{bit_or}
 use Rattle.std.proofs.Math.Nat.{min-eq_left}
 use Rattle.m11_asm_faults.specs.declared.fault.AsmFault.{AsmFault}
-use Rattle.m11_asm_outputs.specs.Object.{IsOpenAfter, content_writes, head_contents, records_closed_by}
+use Rattle.m11_asm_outputs.specs.Object.{IsOpenAfter, content_writes, head_contents, records_closed_by, AllFit, closed_records, last_records, object_contents}
+use Rattle.m11_asm_outputs.proofs.Closing.{closed-append, closed_from_nothing, in_parts, no_closed_records}
+use Rattle.m11_asm_outputs.proofs.Fitting.{all_fit-append, fit_as}
+use Rattle.m11_obj.specs.Records.{Content, EndOfModule}
 use Rattle.m11_asm_outputs.specs.Outputs.{Gains, Outputs, Stops, Write, Writes, assembly, to_messages}
 use Rattle.m11_base.specs.Devices.{Bytes}
 use Rattle.m11_base.specs.Rad50.{Name}
@@ -200,6 +203,7 @@ module _ (program : Program) (lines : List Numbered) (one : Numbered) (old : Wri
   pub stands_more : (text : Option TextParts) (more : List Piece) (letters : ℕ)
       → more ≡ pieces program.map (table_at program.map lines) one.given → letters ≡ letters_at program lines one
       → IsOpenAfter (pieces_in program.map lines ++ more) text
+      → AllFit (head_contents program.rows) → AllFit (records_closed_by (pieces_in program.map lines) more)
       → WritingStands program (lines ++ one ∷ [])
       (record {
         rows = old.rows;
@@ -210,7 +214,7 @@ module _ (program : Program) (lines : List Numbered) (one : Numbered) (old : Wri
         has_begun = true;
         flagged = counted letters old.flagged;
       })
-  stands_more text more letters more_is letters_is opens = record {
+  stands_more text more letters more_is letters_is opens head_fits more_fit = record {
     rows = stands.rows;
     transfer = stands.transfer;
     symbols = stands.symbols;
@@ -221,6 +225,12 @@ module _ (program : Program) (lines : List Numbered) (one : Numbered) (old : Wri
     flagged = ap (counted letters) stands.flagged ∙ counted_least letters (flagged_in program lines)
         ∙ ap (λ (l : ℕ). min (flagged_in program lines + (if is_flagged l then 1 else 0)) most_counted) letters_is
         ∙ ap (λ (n : ℕ). min n most_counted) (sym (flagged_more program lines one));
+    head = λ is. head_fits;
+    closed = fit_as _ _
+        (sym (closed-append (pieces_in program.map lines) more)
+        ∙ ap (λ (ps : List Piece). closed_records (pieces_in program.map lines ++ ps)) more_is
+        ∙ ap closed_records (sym (pieces_more program.map lines one)))
+        (all_fit-append _ _ stands.closed more_fit);
   }
 
 none_put : (program : Program) → pieces_in program.map [] ≡ []
@@ -232,13 +242,14 @@ pub keeps_more : {E : Type 0} (program : Program) (lines : List Numbered) (one :
     → began ≡ begun old → put ≡ opened put.text began → listed ≡ put
     → more ≡ pieces program.map (table_at program.map lines) one.given
     → letters ≡ letters_at program lines one → IsOpenAfter (pieces_in program.map lines ++ more) put.text
+    → AllFit (head_contents program.rows) → AllFit (records_closed_by (pieces_in program.map lines) more)
     → IfOk result (λ _. new ≡ record listed { flagged = counted letters listed.flagged })
     → IfOk result (λ _. WritingStands program (lines ++ one ∷ []) new)
-keeps_more program lines one old stands began put listed new more letters (Err stopped) begins opens stays more_is letters_is open_after so = tt
-keeps_more program lines one old stands began put listed new more letters (Ok done) begins opens stays more_is letters_is open_after so =
+keeps_more program lines one old stands began put listed new more letters (Err stopped) begins opens stays more_is letters_is open_after head_fits more_fit so = tt
+keeps_more program lines one old stands began put listed new more letters (Ok done) begins opens stays more_is letters_is open_after head_fits more_fit so =
     let whole = so ∙ ap (λ (w : Writing). record w { flagged = counted letters w.flagged }) (stays ∙ opens ∙ ap (opened put.text) begins) in
     subst (λ (w : Writing). WritingStands program (lines ++ one ∷ []) w) (sym whole)
-    (stands_more program lines one old stands put.text more letters more_is letters_is open_after)
+    (stands_more program lines one old stands put.text more letters more_is letters_is open_after head_fits more_fit)
 
 -- ---- the end
 
@@ -288,6 +299,15 @@ module _ (program : Program) (lines : List Numbered) (old begun_ new : Writing) 
       (ap (λ (w : Writing). w.sections) counts ∙ ap (λ (w : Writing). w.sections) begins ∙ stands.sections)
       ∙ ap (λ (n : ℕ). closing_writes ps program.symbols program.sections n) (last_count few)
 
+-- the records of the object, where its head and the last of them fit
+pub object_fits : (program : Program) (lines : List Numbered) (writing : Writing) → WritingStands program lines writing
+    → AllFit (head_contents program.rows) → AllFit (last_records (pieces_in program.map lines) ++ EndOfModule ∷ [])
+    → AllFit (object_contents program.rows (pieces_in program.map lines))
+object_fits program lines writing stands head last =
+    let ps = pieces_in program.map lines in
+    fit_as _ _ (sym (in_parts program.rows ps))
+    (all_fit-append _ _ head (all_fit-append _ _ (fit_as _ _ (sym (closed_from_nothing ps)) stands.closed) last))
+
 -- ---- before the first line
 
 pub stands_first : (kept : Kept) (gathered : Gathered) (facts : Facts) (rows : List DirectoryRow) (transfer : Option Quantity)
@@ -315,4 +335,6 @@ stands_first kept gathered facts rows transfer symbols sections text rows_are to
       text = subst (λ (ps : List Piece). IsOpenAfter ps text) (sym (none_put program)) opens;
       begun = refl;
       flagged = sym (ap (λ (n : ℕ). min n most_counted) (none_flagged program));
+      head = λ is. absurd (true_false is refl);
+      closed = fit_as [] _ (sym no_closed_records ∙ sym (ap closed_records (none_put program))) tt;
     }

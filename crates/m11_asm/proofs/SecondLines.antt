@@ -1,6 +1,8 @@
 -- The second pass over feeds, from line to line.
 use Rattle.std.proofs.Common.{◌≡◌, ◌∙◌, ℕ, ◌+◌, Bool, true, false, List, [], ◌∷◌, ◌++◌, length, Option, Some, None, Result, Ok, Err, IfOk, IsErrAnd, refl, sym, ap, subst, inl, inr, arith}
 use Rattle.m11_asm_faults.specs.Faults.{of_lines}
+use Rattle.std.specs.Prelude.{OnOk}
+use Rattle.m11_asm_outputs.specs.Object.{AllFit, object_contents}
 use Rattle.m11_asm_faults.specs.declared.fault.AsmFault.{AsmFault}
 use Rattle.m11_asm_faults.specs.declared.fault.AsmFault.TheVariants as fault
 use Rattle.m11_asm_outputs.specs.Outputs.{Outputs, StopsBetween, StopsIn, Write, Writes, assembly}
@@ -15,7 +17,7 @@ use Rattle.m11_readings.specs.Extents.{GaveLines}
 use Rattle.m11_readings.specs.Readings.{Reading}
 use Rattle.m11_asm.specs.Program.{Program}
 use Rattle.m11_asm.specs.Second.{SecondEnds, SecondFails, SecondStands, SecondState, SecondTakes, StopsAmong, ended_with}
-use Rattle.m11_asm.specs.Written.{Ended, flagged_count, program_writes, written}
+use Rattle.m11_asm.specs.Written.{Ended, flagged_count, pieces_in, program_writes, written}
 use Rattle.m11_asm.specs.declared.done.AsmDone.{AsmDone}
 use Rattle.m11_unfolding.specs.Stages.{start}
 use Rattle.m11_writes.proofs.Writing.{refused_between}
@@ -268,24 +270,25 @@ module _ {F : Type 0} (text : F → Option Text) (faults : F → ℕ) (program :
 
     ends_so : (result : Result AsmDone AsmFault) → Writes old new (program_writes program ends.lines (ended_with second)) result
         → IfOk result (λ done. done.flagged ≡ flagged_count program ends.lines second.has_ended)
+        → OnOk result (AllFit (object_contents program.rows (pieces_in program.map ends.lines)))
         → PutsAll pass program old new result
-    ends_so (Ok done) gains count = (
+    ends_so (Ok done) gains count fit = (
       (
         taken.reading,
         taken.reads,
-        record { lines = ends.lines; ended = ended_with second; ends = all_ends; gains = gains; count = count },
+        record { lines = ends.lines; ended = ended_with second; ends = all_ends; gains = gains; count = count; fit = fit },
       ),
       (ends.lines, gives_to_end second.has_ended refl taken.given),
     )
-    ends_so (Err (fault.Write output)) stops count = (
+    ends_so (Err (fault.Write output)) stops count fit = (
       (taken.reading, taken.reads, among_all (StopsIn output old new) stops),
       gives_to_stop second.has_ended refl taken.given,
     )
-    ends_so (Err fault.NoMemory) stops count = (
+    ends_so (Err fault.NoMemory) stops count fit = (
       (taken.reading, taken.reads, among_all (StopsBetween old new) stops),
       gives_to_stop second.has_ended refl taken.given,
     )
-    ends_so (Err other) stops count = absurd stops
+    ends_so (Err other) stops count fit = absurd stops
 
     pub second_ends : PutsAll pass program old new result
-    second_ends = ends_so result ends.writes ends.count
+    second_ends = ends_so result ends.writes ends.count ends.fit

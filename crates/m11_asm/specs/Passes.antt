@@ -1,5 +1,6 @@
 -- Passes over feeds: what their texts yield, and where a pass ends early. (This project's own.)
 use Rattle.std.specs.Prelude.{◌≡◌, List, [], ◌++◌, None, Option, ℕ, Result, Ok, Err}
+use Rattle.m11_asm_outputs.specs.Object.{AllFit, object_contents}
 use Rattle.m11_asm_faults.specs.declared.fault.AsmFault.{AsmFault}
 use Rattle.m11_asm_faults.specs.declared.fault.AsmFault.TheVariants as fault
 use Rattle.m11_asm_outputs.specs.Outputs.{Gains, Outputs, StopsBetween, StopsIn, Write}
@@ -10,7 +11,7 @@ use Rattle.m11_placement.specs.Meanings.{empty_map}
 use Rattle.m11_readings.specs.Calls.{FailReading, HaveReading}
 use Rattle.m11_readings.specs.Readings.{Reading}
 use Rattle.m11_asm.specs.Program.{Program}
-use Rattle.m11_asm.specs.Written.{Ended, flagged_count, program_writes, written}
+use Rattle.m11_asm.specs.Written.{Ended, flagged_count, pieces_in, program_writes, written}
 use Rattle.m11_asm.specs.declared.done.AsmDone.{AsmDone}
 use Rattle.m11_unfolding.specs.Stages.{Stage}
 use Rattle.m11_asm.specs.Outcome.{Ends, Refuses, Unended}
@@ -60,13 +61,14 @@ pub record StopsAmongWrites (Stop : List Write → Type 0) (program : Program) (
   pub are : AreWrites program reading writes
   pub stops : Stop writes
 
--- all is written
+-- all is written, and each record of the object fits its block
 pub record WritesAll (program : Program) (reading : Reading) (old new : Outputs) (done : AsmDone) : Type 0 where
   pub lines : List Numbered
   pub ended : Ended
   pub ends : Ends program.map program.mentioned.names reading lines ended
   pub gains : Gains old new (program_writes program lines ended)
   pub count : done.flagged ≡ flagged_count program lines ended.has_end
+  pub fit : AllFit (object_contents program.rows (pieces_in program.map lines))
 
 -- exactly what these live lines write is written
 abbrev pub WritesLines : Program → List Numbered → Outputs → Outputs → Type 0

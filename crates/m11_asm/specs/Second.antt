@@ -1,6 +1,6 @@
 -- The second pass of a source, call by call: what stands after its lines so far, what is written, and how it stops. (MACRO-11 Language
 -- Reference Manual, "Source program format" and ".END directive". That lines past the 65,535th are refused is this project's own.)
-use Rattle.std.specs.Prelude.{◌≡◌, ◌⊎◌, ℕ, ◌+◌, Bool, true, false, List, [], ◌∷◌, ◌++◌, length, Option, None, Result, Ok, Err, IfOk}
+use Rattle.std.specs.Prelude.{◌≡◌, ◌⊎◌, ℕ, ◌+◌, Bool, true, false, List, [], ◌∷◌, ◌++◌, length, Option, None, Result, Ok, Err, IfOk, OnOk}
 use Rattle.m11_asm_faults.specs.declared.fault.AsmFault.{AsmFault}
 use Rattle.m11_asm_faults.specs.declared.fault.AsmFault.TheVariants as fault
 use Rattle.m11_lines.specs.Line.{SourceLine}
@@ -10,9 +10,10 @@ use Rattle.m11_placement.specs.Meanings.{Map}
 use Rattle.m11_passes.specs.Lines.{Numbered, PassLines}
 use Rattle.m11_passes.specs.Reaching.{Exceeds}
 use Rattle.m11_passes.specs.States.{Going, PassState, PassStands}
+use Rattle.m11_asm_outputs.specs.Object.{AllFit, object_contents}
 use Rattle.m11_asm_outputs.specs.Outputs.{Gains, Outputs, StopsBetween, StopsIn, Write, Writes}
 use Rattle.m11_asm.specs.Program.{Program}
-use Rattle.m11_asm.specs.Written.{Ended, flagged_count, program_writes, written}
+use Rattle.m11_asm.specs.Written.{Ended, flagged_count, pieces_in, program_writes, written}
 use Rattle.m11_asm.specs.Writing.{Writing, WritingStands}
 use Rattle.m11_asm.specs.declared.done.AsmDone.{AsmDone}
 
@@ -113,7 +114,8 @@ TakesLeft program source first now going writing (Err stopped) = SecondFails pro
 abbrev pub ended_with : SecondState → Ended
 ended_with state = record { read = state.read; has_end = state.has_ended }
 
--- after all lines of a source, or after that in which `.END` became live: all is written, or it stops among that
+-- after all lines of a source, or after that in which `.END` became live: all is written, or it stops among that; where all is written,
+-- each record of the object fits its block
 pub record SecondEnds (program : Program) (source : List SourceLine) (first now : Outputs) (state : SecondState)
     (result : Result AsmDone AsmFault) : Type 0 where
   pub lines : List Numbered
@@ -124,3 +126,4 @@ pub record SecondEnds (program : Program) (source : List SourceLine) (first now 
   pub needs : state.has_ended ≡ false → stage.left ≡ []
   pub writes : Writes first now (program_writes program lines (ended_with state)) result
   pub count : IfOk result (λ done. done.flagged ≡ flagged_count program lines state.has_ended)
+  pub fit : OnOk result (AllFit (object_contents program.rows (pieces_in program.map lines)))

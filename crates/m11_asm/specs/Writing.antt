@@ -5,7 +5,7 @@ use Rattle.m11_listing.specs.declared.symbol_table.SymbolEntry.{SymbolEntry}
 use Rattle.m11_object_text.specs.Texts.{TextParts}
 use Rattle.m11_object_text.specs.declared.directory.DirectoryRow.{DirectoryRow}
 use Rattle.m11_values.specs.Quantities.{Quantity}
-use Rattle.m11_asm_outputs.specs.Object.{IsOpenAfter}
+use Rattle.m11_asm_outputs.specs.Object.{AllFit, IsOpenAfter, closed_records, head_contents}
 use Rattle.m11_passes.specs.Lines.{Numbered}
 use Rattle.m11_asm.specs.Program.{Program}
 use Rattle.m11_asm.specs.Written.{flagged_in, is_flagged, letter_E, pieces_in}
@@ -51,3 +51,6 @@ pub record WritingStands (program : Program) (lines : List Numbered) (writing : 
   pub text : IsOpenAfter (pieces_in program.map lines) writing.text
   pub begun : writing.has_begun ≡ is_some_line lines
   pub flagged : writing.flagged ≡ min (flagged_in program lines) most_counted
+  -- what was written of the object fits its blocks
+  pub head : writing.has_begun ≡ true → AllFit (head_contents program.rows)
+  pub closed : AllFit (closed_records (pieces_in program.map lines))

@@ -2,8 +2,9 @@
 //! format"; MACRO-11 Language Reference Manual, "Listing control directives", "Table of contents and symbol table", "Diagnostic error
 //! message summary" and ".END directive".)
 
-ghost use Rattle.std.specs.Prelude.{◌≡◌, ◌≤◌, ◌++◌, ◌∷◌, [], List, IfOk, length, option_map};
-ghost use Rattle.m11_asm_outputs.specs.Object.{IsOpenAfter, content_writes, records_closed_by};
+ghost use Rattle.std.specs.Prelude.{◌≡◌, ◌≤◌, ◌++◌, ◌∷◌, [], List, IfOk, OnOk, length, option_map};
+ghost use Rattle.m11_asm_outputs.specs.Object.{AllFit, IsOpenAfter, content_writes, head_contents, last_records, object_contents, records_closed_by};
+ghost use Rattle.m11_obj.specs.Records.{EndOfModule};
 ghost use Rattle.m11_asm_outputs.specs.Outputs.{Writes, outputs, outputs_of};
 ghost use Rattle.m11_directory.specs.FirstPass.{directory_facts};
 ghost use Rattle.m11_listed.specs.Listed.{listing_writes};
@@ -19,7 +20,7 @@ ghost use Rattle.m11_placing.specs.Deeds.{deed_seen};
 ghost use Rattle.m11_scan.specs.Views.{bits_of};
 ghost use Rattle.m11_asm.specs.Program.{Program, program_kept, directory_facts_in};
 ghost use Rattle.m11_asm.specs.Writing.{WritingStands, begun, counted, counted_last, most_counted, opened};
-ghost use Rattle.m11_asm.specs.Written.{added_writes, closing_writes, flagged_count, head_before, last_place, last_writes, line_writes, message_writes};
+ghost use Rattle.m11_asm.specs.Written.{added_writes, closing_writes, flagged_count, head_before, last_place, last_writes, line_writes, message_writes, pieces_in};
 ghost use Rattle.m11_unfolding.specs.Unfolding.{Given};
 ghost use Rattle.m11_values.specs.Quantities.{quantity};
 ghost use Rattle.m11_writes.specs.Outputs.{Output, optional_output, output_of};
@@ -147,6 +148,8 @@ impl Writing {
             (outputs (output_of S.Sink object.old) listing messages)
             (outputs (output_of S.Sink object.new) listing messages) (head_before program lines) result }
         ensures begins { IfOk result (λ _. self.new ≡ begun self.old) }
+        ensures fit { (program : Program) (lines : List Numbered) → WritingStands program lines self.old
+            → IfOk result (λ _. AllFit (head_contents program.rows)) }
     {
         if self.has_begun {
             return Ok(());
@@ -170,6 +173,8 @@ impl Writing {
         ensures opens { IfOk result (λ _. self.new ≡ opened self.new.text self.old) }
         ensures stands { (before : List Piece) → IsOpenAfter before self.old.text → IfOk result (λ _. IsOpenAfter
             (before ++ pieces_from line.now.section line.now.place contents.now) self.new.text) }
+        ensures fit { (before : List Piece) → IsOpenAfter before self.old.text → OnOk result
+            (AllFit (records_closed_by before (pieces_from line.now.section line.now.place contents.now))) }
     {
         put_pieces(
             self.alloc,
@@ -248,6 +253,8 @@ impl Writing {
         ensures counts { (program : Program) (lines : List Numbered) → WritingStands program lines self.old
             → flagged_count program lines has_ended ≤ most_counted
             → IfOk result (λ done. done.flagged ≡ flagged_count program lines has_ended) }
+        ensures fit { (program : Program) (lines : List Numbered) → WritingStands program lines self.old
+            → OnOk result (AllFit (object_contents program.rows (pieces_in program.map lines))) }
     {
         self.begin(object)?;
         self.add_line(has_ended, read, place, listing, messages)?;
@@ -288,6 +295,8 @@ impl Writing {
             (outputs_of S.Sink T.Sink U.Sink object.new listing.new messages.new)
             (closing_writes pieces self.old.symbols self.old.sections self.old.flagged) result }
         ensures counts { IfOk result (λ done. done.flagged ≡ self.old.flagged) }
+        ensures fit { (pieces : List Piece) → IsOpenAfter pieces self.old.text
+            → OnOk result (AllFit (last_records pieces ++ EndOfModule ∷ [])) }
     {
         let text = mem::replace(&mut self.text, open_text());
         put_last(self.alloc, object, text)?;

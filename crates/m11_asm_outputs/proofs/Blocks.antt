@@ -9,7 +9,7 @@ use Rattle.m11_object_text.specs.Blocks.{AreRecords}
 use Rattle.m11_object_text.specs.declared.directory.DirectoryRow.{DirectoryRow}
 use Rattle.m11_asm_outputs.specs.Object.{block_writes, content_writes, head_contents, records_filled_by, rest_records}
 use Rattle.m11_asm_outputs.specs.Outputs.{Gains, Outputs, Stops, Write, Writes, to_object}
-use Rattle.m11_asm_outputs.proofs.Closing.{all_directory, from_nothing}
+use Rattle.m11_asm_outputs.proofs.Fitting.{head_in_two}
 use Rattle.m11_asm_outputs.proofs.Looping.{content_writes-append}
 
 blocks_mapped : (blocks : List (ArrayVec ℕ))
@@ -69,7 +69,5 @@ contents_stop a b xs ys stopped e h =
 pub head_split : (rows : List DirectoryRow) → content_writes (head_contents rows)
     ≡ content_writes (records_filled_by [] rows) ++ content_writes (rest_records rows ++ EndOfGsd ∷ [])
 head_split rows =
-    ap content_writes (ap (λ (t : List Content). t ++ EndOfGsd ∷ [])
-    (sym (all_directory rows) ∙ ap (λ (t : List Content). t ++ rest_records rows) (sym (from_nothing rows)))
-    ∙ append_assoc (records_filled_by [] rows) (rest_records rows) (EndOfGsd ∷ []))
+    ap content_writes (sym (head_in_two rows))
     ∙ content_writes-append (records_filled_by [] rows) (rest_records rows ++ EndOfGsd ∷ [])

@@ -27,7 +27,7 @@ texts-split before ([] ∷ closed) first rest = texts-split before closed first 
 texts-split before ((x ∷ xs) ∷ closed) first rest =
     ap (λ (t : List TextParts). text_of before x xs ∷ t) (texts-split (Some x.section) closed first rest)
 
-no_closed_records : closed_records [] ≡ []
+pub no_closed_records : closed_records [] ≡ []
 unfolding closed_records fronts_of
 no_closed_records = refl
 

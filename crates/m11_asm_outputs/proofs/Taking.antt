@@ -4,12 +4,13 @@ use Rattle.std.proofs.Common.{◌≡◌, List, [], ◌∷◌, ◌++◌, refl, sy
 use Rattle.m11_asm_faults.specs.declared.fault.AsmFault.{AsmFault}
 use Rattle.m11_obj.specs.Records.{Content}
 use Rattle.m11_writes.specs.Outputs.{Output}
-use Rattle.m11_asm_outputs.specs.Object.{added, content_writes}
+use Rattle.m11_asm_outputs.specs.Object.{added, content_writes, AllFit}
 use Rattle.m11_asm_outputs.specs.Outputs.{Outputs, Gains, Stops}
+use Rattle.m11_asm_outputs.proofs.Fitting.{all_fit-append, fit_as}
 use Rattle.m11_asm_outputs.proofs.Growing.{added-append, added-nil}
 use Rattle.m11_asm_outputs.proofs.Looping.{Leads, content_writes-append, no_contents, stopped_there, wrote_all, wrote_one}
 
--- some of the items were taken: what is held stands after them, and what the others add is left to be written
+-- some of the items were taken: what is held stands after them, what the others add is left to be written, and where that fits all fits
 pub record Taken {A S : Type 0} (made : List A → List Content) (Holds : List A → S → Type 0)
     (start now : Output → Output → Outputs) (old new : S) (all left : List A) : Type 0 where
   pub done : List A
@@ -18,6 +19,7 @@ pub record Taken {A S : Type 0} (made : List A → List Content) (Holds : List A
   pub leads : (before : List A) → Holds before old → (listing messages : Output)
       → Leads (Unit {0}) (start listing messages) (now listing messages)
       (content_writes (added made (before ++ done) left)) (content_writes (added made before all))
+  pub fits : (before : List A) → Holds before old → AllFit (added made (before ++ done) left) → AllFit (added made before all)
 
 module _ {A S : Type 0} (made : List A → List Content)
     (grows : (xs ys : List A) → (more : List Content) × (made (xs ++ ys) ≡ made xs ++ more))
@@ -32,6 +34,7 @@ module _ {A S : Type 0} (made : List A → List Content)
         λ items. Leads (Unit {0}) (start listing messages) (start listing messages) (content_writes (added made items all))
         (content_writes (added made before all)) in
         subst P (sym (append-nil before)) (λ new result writes. writes);
+    fits = λ before h fit. fit_as _ _ (ap (λ (items : List A). added made items all) (append-nil before)) fit;
   }
 
   module _ (now : Output → Output → Outputs) (new : S) (item : A) (rest left : List A) (e : left ≡ item ∷ rest)
@@ -47,8 +50,9 @@ module _ {A S : Type 0} (made : List A → List Content)
         → ((before : List A) → Holds before new → (listing messages : Output)
         → Gains (now listing messages) (later listing messages) (content_writes (added made before (item ∷ []))))
         → ((before : List A) → Holds before new → Holds (before ++ item ∷ []) new')
+        → ((before : List A) → Holds before new → AllFit (added made before (item ∷ [])))
         → Taken made Holds start later old new' all rest
-    one_taken later new' gains holds = record {
+    one_taken later new' gains holds fit = record {
       done = taken.done ++ item ∷ [];
       split = taken.split ∙ ap (λ (t : List A). taken.done ++ t) e ∙ sym (append_assoc taken.done (item ∷ []) rest);
       holds = λ before h.
@@ -64,6 +68,12 @@ module _ {A S : Type 0} (made : List A → List Content)
           ++ content_writes (added made t rest)) (append_assoc before taken.done (item ∷ [])))
           (taken.leads before h listing messages)
           (gains (before ++ taken.done) (taken.holds before h) listing messages);
+      fits = λ before h rest_fits.
+          let here = before ++ taken.done in
+          taken.fits before h
+          (fit_as _ _ (sym (ap (λ (t : List A). added made here t) e ∙ added-append made grows here (item ∷ []) rest))
+          (all_fit-append _ _ (fit here (taken.holds before h))
+          (fit_as _ _ (ap (λ (t : List A). added made t rest) (sym (append_assoc before taken.done (item ∷ [])))) rest_fits)));
     }
 
     pub stopped_at : (before : List A) → Holds before old → (listing messages : Output) (end : Outputs) (stopped : AsmFault)
@@ -87,6 +97,12 @@ module _ {A S : Type 0} (made : List A → List Content)
         (ap (λ (t : List A). content_writes (added made (before ++ taken.done) t)) e
         ∙ ap content_writes (sym (added-nil made grows (before ++ taken.done))) ∙ no_contents)
         (taken.leads before h listing messages)
+
+    pub all_fit : (before : List A) → Holds before old → AllFit (added made before all)
+    all_fit before h =
+        taken.fits before h
+        (fit_as [] _ (added-nil made grows (before ++ taken.done)
+        ∙ sym (ap (λ (t : List A). added made (before ++ taken.done) t) e)) tt)
 
     pub all_held : (before : List A) → Holds before old → Holds (before ++ all) new
     all_held before h =

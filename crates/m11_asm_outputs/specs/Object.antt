@@ -1,11 +1,12 @@
 -- The object that an assembly writes, and how much of it can be written while its pieces come. (RT-11 Volume and File
 -- Formats Manual, "Object file format", for the order of its records. That a text is written once a piece has come that
 -- it can't hold too, and the last one at the end, is this project's own.)
-use Rattle.std.specs.Prelude.{ℕ, ◌-◌, List, [], ◌∷◌, ◌++◌, length, take, drop, map, Option, None}
-use Rattle.std.specs.List.{flat_map}
+use Rattle.std.specs.Prelude.{◌≡◌, ℕ, ◌-◌, List, [], ◌∷◌, ◌++◌, length, take, drop, map, Option, None, Ok}
+use Rattle.std.specs.List.{AllByRecursion, flat_map}
 use Rattle.arrayvec.specs.ArrayVec.{ArrayVec}
 use Rattle.m11_blocks.specs.Frames.{block}
-use Rattle.m11_obj.specs.Records.{Content, EndOfGsd, EndOfModule, record_data}
+use Rattle.m11_obj.specs.Reading.{content_of}
+use Rattle.m11_obj.specs.Records.{Content, EndOfGsd, EndOfModule, Fits, record_data}
 use Rattle.m11_obj.specs.declared.gsd.GsdEntry.{GsdEntry}
 use Rattle.m11_object_text.specs.Directory as directory
 use Rattle.m11_object_text.specs.OpenText as text
@@ -23,6 +24,10 @@ head_contents rows = directory.directory_records rows ++ EndOfGsd ∷ []
 -- then the texts with their relocations, and the end of the module
 abbrev pub object_contents : List DirectoryRow → List Piece → List Content
 object_contents rows pieces = head_contents rows ++ text_records pieces ++ EndOfModule ∷ []
+
+-- each record fits its block: its names are names, its numbers are words and bytes, and there are no more of them than a block holds
+abbrev pub AllFit : List Content → Type 0
+AllFit contents = AllByRecursion Fits contents
 
 -- each record is written as a block
 abbrev pub content_write : Content → Write
@@ -79,6 +84,10 @@ abbrev pub WaitsAfter : List DirectoryRow → List GsdEntry → Type 0
 WaitsAfter rows waiting = directory.IsOpenDirectory rows (full_records rows) waiting
 
 -- ---- blocks
+
+-- whatever record is read of a block fits it
+abbrev pub BlockFits : ArrayVec ℕ → Type 0
+BlockFits block = (content : Content) → content_of block.items ≡ Ok content → Fits content
 
 -- contents as they stand in blocks
 unfoldable pub block_writes : List (ArrayVec ℕ) → List Write

@@ -1,6 +1,7 @@
 //! Writes the object of an assembly, record by record. (RT-11 Volume and File Formats Manual, "Object file format".)
 
-ghost use Rattle.std.specs.Prelude.{◌≡◌, List, [], ◌∷◌, ◌++◌, OnOk};
+ghost use Rattle.std.specs.Prelude.{◌≡◌, ◌<◌, List, [], ◌∷◌, ◌++◌, All, OnOk};
+ghost use Rattle.std.specs.List.{AllByRecursion};
 ghost use Rattle.std.specs.Option.{option_to_list};
 ghost use Rattle.m11_obj.specs.Records.{Content, EndOfGsd, EndOfModule};
 ghost use Rattle.m11_object_text.specs.Blocks.{AreRecords};
@@ -10,7 +11,7 @@ ghost use Rattle.m11_object_text.specs.declared.directory.DirectoryRow.{Director
 ghost use Rattle.m11_object_text.specs.declared.pieces.Piece.{Piece};
 ghost use Rattle.m11_placement.specs.Contents.{content_size, further, pieces_from};
 ghost use Rattle.m11_writes.specs.Outputs.{Output, output_of};
-ghost use Rattle.m11_asm_outputs.specs.Object.{IsOpenAfter, WaitsAfter, block_writes, content_writes, head_contents, last_records, records_closed_by, records_filled_by, rest_records};
+ghost use Rattle.m11_asm_outputs.specs.Object.{AllFit, BlockFits, IsOpenAfter, WaitsAfter, block_writes, content_writes, head_contents, last_records, records_closed_by, records_filled_by, rest_records};
 ghost use Rattle.m11_asm_outputs.specs.Outputs.{Writes, outputs};
 
 use crate::outputs::put_record;
@@ -28,9 +29,10 @@ pub fn put_head<S: Sink>(
     object: &mut S,
     rows: &[DirectoryRow],
 ) -> Result<(), AsmFault>
-    ensures { (listing messages : Output) → Writes
+    ensures writes { (listing messages : Output) → Writes
         (outputs (output_of S.Sink object.old) listing messages)
         (outputs (output_of S.Sink object.new) listing messages) (content_writes (head_contents rows.now)) result }
+    ensures fit { OnOk result (AllFit (head_contents rows.now)) }
 {
     let mut waiting = OpenDirectory::new();
     put_rows(alloc, object, &mut waiting, rows)?;
@@ -50,6 +52,8 @@ fn put_rows<S: Sink>(
         (content_writes (records_filled_by before rows.now)) result }
     ensures waits { (before : List DirectoryRow) → WaitsAfter before waiting.old
         → OnOk result (WaitsAfter (before ++ rows.now) waiting.new) }
+    ensures fit { (before : List DirectoryRow) → WaitsAfter before waiting.old
+        → OnOk result (AllFit (records_filled_by before rows.now)) }
 {
     'rows: for row in rows {
         match put_row(alloc, object, waiting, row) {
@@ -73,6 +77,7 @@ fn put_row<S: Sink>(
         (content_writes (records_filled_by before (row.now ∷ []))) result }
     ensures waits { (before : List DirectoryRow) → WaitsAfter before waiting.old
         → WaitsAfter (before ++ row.now ∷ []) waiting.new }
+    ensures fit { (before : List DirectoryRow) → WaitsAfter before waiting.old → AllFit (records_filled_by before (row.now ∷ [])) }
 {
     let full = waiting.take(row);
     put_if_full(alloc, object, &full)
@@ -84,10 +89,11 @@ fn put_directory_end<S: Sink>(
     object: &mut S,
     waiting: OpenDirectory,
 ) -> Result<(), AsmFault>
-    ensures { (rows : List DirectoryRow) → WaitsAfter rows waiting → (listing messages : Output) → Writes
+    ensures writes { (rows : List DirectoryRow) → WaitsAfter rows waiting → (listing messages : Output) → Writes
         (outputs (output_of S.Sink object.old) listing messages)
         (outputs (output_of S.Sink object.new) listing messages)
         (content_writes (rest_records rows ++ EndOfGsd ∷ [])) result }
+    ensures fit { (rows : List DirectoryRow) → WaitsAfter rows waiting → OnOk result (AllFit (rest_records rows ++ EndOfGsd ∷ [])) }
 {
     let last = waiting.end();
     put_if_full(alloc, object, &last)?;
@@ -100,13 +106,17 @@ fn put_if_full<S: Sink>(
     object: &mut S,
     content: &Option<Block>,
 ) -> Result<(), AsmFault>
-    ensures { (contents : List Content) → AreRecords (option_to_list content.now) contents
+    ensures writes { (contents : List Content) → AreRecords (option_to_list content.now) contents
         → (listing messages : Output) → Writes
         (outputs (output_of S.Sink object.old) listing messages)
         (outputs (output_of S.Sink object.new) listing messages) (content_writes contents) result }
+    ensures fit { (contents : List Content) → AreRecords (option_to_list content.now) contents → AllFit contents }
 {
     match content {
-        Some(content) => put_record(alloc, object, content),
+        Some(content) => {
+            what_is_read_fits(content);
+            put_record(alloc, object, content)
+        }
         None => Ok(()),
     }
 }
@@ -136,6 +146,8 @@ pub fn put_pieces<S: Sink>(
         (content_writes (records_closed_by before (pieces_from section place contents.now))) result }
     ensures opens { (before : List Piece) → IsOpenAfter before text.old
         → OnOk result (IsOpenAfter (before ++ pieces_from section place contents.now) text.new) }
+    ensures fit { (before : List Piece) → IsOpenAfter before text.old
+        → OnOk result (AllFit (records_closed_by before (pieces_from section place contents.now))) }
 {
     let mut next = place;
     'contents: for content in contents {
@@ -173,6 +185,7 @@ fn put_piece<S: Sink>(
         (content_writes (records_closed_by before (piece.now ∷ []))) result }
     ensures opens { (before : List Piece) → IsOpenAfter before text.old
         → IsOpenAfter (before ++ piece.now ∷ []) text.new }
+    ensures fit { (before : List Piece) → IsOpenAfter before text.old → OnOk result (AllFit (records_closed_by before (piece.now ∷ []))) }
 {
     // most pieces close no text
     if text.take_within(piece) {
@@ -195,6 +208,7 @@ fn put_closing<S: Sink>(
         (content_writes (records_closed_by before (piece.now ∷ []))) result }
     ensures opens { (before : List Piece) → IsOpenAfter before text.old
         → IsOpenAfter (before ++ piece.now ∷ []) text.new }
+    ensures fit { (before : List Piece) → IsOpenAfter before text.old → OnOk result (AllFit (records_closed_by before (piece.now ∷ []))) }
 {
     let closed = text.take(piece);
     put_if_closed(alloc, object, &closed)
@@ -204,10 +218,11 @@ fn put_closing<S: Sink>(
 ///
 /// Faults: `Write` of the object, and `NoMemory` before a record.
 pub fn put_last<S: Sink>(alloc: Global, object: &mut S, text: OpenText) -> Result<(), AsmFault>
-    ensures { (pieces : List Piece) → IsOpenAfter pieces text → (listing messages : Output) → Writes
+    ensures writes { (pieces : List Piece) → IsOpenAfter pieces text → (listing messages : Output) → Writes
         (outputs (output_of S.Sink object.old) listing messages)
         (outputs (output_of S.Sink object.new) listing messages)
         (content_writes (last_records pieces ++ EndOfModule ∷ [])) result }
+    ensures fit { (pieces : List Piece) → IsOpenAfter pieces text → OnOk result (AllFit (last_records pieces ++ EndOfModule ∷ [])) }
 {
     let last = text.end();
     put_if_closed(alloc, object, &last)?;
@@ -220,9 +235,10 @@ fn put_if_closed<S: Sink>(
     object: &mut S,
     text: &Option<Text>,
 ) -> Result<(), AsmFault>
-    ensures { (listing messages : Output) → Writes
+    ensures writes { (listing messages : Output) → Writes
         (outputs (output_of S.Sink object.old) listing messages)
         (outputs (output_of S.Sink object.new) listing messages) (content_writes (records_in text.now)) result }
+    ensures fit { OnOk result (AllFit (records_in text.now)) }
 {
     match text {
         Some(text) => put_text(alloc, object, text),
@@ -232,24 +248,41 @@ fn put_if_closed<S: Sink>(
 
 // The records of a text.
 fn put_text<S: Sink>(alloc: Global, object: &mut S, text: &Text) -> Result<(), AsmFault>
-    ensures { (listing messages : Output) → Writes
+    ensures writes { (listing messages : Output) → Writes
         (outputs (output_of S.Sink object.old) listing messages)
         (outputs (output_of S.Sink object.new) listing messages) (content_writes (records_of text.now)) result }
+    ensures fit { OnOk result (AllFit (records_of text.now)) }
 {
     put_blocks(alloc, object, text.records().as_slice())
 }
 
 // Contents, each as a block.
 fn put_blocks<S: Sink>(alloc: Global, object: &mut S, contents: &[Block]) -> Result<(), AsmFault>
-    ensures { (listing messages : Output) → Writes
+    ensures writes { (listing messages : Output) → Writes
         (outputs (output_of S.Sink object.old) listing messages)
         (outputs (output_of S.Sink object.new) listing messages) (block_writes contents.now) result }
+    ensures fit { OnOk result (AllByRecursion BlockFits contents.now) }
 {
     'contents: for content in contents {
+        what_is_read_fits(content);
         match put_record(alloc, object, content) {
             Ok(()) => {}
             Err(fault) => return Err(fault),
         }
     }
     Ok(())
+}
+
+// A record that is read of typed bytes fits its block.
+fn what_is_read_fits(content: &Block)
+    ensures { BlockFits content.now }
+{
+    are_bytes(content.as_slice());
+}
+
+// What the type says of bytes.
+fn are_bytes(bytes: &[u8])
+    ensures { All (λ byte. byte < 256) bytes.now }
+{
+    let _bytes = bytes;
 }

@@ -9,6 +9,7 @@ use Rattle.m11_asm_outputs.specs.Outputs.{Outputs, Writes, assembly}
 use Rattle.m11_obj.specs.Records.{Content}
 use Rattle.m11_asm_outputs.proofs.Blocks.{contents_as}
 use Rattle.m11_asm_outputs.proofs.Closing.{closed_by_piece, open_after_piece}
+use Rattle.m11_asm_outputs.proofs.Fitting.{fit_as}
 use Rattle.m11_asm_outputs.proofs.Looping.{no_contents}
 use Rattle.m11_asm_outputs.proofs.object.put_piece.Goals as goal
 
@@ -38,3 +39,13 @@ returns-clause-writes g c = λ before h listing messages.
 pub returns-clause-opens : goal.returns-clause-opens
 returns-clause-opens g c = λ before h.
     c.put_closing.ensures.opens before (still_open before _ _ (c.take_within.ensures.unchanged c.if-take_within.false) h)
+
+pub returns-then-take_within-clause-fit : goal.returns-then-take_within-clause-fit
+returns-then-take_within-clause-fit g c = λ before h.
+    fit_as [] _
+    (closed_by_piece before c.args.piece.now (records_in None) c.take_within.new.self
+    (c.take_within.ensures.takes c.if-take_within.true before (closed_records before) h)) tt
+
+pub returns-clause-fit : goal.returns-clause-fit
+returns-clause-fit g c = λ before h.
+    c.put_closing.ensures.fit before (still_open before _ _ (c.take_within.ensures.unchanged c.if-take_within.false) h)

@@ -4,7 +4,7 @@ use Rattle.m11_placement.specs.Contents.{piece, pieces_from}
 use Rattle.m11_asm_outputs.specs.Object.{IsOpenAfter, closed_records}
 use Rattle.m11_asm_outputs.proofs.Closing.{closed-grows}
 use Rattle.m11_asm_outputs.proofs.Looping.{item_left}
-use Rattle.m11_asm_outputs.proofs.Taking.{all_held, all_written, none_taken, one_taken, stopped_at}
+use Rattle.m11_asm_outputs.proofs.Taking.{all_fit, all_held, all_written, none_taken, one_taken, stopped_at}
 use Rattle.m11_asm_outputs.proofs.object.put_pieces.Goals as goal
 
 pub contents-init : goal.contents-init
@@ -31,7 +31,7 @@ contents-preserved g c =
     (ap (pieces_from c.args.section c.contents.next)
     (item_left c.args.contents.now c.contents.content-index c.content-item.result c.contents-test.true c.content-item.is)
     ∙ ap (λ (next : ℕ). this ∷ pieces_from c.args.section next rest) (sym c.place_after-next.ensures))
-    c.contents.invariant _ _ c.in-Ok.ensures.writes c.in-Ok.ensures.opens
+    c.contents.invariant _ _ c.in-Ok.ensures.writes c.in-Ok.ensures.opens c.in-Ok.ensures.fit
 
 pub returns-clause-writes : goal.returns-clause-writes
 returns-clause-writes g c = λ before h listing messages.
@@ -44,6 +44,14 @@ returns-clause-writes g c = λ before h listing messages.
 pub returns-clause-opens : goal.returns-clause-opens
 returns-clause-opens g c = λ before h.
     all_held closed_records closed-grows IsOpenAfter _ c.args.text.now
+    (pieces_from c.args.section c.args.place c.args.contents.now) _ c.contents.text _
+    (ap (pieces_from c.args.section c.contents.next)
+    (drop_all c.contents.content-index c.args.contents.now (omega arith)))
+    c.contents.invariant before h
+
+pub returns-clause-fit : goal.returns-clause-fit
+returns-clause-fit g c = λ before h.
+    all_fit closed_records closed-grows IsOpenAfter _ c.args.text.now
     (pieces_from c.args.section c.args.place c.args.contents.now) _ c.contents.text _
     (ap (pieces_from c.args.section c.contents.next)
     (drop_all c.contents.content-index c.args.contents.now (omega arith)))

@@ -18,7 +18,7 @@ returns-in_err-put_last-clause-writes g c = λ pieces opens.
     let table : List Write = all_to_listing (last_lines self.symbols self.sections self.flagged) in
     let count : List Write = to_messages (count_line self.flagged) ∷ [] in
     stopped_first assembly _ _ (content_writes (last_records pieces ++ EndOfModule ∷ [])) (table ++ count) _ _
-    (c.in_err-put_last.ensures pieces (subst P (sym (ap (λ (w : Writing). w.text) c.self.view_is) ∙ sym c.replace-text.ensures.value) opens) _ _)
+    (c.in_err-put_last.ensures.writes pieces (subst P (sym (ap (λ (w : Writing). w.text) c.self.view_is) ∙ sym c.replace-text.ensures.value) opens) _ _)
     c.from_residual.ensures.1
 
 pub returns-in_err-put_symbol_table-clause-writes : goal.returns-in_err-put_symbol_table-clause-writes
@@ -28,7 +28,7 @@ returns-in_err-put_symbol_table-clause-writes g c = λ pieces opens.
     let table : List Write = all_to_listing (last_lines self.symbols self.sections self.flagged) in
     let count : List Write = to_messages (count_line self.flagged) ∷ [] in
     writes_then assembly _ _ _ (content_writes (last_records pieces ++ EndOfModule ∷ [])) (table ++ count) _
-    (c.in_ok-put_last.ensures pieces (subst P (sym (ap (λ (w : Writing). w.text) c.self.view_is) ∙ sym c.replace-text.ensures.value) opens) _ _)
+    (c.in_ok-put_last.ensures.writes pieces (subst P (sym (ap (λ (w : Writing). w.text) c.self.view_is) ∙ sym c.replace-text.ensures.value) opens) _ _)
     (stopped_first assembly _ _ table count _ _
     (stops_as _ _ _ _ _
     (table_so self _ _ _ (c.as_slice-symbols.ensures.value ∙ ap (λ (w : Writing). w.symbols) c.self.view_is)
@@ -42,7 +42,7 @@ returns-in_err-put_count-clause-writes g c = λ pieces opens.
     let table : List Write = all_to_listing (last_lines self.symbols self.sections self.flagged) in
     let count : List Write = to_messages (count_line self.flagged) ∷ [] in
     writes_then assembly _ _ _ (content_writes (last_records pieces ++ EndOfModule ∷ [])) (table ++ count) _
-    (c.in_ok-put_last.ensures pieces (subst P (sym (ap (λ (w : Writing). w.text) c.self.view_is) ∙ sym c.replace-text.ensures.value) opens) _ _)
+    (c.in_ok-put_last.ensures.writes pieces (subst P (sym (ap (λ (w : Writing). w.text) c.self.view_is) ∙ sym c.replace-text.ensures.value) opens) _ _)
     (writes_then assembly _ _ _ table count _
     (gains_as _ _ _ _
     (table_so self _ _ _ (c.as_slice-symbols.ensures.value ∙ ap (λ (w : Writing). w.symbols) c.self.view_is)
@@ -58,7 +58,7 @@ returns-clause-writes g c = λ pieces opens.
     let table : List Write = all_to_listing (last_lines self.symbols self.sections self.flagged) in
     let count : List Write = to_messages (count_line self.flagged) ∷ [] in
     gains_then assembly _ _ _ (content_writes (last_records pieces ++ EndOfModule ∷ [])) (table ++ count)
-    (c.in_ok-put_last.ensures pieces (subst P (sym (ap (λ (w : Writing). w.text) c.self.view_is) ∙ sym c.replace-text.ensures.value) opens) _ _)
+    (c.in_ok-put_last.ensures.writes pieces (subst P (sym (ap (λ (w : Writing). w.text) c.self.view_is) ∙ sym c.replace-text.ensures.value) opens) _ _)
     (gains_then assembly _ _ _ table count
     (gains_as _ _ _ _
     (table_so self _ _ _ (c.as_slice-symbols.ensures.value ∙ ap (λ (w : Writing). w.symbols) c.self.view_is)
@@ -66,3 +66,8 @@ returns-clause-writes g c = λ pieces opens.
     (c.in_ok-put_symbol_table.ensures _ _))
     (gains_as _ _ _ _ (ap (λ (n : ℕ). to_messages (count_line n) ∷ []) (ap (λ (w : Writing). w.flagged) c.self.view_is))
     (c.in_ok-put_count.ensures.writes _ _)))
+
+pub returns-clause-fit : goal.returns-clause-fit
+returns-clause-fit g c = λ pieces opens.
+    let P : Option TextParts → Type 0 = λ t. IsOpenAfter pieces t in
+    c.in_ok-put_last.ensures.fit pieces (subst P (sym (ap (λ (w : Writing). w.text) c.self.view_is) ∙ sym c.replace-text.ensures.value) opens)

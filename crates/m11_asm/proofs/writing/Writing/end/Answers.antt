@@ -1,8 +1,11 @@
-use Rattle.std.proofs.Common.{◌++◌, List, ap}
+use Rattle.std.proofs.Common.{[], ◌∷◌, ◌++◌, List, ap}
+use Rattle.m11_asm_outputs.proofs.Fitting.{on_ok}
+use Rattle.m11_asm_outputs.specs.Object.{AllFit, last_records, object_contents}
+use Rattle.m11_obj.specs.Records.{EndOfModule}
 use Rattle.m11_asm_outputs.specs.Outputs.{Write, assembly}
 use Rattle.m11_writes.proofs.Writing.{stopped_first, writes_then}
 use Rattle.m11_asm.specs.Written.{Ended, added_writes, closing_writes, flagged_count, head_before, last_place, pieces_in}
-use Rattle.m11_asm.proofs.Putting.{closes_so, gains_as, last_open, stops_as, writes_as}
+use Rattle.m11_asm.proofs.Putting.{closes_so, gains_as, last_open, object_fits, stops_as, writes_as}
 use Rattle.m11_asm.proofs.writing.Writing.end.Goals as goal
 
 pub returns-in_err-begin-clause-writes : goal.returns-in_err-begin-clause-writes
@@ -38,3 +41,12 @@ returns-clause-writes g c = λ program lines stands place few.
     (c.close.ensures.writes (pieces_in program.map lines)
     (last_open program lines c.args.self.now c.begin.new.self c.add_line.new.self stands c.args.has_ended c.in_ok-begin.ensures.begins
     c.in_ok-add_line.ensures.counts))))
+
+pub returns-clause-fit : goal.returns-clause-fit
+returns-clause-fit g c = λ program lines stands.
+    let pieces = pieces_in program.map lines in
+    on_ok _ (AllFit (last_records pieces ++ EndOfModule ∷ [])) (AllFit (object_contents program.rows pieces))
+    (object_fits program lines c.args.self.now stands (c.in_ok-begin.ensures.fit program lines stands))
+    (c.close.ensures.fit pieces
+    (last_open program lines c.args.self.now c.begin.new.self c.add_line.new.self stands c.args.has_ended c.in_ok-begin.ensures.begins
+    c.in_ok-add_line.ensures.counts))

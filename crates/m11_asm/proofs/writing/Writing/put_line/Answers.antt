@@ -76,4 +76,5 @@ returns-clause-stands g c = λ program lines one put stands is same number.
     (pieces_so program lines one c.args.line.now put c.args.contents.now is same)
     (c.with-letters.ensures ∙ ap (bit_or (bits_of c.args.line.now.letters)) c.end_letters.ensures
     ∙ letters_so program lines one c.args.line.now put c.args.contents.now is same _ told)
-    (c.in_ok-put_pieces.ensures.stands (pieces_in program.map lines) opens) c.report.ensures.counts
+    (c.in_ok-put_pieces.ensures.stands (pieces_in program.map lines) opens) (c.in_ok-begin.ensures.fit program lines stands)
+    (c.in_ok-put_pieces.ensures.fit (pieces_in program.map lines) opens) c.report.ensures.counts
