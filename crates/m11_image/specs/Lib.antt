@@ -3,3 +3,5 @@ pub mod Sections
 pub mod Globals
 pub mod Objects
 pub mod Links
+pub mod Addresses
+pub mod Pieces
