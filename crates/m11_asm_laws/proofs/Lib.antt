@@ -1,2 +1,2 @@
-mod Rows
+pub mod Rows
 mod ValuesLie

@@ -1,5 +1,5 @@
 //! Laws of what an assembler writes: what its definitions and those of the linker yield together. Each is the contract of a function
-//! that does nothing; no other crate names them.
+//! that does nothing. Laws on what sources give to a linked program cite their rows.
 #![tactic(auto)]
 
 mod relocations;

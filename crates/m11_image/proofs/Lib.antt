@@ -14,3 +14,4 @@ pub mod BoundedTexts
 pub mod TextsInside
 pub mod AbsoluteSection
 pub mod LinkedTapes
+pub mod TextPieces

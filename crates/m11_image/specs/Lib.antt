@@ -5,3 +5,4 @@ pub mod Objects
 pub mod Links
 pub mod Addresses
 pub mod Pieces
+pub mod Found

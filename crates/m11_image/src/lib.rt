@@ -5,6 +5,7 @@
 
 mod links;
 mod objects;
+mod texts;
 
 pub use links::{
     linked_texts_end_by_the_last_address, links_have_the_texts_of_their_sources,
@@ -15,3 +16,4 @@ pub use objects::{
     directories_are_read_back, objects_are_read_back, objects_yield_their_parts,
     texts_are_read_back,
 };
+pub use texts::texts_store_their_pieces;
