@@ -15,3 +15,8 @@ pub mod TextsInside
 pub mod AbsoluteSection
 pub mod LinkedTapes
 pub mod TextPieces
+pub mod GlobalWords
+pub mod BytesPlaced
+pub mod BlocksGiven
+pub mod StartsFound
+pub mod TapesHold

@@ -6,3 +6,4 @@ pub mod Links
 pub mod Addresses
 pub mod Pieces
 pub mod Found
+pub mod Image

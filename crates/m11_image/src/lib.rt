@@ -5,6 +5,7 @@
 
 mod links;
 mod objects;
+mod tapes;
 mod texts;
 
 pub use links::{
@@ -16,4 +17,5 @@ pub use objects::{
     directories_are_read_back, objects_are_read_back, objects_yield_their_parts,
     texts_are_read_back,
 };
+pub use tapes::links_give_the_image;
 pub use texts::texts_store_their_pieces;

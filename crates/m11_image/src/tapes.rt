@@ -1,0 +1,24 @@
+//! The tapes that links of the objects of sources write.
+
+ghost use Rattle.std.specs.Prelude.{◌≡◌, ℕ, List, map, Ok};
+ghost use Rattle.std.specs.List.{AllByRecursion};
+ghost use Rattle.m11_layout.specs.declared.fault.LinkOutput.TheVariants.{Tape};
+ghost use Rattle.m11_link.specs.Objects.{AreItems, Item, outcome};
+ghost use Rattle.m11_link.specs.Outputs.{link};
+ghost use Rattle.m11_link.specs.Written.{link_writes};
+ghost use Rattle.m11_link_text.specs.Findings.{findings_of};
+ghost use Rattle.m11_modules.specs.Parts.{Part};
+ghost use Rattle.m11_tape_laws.specs.Tapes.{IsTapeOf};
+ghost use Rattle.m11_writes.specs.Writes.{gained};
+ghost use Rattle.m11_image.specs.Image.{image_of};
+ghost use Rattle.m11_image.specs.Objects.{SourceFits, object_of};
+ghost use Rattle.m11_image.specs.Sources.{Source};
+
+/// Where a link of the objects of sources refuses nothing, the tape that it writes is one of the image of the sources, whatever it reports:
+/// at each address it has the byte that the image has there and no other, and it starts where the image starts.
+#[tactic(auto, using(crate::proofs::TapesHold::tape_given))]
+pub fn links_give_the_image()
+    ensures { (bottom : ℕ) (sources : List Source) (items : List Item) (parts : List Part) → AllByRecursion SourceFits sources
+        → AreItems (map object_of sources) items → outcome bottom items ≡ Ok parts
+        → IsTapeOf (image_of bottom sources) (gained link Tape (link_writes (findings_of bottom parts) parts)) }
+{}
