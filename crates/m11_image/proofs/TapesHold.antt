@@ -1,7 +1,11 @@
 -- The tape of a link of objects of sources holds the image of the sources.
-use Rattle.std.proofs.Common.{◌≡◌, ◌∙◌, ℕ, false, List, [], ◌∷◌, map, None, Ok, refl, sym, subst, arith}
+use Rattle.std.proofs.Common.{◌≡◌, ◌∙◌, ℕ, false, List, [], ◌∷◌, map, Option, Some, None, Result, Ok, refl, sym, subst, arith}
 use Rattle.std.specs.List.{AllByRecursion}
 use Rattle.m11_asm_laws.specs.Targets.{AreWords}
+use Rattle.m11_base.specs.Feed.{Text}
+use Rattle.m11_cpu.specs.Loading.{LoadsInto}
+use Rattle.m11_cpu.specs.declared.fault.LoadFault.{LoadFault}
+use Rattle.m11_cpu.specs.declared.machine.Machine.{Machine}
 use Rattle.m11_modules.specs.Parts.{Part, EndOfFile}
 use Rattle.m11_modules.specs.Rules.{first_fault}
 use Rattle.m11_layout.specs.Sections.{is_too_large, module_base}
@@ -12,7 +16,9 @@ use Rattle.m11_link.specs.Written.{link_writes}
 use Rattle.m11_link_text.specs.Findings.{findings_of}
 use Rattle.m11_link_laws.specs.LinkedTexts.{linked_text}
 use Rattle.m11_tape_laws.specs.Image.{byte_of}
+use Rattle.m11_tape_laws.specs.Loaded.{LoadYields}
 use Rattle.m11_tape_laws.specs.Tapes.{IsTapeOf, transfer_address}
+use Rattle.m11_tape_laws.proofs.LoadsYield.{yields}
 use Rattle.m11_writes.specs.Writes.{gained}
 use Rattle.m11_image.specs.Found.{AreFound}
 use Rattle.m11_image.specs.Image.{addresses_of, image_of}
@@ -96,3 +102,16 @@ tape_given bottom sources items parts fit are e =
       bytes = bytes_are bottom sources fit (subst Sound linked.parts_are linked.sound) (subst Low linked.parts_are linked.low);
       start_is = start_is bottom sources fit;
     }
+
+-- ---- a load of it
+
+pub load_given : (bottom : ℕ) (sources : List Source) (items : List Item) (parts : List Part) (text : Text) (left : Option Text)
+    (faults faults' : ℕ) (before after : Machine) (result : Result ℕ LoadFault) → AllByRecursion SourceFits sources
+    → AreItems (map object_of sources) items → outcome bottom items ≡ Ok parts
+    → text.bytes ≡ gained link Tape (link_writes (findings_of bottom parts) parts)
+    → LoadsInto (Some text) left faults faults' before after result
+    → LoadYields (image_of bottom sources) text.bytes faults faults' before after result
+load_given bottom sources items parts text left faults faults' before after result fit are e same load =
+    let image = image_of bottom sources in
+    yields image text (subst (IsTapeOf image) (sym same) (tape_given bottom sources items parts fit are e)) faults left faults'
+    before after result load

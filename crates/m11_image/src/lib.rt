@@ -17,5 +17,5 @@ pub use objects::{
     directories_are_read_back, objects_are_read_back, objects_yield_their_parts,
     texts_are_read_back,
 };
-pub use tapes::links_give_the_image;
+pub use tapes::{links_give_the_image, loads_of_links_yield_the_image};
 pub use texts::texts_store_their_pieces;
