@@ -1,4 +1,5 @@
 mod EachPass
+mod LiveWritten
 mod MessagesCounted
 mod ObjectWritten
 mod OneOutcome

@@ -1,4 +1,5 @@
 pub mod Beginnings
+pub mod Live
 pub mod Messages
 pub mod OneText
 pub mod Outputs
