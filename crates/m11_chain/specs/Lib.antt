@@ -1,0 +1,4 @@
+pub mod Assemblies
+pub mod Chain
+pub mod Sources
+pub mod Steps

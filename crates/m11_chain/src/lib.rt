@@ -1,0 +1,11 @@
+//! The chain: sources are assembled, their objects linked, and the tape loaded, all over memory. What a machine then holds is told by the
+//! sources alone.
+#![tactic(auto)]
+
+mod chain;
+mod fault;
+mod laws;
+
+pub use chain::{Chained, run_chain};
+pub use fault::ChainFault;
+pub use laws::{known_sources_decide_the_assembly, live_lines_begin_with_the_absolute_section};
