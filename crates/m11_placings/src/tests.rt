@@ -13,6 +13,7 @@ mod sizes;
 mod texts;
 
 use crate::tests::texts::{put_line, put_number};
+use m11_asm_faults::AsmFault;
 use m11_passes::{SourcePass, Turn};
 use m11_placing::Mentioned;
 use m11_scan::Line;
