@@ -60,6 +60,14 @@ impl Unfolder {
         }
     }
 
+    /// The limits of unfolding hold of each unfolder, after a fault too. It does nothing.
+    #[inline(always)]
+    pub fn is_within_the_limits(&self)
+        ensures { IsKept self.now.stage }
+    {
+        let _alloc = &self.alloc;
+    }
+
     /// The next line of the source, where nothing is left to take: at the start, and after `NeedLine`.
     pub fn feed(&mut self, line: &Line)
         requires { self.old.stage.left ≡ [] }
