@@ -216,15 +216,17 @@ module _ (map_ : Map) (live : Live) (old middle : Going) (does : code.Deed) (beg
     -- what the line changes is done, or its section is one too many
     pub finishes : (new : Going) → new.unfolder ≡ middle.unfolder → new.gathered ≡ all → (result : Result (Option Item) AsmFault)
         → IfOk result (λ _. Follows stood new.kept (λ t. changed map_ text (change_after stood.table text done.arguments of) t))
-        → new.kept.local_symbols ≤ most_local_symbols → length new.kept.table.sections ≤ most_sections
+        → IfOk result (λ _. new.kept.local_symbols ≡ stood.local_symbols)
+        → IfOk result (λ _. length new.kept.table.sections ≤ most_sections)
         → IfOk result (λ item. option_to_list item
         ≡ deed_items map_ stood.table text (change_after stood.table text done.arguments of) of)
         → IfErr result (λ fault. (table : Table) → Matches stood table → Refuses fault ⊥ (most_sections < length
         (changed map_ text (change_after stood.table text done.arguments of) table).sections))
         → Finishes map_ live before old new result
-    finishes new unfolder_is gathered_is (Ok item) follows fewer sections shows refuses =
-        leaves new unfolder_is gathered_is follows fewer sections item shows
-    finishes new unfolder_is gathered_is (Err fault) follows fewer sections shows refuses = change_fails fault refuses
+    finishes new unfolder_is gathered_is (Ok item) follows same sections shows refuses =
+        let P : ℕ → Type 0 = λ n. n ≤ most_local_symbols in
+        leaves new unfolder_is gathered_is follows (subst P (sym same) symbols) sections item shows
+    finishes new unfolder_is gathered_is (Err fault) follows same sections shows refuses = change_fails fault refuses
 
   -- ---- the line is placed
 

@@ -111,6 +111,7 @@ pub(crate) fn change_line(
     ensures tables { IfOk result (λ _. tables.Follows pass.old.table pass.new.table (λ before. changed map.now line.now.text
         (change_after pass.old.table line.now.text arguments (deed_seen deed.now)) before)) }
     ensures symbols { IfOk result (λ _. pass.new.local_symbols ≡ pass.old.local_symbols) }
+    ensures sections { IfOk result (λ _. length pass.new.table.sections ≤ most_sections) }
     ensures shows { IfOk result (λ item. option_to_list item ≡ deed_items map.now pass.old.table line.now.text
         (change_after pass.old.table line.now.text arguments (deed_seen deed.now)) (deed_seen deed.now)) }
     ensures refuses { IfErr result (λ fault. (before : LineTable) → Matches pass.old before → Refuses fault ⊥ (most_sections < length
@@ -118,7 +119,10 @@ pub(crate) fn change_line(
 {
     // most lines change nothing
     match *deed {
-        Deed::Rests => Ok(None),
+        Deed::Rests => {
+            pass.counts_are_within_the_limits();
+            Ok(None)
+        }
         Deed::Operates(operator, start) => {
             operate_line(pass, map, line, arguments, operator, start, fields)
         }
@@ -149,6 +153,7 @@ fn operate_line(
     ensures tables { IfOk result (λ _. tables.Follows pass.old.table pass.new.table (λ before. changed map.now line.now.text
         (operator_change (firm_table pass.old.table) line.now.text start arguments operator) before)) }
     ensures symbols { IfOk result (λ _. pass.new.local_symbols ≡ pass.old.local_symbols) }
+    ensures sections { IfOk result (λ _. length pass.new.table.sections ≤ most_sections) }
     ensures shows { IfOk result (λ item. option_to_list item
         ≡ number_items (operator_change (firm_table pass.old.table) line.now.text start arguments operator)) }
     ensures refuses { IfErr result (λ fault. (before : LineTable) → Matches pass.old before → Refuses fault ⊥ (most_sections < length
@@ -157,6 +162,7 @@ fn operate_line(
     match operator {
         Operator::Instruction(operation) => {
             pass.step_over(line, start, operation, fields);
+            pass.counts_are_within_the_limits();
             Ok(None)
         }
         Operator::Directs(_) => {
@@ -188,12 +194,15 @@ fn change_any(
     ensures tables { IfOk result (λ _. tables.Follows pass.old.table pass.new.table (λ before. changed map.now line.now.text
         (change_after pass.old.table line.now.text arguments (deed_seen deed.now)) before)) }
     ensures symbols { IfOk result (λ _. pass.new.local_symbols ≡ pass.old.local_symbols) }
+    ensures sections { IfOk result (λ _. length pass.new.table.sections ≤ most_sections) }
     ensures shows { IfOk result (λ item. option_to_list item ≡ deed_items map.now pass.old.table line.now.text
         (change_after pass.old.table line.now.text arguments (deed_seen deed.now)) (deed_seen deed.now)) }
     ensures refuses { IfErr result (λ fault. (before : LineTable) → Matches pass.old before → Refuses fault ⊥ (most_sections < length
         (changed map.now line.now.text (change_after pass.old.table line.now.text arguments (deed_seen deed.now)) before).sections)) }
 {
-    Ok(pass.take_deed(map, line, arguments, deed, fields)?)
+    let item = pass.take_deed(map, line, arguments, deed, fields)?;
+    pass.counts_are_within_the_limits();
+    Ok(item)
 }
 
 // The name of the section that lines go into.

@@ -206,16 +206,14 @@ impl State {
             &begun.fields,
         )?;
         self.counts_are_within_the_limits();
-        let changed = change_line(
+        change_line(
             &mut self.pass,
             map,
             line,
             arguments,
             &live.deed,
             &begun.fields,
-        );
-        self.pass.counts_are_within_the_limits();
-        changed
+        )
     }
 
     // The limits hold of each pass. It does nothing.

@@ -5,20 +5,20 @@ use Rattle.m11_passes.specs.Placed.{live_in}
 use Rattle.m11_passes.specs.States.{going_of}
 use Rattle.m11_passes.proofs.state.State.finish.Goals as goal
 
-pub change_line-changed-requires-clause-listed : goal.change_line-changed-requires-clause-listed
-change_line-changed-requires-clause-listed c =
+pub change_line-requires-clause-listed : goal.change_line-requires-clause-listed
+change_line-requires-clause-listed c =
     let listed = c.requires.room.listed in let lines = c.requires.kept.lines in omega (arith, listed, lines)
 
-pub change_line-changed-requires-clause-unlisted : goal.change_line-changed-requires-clause-unlisted
-change_line-changed-requires-clause-unlisted c =
+pub change_line-requires-clause-unlisted : goal.change_line-requires-clause-unlisted
+change_line-requires-clause-unlisted c =
     let unlisted = c.requires.room.unlisted in let lines = c.requires.kept.lines in omega (arith, unlisted, lines)
 
-pub change_line-changed-requires-clause-block : goal.change_line-changed-requires-clause-block
-change_line-changed-requires-clause-block c =
+pub change_line-requires-clause-block : goal.change_line-requires-clause-block
+change_line-requires-clause-block c =
     let block = c.requires.room.block in let lines = c.requires.kept.lines in omega (arith, block, lines)
 
-pub change_line-changed-requires-clause-section : goal.change_line-changed-requires-clause-section
-change_line-changed-requires-clause-section c =
+pub change_line-requires-clause-section : goal.change_line-requires-clause-section
+change_line-requires-clause-section c =
     let section = c.requires.room.section in
     let sections = c.counts_are_within_the_limits.ensures.sections in
     omega (arith, section, sections)
@@ -37,12 +37,12 @@ returns-clause-finishes c = λ old begins.
     finishes c.args.map.now (live_in c.args.live.now) old (going_of c.args.self.now) c.args.live.now.deed c.args.begun.now begins
     c.mention_line.new.mentioned (c.in_ok-mention_line.ensures.mentions c.args.self.now.pass.table c.requires.fields)
     c.counts_are_within_the_limits.ensures.names c.counts_are_within_the_limits.ensures.symbols
-    (going_of (record c.args.self.now { pass = c.change_line-changed.new.pass; mentioned = c.mention_line.new.mentioned })) refl refl
-    c.change_line-changed.result c.change_line-changed.ensures.changes c.counts_are_within_the_limits-2.ensures.symbols
-    c.counts_are_within_the_limits-2.ensures.sections c.change_line-changed.ensures.shows c.change_line-changed.ensures.refuses
+    (going_of (record c.args.self.now { pass = c.change_line.new.pass; mentioned = c.mention_line.new.mentioned })) refl refl
+    c.change_line.result c.change_line.ensures.changes c.change_line.ensures.symbols
+    c.change_line.ensures.sections c.change_line.ensures.shows c.change_line.ensures.refuses
 
 pub returns-clause-sound : goal.returns-clause-sound
 returns-clause-sound c =
-    settled c.args.map.now c.args.self.now.pass.table c.change_line-changed.new.pass.table c.args.live.now.line.text
+    settled c.args.map.now c.args.self.now.pass.table c.change_line.new.pass.table c.args.live.now.line.text
     c.args.begun.now.act.arguments (deed_seen c.args.live.now.deed) c.args.self.now.unfolder.stage.taken c.requires.room
-    c.change_line-changed.result c.change_line-changed.ensures.tables
+    c.change_line.result c.change_line.ensures.tables
