@@ -8,7 +8,6 @@ ghost use Rattle.m11_placement.specs.Unfolded.{known_after_labels};
 ghost use Rattle.m11_placing.specs.Deeds.{AreDeedTerms, IsWithin, is_listed};
 ghost use Rattle.m11_placing.specs.Passes.{Matches};
 ghost use Rattle.m11_statements.specs.Labels.{labels_at};
-ghost use Rattle.m11_unfold.specs.Kept.{IsKept};
 ghost use Rattle.m11_unfold.specs.Unfolder as steps;
 ghost use Rattle.m11_passes.specs.Begun.{Begins, States};
 ghost use Rattle.m11_passes.specs.Bounds.{HasRoom};
@@ -52,7 +51,6 @@ impl State {
         requires lone { IfSome statement.now.lone_label (λ label. labels_at live.old.line.text ≡ label ∷ []) }
         requires states { States (live_in live.old) statement.now }
         requires goes_on { self.old.unfolder.fault ≡ None }
-        requires kept { IsKept self.old.unfolder.stage }
         requires free { self.old.unfolder.has_statement ≡ false }
         requires room { HasRoom self.old.unfolder.stage.taken 67 1 self.old.pass.table }
         ensures same { live_in live.new ≡ live_in live.old }
@@ -65,9 +63,9 @@ impl State {
         ensures listed { IfOk result (λ _. IsTrue (is_listed live.new.deed)) }
         ensures room { IfOk result (λ _. HasRoom self.old.unfolder.stage.taken 1 1 self.new.pass.table) }
         ensures taken { IfOk result (λ _. self.new.unfolder.stage.taken ≡ self.old.unfolder.stage.taken) }
-        ensures kept { IfOk result (λ _. IsKept self.new.unfolder.stage) }
         ensures goes_on { IfOk result (λ _. self.new.unfolder.fault ≡ None) }
     {
+        self.unfolder.is_within_the_limits();
         let line = &live.line;
         let found = define_labels(
             &mut self.pass,
@@ -100,7 +98,6 @@ fn act_on(
     requires goes_on { unfolder.old.fault ≡ None }
     ensures acts { steps.Acts (known_after_labels pass.now.table) line.now.text unfolder.old.stage unfolder.new.stage result }
     ensures goes_on { IfOk result (λ _. unfolder.new.fault ≡ None) }
-    ensures kept { IfOk result (λ _. IsKept unfolder.new.stage) }
 {
     act_under(unfolder, line, operator, pass.table())
 }
@@ -117,7 +114,6 @@ fn act_under(
     requires goes_on { unfolder.old.fault ≡ None }
     ensures acts { steps.Acts (known_after_labels table.now) line.now.text unfolder.old.stage unfolder.new.stage result }
     ensures goes_on { IfOk result (λ _. unfolder.new.fault ≡ None) }
-    ensures kept { IfOk result (λ _. IsKept unfolder.new.stage) }
 {
     unfolder.act(line, operator, &FirmNames::new(table, table.place()))
 }

@@ -113,14 +113,12 @@ impl State {
     // Places a line that became live.
     fn place(&mut self, map: &Map<'_>, placed: &mut PlacedLine) -> Result<(), AsmFault>
         requires goes_on { self.old.unfolder.fault ≡ None }
-        requires kept { IsKept self.old.unfolder.stage }
         requires free { self.old.unfolder.has_statement ≡ false }
         requires room { HasRoom self.old.unfolder.stage.taken 67 1 self.old.pass.table }
         ensures same { live_in placed.new.live ≡ live_in placed.old.live }
         ensures places { Places map.now (live_in placed.old.live) self.old.unfolder.stage (going_of self.old) (going_of self.new)
             (SaysPlaced map.now placed.new self.new.put) result }
         ensures taken { IfOk result (λ _. self.new.unfolder.stage.taken ≡ self.old.unfolder.stage.taken) }
-        ensures kept { IfOk result (λ _. IsKept self.new.unfolder.stage) }
         ensures goes_on { IfOk result (λ _. self.new.unfolder.fault ≡ None) }
         ensures sound { IfOk result (λ _. HasRoom self.new.unfolder.stage.taken 0 0 self.new.pass.table) }
     {
@@ -152,14 +150,12 @@ impl State {
     // Defines what a line that became live defines.
     fn define(&mut self, live: &mut LiveLine) -> Result<(), AsmFault>
         requires goes_on { self.old.unfolder.fault ≡ None }
-        requires kept { IsKept self.old.unfolder.stage }
         requires free { self.old.unfolder.has_statement ≡ false }
         requires room { HasRoom self.old.unfolder.stage.taken 67 1 self.old.pass.table }
         ensures same { live_in live.new ≡ live_in live.old }
         ensures places { Places empty_map (live_in live.old) self.old.unfolder.stage (going_of self.old) (going_of self.new)
             (SaysLive live.new) result }
         ensures taken { IfOk result (λ _. self.new.unfolder.stage.taken ≡ self.old.unfolder.stage.taken) }
-        ensures kept { IfOk result (λ _. IsKept self.new.unfolder.stage) }
         ensures goes_on { IfOk result (λ _. self.new.unfolder.fault ≡ None) }
         ensures sound { IfOk result (λ _. HasRoom self.new.unfolder.stage.taken 0 0 self.new.pass.table) }
     {
@@ -187,7 +183,6 @@ impl State {
         requires within { IsWithin (length live.now.line.text) live.now.deed }
         requires fields { fields_seen begun.now.fields ≡ deed_fields self.old.pass.table live.now.line.text live.now.deed }
         requires terms { AreDeedTerms live.now.line.text live.now.deed begun.now.fields.list.items begun.now.fields.terms }
-        requires kept { IsKept self.old.unfolder.stage }
         requires room { HasRoom self.old.unfolder.stage.taken 1 1 self.old.pass.table }
         ensures finishes { (old : Going) → Begins map.now (live_in live.now) old (going_of self.old) live.now.deed begun.now
             → Finishes map.now (live_in live.now) old.unfolder.stage old (going_of self.new) result }
@@ -222,7 +217,9 @@ impl State {
         ensures symbols { self.now.pass.local_symbols ≤ most_local_symbols }
         ensures sections { length self.now.pass.table.sections ≤ most_sections }
         ensures names { length self.now.mentioned.names ≤ most_names }
+        ensures unfolding { IsKept self.now.unfolder.stage }
     {
+        self.unfolder.is_within_the_limits();
         self.pass.counts_are_within_the_limits();
         self.mentioned.names_are_within_the_limit();
     }

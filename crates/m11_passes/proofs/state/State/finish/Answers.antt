@@ -7,15 +7,21 @@ use Rattle.m11_passes.proofs.state.State.finish.Goals as goal
 
 pub change_line-requires-clause-listed : goal.change_line-requires-clause-listed
 change_line-requires-clause-listed c =
-    let listed = c.requires.room.listed in let lines = c.requires.kept.lines in omega (arith, listed, lines)
+    let listed = c.requires.room.listed in
+    let lines = c.counts_are_within_the_limits.ensures.unfolding.lines in
+    omega (arith, listed, lines)
 
 pub change_line-requires-clause-unlisted : goal.change_line-requires-clause-unlisted
 change_line-requires-clause-unlisted c =
-    let unlisted = c.requires.room.unlisted in let lines = c.requires.kept.lines in omega (arith, unlisted, lines)
+    let unlisted = c.requires.room.unlisted in
+    let lines = c.counts_are_within_the_limits.ensures.unfolding.lines in
+    omega (arith, unlisted, lines)
 
 pub change_line-requires-clause-block : goal.change_line-requires-clause-block
 change_line-requires-clause-block c =
-    let block = c.requires.room.block in let lines = c.requires.kept.lines in omega (arith, block, lines)
+    let block = c.requires.room.block in
+    let lines = c.counts_are_within_the_limits.ensures.unfolding.lines in
+    omega (arith, block, lines)
 
 pub change_line-requires-clause-section : goal.change_line-requires-clause-section
 change_line-requires-clause-section c =

@@ -53,5 +53,5 @@ returns-in_ok-place-in-Line-clause-next c =
     (comes_of c.args.self.now.unfolder.stage c.next.new.self.stage c.next.new.line c.in_ok-next.field-0 c.in-Line.is_expanded
     c.in-Line.is (c.in_ok-next.ensures.steps c.requires.goes_on)) in
     let same = c.in_ok-place-in-Line.ensures.taken in
-    let most = c.in_ok-place-in-Line.ensures.kept.lines in
-    (omega (arith, more, same), most)
+    let most = c.in_ok-next.ensures.kept.lines in
+    (omega (arith, more, same), omega (arith, same, most))
