@@ -268,6 +268,21 @@ fn a_run_that_ends_in_a_fault_leaves_the_console_alone(rt: HostRuntime) -> Resul
     )
 }
 
+// A run of a tape of n zero bytes ends in this fault.
+fn zeros_end(rt: &(impl Abort + AllocGlobal), count: usize, fault: TapeFault) -> Result<(), Fail> {
+    let zeros = vec![in rt.alloc(); 0u8; count]?;
+    let refused = SimFault::Load(LoadFault::Tape(fault));
+    let shown = ends_in(rt, "zeros", zeros.as_slice(), WITHOUT_A_CONSOLE, refused);
+    drop(zeros);
+    shown
+}
+
+#[test]
+fn a_tape_has_at_most_4194304_bytes(rt: HostRuntime) -> Result<(), Fail> {
+    zeros_end(&rt, 4_194_304, TapeFault::NoTransfer)?;
+    zeros_end(&rt, 4_194_305, TapeFault::TooMuch)
+}
+
 // The run of that tape, n calls of whose reader pass.
 fn after(calls: u64) -> Passes {
     Passes {
