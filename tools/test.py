@@ -12,7 +12,8 @@ Each file of tools/tests is a case. Its parts begin with a word at the beginning
   equal           a plain source whose object is that of the adapted ones
   messages, turned  what tools/lines reads, and what it writes
 
-tools/tests/scripts.py checks the scripts at the top."""
+tools/tests/scripts.py checks the scripts at the top, and tools/tests/examples.py the pages of the examples. Several tests may be named by
+a beginning of their names, as page-."""
 import glob
 import os
 import subprocess
@@ -28,7 +29,7 @@ sys.path.insert(0, HERE)
 import pasm  # noqa: E402
 from adapting.main import adapt  # noqa: E402
 from adapting.names import INSTRUCTIONS  # noqa: E402
-from tests import scripts  # noqa: E402
+from tests import examples, scripts  # noqa: E402
 
 PARTS = ("words", "file", "source", "after", "map", "reports", "status", "flagged", "equal", "messages", "turned")
 
@@ -144,7 +145,7 @@ def check_codes():
 def suite_sources():
     """The sources of the cases of whole commands, and the examples, as (name, list of bytes)."""
     for path in sorted(glob.glob(os.path.join(ROOT, "examples", "**", "*.MAC"), recursive=True)):
-        if not path.endswith("REVERS.MAC"):
+        if b"\t.MCALL\t." not in get("", path):
             yield path, get("", path)
     for path in sorted(glob.glob(os.path.join(ROOT, "crates", "m11_suite", "data", "*", "*.case"))
                        + glob.glob(os.path.join(ROOT, "crates", "m11_suite", "data", "*.case"))):
@@ -210,10 +211,10 @@ def check_refusals():
 def main(names):
     tests = [(os.path.basename(path)[:-5], check_case, (path,)) for path in sorted(glob.glob(os.path.join(HERE, "tests", "*.case")))]
     tests += [("codes-of-instructions", check_codes, ()), ("sources-that-are-taken", check_taken, ()), ("refusals", check_refusals, ())]
-    tests += scripts.CHECKS
+    tests += scripts.CHECKS + examples.CHECKS
     passed = failed = 0
     for name, check, given in tests:
-        if names and name not in names:
+        if names and not name.startswith(tuple(names)):
             continue
         wrong = check(*given)
         passed += not wrong

@@ -1,0 +1,135 @@
+"""Checks of the pages of the examples: what their commands print, and leave in files, stands there. CHECKS lists them for tools/test.py.
+
+The commands run in a copy of the repository whose folder has a blank in its name, and, where root calls, by a user who may write to
+nothing else. `./m11` there is the other reading of the rules (bench/reading), or a copy of the program that the variable M11 names."""
+import glob
+import os
+import shutil
+import subprocess
+import tempfile
+
+TOP = os.path.dirname(os.path.dirname(os.path.dirname(os.path.realpath(__file__))))
+COPIED = ("README.md", ".gitignore", "examples", "docs", "tools", "bench/reading")
+NOBODY = 65534
+BEGINS = ("./m11", "examples/", "tools/", "echo", "printf", "awk", "make", "{")
+# The pages with commands, and the heading of the part that is read; None: all of it.
+PAGES = {"README.md": "## Half a minute with it", "docs/COMMANDS.md": "## Examples"}
+
+M11 = r'''#!/bin/sh
+if [ -x "${0%/*}/program" ]; then exec "${0%/*}/program" "$@"; fi
+exec python3 "${0%/*}/as-m11.py" "$@"
+'''
+AS_M11 = r'''import os, sys
+sys.dont_write_bytecode = True
+sys.path.insert(0, os.path.join(os.path.dirname(os.path.realpath(__file__)), "bench", "reading"))
+import pasm, plink, psim
+command, words = sys.argv[1], sys.argv[2:]
+sys.exit(pasm.main(["asm", *words]) if command == "asm" else {"link": plink, "sim": psim}[command].main(words))
+'''
+
+
+def put(path, text):
+    with open(path, "w", encoding="utf-8") as file:
+        file.write(text)
+    os.chmod(path, 0o755)
+
+
+def get(path):
+    with open(path, encoding="latin-1") as file:
+        return file.read()
+
+
+def blocks_of(page, heading):
+    """The indented blocks of a page, or of its part under a heading, each a list of lines."""
+    blocks, is_in = [[]], heading is None
+    for line in page.split("\n"):
+        if heading and line.startswith("## "):
+            is_in = line == heading
+        if is_in and line.startswith("    "):
+            blocks[-1].append(line[4:].rstrip())
+        elif line.strip() and blocks[-1]:
+            blocks.append([])
+    return [block for block in blocks if block]
+
+
+def stands_in(block, text):
+    """The lines of a block stand in a text, one after the other."""
+    lines = [line.rstrip() for line in text.split("\n")]
+    return any(lines[at:at + len(block)] == block for at in range(len(lines)))
+
+
+class Copy:
+    """The copy of the repository."""
+
+    def __init__(self, folder):
+        self.top = os.path.join(folder, "m 11")
+        for name in COPIED:
+            put_at = os.path.join(self.top, name)
+            os.makedirs(os.path.dirname(put_at), exist_ok=True)
+            if os.path.isdir(os.path.join(TOP, name)):
+                shutil.copytree(os.path.join(TOP, name), put_at, ignore=shutil.ignore_patterns("*.OBJ", "*.TAP", "*.LST", "*.MAP", "__pycache__"))
+            else:
+                shutil.copy(os.path.join(TOP, name), put_at)
+        for name in ("link/MAIN.OBJ", "link/TEXT.OBJ", "sim/HELLO.TAP", "sim/ECHO.TAP"):
+            shutil.copy(os.path.join(TOP, "examples", name), os.path.join(self.top, "examples", name))
+        put(os.path.join(self.top, "m11"), M11)
+        put(os.path.join(self.top, "as-m11.py"), AS_M11)
+        if os.environ.get("M11"):
+            shutil.copy(os.environ["M11"], os.path.join(self.top, "program"))
+        self.git("init", "-q")
+        self.git("add", "-A")
+        self.user = {}
+        if os.geteuid() == 0:
+            self.user = {"user": NOBODY, "group": NOBODY, "extra_groups": []}
+            for at, folders, files in os.walk(folder):
+                for name in [".", *folders, *files]:
+                    os.chown(os.path.join(at, name), NOBODY, NOBODY)
+        os.chmod(folder, 0o755)
+
+    def git(self, *words):
+        return subprocess.run(["git", "-c", "safe.directory=*", *words], cwd=self.top, check=True, capture_output=True, text=True).stdout
+
+    def run(self, commands, within):
+        """The status of commands, and what they print, on each of both streams and on one after the other."""
+        environment = {"PATH": "/usr/bin:/bin", "HOME": self.top, "LC_ALL": "C"}
+        done = subprocess.run(["bash", "-e", "-c", "\n".join(commands)], cwd=os.path.join(self.top, within), env=environment, stdin=subprocess.DEVNULL,
+                              capture_output=True, check=False, **self.user)
+        out, said = done.stdout.decode("latin-1"), done.stderr.decode("latin-1")
+        return done.returncode, [out, said, out + said]
+
+    def texts(self, page):
+        """The texts of the files at the top and beside a page."""
+        for folder in {self.top, os.path.dirname(os.path.join(self.top, page))}:
+            for name in sorted(os.listdir(folder)):
+                if os.path.isfile(os.path.join(folder, name)) and not name.endswith(".md"):
+                    yield get(os.path.join(folder, name))
+
+
+def check_page(page):
+    """The differences of a page from what its commands do."""
+    text = get(os.path.join(TOP, page))
+    within = os.path.dirname(page) if "\nIn this folder:\n" in text else ""
+    found, printed, count = [], [], 0
+    with tempfile.TemporaryDirectory() as folder:
+        copy = Copy(folder)
+        for block in blocks_of(text, PAGES.get(page)):
+            if block[0].startswith(BEGINS):
+                count += 1
+                status, said = copy.run(block, within)
+                printed += said
+                if status:
+                    found.append("\n".join([*block, f"--- leaves {status}", said[2]]))
+            elif not any(stands_in(block, other) for other in [*printed, *copy.texts(page)]):
+                found.append("nothing prints\n" + "\n".join(block) + "\n--- but\n" + "\n".join(printed))
+        left = [line for line in copy.git("status", "--short").split("\n") if line and not line.startswith("A  ")]
+        if left:
+            found.append("what the commands leave and .gitignore doesn't have: " + ", ".join(left))
+    return found if count else ["it has no commands"]
+
+
+def names():
+    """The pages that are checked."""
+    return [*PAGES, *sorted(os.path.relpath(path, TOP) for path in glob.glob(os.path.join(TOP, "examples", "**", "README.md"), recursive=True))]
+
+
+CHECKS = [("page-" + page.replace("/README.md", "").replace("/", "-").replace(".md", ""), check_page, (page,)) for page in names()]
