@@ -208,9 +208,43 @@ def check_refusals():
     return wrong
 
 
+LINKER = """#!/bin/sh
+# A link of one object, which holds the messages of it.
+[ "$1 $2 $3 $4" = "link -o /dev/null --" ] && [ $# = 5 ] && cat -- "$5" >&2
+"""
+OBJECTS = (("A B.OBJ", b"UNDEFINED GLOBAL X\nUNDEFINED GLOBAL Y\n"), ("B.OBJ", b"UNDEFINED GLOBAL X\n"),
+           ("C.OBJ", b"?M11 LINK 4 Record 1 UnknownType\n"), ("D.OBJ", b"?M11 LINK 4 Record 1 UnknownType\n"))
+OF_A_LINK = (
+    (b"UNDEFINED GLOBAL X\nUNDEFINED GLOBAL Y\n?M11 LINK 4 Record 1 UnknownType\n",
+     b"A B.OBJ: UNDEFINED GLOBAL X\nB.OBJ: UNDEFINED GLOBAL X\nA B.OBJ: UNDEFINED GLOBAL Y\nC.OBJ: ?M11 LINK 4 Record 1 UnknownType\n"),
+    (b"?M11 LINK 4 Record 1 UnknownType", b"C.OBJ: ?M11 LINK 4 Record 1 UnknownType"),
+    (b"?M11 LINK 4 Record 5 Complex\nUNDEFINED GLOBAL Z\n", b"?M11 LINK 4 Record 5 Complex\nUNDEFINED GLOBAL Z\n"),
+    (b"?M11 LINK 9 TooLarge\nMULTIPLE DEFINITION X IN MODULE M\n?M11 OPEN E.OBJ\n", b"?M11 LINK 9 TooLarge\nMULTIPLE DEFINITION X IN MODULE M\n?M11 OPEN E.OBJ\n"),
+)
+
+
+def check_objects():
+    """Messages of a link get the objects that they are about."""
+    wrong = []
+    with tempfile.TemporaryDirectory() as folder:
+        put(folder, "a linker", LINKER.encode())
+        os.chmod(os.path.join(folder, "a linker"), 0o755)
+        os.mkdir(os.path.join(folder, "E.OBJ"))
+        for name, messages in OBJECTS:
+            put(folder, name, messages)
+        words = ["-m", os.path.join(folder, "a linker"), *(name for name, _ in OBJECTS), "B.OBJ", "E.OBJ"]
+        for messages, wanted in OF_A_LINK:
+            done = run("lines", words, folder, messages)
+            wrong += differ("messages of a link", done.stdout, wanted) + differ("status", done.returncode, 0)
+        done = run("lines", ["-m", "no linker", "B.OBJ"], folder, OF_A_LINK[0][0])
+        wrong += differ("status without a linker", done.returncode, 3)
+    return wrong
+
+
 def main(names):
     tests = [(os.path.basename(path)[:-5], check_case, (path,)) for path in sorted(glob.glob(os.path.join(HERE, "tests", "*.case")))]
-    tests += [("codes-of-instructions", check_codes, ()), ("sources-that-are-taken", check_taken, ()), ("refusals", check_refusals, ())]
+    tests += [("codes-of-instructions", check_codes, ()), ("sources-that-are-taken", check_taken, ()), ("refusals", check_refusals, ()),
+              ("objects-of-a-link", check_objects, ())]
     tests += scripts.CHECKS + examples.CHECKS
     passed = failed = 0
     for name, check, given in tests:

@@ -12,8 +12,9 @@ TOP = os.path.dirname(os.path.dirname(os.path.dirname(os.path.realpath(__file__)
 COPIED = ("README.md", ".gitignore", "examples", "docs", "tools", "bench/reading")
 NOBODY = 65534
 BEGINS = ("./m11", "examples/", "tools/", "echo", "printf", "awk", "make", "{")
+SYNOPSIS = ("...", "< MESSAGES")
 # The pages with commands, and the heading of the part that is read; None: all of it.
-PAGES = {"README.md": "## Half a minute with it", "docs/COMMANDS.md": "## Examples"}
+PAGES = {"README.md": "## Half a minute with it", "docs/COMMANDS.md": "## Examples", "tools/README.md": "## How to use them"}
 
 M11 = r'''#!/bin/sh
 if [ -x "${0%/*}/program" ]; then exec "${0%/*}/program" "$@"; fi
@@ -23,7 +24,7 @@ AS_M11 = r'''import os, sys
 sys.dont_write_bytecode = True
 sys.path.insert(0, os.path.join(os.path.dirname(os.path.realpath(__file__)), "bench", "reading"))
 import pasm, plink, psim
-command, words = sys.argv[1], sys.argv[2:]
+command, words = sys.argv[1], [word for word in sys.argv[2:] if word != "--"]
 sys.exit(pasm.main(["asm", *words]) if command == "asm" else {"link": plink, "sim": psim}[command].main(words))
 '''
 
@@ -113,6 +114,8 @@ def check_page(page):
     with tempfile.TemporaryDirectory() as folder:
         copy = Copy(folder)
         for block in blocks_of(text, PAGES.get(page)):
+            if block[0].endswith(SYNOPSIS):
+                continue
             if block[0].startswith(BEGINS):
                 count += 1
                 status, said = copy.run(block, within)
