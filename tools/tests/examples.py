@@ -130,9 +130,30 @@ def check_page(page):
     return found if count else ["it has no commands"]
 
 
+def check_make():
+    """A mistake in a module stops each call of make, and leaves neither the object nor the tape."""
+    found = []
+    with tempfile.TemporaryDirectory() as folder:
+        copy = Copy(folder)
+        source = os.path.join(copy.top, "examples", "modules", "SORT.MAC")
+        right = get(source)
+        for wrong, missing in (("RETRUN 1", "SORT.OBJ"), ("RETRUN", "SORTED.TAP")):
+            put(source, right.replace("RETURN", wrong))
+            for _ in range(2):
+                status, said = copy.run(["make"], "examples/modules")
+                if status != 2 or os.path.exists(os.path.join(copy.top, "examples", "modules", missing)):
+                    found.append(f"{wrong}: status {status}, {missing} may be there\n{said[2]}")
+        put(source, right)
+        status, said = copy.run(["make run"], "examples/modules")
+        if status or "In order: -300 -7 0 12 12 31 1975\n" not in said[0]:
+            found.append(f"without the mistake: status {status}\n{said[2]}")
+    return found
+
+
 def names():
     """The pages that are checked."""
     return [*PAGES, *sorted(os.path.relpath(path, TOP) for path in glob.glob(os.path.join(TOP, "examples", "**", "README.md"), recursive=True))]
 
 
 CHECKS = [("page-" + page.replace("/README.md", "").replace("/", "-").replace(".md", ""), check_page, (page,)) for page in names()]
+CHECKS.append(("page-examples-modules-with-mistakes", check_make, ()))
