@@ -151,8 +151,8 @@ def check_make():
 
 
 def names():
-    """The pages that are checked."""
-    return [*PAGES, *sorted(os.path.relpath(path, TOP) for path in glob.glob(os.path.join(TOP, "examples", "**", "README.md"), recursive=True))]
+    """The pages that are checked: those of PAGES, and one in each folder of examples."""
+    return [*PAGES, *sorted(os.path.relpath(path, TOP) for path in glob.glob(os.path.join(TOP, "examples", "*", "**", "README.md"), recursive=True))]
 
 
 CHECKS = [("page-" + page.replace("/README.md", "").replace("/", "-").replace(".md", ""), check_page, (page,)) for page in names()]
