@@ -74,7 +74,7 @@ def get(folder, name):
 
 def run(tool, words, folder, given=b""):
     command = [sys.executable, os.path.join(HERE, tool)] + words
-    return subprocess.run(command, cwd=folder, input=given, capture_output=True)
+    return subprocess.run(command, cwd=folder, input=given, capture_output=True, timeout=60)
 
 
 def differ(what, got, wanted):
@@ -236,6 +236,8 @@ def check_objects():
         for messages, wanted in OF_A_LINK:
             done = run("lines", words, folder, messages)
             wrong += differ("messages of a link", done.stdout, wanted) + differ("status", done.returncode, 0)
+        done = run("lines", words[2:], folder, OF_A_LINK[2][0])
+        wrong += differ("messages without a linker that is named", done.stdout, OF_A_LINK[2][1])
         done = run("lines", ["-m", "no linker", "B.OBJ"], folder, OF_A_LINK[0][0])
         wrong += differ("status without a linker", done.returncode, 3)
     return wrong

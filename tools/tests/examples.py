@@ -94,7 +94,7 @@ class Copy:
         """The status of commands, and what they print, on each of both streams and on one after the other."""
         environment = {"PATH": "/usr/bin:/bin", "HOME": self.top, "LC_ALL": "C"}
         done = subprocess.run(["bash", "-e", "-c", "\n".join(commands)], cwd=os.path.join(self.top, within), env=environment, stdin=subprocess.DEVNULL,
-                              capture_output=True, check=False, **self.user)
+                              capture_output=True, check=False, timeout=120, **self.user)
         out, said = done.stdout.decode("latin-1"), done.stderr.decode("latin-1")
         return done.returncode, [out, said, out + said]
 
