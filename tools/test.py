@@ -212,6 +212,11 @@ LINKER = """#!/bin/sh
 # A link of one object, which holds the messages of it.
 [ "$1 $2 $3 $4" = "link -o /dev/null --" ] && [ $# = 5 ] && cat -- "$5" >&2
 """
+DUMPER = """#!/bin/sh
+# What m11-dump says of a malformed object, and what it prints of any.
+echo "OBJECT $2"
+[ "$1" = -- ] && [ $# = 2 ] && sed -n "s|LINK \\(.*\\)|DUMP \\1 IN BLOCK 3 AT BYTE 120 OF $2|p" "$2" >&2
+"""
 OBJECTS = (("A B.OBJ", b"UNDEFINED GLOBAL X\nUNDEFINED GLOBAL Y\n"), ("B.OBJ", b"UNDEFINED GLOBAL X\n"),
            ("C.OBJ", b"?M11 LINK 4 Record 1 UnknownType\n"), ("D.OBJ", b"?M11 LINK 4 Record 1 UnknownType\n"))
 OF_A_LINK = (
@@ -236,6 +241,12 @@ def check_objects():
         for messages, wanted in OF_A_LINK:
             done = run("lines", words, folder, messages)
             wrong += differ("messages of a link", done.stdout, wanted) + differ("status", done.returncode, 0)
+        put(folder, "m11-dump", DUMPER.encode())
+        os.chmod(os.path.join(folder, "m11-dump"), 0o755)
+        done = run("lines", ["-d", os.path.join(folder, "m11-dump"), *words], folder, OF_A_LINK[0][0])
+        wrong += differ("messages of a link, with m11-dump", done.stdout, OF_A_LINK[0][1][:-1] + b" IN BLOCK 3 AT BYTE 120\n")
+        done = run("lines", ["-d", os.path.join(folder, "a linker"), *words], folder, OF_A_LINK[0][0])
+        wrong += differ("messages of a link, with a dump that says something else", done.stdout, OF_A_LINK[0][1])
         done = run("lines", words[2:], folder, OF_A_LINK[2][0])
         wrong += differ("messages without a linker that is named", done.stdout, OF_A_LINK[2][1])
         done = run("lines", ["-m", "no linker", "B.OBJ"], folder, OF_A_LINK[0][0])

@@ -1,7 +1,8 @@
 """Checks of the pages of the examples: what their commands print, and leave in files, stands there. CHECKS lists them for tools/test.py.
 
 The commands run in a copy of the repository whose folder has a blank in its name, and, where root calls, by a user who may write to
-nothing else. `./m11` there is the other reading of the rules (bench/reading), or a copy of the program that the variable M11 names."""
+nothing else. `./m11` there is the other reading of the rules (bench/reading), or a copy of the program that the variable M11 names.
+What needs `m11-dump` or `m11-trace` is run where M11_DUMP or M11_TRACE names it."""
 import glob
 import os
 import shutil
@@ -13,6 +14,8 @@ COPIED = ("README.md", ".gitignore", "examples", "docs", "tools", "bench/reading
 NOBODY = 65534
 BEGINS = ("./m11", "examples/", "tools/", "echo", "printf", "awk", "make", "{")
 SYNOPSIS = ("...", "< MESSAGES")
+# Programs beside m11, of which there is no other reading: blocks that call them are left out where their variables name none.
+OTHERS = {"./m11-dump": "M11_DUMP", "./m11-trace": "M11_TRACE"}
 # The pages with commands, and the heading of the part that is read; None: all of it.
 PAGES = {"README.md": "## Half a minute with it", "docs/COMMANDS.md": "## Examples", "tools/README.md": "## How to use them"}
 
@@ -77,6 +80,9 @@ class Copy:
         put(os.path.join(self.top, "as-m11.py"), AS_M11)
         if os.environ.get("M11"):
             shutil.copy(os.environ["M11"], os.path.join(self.top, "program"))
+        for name, variable in OTHERS.items():
+            if os.environ.get(variable):
+                shutil.copy(os.environ[variable], os.path.join(self.top, name))
         self.git("init", "-q")
         self.git("add", "-A")
         self.user = {}
@@ -110,11 +116,15 @@ def check_page(page):
     """The differences of a page from what its commands do."""
     text = get(os.path.join(TOP, page))
     within = os.path.dirname(page) if "\nIn this folder:\n" in text else ""
-    found, printed, count = [], [], 0
+    found, printed, count, is_left_out = [], [], 0, False
     with tempfile.TemporaryDirectory() as folder:
         copy = Copy(folder)
         for block in blocks_of(text, PAGES.get(page)):
             if block[0].endswith(SYNOPSIS):
+                continue
+            if block[0].startswith(BEGINS):
+                is_left_out = any(name in line and not os.environ.get(variable) for line in block for name, variable in OTHERS.items())
+            if is_left_out:
                 continue
             if block[0].startswith(BEGINS):
                 count += 1
