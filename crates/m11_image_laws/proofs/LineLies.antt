@@ -1,0 +1,105 @@
+-- The pieces of a line lie where what it states lies, and are that.
+use Rattle.std.proofs.Common.{◌≡◌, ◌∙◌, ℕ, ◌+◌, ◌<◌, ◌%◌, Bool, true, false, List, [], ◌∷◌, ◌++◌, map, refl, sym, ap, arith}
+use Rattle.m11_base.specs.Devices.{Bytes}
+use Rattle.m11_placement.specs.Alignment.{gap, place_for}
+use Rattle.m11_placement.specs.Codes as codes
+use Rattle.m11_placement.specs.Contents.{further}
+use Rattle.m11_placement.specs.Effects.{directive_put, operator_put}
+use Rattle.m11_placement.specs.Elements.{elements_at}
+use Rattle.m11_placement.specs.Fields.{forms_of}
+use Rattle.m11_placement.specs.Instructions.{fields, setting}
+use Rattle.m11_placement.specs.Lines.{Deed, deed, line_put, pieces, put_by, put_place, stands}
+use Rattle.m11_placement.specs.Lines as lines
+use Rattle.m11_placement.specs.Meanings.{Map, known_at}
+use Rattle.m11_placement.specs.Operators.{is_even}
+use Rattle.m11_placement.specs.Relocations.{is_moved}
+use Rattle.m11_placement.specs.Strings.{parts_at, parts_bytes, parts_codes}
+use Rattle.m11_placement.specs.Tables.{Table, place, section_name}
+use Rattle.m11_placement.specs.declared.meanings.Context.TheVariants.{Knows}
+use Rattle.m11_placement.specs.declared.operators.Directive.{Directive}
+use Rattle.m11_placement.specs.declared.operators.Directive.TheVariants as word
+use Rattle.m11_placement.specs.declared.operators.Operator.{Operator}
+use Rattle.m11_placement.specs.declared.operators.Operator.TheVariants.{Instruction, Directs}
+use Rattle.m11_unfolding.specs.Unfolding.{Given}
+use Rattle.std.specs.Prelude.{Option}
+use Rattle.m11_image.specs.Addresses.{Addresses}
+use Rattle.m11_image.specs.Pieces.{placed}
+use Rattle.m11_image_laws.specs.Lines.{line_lying, line_place}
+use Rattle.m11_image_laws.specs.Stated.{deed_stated, directive_stated, line_stated, operator_stated, parts_stated}
+use Rattle.m11_image_laws.proofs.OneThing.{limit_words, plain_word}
+use Rattle.m11_image_laws.proofs.ManyThings.{AllStay, Mean, anywhere, both_stay, bytes_stay, forms_mean, laid_out, packed_stay, parts_stay, words_stay, zero_stays}
+
+module _ (program : Addresses) (source : ℕ) (table : Table)
+    (absolute : is_moved table ≡ false → program.base source (section_name table) ≡ 0) where
+  directive_stays : (known : Map) (here : ℕ) (line : Bytes) (start : ℕ) (arguments : Option ℕ) (directive : Directive)
+      → AllStay program source table absolute (directive_put known table here line start arguments directive).contents
+      (directive_stated known table here line start directive)
+  directive_stays known here line start arguments word.Words =
+      words_stay program source table absolute known line here (elements_at line start).places
+  directive_stays known here line start arguments word.Bytewise =
+      bytes_stay program source table absolute known line here (elements_at line start).places
+  directive_stays known here line start arguments word.Ascii =
+      parts_stay program source table absolute known here line (parts_at line start).list
+  directive_stays known here line start arguments word.Asciz =
+      both_stay program source table absolute (parts_bytes known table here line (parts_at line start).list).contents _
+      (parts_stated known table here line (parts_at line start).list) _
+      (parts_stay program source table absolute known here line (parts_at line start).list) (zero_stays program source table absolute)
+  directive_stays known here line start arguments word.Rad50 =
+      packed_stay program source table absolute (parts_codes (known_at known Knows table here) line (parts_at line start).list).codes
+  directive_stays known here line start arguments word.Limit = (λ (at : ℕ). limit_words program source table absolute at, tt)
+  directive_stays known here line start arguments word.ByteBlock = tt
+  directive_stays known here line start arguments word.WordBlock = tt
+  directive_stays known here line start arguments word.Even = tt
+  directive_stays known here line start arguments word.Odd = tt
+  directive_stays known here line start arguments word.InRadix = tt
+  directive_stays known here line start arguments word.AbsoluteSection = tt
+  directive_stays known here line start arguments word.ControlSection = tt
+  directive_stays known here line start arguments word.ProgramSection = tt
+  directive_stays known here line start arguments word.Global = tt
+  directive_stays known here line start arguments word.Weak = tt
+  directive_stays known here line start arguments word.Title = tt
+  directive_stays known here line start arguments word.Identification = tt
+  directive_stays known here line start arguments word.Subtitle = tt
+  directive_stays known here line start arguments word.Page = tt
+  directive_stays known here line start arguments word.Lists = tt
+  directive_stays known here line start arguments word.Unlists = tt
+  directive_stays known here line start arguments word.Enable = tt
+  directive_stays known here line start arguments word.Disable = tt
+  directive_stays known here line start arguments word.ArgumentCount = tt
+  directive_stays known here line start arguments word.CharacterCount = tt
+  directive_stays known here line start arguments word.End = tt
+
+  further_low : (place size : ℕ) → further place size < 65536
+  further_low place size = omega arith
+
+  operator_means : (known : Map) (here : ℕ) (line : Bytes) (start : ℕ) (arguments : Option ℕ) (operator : Operator)
+      → Mean program source table absolute here (operator_put known table here line start arguments operator).contents
+      (operator_stated known table here line start operator)
+  operator_means known here line start arguments (Instruction operation) =
+      (plain_word program source table absolute here _,
+      forms_mean program source table absolute (setting known table here line) (further here 2)
+      (forms_of (fields table here line start operation).list) refl (further_low here 2))
+  operator_means known here line start arguments (Directs directive) =
+      anywhere program source table absolute here _ _ (directive_stays known here line start arguments directive)
+
+  deed_means : (known : Map) (line : Bytes) (arguments : Option ℕ) (done : Deed)
+      → Mean program source table absolute (put_place table done) (put_by known table line arguments done).contents
+      (deed_stated known table line done)
+  deed_means known line arguments lines.Rests = tt
+  deed_means known line arguments (lines.Assigning name is_global start) = tt
+  deed_means known line arguments (lines.Setting start) = tt
+  deed_means known line arguments (lines.Operating operator start) =
+      operator_means known (place_for (is_even operator) (place table)) line start arguments operator
+
+  pub stood_lies : (known : Map) (given : Given)
+      → Mean program source table absolute (line_place table given) (line_put known table given).contents (line_stated known table given)
+  unfolding line_put line_stated
+  stood_lies known given = deed_means known given.live.line.text given.arguments (deed given.is_own given.live.line.text)
+
+pub line_lies : (program : Addresses) (source : ℕ) (known : Map) (table : Table) (given : Given)
+    → (is_moved (stands table given) ≡ false → program.base source (section_name (stands table given)) ≡ 0)
+    → map (placed program source) (pieces known table given) ≡ line_lying program source known (stands table given) given
+line_lies program source known table given absolute =
+    laid_out program source (stands table given) absolute (line_place (stands table given) given)
+    (line_put known (stands table given) given).contents (line_stated known (stands table given) given)
+    (stood_lies program source (stands table given) absolute known given)

@@ -1,0 +1,5 @@
+pub mod Stated
+pub mod Targets
+pub mod Lines
+pub mod Agreement
+pub mod Labels

@@ -1,0 +1,7 @@
+//! What stands in a linked program for what its sources state: each value lies where its target lies, in the words of the sources alone. Each
+//! law is the contract of a function that does nothing but to call the laws that its own follows from.
+#![tactic(auto)]
+
+mod values;
+
+pub use values::images_hold_what_their_lines_state;
