@@ -1,26 +1,23 @@
 -- What a source calls ABS lies at 0 in the program, where sources agree.
-use Rattle.std.proofs.Common.{◌≡◌, ◌∙◌, ℕ, zero, suc, ◌+◌, ◌==◌, Bool, true, false, not, ◌&&◌, if◌then◌else◌, List, [], ◌∷◌, ◌++◌, map, flat_map, sum, sum_by, take, Option, Some, None, refl, sym, ap, subst, true≢false, arith}
+use Rattle.std.proofs.Common.{◌≡◌, ◌∙◌, ℕ, zero, suc, ◌+◌, ◌==◌, Bool, true, false, not, ◌&&◌, if◌then◌else◌, List, [], ◌∷◌, ◌++◌, map, sum, sum_by, take, Option, Some, None, refl, sym, ap, subst, true≢false, arith}
 use Rattle.std.proofs.lemmas.Bool.Decides.{nat_tests}
-use Rattle.std.specs.Prelude.{bit_and, slice_index_or}
+use Rattle.std.specs.Prelude.{bit_and}
 use Rattle.std.specs.List.{AllByRecursion, enumerate_from}
 use Rattle.std.specs.Map.{lookup}
 use Rattle.std.proofs.lemmas.Nat.{and_assoc}
-use Rattle.m11_base.specs.Devices.{Bytes}
 use Rattle.m11_base.specs.Names.{blank_name}
 use Rattle.m11_base.specs.Rad50.{Name, is_same_name}
 use Rattle.m11_directory.specs.FirstPass.{DirectoryFacts}
 use Rattle.m11_layout.specs.Sections as layout
 use Rattle.m11_layout.specs.Sections.{base_entered, is_overlaid, names_before, rounded}
 use Rattle.m11_link_text.specs.Relocation.{modulo}
-use Rattle.m11_placement.specs.Relocations.{is_moved}
 use Rattle.m11_placement.specs.Sections.{is_relocatable, numbered, of_program, section}
-use Rattle.m11_placement.specs.Tables.{Table, section_name}
 use Rattle.m11_placement.specs.declared.sections.Section.{Section}
 use Rattle.m11_image.specs.Addresses.{Addresses}
 use Rattle.m11_image.specs.Image.{addresses_of}
-use Rattle.m11_image.specs.Sections.{OwnSection, all_sections, attributes_of, contribution, names_of, own_section, room_of, sections_of, size_entered, sizes_of, source_at}
+use Rattle.m11_image.specs.Sections.{all_sections, attributes_of, contribution, names_of, own_section, room_of, sections_of, size_entered, sizes_of, source_at}
 use Rattle.m11_image.specs.Sources.{Source}
-use Rattle.m11_image_laws.specs.Agreement.{AbsolutesAgree, StaysAbsolute}
+use Rattle.m11_image_laws.specs.Agreement.{StaysAbsolute}
 
 -- ---- a section with ABS at 0
 

@@ -1,6 +1,6 @@
 -- What each step of a source does to the last definition of a name: a label stays, and comes only where the name isn't defined.
 use Rattle.std.proofs.Common.{◌≡◌, ◌∙◌, ◌⊎◌, inl, inr, ℕ, Bool, true, false, if◌then◌else◌, List, [], ◌∷◌, ◌++◌, Option, Some, None, refl, sym, ap, subst, true≢false}
-use Rattle.std.specs.Prelude.{◌||◌, not}
+use Rattle.std.specs.Prelude.{◌||◌}
 use Rattle.std.specs.Option.{is_some}
 use Rattle.m11_base.specs.Devices.{Bytes}
 use Rattle.m11_base.specs.Rad50.{Name, is_same_name}
@@ -9,19 +9,15 @@ use Rattle.m11_placement.specs.Assignments.{assigned}
 use Rattle.m11_placement.specs.Changes as change
 use Rattle.m11_placement.specs.Changes.{Change, becomes_global, changed, numbered}
 use Rattle.m11_placement.specs.Definitions.{is_defined, is_labelled, is_of_label, is_same, last_definition, later_or}
-use Rattle.m11_placement.specs.Labels.{global_if, label_name, labelled, labels_stand, with_block, with_definition, with_doubled, with_kind, with_label, with_labels}
+use Rattle.m11_placement.specs.Labels.{global_if, labelled, with_block, with_definition, with_doubled, with_kind}
 use Rattle.m11_placement.specs.Assignments.{with_assigned}
-use Rattle.m11_placement.specs.Lines.{after_line, line_change, stands}
 use Rattle.m11_placement.specs.Meanings.{Map}
-use Rattle.m11_placement.specs.Tables.{Table, firm_table}
+use Rattle.m11_placement.specs.Tables.{Table}
 use Rattle.m11_placement.specs.declared.definitions.Definition.{Definition}
 use Rattle.m11_placement.specs.declared.definitions.Key.{Key}
 use Rattle.m11_placement.specs.declared.definitions.Key.TheVariants.{Named, Numbered}
-use Rattle.m11_statements.specs.Labels.{labels_at}
-use Rattle.m11_statements.specs.declared.labels.Label.{Label}
 use Rattle.m11_statements.specs.declared.labels.LabelKind.{LabelKind}
 use Rattle.m11_statements.specs.declared.labels.LabelKind.TheVariants as label
-use Rattle.m11_unfolding.specs.Unfolding.{Given}
 
 -- ---- last definitions
 

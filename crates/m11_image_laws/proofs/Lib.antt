@@ -4,3 +4,6 @@ pub mod LineLies
 pub mod Absolutes
 pub mod SourcesLie
 pub mod LabelTurns
+pub mod LabelsFound
+pub mod LabelsLie
+pub mod GlobalsLie

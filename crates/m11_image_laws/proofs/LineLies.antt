@@ -1,8 +1,7 @@
 -- The pieces of a line lie where what it states lies, and are that.
-use Rattle.std.proofs.Common.{◌≡◌, ◌∙◌, ℕ, ◌+◌, ◌<◌, ◌%◌, Bool, true, false, List, [], ◌∷◌, ◌++◌, map, refl, sym, ap, arith}
+use Rattle.std.proofs.Common.{◌≡◌, ℕ, ◌<◌, false, map, refl, arith}
 use Rattle.m11_base.specs.Devices.{Bytes}
-use Rattle.m11_placement.specs.Alignment.{gap, place_for}
-use Rattle.m11_placement.specs.Codes as codes
+use Rattle.m11_placement.specs.Alignment.{place_for}
 use Rattle.m11_placement.specs.Contents.{further}
 use Rattle.m11_placement.specs.Effects.{directive_put, operator_put}
 use Rattle.m11_placement.specs.Elements.{elements_at}
@@ -75,10 +74,11 @@ module _ (program : Addresses) (source : ℕ) (table : Table)
   operator_means : (known : Map) (here : ℕ) (line : Bytes) (start : ℕ) (arguments : Option ℕ) (operator : Operator)
       → Mean program source table absolute here (operator_put known table here line start arguments operator).contents
       (operator_stated known table here line start operator)
-  operator_means known here line start arguments (Instruction operation) =
-      (plain_word program source table absolute here _,
-      forms_mean program source table absolute (setting known table here line) (further here 2)
-      (forms_of (fields table here line start operation).list) refl (further_low here 2))
+  operator_means known here line start arguments (Instruction operation) = (
+    plain_word program source table absolute here _,
+    forms_mean program source table absolute (setting known table here line) (further here 2)
+        (forms_of (fields table here line start operation).list) refl (further_low here 2),
+  )
   operator_means known here line start arguments (Directs directive) =
       anywhere program source table absolute here _ _ (directive_stays known here line start arguments directive)
 

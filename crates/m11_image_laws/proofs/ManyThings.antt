@@ -1,16 +1,13 @@
 -- What a line puts from a place on, piece by piece, is what it states from there on.
-use Rattle.std.proofs.Common.{◌≡◌, ◌∙◌, ℕ, ◌+◌, ◌*◌, ◌<◌, ◌%◌, Bool, true, false, if◌then◌else◌, List, [], ◌∷◌, ◌++◌, map, flat_map, refl, sym, ap, ap₂, subst, arith}
+use Rattle.std.proofs.Common.{◌≡◌, ◌∙◌, ℕ, ◌<◌, Bool, true, false, if◌then◌else◌, List, [], ◌∷◌, ◌++◌, map, flat_map, refl, sym, ap, ap₂, subst, arith}
 use Rattle.m11_base.specs.Devices.{Bytes}
-use Rattle.m11_base.specs.Rad50.{Name}
-use Rattle.m11_base.specs.declared.operand.Mode.{Mode}
 use Rattle.m11_object_text.specs.declared.pieces.PieceContent.{PieceContent}
-use Rattle.m11_object_text.specs.declared.pieces.PieceContent.TheVariants.{Byte, Word, Limits}
+use Rattle.m11_object_text.specs.declared.pieces.PieceContent.TheVariants.{Word}
 use Rattle.m11_arguments.specs.Expressions.{value_at}
 use Rattle.m11_placement.specs.Codes.{Setting, form_words, is_relative}
 use Rattle.m11_placement.specs.Codes as codes
-use Rattle.m11_placement.specs.Contents.{content_size, element_value, fixed_byte, fixed_word, further, pieces_from}
+use Rattle.m11_placement.specs.Contents.{content_size, element_value, fixed_byte, further, pieces_from}
 use Rattle.m11_placement.specs.Meanings.{Map, known_at}
-use Rattle.m11_placement.specs.Operands.{words_of}
 use Rattle.m11_placement.specs.Relocations.{is_moved, stored}
 use Rattle.m11_placement.specs.Storage.{bytes_from, words_from}
 use Rattle.m11_placement.specs.Strings.{packed_words, part_bytes, part_size, part_text, parts_bytes}
@@ -24,9 +21,8 @@ use Rattle.m11_statements.specs.declared.parts.PartKind.TheVariants.{Text, Expre
 use Rattle.m11_values.specs.Quantities.{Quantity}
 use Rattle.m11_image.specs.Addresses.{Addresses}
 use Rattle.m11_image.specs.Pieces.{placed}
-use Rattle.m11_image_laws.specs.Lines.{address_in, lying, lying_from}
-use Rattle.m11_image_laws.specs.Stated.{Stated, PlainWord, PlainByte, ValueWord, ValueByte, DistanceWord, LimitWords, bytes_stated, form_stated, packed_stated, part_stated, parts_stated, stated_size, words_stated}
-use Rattle.m11_image_laws.specs.Targets.{stated_bytes}
+use Rattle.m11_image_laws.specs.Lines.{address_in, lying_from}
+use Rattle.m11_image_laws.specs.Stated.{Stated, PlainByte, ValueWord, DistanceWord, bytes_stated, form_stated, packed_stated, part_stated, parts_stated, words_stated}
 use Rattle.m11_image_laws.proofs.OneThing.{Means, distance_word, plain_byte, plain_word, value_byte, value_word}
 
 module _ (program : Addresses) (source : ℕ) (table : Table)
@@ -85,16 +81,18 @@ module _ (program : Addresses) (source : ℕ) (table : Table)
   pub words_stay : (known : Map) (line : Bytes) (place : ℕ) (starts : List ℕ)
       → AllStay (words_from known table line place starts).contents (words_stated known table line place starts)
   words_stay known line place [] = tt
-  words_stay known line place (start ∷ starts) =
-      (λ (at : ℕ). value_word program source table absolute place at (element_value (known_at known Refers table place) line start),
-      words_stay known line (further place 2) starts)
+  words_stay known line place (start ∷ starts) = (
+    λ (at : ℕ). value_word program source table absolute place at (element_value (known_at known Refers table place) line start),
+    words_stay known line (further place 2) starts,
+  )
 
   pub bytes_stay : (known : Map) (line : Bytes) (place : ℕ) (starts : List ℕ)
       → AllStay (bytes_from known table line place starts).contents (bytes_stated known table line place starts)
   bytes_stay known line place [] = tt
-  bytes_stay known line place (start ∷ starts) =
-      (λ (at : ℕ). value_byte program source table absolute place at (element_value (known_at known Refers table place) line start),
-      bytes_stay known line (further place 1) starts)
+  bytes_stay known line place (start ∷ starts) = (
+    λ (at : ℕ). value_byte program source table absolute place at (element_value (known_at known Refers table place) line start),
+    bytes_stay known line (further place 1) starts,
+  )
 
   -- ---- texts
 
@@ -147,16 +145,18 @@ module _ (program : Addresses) (source : ℕ) (table : Table)
   forms_mean setting place (InRegister kind start ∷ forms) same low =
       subst (λ (p : ℕ). Mean place (codes.words_from setting p forms).contents (flat_map (form_stated setting) forms))
       (sym (no_further place low)) (forms_mean setting place forms same low)
-  forms_mean setting place (Indexed kind start index ∷ forms) same low =
-      (subst (λ (t : Table). M place (Word (stored t false place (value_at setting.refers setting.line index)))
-      (ValueWord (value_at setting.refers setting.line index))) (sym same)
-      (value_word program source table absolute place place (value_at setting.refers setting.line index)),
-      forms_mean setting (further place 2) forms same (further_low place 2))
+  forms_mean setting place (Indexed kind start index ∷ forms) same low = (
+    subst (λ (t : Table). M place (Word (stored t false place (value_at setting.refers setting.line index)))
+        (ValueWord (value_at setting.refers setting.line index))) (sym same)
+        (value_word program source table absolute place place (value_at setting.refers setting.line index)),
+    forms_mean setting (further place 2) forms same (further_low place 2),
+  )
   forms_mean setting place (Unindexed start ∷ forms) same low =
       (plain_word program source table absolute place 0, forms_mean setting (further place 2) forms same (further_low place 2))
-  forms_mean setting place (AfterCounter kind start ∷ forms) same low =
-      (subst (λ (t : Table). M place (Word (stored t (is_relative kind) place (value_at setting.refers setting.line start)))
-      (if is_relative kind then DistanceWord (value_at setting.refers setting.line start)
-      else ValueWord (value_at setting.refers setting.line start))) (sym same)
-      (after_counter place (value_at setting.refers setting.line start) (is_relative kind) low),
-      forms_mean setting (further place 2) forms same (further_low place 2))
+  forms_mean setting place (AfterCounter kind start ∷ forms) same low = (
+    subst (λ (t : Table). M place (Word (stored t (is_relative kind) place (value_at setting.refers setting.line start)))
+        (if is_relative kind then DistanceWord (value_at setting.refers setting.line start)
+        else ValueWord (value_at setting.refers setting.line start))) (sym same)
+        (after_counter place (value_at setting.refers setting.line start) (is_relative kind) low),
+    forms_mean setting (further place 2) forms same (further_low place 2),
+  )

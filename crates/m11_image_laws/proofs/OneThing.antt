@@ -7,13 +7,13 @@ use Rattle.m11_link_text.specs.Relocation.{following, less, modulo, value_bytes}
 use Rattle.m11_object_text.specs.declared.pieces.PieceContent.{PieceContent}
 use Rattle.m11_object_text.specs.declared.pieces.PieceContent.TheVariants.{Byte, Word, Limits}
 use Rattle.m11_placement.specs.Contents.{content_size, fixed_byte, fixed_word}
-use Rattle.m11_placement.specs.Relocations.{Here, InObject, InSection, Origin, Zero, constant, distance, is_moved, origin_of, relocation_by, relocation_of, row_of, stored}
+use Rattle.m11_placement.specs.Relocations.{Here, InObject, InSection, Origin, Zero, constant, is_moved, origin_of, relocation_by, row_of, stored}
 use Rattle.m11_placement.specs.Tables.{Table, section_name}
 use Rattle.m11_values.specs.declared.kinds.Kind.{Kind}
 use Rattle.m11_values.specs.declared.kinds.Kind.TheVariants as kind
 use Rattle.m11_values.specs.Quantities.{Quantity}
 use Rattle.m11_image.specs.Addresses.{Addresses}
-use Rattle.m11_image.specs.Pieces.{Spot, bytes_at, number_at, spot}
+use Rattle.m11_image.specs.Pieces.{bytes_at, number_at, spot}
 use Rattle.m11_image_laws.specs.Lines.{address_in}
 use Rattle.m11_image_laws.specs.Stated.{Stated, PlainWord, PlainByte, ValueWord, ValueByte, DistanceWord, LimitWords, stated_size}
 use Rattle.m11_image_laws.specs.Targets.{stated_bytes, target, target_by}

@@ -1,19 +1,18 @@
 -- The pieces of sources lie where their lines state them.
-use Rattle.std.proofs.Common.{◌≡◌, ◌∙◌, ℕ, ◌+◌, Bool, true, false, if◌then◌else◌, List, [], ◌∷◌, ◌++◌, map, flat_map, Option, Some, None, refl, sym, ap, ap₂, subst}
+use Rattle.std.proofs.Common.{◌≡◌, ◌∙◌, ℕ, ◌+◌, Bool, true, false, if◌then◌else◌, List, [], ◌∷◌, ◌++◌, map, flat_map, Option, Some, None, refl, ap, ap₂, subst}
 use Rattle.std.specs.List.{AllByRecursion, enumerate_from}
 use Rattle.std.proofs.lemmas.List.{map-append}
 use Rattle.m11_base.specs.Devices.{Bytes}
 use Rattle.m11_base.specs.Rad50.{Name}
-use Rattle.m11_object_text.specs.declared.pieces.Piece.{Piece}
 use Rattle.m11_placement.specs.Assignments.{assigned}
 use Rattle.m11_placement.specs.Changes as change
 use Rattle.m11_placement.specs.Changes.{Change, becomes_global, changed, numbered, with_new}
 use Rattle.m11_placement.specs.Definitions.{is_defined, is_labelled}
-use Rattle.m11_placement.specs.Labels.{global_if, label_name, labelled, labels_stand, with_block, with_definition, with_doubled, with_kind, with_label, with_labels}
+use Rattle.m11_placement.specs.Labels.{global_if, label_name, labelled, with_block, with_definition, with_doubled, with_kind, with_label, with_labels}
 use Rattle.m11_placement.specs.Assignments.{with_assigned}
 use Rattle.m11_placement.specs.Lines.{after_line, line_change, pieces, stands}
 use Rattle.m11_placement.specs.Meanings.{Map, empty_map}
-use Rattle.m11_placement.specs.Placements.{after_lines, placed_from, placement, program_map, table_after}
+use Rattle.m11_placement.specs.Placements.{after_lines, placed_from, program_map, table_after}
 use Rattle.m11_placement.specs.Sections.{number_of, section}
 use Rattle.m11_placement.specs.Tables.{Table, firm_table, first_table}
 use Rattle.m11_placement.specs.declared.definitions.Definition.{Definition}
@@ -26,13 +25,13 @@ use Rattle.m11_statements.specs.declared.labels.LabelKind.{LabelKind}
 use Rattle.m11_statements.specs.declared.labels.LabelKind.TheVariants as label
 use Rattle.m11_unfolding.specs.Unfolding.{Given}
 use Rattle.m11_image.specs.Addresses.{Addresses}
-use Rattle.m11_image.specs.Image.{addresses_of, all_placed, image_by, image_of, placed_pieces}
+use Rattle.m11_image.specs.Image.{addresses_of, image_of, placed_pieces}
 use Rattle.m11_image.specs.Pieces.{placed}
 use Rattle.m11_image.specs.Sources.{Source}
 use Rattle.m11_tape_laws.specs.Image.{byte_of}
 use Rattle.m11_image_laws.specs.Agreement as agreement
 use Rattle.m11_image_laws.specs.Agreement.{AbsolutesAgree, AreOf, IsOf}
-use Rattle.m11_image_laws.specs.Lines.{all_lying, line_lying, lines_lying, source_lying}
+use Rattle.m11_image_laws.specs.Lines.{all_lying, lines_lying, source_lying}
 use Rattle.m11_image_laws.proofs.Absolutes.{AllAtZero, LieAtZero, LiesAtZero, all_at_zero, one_of}
 use Rattle.m11_image_laws.proofs.LineLies.{line_lies}
 

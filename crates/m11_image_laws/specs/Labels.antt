@@ -51,12 +51,15 @@ meaning_at lines line context here name =
 
 -- ---- names for other sources
 
--- the source of an index defines a name for the others, and none before it does: the name's last definition there has this value
-pub record Defines (sources : List Source) (index : ℕ) (source : Source) (name : Name) (number : ℕ) (kind : Kind) : Type 0 where
-  pub first : lookup (is_same_name name) (all_globals (take index sources)) ≡ None
-  pub stands : slice_get sources index ≡ Some source
+-- the source of an index defines a name for the others, and none before it does
+pub record DefinesFirst (sources : List Source) (index : ℕ) (source : Source) (name : Name) : Type 0 where
+  pub own : slice_get sources index ≡ Some source
+  pub none_before : lookup (is_same_name name) (all_globals (take index sources)) ≡ None
+  pub place : GlobalPlace
+  pub listed : lookup (is_same_name name) (globals_of source.facts) ≡ Some place
+
+-- the value of a name in the table of its source: a number, and what it counts from
+pub record HasValue (source : Source) (name : Name) (number : ℕ) (kind : Kind) : Type 0 where
   pub definition : Definition
   pub last : last_definition (Named name) source.facts.table.definitions ≡ Some definition
   pub known : definition.standing ≡ Known number kind
-  pub place : GlobalPlace
-  pub listed : lookup (is_same_name name) (globals_of source.facts) ≡ Some place

@@ -2,6 +2,11 @@
 //! law is the contract of a function that does nothing but to call the laws that its own follows from.
 #![tactic(auto)]
 
+mod labels;
 mod values;
 
-pub use values::images_hold_what_their_lines_state;
+pub use labels::{
+    globals_lie_where_they_are_defined, globals_of_labels_lie_where_their_lines_do,
+    labels_lie_where_their_lines_do,
+};
+pub use values::{images_hold_what_their_lines_state, relative_words_lead_to_their_targets};

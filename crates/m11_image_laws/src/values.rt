@@ -1,8 +1,9 @@
 //! What the bytes of a linked program say. (MACRO-11 Language Reference Manual, "Relocation and linking".)
 
-ghost use Rattle.std.specs.Prelude.{◌≡◌, ℕ, List};
+ghost use Rattle.std.specs.Prelude.{◌≡◌, ℕ, ◌+◌, List};
 ghost use Rattle.m11_image.specs.Image.{addresses_of, image_of};
 ghost use Rattle.m11_image.specs.Sources.{Source};
+ghost use Rattle.m11_link_text.specs.Relocation.{following, less, modulo};
 ghost use Rattle.m11_tape_laws.specs.Image.{byte_of};
 ghost use Rattle.m11_unfolding.specs.Unfolding.{Given};
 ghost use Rattle.m11_image_laws.specs.Agreement.{AbsolutesAgree, AreOf};
@@ -17,3 +18,8 @@ pub fn images_hold_what_their_lines_state()
 {
     m11_placement::placements_are_the_same_under_every_map();
 }
+
+/// A processor that adds the word of a relative operand to the address after it, modulo 65,536, comes to the value that the source states.
+pub fn relative_words_lead_to_their_targets()
+    ensures { (address target : ℕ) → modulo (following address + less target (following address)) ≡ modulo target }
+{}
