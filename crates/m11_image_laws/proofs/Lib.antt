@@ -7,3 +7,4 @@ pub mod LabelTurns
 pub mod LabelsFound
 pub mod LabelsLie
 pub mod GlobalsLie
+pub mod NoMessages

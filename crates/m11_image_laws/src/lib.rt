@@ -3,10 +3,12 @@
 #![tactic(auto)]
 
 mod labels;
+mod links;
 mod values;
 
 pub use labels::{
     globals_lie_where_they_are_defined, globals_of_labels_lie_where_their_lines_do,
     labels_lie_where_their_lines_do,
 };
+pub use links::links_without_messages_agree;
 pub use values::{images_hold_what_their_lines_state, relative_words_lead_to_their_targets};
