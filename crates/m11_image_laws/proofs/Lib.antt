@@ -8,3 +8,4 @@ pub mod LabelsFound
 pub mod LabelsLie
 pub mod GlobalsLie
 pub mod NoMessages
+pub mod WorkedOut

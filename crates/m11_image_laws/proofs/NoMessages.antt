@@ -1,16 +1,15 @@
 -- A link that reports nothing has sections whose entries agree.
-use Rattle.std.proofs.Common.{◌≡◌, ◌∙◌, ℕ, ◌==◌, Bool, true, false, if◌then◌else◌, List, [], ◌∷◌, ◌++◌, map, length, Option, Some, None, refl, sym, ap, ap₂, subst, true≢false, arith, eqb-true}
+use Rattle.std.proofs.Common.{◌≡◌, ◌∙◌, ℕ, Bool, true, false, if◌then◌else◌, List, [], ◌∷◌, ◌++◌, map, Option, Some, None, refl, sym, ap, subst, eqb-true}
 use Rattle.std.specs.List.{AllByRecursion, cons_option, filter_map}
 use Rattle.std.specs.Map.{lookup}
 use Rattle.std.specs.Option.{unwrap_or}
-use Rattle.std.proofs.lemmas.List.{length-append}
 use Rattle.m11_base.specs.Devices.{Bytes}
 use Rattle.m11_base.specs.Rad50.{Name, is_same_name}
 use Rattle.m11_layout.specs.Sections.{attributes_by, attributes_in, entered_attributes, is_relocatable}
 use Rattle.m11_layout.specs.declared.fault.LinkOutput.TheVariants.{Messages}
 use Rattle.m11_link.specs.Front.{front_writes}
-use Rattle.m11_link.specs.Outputs.{Write, link, to_messages, to_tape}
-use Rattle.m11_link.specs.Written.{attributes_agree, defined_names, different_writes, entry_writes, link_writes, parts_writes, writes_after, writes_at, writes_by}
+use Rattle.m11_link.specs.Outputs.{Write, link, to_messages}
+use Rattle.m11_link.specs.Written.{attributes_agree, defined_names, different_writes, link_writes, parts_writes, writes_after, writes_at, writes_by}
 use Rattle.m11_link_text.specs.Findings.{Findings, findings_of}
 use Rattle.m11_link_text.specs.Lines.{different_line}
 use Rattle.m11_modules.specs.Parts.{Part, Directory, Entry, EndOfDirectory, Text, Relocations, Relocated, EndOfModule, EndOfFile}
@@ -22,7 +21,7 @@ use Rattle.m11_writes.specs.Writes.{gained}
 use Rattle.m11_writes.proofs.Writing.{gained-append}
 use Rattle.m11_image.specs.Links.{HasSources}
 use Rattle.m11_image.specs.Objects.{link_parts}
-use Rattle.m11_image.specs.Sections.{OwnSection, all_sections, attributes_entered, attributes_of}
+use Rattle.m11_image.specs.Sections.{OwnSection, all_sections, attributes_entered}
 use Rattle.m11_image.specs.Sources.{Source}
 use Rattle.m11_image_laws.specs.Agreement.{AbsolutesAgree, StaysAbsolute}
 
@@ -123,11 +122,12 @@ module _ (bottom : ℕ) (sources : List Source) (has : HasSources sources) where
   own_stay : (own : List OwnSection)
       → AllByRecursion (Agrees (findings_of bottom (link_parts sources))) (map attributes_entered own) → AllByRecursion (StaysAbsolute sources) own
   own_stay [] agree = tt
-  own_stay (section ∷ own) agree =
-      ((λ (stays : is_relocatable section.attributes ≡ false).
-      stays_by (lookup (is_same_name section.name) (map attributes_entered (all_sections sources))) section.attributes
-      (sym (ap (λ (first : Option ℕ). attributes_agree first section.attributes) (found_is section.name)) ∙ agree.0) stays),
-      own_stay own agree.1)
+  own_stay (section ∷ own) agree = (
+    (λ (stays : is_relocatable section.attributes ≡ false).
+        stays_by (lookup (is_same_name section.name) (map attributes_entered (all_sections sources))) section.attributes
+        (sym (ap (λ (first : Option ℕ). attributes_agree first section.attributes) (found_is section.name)) ∙ agree.0) stays),
+    own_stay own agree.1,
+  )
 
   pub silent_links_agree : gained link Messages (link_writes (findings_of bottom (link_parts sources)) (link_parts sources)) ≡ []
       → AbsolutesAgree sources

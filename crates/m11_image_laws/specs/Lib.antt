@@ -3,3 +3,4 @@ pub mod Targets
 pub mod Lines
 pub mod Agreement
 pub mod Labels
+pub mod Worked

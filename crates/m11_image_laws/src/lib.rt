@@ -5,6 +5,7 @@
 mod labels;
 mod links;
 mod values;
+mod worked;
 
 pub use labels::{
     globals_lie_where_they_are_defined, globals_of_labels_lie_where_their_lines_do,
@@ -12,3 +13,4 @@ pub use labels::{
 };
 pub use links::links_without_messages_agree;
 pub use values::{images_hold_what_their_lines_state, relative_words_lead_to_their_targets};
+pub use worked::the_worked_program_states_four_words;
