@@ -160,10 +160,75 @@ def check_make():
     return found
 
 
+# Forms of calls that the programs of examples/rt11 don't have: arguments that are left out, in registers and in the area, and failures.
+CALLS = """\t.TITLE\tCALLS
+\t.MCALL\t.GTLIN,.SETTOP,.GTIM,.SDTTM,.TWAIT,.DATE,.PEEK,.POKE,.PRINT,.TTYIN,.TTYOUT,.EXIT
+START:\tMOV\t#1000,SP
+\tMOV\t#LINE,R1
+\tMOV\t#ASK,R2
+\t.GTLIN\tR1,R2,TERM
+\t.PRINT\tR1
+\tMOVB\t#77,@#52
+\t.GTLIN\tR1
+\tBCC\t.
+\tMOVB\t@#52,R5\t\t; 0: the line is too long
+\t.TTYIN\tCHAR
+\t.TTYIN
+\t.TTYOUT
+\t.TTYOUT\tCHAR
+\tMOV\t#200,R0
+\t.SETTOP\t\t\t; the program itself stays
+\tSUB\tR0,@#50
+\tADD\t@#50,R5
+\tMOV\t#AREA,R0
+\t.SDTTM\t,#NOW
+\tMOV\t#DAY,AREA+2
+\t.TWAIT\t#AREA
+\t.GTIM\t#AREA,#TIME
+\tMOV\tTIME,R4
+\tMOV\tTIME+2,R3
+\t.DATE
+\tADD\tR0,R5
+\t.POKE\t#AREA,#TIME,#4321
+\tBCS\t.
+\tMOV\tR0,R2
+\tMOV\t#AREA,R0
+\t.PEEK\t,#TIME
+\tMOV\tR0,R1
+\t.GTLIN\t#LINE
+\tBCC\t.
+\tMOVB\t@#52,R0\t\t; 1: the input has ended
+\t.EXIT
+AREA:\t.BLKW\t3
+TIME:\t.BLKW\t2
+NOW:\t.WORD\t-1,117,14777
+DAY:\t.WORD\t1,3
+LINE:\t.BLKB\t81.
+CHAR:\t.BYTE\t0
+ASK:\t.ASCIZ\t/ASK/
+\t.EVEN
+\t.END\tSTART
+"""
+
+
+def check_calls():
+    """Calls of examples/rt11 in other forms."""
+    with tempfile.TemporaryDirectory() as folder:
+        copy = Copy(folder)
+        put(os.path.join(copy.top, "CALLS.MAC"), CALLS)
+        commands = [f"./m11 asm -o {name}.OBJ examples/rt11/RT11.MAC {path}.MAC" for name, path in (("CALLS", "CALLS"), ("RTCALL", "examples/rt11/RTCALL"))]
+        commands += ["./m11 link -o CALLS.TAP CALLS.OBJ RTCALL.OBJ", "printf 'One\\n%0100d\\nab' 0 | ./m11 sim CALLS.TAP | od -An -c"]
+        status, said = copy.run(commands, "")
+    wanted = " A S K \\n O n e \\n b a"
+    registers = "R0 000001 R1 004321 R2 000001 R3 000002 R4 000001 R5 000000 SP 001000"
+    is_right = not status and said[0].split() == wanted.split() and registers in said[1]
+    return [] if is_right else [f"status {status}\n{said[2]}\n--- should have\n{wanted}\n{registers}"]
+
+
 def names():
     """The pages that are checked: those of PAGES, and one in each folder of examples."""
     return [*PAGES, *sorted(os.path.relpath(path, TOP) for path in glob.glob(os.path.join(TOP, "examples", "*", "**", "README.md"), recursive=True))]
 
 
 CHECKS = [("page-" + page.replace("/README.md", "").replace("/", "-").replace(".md", ""), check_page, (page,)) for page in names()]
-CHECKS.append(("page-examples-modules-with-mistakes", check_make, ()))
+CHECKS += [("page-examples-modules-with-mistakes", check_make, ()), ("page-examples-rt11-other-forms", check_calls, ())]
