@@ -8,10 +8,10 @@ use Rattle.m11_base.specs.Feed.{Ends, Text}
 use Rattle.m11_blocks.specs.Limited.{most_bytes}
 use Rattle.m11_blocks.specs.declared.tape_fault.TapeFault.TheVariants as tape
 use Rattle.m11_cpu.specs.Loading.{LoadsInto}
-use Rattle.m11_cpu.specs.Machine.{byte_in, memory_size, new_machine}
+use Rattle.m11_machine.specs.Machine.{byte_in, memory_size, new_machine}
 use Rattle.m11_cpu.specs.declared.fault.LoadFault.{LoadFault}
 use Rattle.m11_cpu.specs.declared.fault.LoadFault.TheVariants.{Tape, OutsideMemory}
-use Rattle.m11_cpu.specs.declared.machine.Machine.{Machine}
+use Rattle.m11_machine.specs.declared.machine.Machine.{Machine}
 use Rattle.m11_image.specs.Image.{image_of}
 use Rattle.m11_image.specs.Links.{AreLinked}
 use Rattle.m11_image.specs.Objects.{SourceFits, link_parts, object_of}

@@ -3,9 +3,9 @@ use Rattle.std.proofs.Common.{◌≡◌, ℕ, Option, Result, subst}
 use Rattle.m11_base.specs.Devices.{Bytes}
 use Rattle.m11_base.specs.Feed.{Text}
 use Rattle.m11_cpu.specs.Loading.{LoadsInto}
-use Rattle.m11_cpu.specs.Machine.{new_machine}
+use Rattle.m11_machine.specs.Machine.{new_machine}
 use Rattle.m11_cpu.specs.declared.fault.LoadFault.{LoadFault}
-use Rattle.m11_cpu.specs.declared.machine.Machine.{Machine}
+use Rattle.m11_machine.specs.declared.machine.Machine.{Machine}
 use Rattle.m11_chain.specs.Steps.{LoadsNew, whole_text}
 
 pub loads_new : (tape : Bytes) (words : ℕ) (old left : Option Text) (before after : Machine) (came : Result ℕ LoadFault)

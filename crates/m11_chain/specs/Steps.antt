@@ -4,9 +4,9 @@ use Rattle.std.specs.List.{AllByRecursion}
 use Rattle.m11_base.specs.Devices.{Bytes}
 use Rattle.m11_base.specs.Feed.{Ends, Text}
 use Rattle.m11_cpu.specs.Loading.{LoadsInto}
-use Rattle.m11_cpu.specs.Machine.{new_machine}
+use Rattle.m11_machine.specs.Machine.{new_machine}
 use Rattle.m11_cpu.specs.declared.fault.LoadFault.{LoadFault}
-use Rattle.m11_cpu.specs.declared.machine.Machine.{Machine}
+use Rattle.m11_machine.specs.declared.machine.Machine.{Machine}
 use Rattle.m11_image.specs.Objects.{SourceFits, object_of}
 use Rattle.m11_layout.specs.declared.fault.LinkFault.{LinkFault}
 use Rattle.m11_layout.specs.declared.fault.LinkOutput.TheVariants as output

@@ -4,7 +4,7 @@
 ghost use Rattle.std.specs.Prelude.{◌≡◌, ◌≤◌, List, map, Ok, IfOk, IfErr};
 ghost use Rattle.m11_asm_outputs.specs.Outputs.{outputs_of};
 ghost use Rattle.m11_base.specs.Devices.{Bytes};
-ghost use Rattle.m11_cpu.specs.Memory.{least_words, most_words};
+ghost use Rattle.m11_machine.specs.Memory.{least_words, most_words};
 ghost use Rattle.m11_link.specs.Objects.{AreItems, Item, outcome};
 ghost use Rattle.m11_link.specs.Outputs as link;
 ghost use Rattle.m11_link_laws.specs.Runs as links;
@@ -194,7 +194,7 @@ fn load(alloc: Global, tape: &[u8], words: u16) -> Result<Chained, ChainFault>
         Ok(machine) => machine,
         Err(_) => return Err(ChainFault::NoMemory),
     };
-    match machine.load(&mut MemoryFeed::new(tape)) {
+    match m11_cpu::load(&mut machine, &mut MemoryFeed::new(tape)) {
         Ok(start) => Ok(Chained { machine, start }),
         Err(fault) => Err(ChainFault::Load(fault)),
     }

@@ -3,7 +3,7 @@ use Rattle.std.proofs.Common.{◌≡◌, ℕ, List, inl, inr, refl, ap, option_m
 use Rattle.std.specs.Borrow.{Bor}
 use Rattle.m11_base.specs.Feed.{NoneFailed, Text}
 use Rattle.m11_base.specs.declared.sink.Sink.{Ghosts}
-use Rattle.m11_cpu.specs.Dialogue.{Output, output_of}
+use Rattle.m11_machine.specs.Dialogue.{Output, output_of}
 use Rattle.m11_files.specs.Opens.{Files, IsEmptiedSome, keeping_some}
 use Rattle.m11_layout.specs.Plan.{Planned}
 use Rattle.m11_layout.specs.declared.fault.LinkFault.{LinkFault}

@@ -5,7 +5,7 @@ use Rattle.std.specs.Prelude.{OnErr, OnOk}
 use Rattle.std.specs.Io.KnownBytes.{Appends}
 use Rattle.m11_base.specs.Devices.{Rises}
 use Rattle.m11_base.specs.Sink.{AppendsBeginning}
-use Rattle.m11_cpu.specs.Dialogue.{Output}
+use Rattle.m11_machine.specs.Dialogue.{Output}
 use Rattle.clap.specs.Words.{Text}
 use Rattle.m11_cli.specs.Driver.{Carries, HasOutcome, Store, Streams, Reports, ReportsSome}
 use Rattle.m11_tasks.specs.Tasks.{Plans}

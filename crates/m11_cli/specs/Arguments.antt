@@ -2,7 +2,7 @@
 use Rattle.std.specs.Prelude.{◌≡◌, ◌++◌, ◌⊎◌, ℕ, codes}
 use Rattle.std.specs.Fmt.{decimal}
 use Rattle.m11_base.specs.Devices.{Bytes}
-use Rattle.m11_cpu.specs.Dialogue.{Output}
+use Rattle.m11_machine.specs.Dialogue.{Output}
 use Rattle.m11_cli.specs.Driver.{Reports}
 use Rattle.m11_cli.specs.FaultLines.{line_of}
 use Rattle.m11_cli.specs.declared.outcome.Outcome.TheVariants.{Usage}

@@ -11,11 +11,11 @@ use Rattle.m11_base.specs.declared.sink.Sink.{Ghosts}
 use Rattle.m11_asm.specs.Passes as assembling
 use Rattle.m11_asm.specs.Run.{AsmRuns}
 use Rattle.m11_asm_outputs.specs.Outputs as assembled
-use Rattle.m11_cpu.specs.Dialogue.{Input, Output, both, input_of, output_of}
+use Rattle.m11_machine.specs.Dialogue.{Input, Output, both, input_of, output_of}
 use Rattle.m11_cpu.specs.Simulation.{Simulates, request_of, run_devices}
 use Rattle.m11_cpu.specs.declared.fault.SimFault.{SimFault}
 use Rattle.m11_cpu.specs.declared.fault.SimFault.TheVariants as sim-fault
-use Rattle.m11_cpu.specs.declared.stop.SimDone.{SimDone}
+use Rattle.m11_cpu.specs.declared.simulation.SimDone.{SimDone}
 use Rattle.m11_layout.specs.declared.fault.LinkFault.{LinkFault}
 use Rattle.m11_layout.specs.declared.fault.LinkFault.TheVariants as link-fault
 use Rattle.m11_link.specs.SecondPass as linking

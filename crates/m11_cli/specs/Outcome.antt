@@ -8,8 +8,8 @@ use Rattle.m11_cpu.specs.declared.fault.LoadFault.{LoadFault}
 use Rattle.m11_cpu.specs.declared.fault.LoadFault.TheVariants as load
 use Rattle.m11_cpu.specs.declared.fault.SimFault.{SimFault}
 use Rattle.m11_cpu.specs.declared.fault.SimFault.TheVariants as sim
-use Rattle.m11_cpu.specs.declared.stop.Stop.{Stop}
-use Rattle.m11_cpu.specs.declared.stop.Stop.TheVariants as stop
+use Rattle.m11_machine.specs.declared.stop.Stop.{Stop}
+use Rattle.m11_machine.specs.declared.stop.Stop.TheVariants as stop
 use Rattle.m11_layout.specs.declared.fault.LinkFault.{LinkFault}
 use Rattle.m11_layout.specs.declared.fault.LinkFault.TheVariants as link
 use Rattle.m11_blocks.specs.declared.tape_fault.TapeFault.{TapeFault}

@@ -1,7 +1,7 @@
 //! All of the program's work, over whatever opens files, feeds and takes bytes.
 
 ghost use Rattle.std.specs.Prelude.{◌≡◌, map};
-ghost use Rattle.m11_cpu.specs.Dialogue.{Input, Output, both, input_of, output_of};
+ghost use Rattle.m11_machine.specs.Dialogue.{Input, Output, both, input_of, output_of};
 ghost use Rattle.m11_cpu.specs.Simulation.{Simulates, request_of, run_devices};
 ghost use Rattle.m11_cli.specs.Driver.{Assembles, Carries, HasOutcome, Explains, Links, Obeys, Store, Reports, ReportsSome, store, streams};
 ghost use Rattle.m11_cli.specs.FaultLines.{line_of, open_line};

@@ -1,13 +1,6 @@
-pub mod AtOnce
 pub mod BlocksRead
 pub mod BytesPut
 pub mod DataPut
-pub mod Dialogues
-pub mod QuickDone
-pub mod QuickJumps
-pub mod RegistersPut
 pub mod RunsDone
 pub mod SimulationDone
-pub mod StepsDone
 pub mod TapePut
-pub mod WordsAsBytes

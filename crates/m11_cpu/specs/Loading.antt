@@ -12,7 +12,7 @@ use Rattle.m11_blocks.specs.declared.tape_fault.TapeFault.TheVariants as fault
 use Rattle.m11_blocks.specs.declared.tape_part.TapePart.{TapePart}
 use Rattle.m11_blocks.specs.declared.tape_part.TapePart.TheVariants.{Data, Start}
 use Rattle.m11_cpu.specs.declared.fault.LoadFault.{LoadFault}
-use Rattle.m11_cpu.specs.declared.machine.Machine.{Machine}
+use Rattle.m11_machine.specs.declared.machine.Machine.{Machine}
 use Rattle.m11_cpu.specs.declared.fault.LoadFault.TheVariants.{Tape, OutsideMemory}
 
 -- ---- what is put into memory

@@ -5,12 +5,24 @@ ghost use Rattle.m11_base.specs.Devices.{Bytes};
 ghost use Rattle.m11_blocks.specs.Limited.{place};
 ghost use Rattle.m11_blocks.specs.Tapes.{tape_header, total_of};
 ghost use Rattle.m11_blocks.specs.declared.tape_part.TapeStage.TheVariants.{InBlock};
-ghost use Rattle.m11_cpu.specs.Loading.{PutsData, LoadsFrom, CountsFailure};
+ghost use Rattle.m11_cpu.specs.Loading.{CountsFailure, LoadsFrom, LoadsInto, PutsData};
 
 use crate::fault::LoadFault;
-use crate::memory::Memory;
 use m11_base::Feed;
 use m11_blocks::{TapePart, TapeReader};
+use m11_machine::{Machine, Memory};
+
+/// Puts the data of one tape into memory, a later byte over an earlier one, and returns the transfer address: where
+/// it is even the program starts there, and an odd one starts nothing. After the transfer block nothing is read.
+///
+/// `OutsideMemory`: a byte came that belongs past the memory. Any other fault is that of the tape, the first in
+/// the order of the bytes. The memory then holds what came before. It takes no memory.
+pub fn load<F: Feed>(machine: &mut Machine, tape: &mut F) -> Result<u16, LoadFault>
+    ensures { LoadsInto (F.text tape.old) (F.text tape.new) (F.faults tape.old) (F.faults tape.new)
+        machine.old machine.new result }
+{
+    load_tape(&mut machine.memory, tape)
+}
 
 // Puts the data of the open block into memory.
 fn load_block<F: Feed>(
@@ -38,12 +50,8 @@ fn load_block<F: Feed>(
     Ok(())
 }
 
-/// Puts the data of one tape into memory, a later byte over an earlier one, and returns the transfer
-/// address, even or odd. After the transfer block nothing is read. It takes no memory.
-///
-/// OutsideMemory: a byte came that belongs past the memory. Any other fault is that of the tape, the
-/// first in the order of the bytes. The memory then holds what came before.
-pub(crate) fn load_tape<F: Feed>(memory: &mut Memory, feed: &mut F) -> Result<u16, LoadFault>
+// The same into a memory.
+fn load_tape<F: Feed>(memory: &mut Memory, feed: &mut F) -> Result<u16, LoadFault>
     ensures loads { LoadsFrom (F.text feed.old) (F.text feed.new) (F.faults feed.old) (F.faults feed.new)
         memory.old memory.new result }
     ensures counts { CountsFailure (F.faults feed.old) (F.faults feed.new) result }

@@ -6,10 +6,10 @@ ghost use Rattle.m11_base.specs.Octal.{octal_text};
 ghost use Rattle.m11_cpu.specs.Messages.{stop_line, register_line, messages_of, PutsMessages};
 
 use crate::fault::SimFault;
-use crate::stop::Stop;
 use arrayvec::ArrayVec;
 use itoa::Buffer;
 use m11_base::{Sink, octal6, put_all};
+use m11_machine::Stop;
 
 // A stop's line has at most 36 characters, of which the contracts know that they are at most 66, since `itoa` has room for a number of 40
 // digits. The line of registers has 91.

@@ -1,17 +1,24 @@
 //! A whole run: a tape is loaded and started, and its stop is reported.
 
 ghost use Rattle.std.specs.Prelude.{◌≤◌};
-ghost use Rattle.m11_cpu.specs.Dialogue.{Does, both, input_of, output_of};
-ghost use Rattle.m11_cpu.specs.Memory.{least_words, most_words};
+ghost use Rattle.m11_machine.specs.Dialogue.{Does, both, input_of, output_of};
+ghost use Rattle.m11_machine.specs.Memory.{least_words, most_words};
 ghost use Rattle.m11_cpu.specs.Simulation.{Simulates, request_of, run_devices, started};
 
 use crate::fault::SimFault;
-use crate::machine::Machine;
+use crate::loading::load;
 use crate::messages::put_messages;
-use crate::runs::Ran;
-use crate::stop::{SimDone, Stop};
+use crate::runs::{Ran, run_counted};
 use m11_base::{Feed, Sink};
+use m11_machine::{Machine, Stop};
 use std::alloc::Global;
+
+/// The outcome of a run whose stop was reported: the stop, from which the command takes its status.
+#[derive(Clone, Copy, Debug, PartialEq, Eq)]
+pub struct SimDone {
+    /// Why the run ended.
+    pub stop: Stop,
+}
 
 /// Loads a tape into a new machine of `words` words of memory, 4,096 to 28,672, and makes steps from its start
 /// on, `limit` of them at most. `start` replaces the transfer address of the tape; an odd address starts
@@ -42,8 +49,14 @@ pub fn sim_run<T: Feed, I: Feed, O: Sink, M: Sink>(
         result }
 {
     let mut machine = Machine::new(alloc, words)?;
-    let transfer = machine.load(tape)?;
-    let ran = machine.started(start.unwrap_or(transfer), limit, input, output);
+    let transfer = load(&mut machine, tape)?;
+    let ran = started(
+        &mut machine,
+        start.unwrap_or(transfer),
+        limit,
+        input,
+        output,
+    );
     put_messages(
         messages,
         ran.stop,
@@ -54,28 +67,26 @@ pub fn sim_run<T: Feed, I: Feed, O: Sink, M: Sink>(
     Ok(SimDone { stop: ran.stop })
 }
 
-impl Machine {
-    // Runs from an even address on. An odd one starts nothing.
-    #[tactic(auto, using(crate::proofs::Dialogues::dialogues), unfolding(crate::specs::Simulation::started))]
-    fn started<F: Feed, S: Sink>(
-        &mut self,
-        address: u16,
-        limit: u32,
-        feed: &mut F,
-        sink: &mut S,
-    ) -> Ran
-        ensures { Does (started address limit self.old)
-            (both (F.text feed.old) (F.faults feed.old) (S.text sink.old) (S.faults sink.old))
-            (both (F.text feed.new) (F.faults feed.new) (S.text sink.new) (S.faults sink.new))
-            (result, self.new) }
-    {
-        if address % 2 == 1 {
-            return Ran {
-                stop: Stop::NoStart,
-                steps: 0,
-            };
-        }
-        self.start_at(address);
-        self.run_counted(limit, feed, sink)
+// Runs from an even address on. An odd one starts nothing.
+#[tactic(auto, using(m11_machine::proofs::Dialogues::dialogues), unfolding(crate::specs::Simulation::started))]
+fn started<F: Feed, S: Sink>(
+    machine: &mut Machine,
+    address: u16,
+    limit: u32,
+    feed: &mut F,
+    sink: &mut S,
+) -> Ran
+    ensures { Does (started address limit machine.old)
+        (both (F.text feed.old) (F.faults feed.old) (S.text sink.old) (S.faults sink.old))
+        (both (F.text feed.new) (F.faults feed.new) (S.text sink.new) (S.faults sink.new))
+        (result, machine.new) }
+{
+    if address % 2 == 1 {
+        return Ran {
+            stop: Stop::NoStart,
+            steps: 0,
+        };
     }
+    machine.start_at(address);
+    run_counted(machine, limit, feed, sink)
 }

@@ -6,10 +6,10 @@ use Rattle.m11_arithmetic.specs.declared.results.Division.{Division}
 use Rattle.m11_arithmetic.specs.declared.results.Division.TheVariants.{Done, Refused}
 use Rattle.m11_base.specs.declared.operand.Register.{Register}
 use Rattle.m11_base.specs.declared.operand.Register.TheVariants.{R0, R1, R2, R3, R4, R5, Sp, Pc}
-use Rattle.m11_cpu.specs.Extended.{after_division, low_word_of}
-use Rattle.m11_cpu.specs.Machine.{register_of, with_register}
-use Rattle.m11_cpu.specs.declared.machine.Machine.{Machine}
-use Rattle.m11_cpu.proofs.RegistersPut.{put_same}
+use Rattle.m11_machine.specs.Extended.{after_division, low_word_of}
+use Rattle.m11_machine.specs.Machine.{register_of, with_register}
+use Rattle.m11_machine.specs.declared.machine.Machine.{Machine}
+use Rattle.m11_machine.proofs.RegistersPut.{put_same}
 use Rattle.m11_cpu_laws.specs.OddRegisters.{IsBothWords, OddRegisters}
 use Rattle.m11_cpu_laws.proofs.WordsPut.{put_length}
 

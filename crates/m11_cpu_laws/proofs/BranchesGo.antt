@@ -10,16 +10,16 @@ use Rattle.m11_base.specs.declared.instruction.Insn.TheVariants as insn
 use Rattle.m11_base.specs.declared.instruction.NumberOp.TheVariants.{Mark}
 use Rattle.m11_base.specs.declared.operand.Register.{Register}
 use Rattle.m11_base.specs.declared.operand.Register.TheVariants.{R5, Sp, Pc}
-use Rattle.m11_cpu.specs.Dialogue.{Comes, Dialogue}
-use Rattle.m11_cpu.specs.Execution.{execute, numbered}
-use Rattle.m11_cpu.specs.Jumps.{mark, pop, words_on}
-use Rattle.m11_cpu.specs.Machine.{advanced, register_of, with_register}
-use Rattle.m11_cpu.specs.declared.abort.Abort.{Abort}
-use Rattle.m11_cpu.specs.declared.execution.Ending.{Ending}
-use Rattle.m11_cpu.specs.declared.execution.Ending.TheVariants as ending
-use Rattle.m11_cpu.specs.declared.machine.Machine.{Machine}
-use Rattle.m11_cpu.proofs.AtOnce.{bind_at, cond_not}
-use Rattle.m11_cpu.proofs.RegistersPut.{put_same}
+use Rattle.m11_machine.specs.Dialogue.{Comes, Dialogue}
+use Rattle.m11_machine.specs.Execution.{execute, numbered}
+use Rattle.m11_machine.specs.Jumps.{mark, pop, words_on}
+use Rattle.m11_machine.specs.Machine.{advanced, register_of, with_register}
+use Rattle.m11_machine.specs.declared.abort.Abort.{Abort}
+use Rattle.m11_machine.specs.declared.execution.Ending.{Ending}
+use Rattle.m11_machine.specs.declared.execution.Ending.TheVariants as ending
+use Rattle.m11_machine.specs.declared.machine.Machine.{Machine}
+use Rattle.m11_machine.proofs.AtOnce.{bind_at, cond_not}
+use Rattle.m11_machine.proofs.RegistersPut.{put_same}
 use Rattle.m11_cpu_laws.specs.Branching.{BranchGoes, Leaves, MarkGoes, SobGoes}
 use Rattle.m11_cpu_laws.specs.Operands.{less, memory_at}
 use Rattle.m11_cpu_laws.specs.Returns.{IsWordInside}

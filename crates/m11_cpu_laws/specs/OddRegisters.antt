@@ -8,9 +8,9 @@ use Rattle.m11_base.specs.Operand.{register_number}
 use Rattle.m11_base.specs.declared.instruction.ConditionCodes.{ConditionCodes}
 use Rattle.m11_base.specs.declared.instruction.ExtendedOp.TheVariants.{Mul, Div, Ashc}
 use Rattle.m11_base.specs.declared.operand.Register.{Register}
-use Rattle.m11_cpu.specs.Extended.{extended_by}
-use Rattle.m11_cpu.specs.Machine.{register_of}
-use Rattle.m11_cpu.specs.declared.machine.Machine.{Machine}
+use Rattle.m11_machine.specs.Extended.{extended_by}
+use Rattle.m11_machine.specs.Machine.{register_of}
+use Rattle.m11_machine.specs.declared.machine.Machine.{Machine}
 
 abbrev pub is_odd_register : Register → Bool
 is_odd_register register = register_number register % 2 == 1

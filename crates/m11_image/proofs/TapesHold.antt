@@ -5,7 +5,7 @@ use Rattle.m11_asm_laws.specs.Targets.{AreWords}
 use Rattle.m11_base.specs.Feed.{Text}
 use Rattle.m11_cpu.specs.Loading.{LoadsInto}
 use Rattle.m11_cpu.specs.declared.fault.LoadFault.{LoadFault}
-use Rattle.m11_cpu.specs.declared.machine.Machine.{Machine}
+use Rattle.m11_machine.specs.declared.machine.Machine.{Machine}
 use Rattle.m11_modules.specs.Parts.{Part, EndOfFile}
 use Rattle.m11_modules.specs.Rules.{first_fault}
 use Rattle.m11_layout.specs.Sections.{is_too_large, module_base}

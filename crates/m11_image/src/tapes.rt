@@ -5,7 +5,7 @@ ghost use Rattle.std.specs.List.{AllByRecursion};
 ghost use Rattle.m11_base.specs.Feed.{Text};
 ghost use Rattle.m11_cpu.specs.Loading.{LoadsInto};
 ghost use Rattle.m11_cpu.specs.declared.fault.LoadFault.{LoadFault};
-ghost use Rattle.m11_cpu.specs.declared.machine.Machine.{Machine};
+ghost use Rattle.m11_machine.specs.declared.machine.Machine.{Machine};
 ghost use Rattle.m11_layout.specs.declared.fault.LinkOutput.TheVariants.{Tape};
 ghost use Rattle.m11_link.specs.Objects.{AreItems, Item, outcome};
 ghost use Rattle.m11_link.specs.Outputs.{link};

@@ -4,7 +4,7 @@ use m11_base::{
     DeviceFault, Feed, FuseFeed, FuseSink, MemoryFeed, MemorySink, Register, Sink, WriterSink,
 };
 use m11_blocks::{tape_block, tape_transfer};
-use m11_cpu::{Machine, Stop, Turn};
+use m11_cpu::{Machine, Stop, Turn, load, run};
 use std::alloc::{AllocError, Global};
 use std::process::Abort;
 use std::test::Fail;
@@ -178,7 +178,7 @@ pub(crate) fn machine_of(
     let tape = tape_of(rt, program.parts, program.start)?;
     assert!(rt; 4_096 <= program.words && program.words <= 28_672);
     let mut machine = Machine::new(rt.alloc(), program.words)?;
-    let start = machine.load(&mut MemoryFeed::new(tape.as_slice()))?;
+    let start = load(&mut machine, &mut MemoryFeed::new(tape.as_slice()))?;
     machine.start_at(start);
     Ok(machine)
 }
@@ -243,7 +243,7 @@ fn check_run(rt: &(impl Abort + AllocGlobal), row: &Row<'_>, machine: &mut Machi
     };
     let mut sent = Vec::new(rt.alloc());
     let mut output = FuseSink::new(WriterSink::new(&mut sent), program.writes, 1);
-    let ran = machine.run(program.limit, &mut input, &mut output);
+    let ran = run(machine, program.limit, &mut input, &mut output);
     assert_eq!(rt; ran, row.stop, "{}", row.name);
     let after = After {
         machine,

@@ -6,7 +6,7 @@ use Rattle.std.proofs.lemmas.Bool.{cases_lt, le-leb, lt-leb}
 use Rattle.std.proofs.lemmas.List.{length-append, length-drop, length-take-le, get_or_append_left, get_or-append_right, get_or-drop, get_or-take, take-append-drop}
 use Rattle.std.proofs.lemmas.Option.{slice_get_past, slice_get-get_or}
 use Rattle.m11_cpu.specs.Loading.{with_bytes, AreInside, stored}
-use Rattle.m11_cpu.specs.Memory.{byte_at}
+use Rattle.m11_machine.specs.Memory.{byte_at}
 use Rattle.m11_tape_laws.specs.Image.{byte_within, byte_of}
 
 -- ---- options

@@ -12,10 +12,10 @@ use Rattle.m11_blocks.specs.Tapes.{AreRead, first_part, data_byte, why_of}
 use Rattle.m11_blocks.proofs.TapeFrames.{tape_read}
 use Rattle.m11_cpu.specs.declared.fault.LoadFault.{LoadFault}
 use Rattle.m11_cpu.specs.declared.fault.LoadFault.TheVariants.{Tape, OutsideMemory}
-use Rattle.m11_cpu.specs.declared.machine.Machine.{Machine}
+use Rattle.m11_machine.specs.declared.machine.Machine.{Machine}
 use Rattle.m11_cpu.specs.Loading.{CountsFailure, Loads, LoadsInto, LoadsTape, part_after, PutBlocks}
-use Rattle.m11_cpu.specs.Machine.{memory_size}
-use Rattle.m11_cpu.specs.Memory.{byte_at}
+use Rattle.m11_machine.specs.Machine.{memory_size}
+use Rattle.m11_machine.specs.Memory.{byte_at}
 use Rattle.m11_tape_laws.specs.Image.{Image, byte_of}
 use Rattle.m11_tape_laws.specs.Loaded.{HoldsImage, LiesInside, LiesPast, LoadYields}
 use Rattle.m11_tape_laws.specs.Tapes.{IsTapeOf}

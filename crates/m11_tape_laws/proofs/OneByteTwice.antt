@@ -7,9 +7,9 @@ use Rattle.m11_blocks.specs.declared.tape_part.TapePart.TheVariants.{Data, Start
 use Rattle.m11_blocks.specs.Limited.{Place, place, Took, most_bytes}
 use Rattle.m11_blocks.specs.Tapes.{IsTape, Block, Transfer, tape_block, total_of, first_part, next_part, count, transfer}
 use Rattle.m11_blocks.proofs.ReadSteps.{Bytes, chosen}
-use Rattle.m11_cpu.specs.declared.machine.Machine.{Machine}
+use Rattle.m11_machine.specs.declared.machine.Machine.{Machine}
 use Rattle.m11_cpu.specs.Loading.{Hold, LoadsInto, LoadsTape, PutBlocks, stored}
-use Rattle.m11_cpu.specs.Machine.{byte_in, memory_size}
+use Rattle.m11_machine.specs.Machine.{byte_in, memory_size}
 use Rattle.m11_tape_laws.specs.Example.{overlaid_tape}
 use Rattle.m11_tape_laws.specs.Image.{Image}
 use Rattle.m11_tape_laws.specs.Loaded.{HoldsImage}

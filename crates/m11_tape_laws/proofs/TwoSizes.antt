@@ -3,9 +3,9 @@ use Rattle.std.proofs.Common.{◌≡◌, ◌∙◌, ℕ, ◌*◌, ◌<◌, ◌�
 use Rattle.std.specs.Option.{unwrap_or}
 use Rattle.std.proofs.lemmas.Bool.{cases_lt}
 use Rattle.std.proofs.lemmas.List.{get_or-replicate, get_or_past, length-replicate}
-use Rattle.m11_cpu.specs.declared.machine.Machine.{Machine}
-use Rattle.m11_cpu.specs.Machine.{byte_in, memory_size, new_machine}
-use Rattle.m11_cpu.specs.Memory.{byte_at}
+use Rattle.m11_machine.specs.declared.machine.Machine.{Machine}
+use Rattle.m11_machine.specs.Machine.{byte_in, memory_size, new_machine}
+use Rattle.m11_machine.specs.Memory.{byte_at}
 use Rattle.m11_tape_laws.specs.Image.{Image}
 use Rattle.m11_tape_laws.specs.Loaded.{HoldsImage, HoldsTheSame, LiesPast}
 

@@ -5,10 +5,10 @@ use Rattle.std.specs.Option.{unwrap_or}
 use Rattle.m11_base.specs.Devices.{Bytes, Rises}
 use Rattle.m11_blocks.specs.Limited.{most_bytes}
 use Rattle.m11_blocks.specs.declared.tape_fault.TapeFault.TheVariants as fault
-use Rattle.m11_cpu.specs.Machine.{byte_in, memory_size}
+use Rattle.m11_machine.specs.Machine.{byte_in, memory_size}
 use Rattle.m11_cpu.specs.declared.fault.LoadFault.{LoadFault}
 use Rattle.m11_cpu.specs.declared.fault.LoadFault.TheVariants.{Tape, OutsideMemory}
-use Rattle.m11_cpu.specs.declared.machine.Machine.{Machine}
+use Rattle.m11_machine.specs.declared.machine.Machine.{Machine}
 use Rattle.m11_tape_laws.specs.Image.{Image}
 use Rattle.m11_tape_laws.specs.Tapes.{transfer_address}
 

@@ -119,7 +119,7 @@ fn loaded<F: Feed>(
     tape: &mut F,
 ) -> Result<Result<u16, LoadFault>, AllocError> {
     let mut machine = machine_with(rt, words)?;
-    Ok(machine.load(tape))
+    Ok(m11_cpu::load(&mut machine, tape))
 }
 
 // The word at an address, where memory has both its bytes.
@@ -155,7 +155,7 @@ fn check_loads(rt: &(impl Abort + AllocGlobal), loads: &[Load]) -> Result<(), Fa
     for load in loads {
         let mut machine = machine_with(rt, load.words)?;
         assert!(rt; load.given <= load.tape.len());
-        let outcome = machine.load(&mut MemoryFeed::new(&load.tape[..load.given]));
+        let outcome = m11_cpu::load(&mut machine, &mut MemoryFeed::new(&load.tape[..load.given]));
         assert_eq!(rt; outcome, load.outcome, "{}", load.shows);
         for (address, word) in load.leaves {
             let left = word_at(&machine, *address);
@@ -183,7 +183,10 @@ fn words_after(calls: u64) -> (u16, u16) {
 // A load from a reader that fails after n calls yields its fault, and leaves what came before.
 fn read_fails(rt: &(impl Abort + AllocGlobal), calls: u64) -> Result<(), Fail> {
     let mut machine = machine_with(rt, 4_096)?;
-    let outcome = machine.load(&mut FuseFeed::new(MemoryFeed::new(&HALTS), calls));
+    let outcome = m11_cpu::load(
+        &mut machine,
+        &mut FuseFeed::new(MemoryFeed::new(&HALTS), calls),
+    );
     assert_eq!(rt;
         outcome,
         Err(LoadFault::Tape(TapeFault::Device)),

@@ -6,7 +6,7 @@ use m11_base::Register::{Pc, R0, Sp};
 use m11_base::{MemoryFeed, MemorySink, Sink};
 use m11_cpu::Stop::{Halt, StackFault, Wait};
 use m11_cpu::Turn::{Next, Stopped};
-use m11_cpu::{Machine, Stop, Turn};
+use m11_cpu::{Machine, Stop, Turn, run};
 use std::process::Abort;
 use std::test::Fail;
 
@@ -68,7 +68,7 @@ fn returns<S: Sink>(machine: &mut Machine, sink: &mut S, call: Call) -> bool {
     let mut feed = MemoryFeed::new(b"");
     match call {
         Call::Step(turn) => machine.step(&mut feed, sink) == turn,
-        Call::Run(stop) => machine.run(9, &mut feed, sink) == stop,
+        Call::Run(stop) => run(machine, 9, &mut feed, sink) == stop,
     }
 }
 

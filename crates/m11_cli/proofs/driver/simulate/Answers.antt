@@ -1,6 +1,6 @@
 use Rattle.std.proofs.Common.{inl, ap₂, refl, subst, sym, rules, []}
 use Rattle.m11_base.specs.Devices.{Rises}
-use Rattle.m11_cpu.specs.Dialogue.{input_of, output_of}
+use Rattle.m11_machine.specs.Dialogue.{input_of, output_of}
 use Rattle.m11_cli.specs.Driver.{Carries, Reports, store}
 use Rattle.m11_cli.specs.FaultLines.{open_line}
 use Rattle.m11_tasks.specs.Opened.{StopsAt, sim_inputs}

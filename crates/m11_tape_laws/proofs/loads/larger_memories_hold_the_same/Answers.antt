@@ -1,6 +1,6 @@
 use Rattle.std.proofs.Common.{Err, Ok}
 use Rattle.m11_cpu.specs.declared.fault.LoadFault.TheVariants.{OutsideMemory}
-use Rattle.m11_cpu.specs.Machine.{new_machine}
+use Rattle.m11_machine.specs.Machine.{new_machine}
 use Rattle.m11_tape_laws.proofs.LoadsYield.{yields}
 use Rattle.m11_tape_laws.proofs.TwoSizes.{both_hold, not_past}
 use Rattle.m11_tape_laws.proofs.loads.larger_memories_hold_the_same.Goals as goal

@@ -1,0 +1,2 @@
+pub mod QuickDone
+pub mod QuickJumps

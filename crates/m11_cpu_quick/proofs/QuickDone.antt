@@ -1,0 +1,329 @@
+-- Steps that are made at once, part by part.
+use Rattle.std.proofs.Common.{◌≡◌, ℕ, ◌+◌, ◌/◌, ◌%◌, ◌<◌, ◌==◌, Bool, true, false, not, ◌&&◌, cond, List, Option, Some, suc, refl, sym, ◌∙◌, ap, subst, length, arith, eqb-true}
+use Rattle.std.proofs.lemmas.Bool.{false≢true}
+use Rattle.std.proofs.lemmas.List.{set-get_or, set-set}
+use Rattle.std.specs.Prelude.{nat_lt, slice_set, Result, Ok}
+use Rattle.m11_arithmetic.specs.declared.results.Computed.{Computed}
+use Rattle.m11_base.proofs.Words.{tables_meaning}
+use Rattle.m11_base.specs.OperationTables.{operation_by_tables}
+use Rattle.m11_base.specs.Instructions.{instruction_of, meaning}
+use Rattle.m11_base.specs.Operand.{mode_of, register_number}
+use Rattle.m11_base.specs.declared.instruction.ConditionCodes.{ConditionCodes}
+use Rattle.m11_base.specs.declared.instruction.DoubleOp.{DoubleOp}
+use Rattle.m11_base.specs.declared.instruction.Insn.{Insn}
+use Rattle.m11_base.specs.declared.instruction.SingleOp.{SingleOp}
+use Rattle.m11_base.specs.declared.operand.Mode.{Mode}
+use Rattle.m11_base.specs.declared.operand.Mode.TheVariants as mode
+use Rattle.m11_base.specs.declared.operand.Operand.{Operand}
+use Rattle.m11_base.specs.declared.operand.Register.{Register}
+use Rattle.m11_base.specs.declared.operand.Register.TheVariants.{Pc}
+use Rattle.m11_base.specs.declared.operand.Size.{Size}
+use Rattle.m11_base.specs.declared.operand.Size.TheVariants.{Word, Byte}
+use Rattle.m11_machine.specs.Access.{is_odd, load_word, load_byte, store_word, store_byte}
+use Rattle.m11_machine.specs.Acts.{Act, ◌>>=◌}
+use Rattle.m11_machine.specs.DestinationUse.{use_by_double, use_by_single}
+use Rattle.m11_machine.specs.Dialogue.{after, Comes, Dialogue}
+use Rattle.m11_machine.specs.DoubleOperands.{change_double, compare, double_at, double_by, move_to}
+use Rattle.m11_machine.specs.Execution.{execute}
+use Rattle.m11_machine.specs.Machine.{advanced, finished, is_status, register_of, with_condition_codes, with_register}
+use Rattle.m11_machine.specs.Memory.{byte_at, with_byte, with_word, word_at}
+use Rattle.m11_cpu_quick.specs.Near.{NearKeeps, is_plain, plain_at}
+use Rattle.m11_machine.specs.Addressing.{deferred, fetch, fetch_operand, indexed, next_word, place_by, place_of, put_result, stepped_back, step_of, store}
+use Rattle.m11_cpu_quick.specs.Quick.{QuickRuns, StepsAtOnce}
+use Rattle.m11_machine.specs.SingleOperands.{change_single, single, single_by, test_operand, write}
+use Rattle.m11_machine.specs.Steps.{instruction, step, step_unless, turned}
+use Rattle.m11_machine.specs.declared.abort.Abort.{Abort}
+use Rattle.m11_machine.specs.declared.destination_use.DestinationUse.{DestinationUse}
+use Rattle.m11_machine.specs.declared.destination_use.DestinationUse.TheVariants.{Writes, Reads, Changes}
+use Rattle.m11_machine.specs.declared.execution.Ending.{Ending}
+use Rattle.m11_machine.specs.declared.execution.Ending.TheVariants as ending
+use Rattle.m11_machine.specs.declared.machine.Machine.{Machine}
+use Rattle.m11_machine.specs.declared.addressing.OperandLocation.{OperandLocation}
+use Rattle.m11_machine.specs.declared.addressing.OperandLocation.TheVariants.{InRegister, InMemory}
+use Rattle.m11_machine.specs.declared.stop.LastingStop.{LastingStop}
+use Rattle.m11_machine.specs.declared.stop.Turn.TheVariants.{Next}
+use Rattle.m11_machine.proofs.AtOnce.{bind_at, turned_next}
+
+chosen : {A : Type 0} (odd inside : Bool) (a b c : A) → (not odd && inside) ≡ true → cond odd a (cond inside b c) ≡ b
+chosen false true a b c e = refl
+chosen false false a b c e = absurd (false≢true e)
+chosen true inside a b c e = absurd (false≢true e)
+
+first : {A : Type 0} (inside : Bool) (b c : A) → inside ≡ true → cond inside b c ≡ b
+first {A = A} inside b c e = ap (λ (t : Bool). cond t b c) e
+
+pub word_loads : (address : ℕ) (m : Machine) → is_plain Word address m.memory ≡ true
+    → load_word address m ≡ Comes (Ok (word_at m.memory address), m)
+unfolding load_word
+word_loads address m e = chosen (is_odd address) (nat_lt address (length m.memory)) _ _ _ e
+
+byte_loads : (address : ℕ) (m : Machine) → is_plain Byte address m.memory ≡ true
+    → load_byte address m ≡ Comes (Ok (byte_at m.memory address), m)
+unfolding load_byte
+byte_loads address m e = first (nat_lt address (length m.memory)) _ _ e
+
+word_stores : (address v : ℕ) (m : Machine) → is_plain Word address m.memory ≡ true
+    → store_word address v m ≡ Comes (Ok tt, record m { memory = with_word address v m.memory })
+unfolding store_word
+word_stores address v m e = chosen (is_odd address) (nat_lt address (length m.memory)) _ _ _ e
+
+byte_stores : (address v : ℕ) (m : Machine) → is_plain Byte address m.memory ≡ true
+    → store_byte address v m ≡ Comes (Ok tt, record m { memory = with_byte address v m.memory })
+unfolding store_byte
+byte_stores address v m e = first (nat_lt address (length m.memory)) _ _ e
+
+abbrev came : {A : Type 0} → A → Machine → Dialogue (Result A Abort × Machine)
+came x n = Comes (Ok x, n)
+
+-- ---- words and bytes in memory
+
+pub plain_fetched : (size : Size) (address v : ℕ) (m : Machine) → is_plain size address m.memory ≡ true
+    → v ≡ plain_at size address m.memory → fetch (InMemory address) size m ≡ Comes (Ok v, m)
+unfolding fetch
+plain_fetched Word address v m p f =
+    let to : ℕ → Dialogue (Result ℕ Abort × Machine) = λ x. Comes (Ok x, m) in
+    word_loads address m p ∙ ap to (sym f)
+plain_fetched Byte address v m p f =
+    let to : ℕ → Dialogue (Result ℕ Abort × Machine) = λ x. Comes (Ok x, m) in
+    byte_loads address m p ∙ ap to (sym f)
+
+pub word_stored : (size : Size) (address v : ℕ) (m n : Machine) → size ≡ Word
+    → is_plain size address m.memory ≡ true
+    → n ≡ record m { memory = with_word address v m.memory } → store (InMemory address) size v m ≡ Comes (Ok tt, n)
+unfolding store
+word_stored size address v m n e p f =
+    let P : Size → Type 0 = λ s. is_plain s address m.memory ≡ true in
+    let to : Machine → Dialogue (Result (Unit {0}) Abort × Machine) = λ x. Comes (Ok tt, x) in
+    ap (λ (s : Size). store (InMemory address) s v m) e ∙ word_stores address v m (subst P e p) ∙ ap to (sym f)
+
+pub byte_stored : (size : Size) (address v : ℕ) (m n : Machine) → size ≡ Byte
+    → is_plain size address m.memory ≡ true
+    → n ≡ record m { memory = with_byte address (v % 256) m.memory }
+    → store (InMemory address) size v m ≡ Comes (Ok tt, n)
+unfolding store
+byte_stored size address v m n e p f =
+    let P : Size → Type 0 = λ s. is_plain s address m.memory ≡ true in
+    let to : Machine → Dialogue (Result (Unit {0}) Abort × Machine) = λ x. Comes (Ok tt, x) in
+    ap (λ (s : Size). store (InMemory address) s v m) e ∙ byte_stores address (v % 256) m (subst P e p) ∙ ap to (sym f)
+
+pub comes_at : {A : Type 0} (x x' : A) (n n' : Machine) → x' ≡ x → n' ≡ n → came x n ≡ came x' n'
+comes_at {A = A} x x' n n' e f = ap (λ (v : A). came v n) (sym e) ∙ ap (λ (k : Machine). came x' k) (sym f)
+
+-- ---- places in memory, by the operand's mode
+
+placed : (operand : Operand) (size : Size) (m : Machine) (mode : Mode) → operand.mode ≡ mode
+    → place_of operand size m ≡ place_by mode operand.register size m
+unfolding place_of
+placed operand size m mode e = ap (λ (x : Mode). place_by x operand.register size m) e
+
+comes_place : (a a' : ℕ) (n n' : Machine) → a' ≡ a → n' ≡ n → came (InMemory a) n ≡ came (InMemory a') n'
+comes_place a a' n n' e f = comes_at (InMemory a) (InMemory a') n n' (ap InMemory e) f
+
+pub by_register : (operand : Operand) (size : Size) (a : ℕ) (m : Machine) → operand.mode ≡ mode.RegisterDeferred
+    → a ≡ register_of operand.register m → place_of operand size m ≡ Comes (Ok (InMemory a), m)
+by_register operand size a m e f =
+    placed operand size m mode.RegisterDeferred e ∙ comes_place _ a m m f refl
+
+pub by_increment : (operand : Operand) (size : Size) (a : ℕ) (m n : Machine) → operand.mode ≡ mode.Autoincrement
+    → a ≡ register_of operand.register m → n ≡ advanced operand.register (step_of size operand.register) m
+    → place_of operand size m ≡ Comes (Ok (InMemory a), n)
+by_increment operand size a m n e f k =
+    placed operand size m mode.Autoincrement e ∙ comes_place _ a _ n f k
+
+pub by_decrement : (operand : Operand) (size : Size) (a : ℕ) (m n : Machine) → operand.mode ≡ mode.Autodecrement
+    → a ≡ stepped_back operand.register (step_of size operand.register) m → n ≡ with_register operand.register a m
+    → place_of operand size m ≡ Comes (Ok (InMemory a), n)
+by_decrement operand size a m n e f k =
+    let to : ℕ → Machine = λ x. with_register operand.register x m in
+    placed operand size m mode.Autodecrement e ∙ comes_place _ a _ n f (k ∙ ap to f)
+
+pub by_pointer : (operand : Operand) (size : Size) (a : ℕ) (m n : Machine)
+    → operand.mode ≡ mode.AutoincrementDeferred → is_plain Word (register_of operand.register m) m.memory ≡ true
+    → a ≡ plain_at Word (register_of operand.register m) m.memory → n ≡ advanced operand.register 2 m
+    → place_of operand size m ≡ Comes (Ok (InMemory a), n)
+unfolding deferred
+by_pointer operand size a m n e p f k =
+    placed operand size m mode.AutoincrementDeferred e
+    ∙ bind_at (load_word (register_of operand.register m)) _ (advanced operand.register 2 m)
+    (advanced operand.register 2 m) _ (word_loads (register_of operand.register m) (advanced operand.register 2 m) p)
+    ∙ comes_place _ a _ n f k
+
+next_at : (m : Machine) → is_plain Word (register_of Pc m) m.memory ≡ true
+    → next_word m ≡ Comes (Ok (word_at m.memory (register_of Pc m)), advanced Pc 2 m)
+unfolding next_word
+next_at m p = bind_at (load_word (register_of Pc m)) _ m m _ (word_loads (register_of Pc m) m p)
+
+indexed_at : (register : Register) (m : Machine) → is_plain Word (register_of Pc m) m.memory ≡ true
+    → indexed register m
+    ≡ Comes (
+      Ok ((word_at m.memory (register_of Pc m) + register_of register (advanced Pc 2 m)) % 0o200000),
+      advanced Pc 2 m,
+    )
+unfolding indexed
+indexed_at register m p = bind_at next_word _ m (advanced Pc 2 m) _ (next_at m p)
+
+pub index_at : (register : Register) (a index : ℕ) (m n : Machine) → is_plain Word (register_of Pc m) m.memory ≡ true
+    → index ≡ plain_at Word (register_of Pc m) m.memory → n ≡ advanced Pc 2 m
+    → a ≡ (index + register_of register n) % 0o200000 → indexed register m ≡ Comes (Ok a, n)
+index_at register a index m n p i k f =
+    let N = advanced Pc 2 m in
+    let one = ap (λ (x : Machine). (index + register_of register x) % 0o200000) k in
+    let two = ap (λ (x : ℕ). (x + register_of register N) % 0o200000) i in
+    indexed_at register m p ∙ comes_at _ a _ n (f ∙ one ∙ two) k
+
+pub by_index : (operand : Operand) (size : Size) (a : ℕ) (m n : Machine) → operand.mode ≡ mode.Index
+    → indexed operand.register m ≡ Comes (Ok a, n) → place_of operand size m ≡ Comes (Ok (InMemory a), n)
+by_index operand size a m n e f =
+    placed operand size m mode.Index e ∙ bind_at (indexed operand.register) _ m n a f
+
+-- a register that is put back
+pub put_back : (register : Register) (v old : ℕ) (m n k : Machine) → old ≡ register_of register m
+    → n ≡ with_register register v m → k ≡ with_register register old n → k ≡ m
+put_back register v old m n k e f g =
+    let i = register_number register in
+    let again = set-set m.registers i v old ∙ ap (λ (x : ℕ). slice_set m.registers i x) e
+    ∙ set-get_or m.registers i 0 in
+    let to : List ℕ → Machine = λ x. record m { registers = x } in
+    g ∙ ap (λ (x : Machine). with_register register old x) f ∙ ap to again
+
+pub counter_back : (old : ℕ) (m n k : Machine) → old ≡ register_of Pc m → n ≡ advanced Pc 2 m
+    → k ≡ with_register Pc old n → k ≡ m
+counter_back old m n k e f g = put_back Pc ((register_of Pc m + 2) % 0o200000) old m n k e f g
+
+-- registers that are put back
+pub restored : (m n k : Machine) → n ≡ record m { registers = n.registers }
+    → k ≡ record n { registers = m.registers } → k ≡ m
+restored m n k e f =
+    let to : Machine → Machine = λ x. record x { registers = m.registers } in f ∙ ap to e
+
+-- ---- operands
+
+pub place_fetched : (operand : Operand) (size : Size) (place : OperandLocation) (v : ℕ) (m n : Machine)
+    → place_of operand size m ≡ Comes (Ok place, n) → fetch place size n ≡ Comes (Ok v, n)
+    → fetch_operand operand size m ≡ Comes (Ok v, n)
+unfolding fetch_operand
+place_fetched operand size place v m n e f = bind_at (place_of operand size) _ m n place e ∙ f
+
+pub register_mode : (bits : ℕ) → (bits / 8 % 8 == 0) ≡ true → mode_of (bits % 64 / 8) ≡ mode.Register
+register_mode bits e =
+    let zero = eqb-true (bits / 8 % 8) 0 e in
+    let same : bits % 64 / 8 ≡ 0 = omega (arith, zero) in
+    ap mode_of same
+
+pub in_register : (operand : Operand) (size : Size) (m : Machine) → operand.mode ≡ mode.Register
+    → place_of operand size m ≡ Comes (Ok (InRegister operand.register), m)
+in_register operand size m e = placed operand size m mode.Register e
+
+pub bind_comes : {A B : Type 0} (act : Act A) (next : A → Act B) (m n k : Machine) (x : A) (y : B)
+    → act m ≡ Comes (Ok x, n) → next x n ≡ Comes (Ok y, k) → (act >>= next) m ≡ Comes (Ok y, k)
+bind_comes act next m n k x y e f = bind_at act next m n x e ∙ f
+
+-- ---- results
+
+pub put_result_comes : (place : OperandLocation) (size : Size) (computed computed' : Computed) (m n : Machine)
+    → computed' ≡ computed → put_result place size computed' m ≡ Comes (Ok tt, n)
+    → put_result place size computed m ≡ Comes (Ok tt, n)
+put_result_comes place size computed computed' m n e f =
+    ap (λ (x : Computed). put_result place size x m) (sym e) ∙ f
+
+kept : {A : Type 0} (of : Machine → A) (test : Bool) (a b : Machine) → of a ≡ of b → of (cond test a b) ≡ of b
+kept of true a b e = e
+kept of false a b e = refl
+
+pub finished_stopped : (place : OperandLocation) (codes : ConditionCodes) (m n : Machine) → n ≡ finished place codes m
+    → n.stopped ≡ m.stopped
+finished_stopped place codes m n e =
+    ap (λ (x : Machine). x.stopped) e
+    ∙ kept (λ (x : Machine). x.stopped) (is_status place) m (with_condition_codes codes m) refl
+
+pub finished_trace : (place : OperandLocation) (codes : ConditionCodes) (m n : Machine) → n ≡ finished place codes m
+    → n.status.trace ≡ m.status.trace
+finished_trace place codes m n e =
+    ap (λ (x : Machine). x.status.trace) e
+    ∙ kept (λ (x : Machine). x.status.trace) (is_status place) m (with_condition_codes codes m) refl
+
+-- ---- operations, by what they do with their destination
+
+pub double_writes : (operation : DoubleOp) (size : Size) (source : ℕ) (place : OperandLocation) (m n : Machine)
+    → use_by_double operation ≡ Writes → move_to place size source m ≡ Comes (Ok tt, n)
+    → double_at operation size source place m ≡ Comes (Ok tt, n)
+unfolding double_at
+double_writes operation size source place m n e f =
+    ap (λ (u : DestinationUse). double_by u operation size source place m) e ∙ f
+
+pub double_reads : (operation : DoubleOp) (size : Size) (source : ℕ) (place : OperandLocation) (m n : Machine)
+    → use_by_double operation ≡ Reads → compare operation place size source m ≡ Comes (Ok tt, n)
+    → double_at operation size source place m ≡ Comes (Ok tt, n)
+unfolding double_at
+double_reads operation size source place m n e f =
+    ap (λ (u : DestinationUse). double_by u operation size source place m) e ∙ f
+
+pub double_changes : (operation : DoubleOp) (size : Size) (source : ℕ) (place : OperandLocation) (m n : Machine)
+    → use_by_double operation ≡ Changes → change_double operation place size source m ≡ Comes (Ok tt, n)
+    → double_at operation size source place m ≡ Comes (Ok tt, n)
+unfolding double_at
+double_changes operation size source place m n e f =
+    ap (λ (u : DestinationUse). double_by u operation size source place m) e ∙ f
+
+pub single_writes : (operation : SingleOp) (size : Size) (operand : Operand) (m n : Machine)
+    → use_by_single operation ≡ Some Writes → write operation size operand m ≡ Comes (Ok tt, n)
+    → single operation size operand m ≡ Comes (Ok tt, n)
+unfolding single
+single_writes operation size operand m n e f =
+    ap (λ (u : Option DestinationUse). single_by u operation size operand m) e ∙ f
+
+pub single_reads : (operation : SingleOp) (size : Size) (operand : Operand) (m n : Machine)
+    → use_by_single operation ≡ Some Reads → test_operand operation size operand m ≡ Comes (Ok tt, n)
+    → single operation size operand m ≡ Comes (Ok tt, n)
+unfolding single
+single_reads operation size operand m n e f =
+    ap (λ (u : Option DestinationUse). single_by u operation size operand m) e ∙ f
+
+pub single_changes : (operation : SingleOp) (size : Size) (operand : Operand) (m n : Machine)
+    → use_by_single operation ≡ Some Changes → change_single operation size operand m ≡ Comes (Ok tt, n)
+    → single operation size operand m ≡ Comes (Ok tt, n)
+unfolding single
+single_changes operation size operand m n e f =
+    ap (λ (u : Option DestinationUse). single_by u operation size operand m) e ∙ f
+
+-- ---- steps
+
+pub step_made : (m k n : Machine) (counter word : ℕ) → word < 65536 → QuickRuns m → counter ≡ register_of Pc m
+    → is_plain Word counter m.memory ≡ true → word ≡ plain_at Word counter m.memory
+    → k ≡ with_register Pc ((counter + 2) % 0o200000) m
+    → execute (meaning (operation_by_tables word) word) k ≡ Comes (Ok ending.Next, n) → NearKeeps k n
+    → step m ≡ Comes (Next, n)
+unfolding step instruction
+step_made m k n counter word h r e p w f x t =
+    let P : ℕ → Type 0 = λ a. is_plain Word a m.memory ≡ true in
+    let at = bind_at next_word (λ v. execute (instruction_of v)) m (advanced Pc 2 m) _ (next_at m (subst P e p)) in
+    let read = w ∙ ap (λ (a : ℕ). word_at m.memory a) e in
+    let stepped = f ∙ ap (λ (a : ℕ). with_register Pc ((a + 2) % 0o200000) m) e in
+    let same = ap (λ (v : ℕ). execute (instruction_of v) (advanced Pc 2 m)) (sym read)
+    ∙ ap (λ (i : Insn). execute i (advanced Pc 2 m)) (sym (tables_meaning word h))
+    ∙ ap (λ (l : Machine). execute (meaning (operation_by_tables word) word) l) (sym stepped) ∙ x in
+    let untraced = t.1 ∙ ap (λ (l : Machine). l.status.trace) f ∙ r.1 in
+    ap (λ (s : Option LastingStop). step_unless s m) r.0
+    ∙ ap (λ (d : Dialogue (Result Ending Abort × Machine)). after d (λ came. turned came.0 came.1)) (at ∙ same)
+    ∙ turned_next n untraced
+
+-- a step that isn't made
+pub step_left : (m k n l : Machine) (counter : ℕ) → counter ≡ register_of Pc m
+    → k ≡ with_register Pc ((counter + 2) % 0o200000) m → n ≡ k → l ≡ with_register Pc counter n → l ≡ m
+step_left m k n l counter e f g h =
+    put_back Pc ((counter + 2) % 0o200000) counter m k l e f
+    (h ∙ ap (λ (x : Machine). with_register Pc counter x) g)
+
+-- ---- steps one after the other
+
+pub no_steps : (m : Machine) → StepsAtOnce 0 m m
+unfolding StepsAtOnce
+no_steps m = refl
+
+pub one_more_step : (steps : ℕ) (m n k : Machine) → StepsAtOnce steps m n → step n ≡ Comes (Next, k)
+    → StepsAtOnce (steps + 1) m k
+unfolding StepsAtOnce
+one_more_step steps m n k s e =
+    let P : ℕ → Type 0 = λ c. StepsAtOnce c m k in
+    let f : suc steps ≡ steps + 1 = omega arith in
+    subst P f (n, s, e)

@@ -1,0 +1,11 @@
+use Rattle.std.proofs.Common.{refl}
+use Rattle.m11_machine.specs.DoubleOperands.{double}
+use Rattle.m11_cpu_quick.proofs.QuickDone.{bind_comes, double_writes, in_register}
+use Rattle.m11_cpu_quick.proofs.quick_doubles.move_to_register.Goals as goal
+
+pub returns-clause-some : goal.returns-clause-some
+unfolding double
+returns-clause-some c =
+    bind_comes _ _ _ _ _ _ _ c.in_ok-value.ensures.some
+    (bind_comes _ _ _ _ _ _ _ (in_register _ _ _ c.requires.mode)
+    (double_writes _ _ _ _ _ _ refl c.move_near.ensures.done))

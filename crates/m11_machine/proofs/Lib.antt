@@ -1,0 +1,5 @@
+pub mod AtOnce
+pub mod Dialogues
+pub mod RegistersPut
+pub mod StepsDone
+pub mod WordsAsBytes

@@ -1,0 +1,17 @@
+pub mod Access
+pub mod Acts
+pub mod Addressing
+pub mod Console
+pub mod DestinationUse
+pub mod Dialogue
+pub mod DoubleOperands
+pub mod Execution
+pub mod Extended
+pub mod Jumps
+pub mod Machine
+pub mod Memory
+pub mod SingleOperands
+pub mod Status
+pub mod Steps
+pub mod Stop
+pub mod Traps
