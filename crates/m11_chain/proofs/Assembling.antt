@@ -1,12 +1,10 @@
 -- Assemblies one after the other.
-use Rattle.std.proofs.Common.{◌≡◌, ◌∙◌, ◌<◌, ◌≤◌, ◌-◌, ℕ, List, [], ◌∷◌, ◌++◌, length, get_or, take, drop, map, Result, Ok, Err, IfErr, IsErrAnd, append_assoc, append-nil, refl, sym, ap, subst, inl, inr, arith}
+use Rattle.std.proofs.Common.{◌≡◌, ◌∙◌, ◌<◌, ◌≤◌, ◌-◌, List, [], ◌∷◌, ◌++◌, length, get_or, take, drop, map, Result, Ok, Err, IfErr, IsErrAnd, append_assoc, append-nil, refl, sym, ap, subst, arith}
 use Rattle.std.proofs.lemmas.Grind.{common_steps}
 use Rattle.std.proofs.lemmas.List.{map-append}
-use Rattle.std.specs.List.{AllByRecursion}
 use Rattle.m11_base.specs.Devices.{Bytes}
-use Rattle.m11_image.specs.Objects.{SourceFits, object_of}
-use Rattle.m11_passes.specs.Lines.{Numbered}
-use Rattle.m11_chain.specs.Sources.{AllLive, AreLive, IsFirstRefused, source_of, sources_of}
+use Rattle.m11_image.specs.Objects.{object_of}
+use Rattle.m11_chain.specs.Sources.{source_of}
 use Rattle.m11_chain.specs.Steps.{AreObjectsOf, AssembliesFail, AssemblyFails, IsObjectOf}
 use Rattle.m11_chain.specs.declared.fault.ChainFault.{ChainFault}
 use Rattle.m11_chain.specs.declared.fault.ChainFault.TheVariants as chain
@@ -33,25 +31,26 @@ one_more texts rest object more one o = record {
 
 later_fails : (texts : List Bytes) (rest : List (List Bytes)) (object : Bytes) (stopped : ChainFault) → IsObjectOf texts object
     → AssembliesFail rest stopped → AssembliesFail (texts ∷ rest) stopped
-later_fails texts rest object (chain.Assembly stopped) one (inl may) = inl may
-later_fails texts rest object (chain.Assembly stopped) one (inr r) = inr (record {
-  before = texts ∷ r.before;
-  texts = r.texts;
-  more = r.more;
-  whole = ap (λ (ls : List (List Bytes)). texts ∷ ls) r.whole;
-  lines = one.lines ∷ r.lines;
-  live = (one.live, r.live);
-  refused = r.refused;
-})
+later_fails texts rest object (chain.Assembly stopped) one (of_texts, r) = (
+  of_texts,
+  record {
+    before = texts ∷ r.before;
+    texts = r.texts;
+    more = r.more;
+    whole = ap (λ (ls : List (List Bytes)). texts ∷ ls) r.whole;
+    lines = one.lines ∷ r.lines;
+    live = (one.live, r.live);
+    refused = r.refused;
+  },
+)
 later_fails texts rest object chain.NoMemory one h = tt
 later_fails texts rest object (chain.Link stopped) one h = absurd h
 later_fails texts rest object (chain.Load stopped) one h = absurd h
 
 here_fails : (texts : List Bytes) (rest : List (List Bytes)) (stopped : ChainFault) → AssemblyFails texts stopped
     → AssembliesFail (texts ∷ rest) stopped
-here_fails texts rest (chain.Assembly stopped) (inl may) = inl may
-here_fails texts rest (chain.Assembly stopped) (inr refused) =
-    inr (record { before = []; texts = texts; more = rest; whole = refl; lines = []; live = tt; refused = refused })
+here_fails texts rest (chain.Assembly stopped) (of_texts, refused) =
+    (of_texts, record { before = []; texts = texts; more = rest; whole = refl; lines = []; live = tt; refused = refused })
 here_fails texts rest chain.NoMemory h = tt
 here_fails texts rest (chain.Link stopped) h = absurd h
 here_fails texts rest (chain.Load stopped) h = absurd h

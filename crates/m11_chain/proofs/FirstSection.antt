@@ -1,5 +1,5 @@
 -- `. ABS.` stays the first section of a table, whatever its lines do.
-use Rattle.std.proofs.Common.{◌≡◌, ◌∙◌, ℕ, Bool, true, false, if◌then◌else◌, List, [], ◌∷◌, ◌++◌, Option, Some, None, refl, sym, ap, subst}
+use Rattle.std.proofs.Common.{◌≡◌, ◌∙◌, ℕ, Bool, true, false, if◌then◌else◌, List, [], ◌∷◌, ◌++◌, Option, Some, None, refl, ap}
 use Rattle.m11_base.specs.Devices.{Bytes}
 use Rattle.m11_base.specs.Names.{absolute_name, blank_name}
 use Rattle.m11_base.specs.Rad50.{Name}
@@ -12,7 +12,7 @@ use Rattle.m11_placement.specs.declared.definitions.Definition.{Definition}
 use Rattle.m11_placement.specs.declared.definitions.Key.{Key}
 use Rattle.m11_placement.specs.declared.definitions.Key.TheVariants.{Named, Numbered as Local}
 use Rattle.m11_placement.specs.declared.sections.Section.{Section}
-use Rattle.m11_placement.specs.Labels.{global_if, label_name, labelled, labels_stand, with_block, with_definition, with_doubled, with_kind, with_label, with_labels}
+use Rattle.m11_placement.specs.Labels.{global_if, label_name, labelled, with_block, with_definition, with_doubled, with_kind, with_label, with_labels}
 use Rattle.m11_placement.specs.Lines.{after_line, line_change, stands}
 use Rattle.m11_placement.specs.Meanings.{Map, empty_map}
 use Rattle.m11_placement.specs.Placements.{after_lines, table_after}

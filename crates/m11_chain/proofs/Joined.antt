@@ -1,9 +1,9 @@
 -- The steps of a chain, one after the other.
-use Rattle.std.proofs.Common.{◌≡◌, ◌∙◌, ℕ, ◌*◌, ◌<◌, ◌≤◌, List, [], ◌∷◌, map, length, replicate, Option, Some, None, Result, Ok, Err, IfOk, IfErr, IsErrAnd, refl, sym, ap, subst, inl, inr, arith}
+use Rattle.std.proofs.Common.{◌≡◌, ◌∙◌, ℕ, ◌*◌, ◌<◌, false, List, [], map, length, Option, Some, None, Result, Ok, Err, IfOk, IfErr, IsErrAnd, sym, ap, subst}
 use Rattle.std.proofs.lemmas.List.{get_or-replicate, length-replicate}
 use Rattle.std.specs.List.{AllByRecursion}
 use Rattle.std.specs.Option.{unwrap_or}
-use Rattle.m11_base.specs.Devices.{Bytes, Rises}
+use Rattle.m11_base.specs.Devices.{Bytes}
 use Rattle.m11_base.specs.Feed.{Ends, Text}
 use Rattle.m11_blocks.specs.Limited.{most_bytes}
 use Rattle.m11_blocks.specs.declared.tape_fault.TapeFault.TheVariants as tape
@@ -16,22 +16,24 @@ use Rattle.m11_image.specs.Image.{image_of}
 use Rattle.m11_image.specs.Links.{AreLinked}
 use Rattle.m11_image.specs.Objects.{SourceFits, link_parts, object_of}
 use Rattle.m11_image.specs.Sources.{Source}
-use Rattle.m11_layout.specs.declared.fault.LinkFault.{LinkFault}
+use Rattle.m11_layout.specs.Sections.{is_too_large}
 use Rattle.m11_layout.specs.declared.fault.LinkOutput.TheVariants as output
 use Rattle.m11_link.specs.Objects.{AreItems, Item, outcome}
 use Rattle.m11_link.specs.Outputs.{link}
 use Rattle.m11_link.specs.Written.{link_writes}
 use Rattle.m11_link_text.specs.Findings.{findings_of}
 use Rattle.m11_modules.specs.Parts.{Part}
+use Rattle.m11_modules.specs.Rules.{first_fault}
 use Rattle.m11_tape_laws.specs.Image.{Image}
 use Rattle.m11_tape_laws.specs.Loaded.{HoldsImage, LiesInside, LiesPast, LoadYields}
 use Rattle.m11_writes.specs.Writes.{gained}
-use Rattle.m11_chain.specs.Chain.{Chains, HasImage, HasOutcome, Linked, LinkRefuses, StopsLoad, tape_of}
+use Rattle.m11_chain.specs.Chain.{Chains, HasImage, Linked, LinkTakes, StopsLoad, tape_of}
 use Rattle.m11_chain.specs.Sources.{sources_of}
-use Rattle.m11_chain.specs.Steps.{AreObjectsOf, AssembliesFail, IsTapeOfObjects, LinkFails, LoadFails, LoadsNew, ObjectsRefused}
+use Rattle.m11_chain.specs.Steps.{AreObjectsOf, AssembliesFail, IsTapeOfObjects, LinkFails, LoadFails, LoadsNew}
 use Rattle.m11_chain.specs.declared.chain.Chained.{Chained}
 use Rattle.m11_chain.specs.declared.fault.ChainFault.{ChainFault}
 use Rattle.m11_chain.specs.declared.fault.ChainFault.TheVariants as chain
+use Rattle.m11_chain.proofs.Unfailing.{none_rises}
 
 -- ---- what is known of links of sources
 
@@ -46,9 +48,6 @@ LoadLaw = (bottom : ℕ) (sources : List Source) (items : List Item) (parts : Li
     → text.bytes ≡ gained link output.Tape (link_writes (findings_of bottom parts) parts)
     → LoadsInto (Some text) left faults faults' before after result
     → LoadYields (image_of bottom sources) text.bytes faults faults' before after result
-
-abbrev parts_come : List Part → Result (List Part) LinkFault
-parts_come parts = Ok parts
 
 -- ---- a new machine
 
@@ -71,9 +70,6 @@ has_image image words after start h = record {
   start_is = h.start_is;
 }
 
-none_rises : Rises 0 0 → ⊥
-none_rises e = absurd (omega (arith, e))
-
 -- ---- a load of the tape of objects of sources
 
 stops : (bottom words : ℕ) (sources : List Source) (bytes : Bytes) (after : Machine) (stopped : LoadFault) → bytes ≡ tape_of bottom sources
@@ -92,14 +88,16 @@ module _ (parts_law : PartsLaw) (load_law : LoadLaw) (texts : List (List Bytes))
   own_items : AreItems (map object_of sources) t.items
   own_items = subst (λ (xs : List Bytes). AreItems xs t.items) o.objects_are t.are
 
-  own_parts : t.parts ≡ link_parts sources
-  own_parts = (parts_law bottom sources t.items t.parts o.fit own_items t.parts_are).parts_are
+  own_link : AreLinked bottom sources t.parts
+  own_link = parts_law bottom sources t.items t.parts o.fit own_items t.parts_are
 
-  has_outcome : HasOutcome bottom sources (Ok (link_parts sources))
-  has_outcome = record {
-    items = t.items;
-    are = own_items;
-    comes = t.parts_are ∙ ap parts_come own_parts;
+  own_parts : t.parts ≡ link_parts sources
+  own_parts = own_link.parts_are
+
+  takes : LinkTakes bottom sources
+  takes = record {
+    sound = subst (λ (ps : List Part). first_fault [] ps ≡ None) own_parts own_link.sound;
+    low = subst (λ (ps : List Part). is_too_large bottom ps ≡ false) own_parts own_link.low;
   }
 
   own_tape : bytes ≡ tape_of bottom sources
@@ -112,7 +110,7 @@ module _ (parts_law : PartsLaw) (load_law : LoadLaw) (texts : List (List Bytes))
       t.parts_are t.tape_is l.1
 
   linked : (Holds : List Source → Type 0) → Holds sources → Linked texts bottom Holds
-  linked Holds holds = record { lines = o.lines; live = o.live; links = has_outcome; holds = holds }
+  linked Holds holds = record { lines = o.lines; live = o.live; links = takes; holds = holds }
 
   load_fails : (stopped : ChainFault) → LoadFails bytes words stopped → Chains texts bottom words (Err stopped)
   load_fails (chain.Load stopped) (after, l) =
@@ -133,16 +131,16 @@ module _ (parts_law : PartsLaw) (load_law : LoadLaw) (texts : List (List Bytes))
 
 link_refused : (texts : List (List Bytes)) (bottom words : ℕ) (objects : List Bytes) (stopped : ChainFault) → AreObjectsOf texts objects
     → LinkFails bottom objects stopped → Chains texts bottom words (Err stopped)
-link_refused texts bottom words objects (chain.Link stopped) o (inl may) = inl may
-link_refused texts bottom words objects (chain.Link stopped) o (inr r) = inr (record {
-  lines = o.lines;
-  live = o.live;
-  refused = record {
+link_refused texts bottom words objects (chain.Link stopped) o (of_objects, r) = (
+  of_objects,
+  record {
+    lines = o.lines;
+    live = o.live;
     items = r.items;
     are = subst (λ (xs : List Bytes). AreItems xs r.items) o.objects_are r.are;
-    comes = r.refused;
-  };
-})
+    refused = r.refused;
+  },
+)
 link_refused texts bottom words objects chain.NoMemory o h = tt
 link_refused texts bottom words objects (chain.Assembly stopped) o h = absurd h
 link_refused texts bottom words objects (chain.Load stopped) o h = absurd h

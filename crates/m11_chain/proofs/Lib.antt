@@ -6,3 +6,4 @@ mod LivePlaces
 mod Loading
 mod ObjectOfTexts
 mod Outputs
+mod Unfailing

@@ -1,5 +1,5 @@
 -- The pieces of live lines lie at places that are words.
-use Rattle.std.proofs.Common.{◌≡◌, ℕ, ◌+◌, ◌<◌, ◌%◌, List, [], ◌∷◌, ◌++◌, arith, subst}
+use Rattle.std.proofs.Common.{ℕ, ◌+◌, ◌<◌, ◌%◌, List, [], ◌∷◌, ◌++◌, arith}
 use Rattle.std.specs.List.{AllByRecursion, flat_map}
 use Rattle.m11_asm.specs.Written.{pieces_in, pieces_of}
 use Rattle.m11_base.specs.Rad50.{Name}
@@ -13,8 +13,8 @@ use Rattle.m11_placement.specs.Lines as lines
 use Rattle.m11_placement.specs.Lines.{Deed, after_line, deed, line_put, pieces, put_place, stands}
 use Rattle.m11_placement.specs.Meanings.{Map}
 use Rattle.m11_placement.specs.Operators.{is_even}
-use Rattle.m11_placement.specs.Placements.{placed_from, placement}
-use Rattle.m11_placement.specs.Places.{last_set, moves_in, place_after, sizes_since}
+use Rattle.m11_placement.specs.Placements.{placed_from}
+use Rattle.m11_placement.specs.Places.{last_set, moves_in, sizes_since}
 use Rattle.m11_placement.specs.Tables.{Table, first_table, place, section_name}
 use Rattle.m11_unfolding.specs.Unfolding.{Given}
 

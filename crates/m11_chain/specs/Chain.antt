@@ -1,7 +1,6 @@
 -- Sources assembled, linked and loaded, told by the sources alone. (MACRO-11 Language Reference Manual, "Relocation and linking"; what a machine
 -- holds is the image of the sources. That memory is 0 before a load, and what may end a chain early, are this project's own.)
-use Rattle.std.specs.Prelude.{◌≡◌, ◌⊎◌, ◌<◌, ◌*◌, ℕ, List, [], map, length, ⊤, Result, Ok, Err}
-use Rattle.std.specs.List.{AllByRecursion}
+use Rattle.std.specs.Prelude.{◌≡◌, ◌<◌, ◌*◌, ℕ, false, List, [], map, length, ⊤, None, Result, Ok, Err}
 use Rattle.std.specs.Option.{unwrap_or}
 use Rattle.m11_base.specs.Devices.{Bytes}
 use Rattle.m11_blocks.specs.Limited.{most_bytes}
@@ -11,22 +10,22 @@ use Rattle.m11_cpu.specs.declared.fault.LoadFault.{LoadFault}
 use Rattle.m11_cpu.specs.declared.fault.LoadFault.TheVariants.{Tape, OutsideMemory}
 use Rattle.m11_machine.specs.declared.machine.Machine.{Machine}
 use Rattle.m11_image.specs.Image.{image_of}
-use Rattle.m11_image.specs.Objects.{SourceFits, link_parts, object_of}
+use Rattle.m11_image.specs.Objects.{link_parts, object_of}
 use Rattle.m11_image.specs.Sources.{Source}
+use Rattle.m11_layout.specs.Sections.{is_too_large}
 use Rattle.m11_layout.specs.declared.fault.LinkFault.{LinkFault}
 use Rattle.m11_layout.specs.declared.fault.LinkOutput.TheVariants as output
 use Rattle.m11_link.specs.Objects.{AreItems, Item, outcome}
 use Rattle.m11_link.specs.Outputs.{link}
 use Rattle.m11_link.specs.Written.{link_writes}
-use Rattle.m11_link_laws.specs.Runs as links
 use Rattle.m11_link_text.specs.Findings.{findings_of}
-use Rattle.m11_modules.specs.Parts.{Part}
-use Rattle.m11_outcome_laws.specs.Beginnings as assemblies
+use Rattle.m11_modules.specs.Rules.{first_fault}
 use Rattle.m11_passes.specs.Lines.{Numbered}
 use Rattle.m11_tape_laws.specs.Image.{Image}
 use Rattle.m11_tape_laws.specs.Loaded.{LiesInside, LiesPast}
 use Rattle.m11_tape_laws.specs.Tapes.{transfer_address}
 use Rattle.m11_writes.specs.Writes.{gained}
+use Rattle.m11_chain.specs.Refusals.{IsOfObjects, IsOfTexts}
 use Rattle.m11_chain.specs.Sources.{AllLive, IsFirstRefused, sources_of}
 use Rattle.m11_chain.specs.declared.chain.Chained.{Chained}
 use Rattle.m11_chain.specs.declared.fault.ChainFault.{ChainFault}
@@ -45,11 +44,10 @@ pub record HasImage (image : Image) (words : ℕ) (machine : Machine) (start : �
 
 -- ---- what may be refused
 
--- a link of the objects of sources has this outcome: parts, or its first refusal
-pub record HasOutcome (bottom : ℕ) (sources : List Source) (came : Result (List Part) LinkFault) : Type 0 where
-  pub items : List Item
-  pub are : AreItems (map object_of sources) items
-  pub comes : outcome bottom items ≡ came
+-- a link refuses nothing of what the sources give to it, and none of their relocatable sections ends past octal 160000
+pub record LinkTakes (bottom : ℕ) (sources : List Source) : Type 0 where
+  pub sound : first_fault [] (link_parts sources) ≡ None
+  pub low : is_too_large bottom (link_parts sources) ≡ false
 
 -- the tape that a link of them writes
 abbrev pub tape_of : ℕ → List Source → Bytes
@@ -58,11 +56,11 @@ tape_of bottom sources =
 
 -- ---- the chain
 
--- the texts assemble, their objects link, and this holds of the sources that they are
+-- the texts assemble, they link, and this holds of the sources that they are
 pub record Linked (texts : List (List Bytes)) (bottom : ℕ) (Holds : List Source → Type 0) : Type 0 where
   pub lines : List (List Numbered)
   pub live : AllLive texts lines
-  pub links : HasOutcome bottom (sources_of lines) (Ok (link_parts (sources_of lines)))
+  pub links : LinkTakes bottom (sources_of lines)
   pub holds : Holds (sources_of lines)
 
 -- only a byte past the memory, or a tape of more than 4,194,304 bytes, stops a load
@@ -71,18 +69,20 @@ StopsLoad bottom words OutsideMemory sources = LiesPast (2 * words) (image_of bo
 StopsLoad bottom words (Tape TooMuch) sources = most_bytes < length (tape_of bottom sources)
 StopsLoad bottom words (Tape other) sources = ⊥
 
--- the texts assemble, and a link of their objects is refused
+-- the texts assemble, and this is the first refusal of a link of their objects
 pub record LinkRefuses (texts : List (List Bytes)) (bottom : ℕ) (stopped : LinkFault) : Type 0 where
   pub lines : List (List Numbered)
   pub live : AllLive texts lines
-  pub refused : HasOutcome bottom (sources_of lines) (Err stopped)
+  pub items : List Item
+  pub are : AreItems (map object_of (sources_of lines)) items
+  pub refused : outcome bottom items ≡ Err stopped
 
 -- what a chain of texts, each list of them one assembly, comes to: a machine that holds the image of the sources; a load that is stopped; the
--- first refusal of a link or of an assembly; or an output failed there, or memory was refused
+-- first refusal of a link or of an assembly; or memory was refused. No device fails
 abbrev pub Chains : List (List Bytes) → ℕ → ℕ → Result Chained ChainFault → Type 0
 Chains texts bottom words (Ok done) =
     Linked texts bottom (λ sources. HasImage (image_of bottom sources) words done.machine done.start)
 Chains texts bottom words (Err (Load stopped)) = Linked texts bottom (StopsLoad bottom words stopped)
-Chains texts bottom words (Err (Link stopped)) = links.MayStop stopped ⊎ LinkRefuses texts bottom stopped
-Chains texts bottom words (Err (Assembly stopped)) = assemblies.MayStop stopped ⊎ IsFirstRefused texts stopped
+Chains texts bottom words (Err (Link stopped)) = IsOfObjects stopped × LinkRefuses texts bottom stopped
+Chains texts bottom words (Err (Assembly stopped)) = IsOfTexts stopped × IsFirstRefused texts stopped
 Chains texts bottom words (Err NoMemory) = ⊤

@@ -1,4 +1,5 @@
 pub mod Assemblies
 pub mod Chain
+pub mod Refusals
 pub mod Sources
 pub mod Steps

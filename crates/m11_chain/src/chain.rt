@@ -1,17 +1,19 @@
 //! Sources are assembled, linked and loaded, one after the other. (MACRO-11 Language Reference Manual, "Relocation and linking"; RT-11 Volume
 //! and File Formats Manual, "Object file format" and "Absolute binary file format".)
 
-ghost use Rattle.std.specs.Prelude.{◌≡◌, ◌≤◌, List, map, Ok, IfOk, IfErr};
+ghost use Rattle.std.specs.Prelude.{◌≡◌, ◌≢◌, ◌≤◌, List, map, Ok, IfOk, IfErr};
+ghost use Rattle.m11_asm_faults.specs.declared.fault.AsmFault.TheVariants as assembly;
 ghost use Rattle.m11_asm_outputs.specs.Outputs.{outputs_of};
 ghost use Rattle.m11_base.specs.Devices.{Bytes};
 ghost use Rattle.m11_machine.specs.Memory.{least_words, most_words};
+ghost use Rattle.m11_layout.specs.declared.fault.LinkFault.TheVariants as linking;
 ghost use Rattle.m11_link.specs.Objects.{AreItems, Item, outcome};
 ghost use Rattle.m11_link.specs.Outputs as link;
 ghost use Rattle.m11_link_laws.specs.Runs as links;
 ghost use Rattle.m11_outcome_laws.specs.Beginnings.{AreKnown};
 ghost use Rattle.m11_chain.specs.Assemblies.{AssemblyYields};
 ghost use Rattle.m11_chain.specs.Chain.{Chains};
-ghost use Rattle.m11_chain.specs.Steps.{AreObjectsOf, AssembliesFail, AssemblyFails, IsObjectOf, IsTapeOfObjects, LinkFails, LoadFails, LoadsNew, whole_text};
+ghost use Rattle.m11_chain.specs.Steps.{AreObjectsOf, AssembliesFail, AssemblyFails, IsObjectOf, IsTapeOfObjects, LinkFails, LoadFails, LoadsNew, NeverFail, of_assembly, of_link, whole_text};
 ghost use Rattle.m11_chain.specs.declared.fault.ChainFault.TheVariants.{NoMemory};
 
 use crate::fault::ChainFault;
@@ -42,9 +44,9 @@ pub struct Chained {
 /// are those of a new machine, and the start is the image's, or 1 without one. This is so whatever lines are flagged and whatever the linker
 /// reports.
 ///
-/// Faults: `Assembly` with that of the first list that is refused; `Link` with that of the link; `Load` with `OutsideMemory` where the image has
-/// a byte past the memory, or with `TooMuch` where the tape has more than 4,194,304 bytes; `NoMemory` where memory is refused, or the same
-/// inside `Assembly` and `Link`.
+/// Faults: `Assembly` with the first refusal of the first list that is refused; `Link` with the first refusal of the link; `Load` with
+/// `OutsideMemory` where the image has a byte past the memory, or with `TooMuch` where the tape has more than 4,194,304 bytes; `NoMemory`
+/// wherever memory is refused. No device is there to fail.
 pub fn run_chain(
     alloc: Global,
     sources: &[Vec<Vec<u8>>],
@@ -89,12 +91,23 @@ fn run_assembly<F: Feed, S: Sink, T: Sink, U: Sink>(
     listing: &mut Option<T>,
     messages: &mut U,
 ) -> Result<AsmDone, AsmFault>
-    ensures { (texts : List Bytes) → AreKnown F.text first.old texts → AreKnown F.text second.old texts
+    ensures reads { NeverFail F.faults → IfErr result (λ fault. fault ≢ assembly.Read) }
+    ensures yields { (texts : List Bytes) → AreKnown F.text first.old texts → AreKnown F.text second.old texts
         → AssemblyYields texts (outputs_of S.Sink T.Sink U.Sink object.old listing.old messages.old)
         (outputs_of S.Sink T.Sink U.Sink object.new listing.new messages.new) result }
 {
     known_sources_decide_the_assembly::<F>();
     asm_run(alloc, first, second, object, listing, messages)
+}
+
+// The fault of an assembly over memory, as that of a chain: an output over memory fails only where memory is refused.
+fn assembly_fault(fault: AsmFault) -> ChainFault
+    ensures { result ≡ of_assembly fault }
+{
+    match fault {
+        AsmFault::NoMemory | AsmFault::Write(_) => ChainFault::NoMemory,
+        other => ChainFault::Assembly(other),
+    }
 }
 
 // The object of some texts.
@@ -116,7 +129,7 @@ fn assemble(alloc: Global, texts: &[Vec<u8>]) -> Result<Vec<u8>, ChainFault>
         &mut messages,
     ) {
         Ok(_) => Ok(object.into_bytes()),
-        Err(fault) => Err(ChainFault::Assembly(fault)),
+        Err(fault) => Err(assembly_fault(fault)),
     }
 }
 
@@ -149,13 +162,24 @@ fn run_link<F: Feed, S: Sink, T: Sink, U: Sink>(
     map: &mut Option<T>,
     messages: &mut U,
 ) -> Result<LinkDone, LinkFault>
-    ensures { (objects : List Bytes) (items : List Item) → AreItems objects items → links.AreKnown F.text first.old objects
+    ensures reads { NeverFail F.faults → IfErr result (λ fault. fault ≢ linking.Read) }
+    ensures decided { (objects : List Bytes) (items : List Item) → AreItems objects items → links.AreKnown F.text first.old objects
         → links.AreKnown F.text second.old objects
         → links.IsDecided bottom (outcome bottom items) (link.outputs_of S.Sink T.Sink U.Sink tape.old map.old messages.old)
         (link.outputs_of S.Sink T.Sink U.Sink tape.new map.new messages.new) result }
 {
     known_objects_decide_the_run::<F>();
     link_run(alloc, first, second, bottom, tape, map, messages)
+}
+
+// The fault of a link over memory, as that of a chain.
+fn link_fault(fault: LinkFault) -> ChainFault
+    ensures { result ≡ of_link fault }
+{
+    match fault {
+        LinkFault::NoMemory | LinkFault::Write(_) => ChainFault::NoMemory,
+        other => ChainFault::Link(other),
+    }
 }
 
 // The tape of objects.
@@ -179,7 +203,7 @@ fn link_all(alloc: Global, objects: &[Vec<u8>], bottom: u16) -> Result<Vec<u8>, 
         &mut messages,
     ) {
         Ok(_) => Ok(tape.into_bytes()),
-        Err(fault) => Err(ChainFault::Link(fault)),
+        Err(fault) => Err(link_fault(fault)),
     }
 }
 

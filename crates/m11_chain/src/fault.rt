@@ -8,10 +8,10 @@ use thiserror::Error;
 /// Why a chain gives no machine.
 #[derive(Clone, Copy, Debug, PartialEq, Eq, Error)]
 pub enum ChainFault {
-    /// Sources were not assembled.
+    /// Sources are refused.
     #[error("sources were not assembled")]
     Assembly(AsmFault),
-    /// Their objects were not linked.
+    /// A link of their objects is refused.
     #[error("objects were not linked")]
     Link(LinkFault),
     /// The tape was not loaded.
