@@ -1,0 +1,4 @@
+pub mod EachOctet
+pub mod Fields
+pub mod Items
+pub mod Reading

@@ -1,0 +1,163 @@
+-- The blocks of an object, read and shown one after another.
+use Rattle.std.proofs.Common.{◌≡◌, ◌∙◌, ℕ, ◌+◌, ◌*◌, ◌^◌, ◌<◌, ◌≤◌, ◌↔◌, Bool, true, false, IsTrue, IsErr, List, [], ◌∷◌, ◌++◌, append-nil, append_assoc, length, Option, Some, None, Ok, Err, refl, sym, ap, subst, arith}
+use Rattle.std.specs.List.{AllByRecursion}
+use Rattle.std.specs.Io.KnownBytes.{Appends}
+use Rattle.m11_blocks.specs.declared.block_fault.BlockFault.{BlockFault}
+use Rattle.m11_blocks.specs.Blocks.{first_block, why_of}
+use Rattle.m11_blocks.specs.Limited.{EndsBetween, Place, Reads, Stops}
+use Rattle.m11_blocks.proofs.Limits.{took_nothing, took_then}
+use Rattle.m11_obj.specs.Reading.{IsRecord, content_of}
+use Rattle.m11_writes.specs.Outputs.{Output}
+use Rattle.m11_dump.specs.Records.{shown}
+use Rattle.m11_dump.specs.Objects.{AreInFront, DumpsObject, FailsAt, Shows, ShowsBlock, StopsAfter, after, after_all, object_text, placed_at, start, text_from}
+use Rattle.m11_dump.specs.declared.fault.DumpFault.{DumpFault}
+use Rattle.m11_dump.specs.declared.fault.DumpFault.TheVariants as fault
+use Rattle.m11_dump.specs.declared.fault.Placed.{Placed}
+use Rattle.m11_dump.specs.declared.stand.Stand.{Stand}
+
+-- ---- one block more
+
+text_more : (s : Stand) (contents : List (List ℕ)) (content : List ℕ)
+    → text_from s (contents ++ content ∷ []) ≡ text_from s contents ++ shown (after_all s contents).address (content_of content)
+text_more s [] content = append-nil (shown s.address (content_of content))
+text_more s (first ∷ contents) content =
+    ap (λ (text : List ℕ). shown s.address (content_of first) ++ text) (text_more (after s first) contents content)
+    ∙ sym (append_assoc (shown s.address (content_of first)) (text_from (after s first) contents)
+    (shown (after_all (after s first) contents).address (content_of content)))
+
+after_more : (s : Stand) (contents : List (List ℕ)) (content : List ℕ)
+    → after_all s (contents ++ content ∷ []) ≡ after (after_all s contents) content
+after_more s [] content = refl
+after_more s (first ∷ contents) content = after_more (after s first) contents content
+
+front_more : (contents : List (List ℕ)) (content bytes middle rest : List ℕ) → AreInFront contents bytes middle
+    → first_block middle ≡ Ok (content, rest) → AreInFront (contents ++ content ∷ []) bytes rest
+front_more [] content bytes middle rest h e = (rest, ap first_block h ∙ e, refl)
+front_more (first ∷ contents) content bytes middle rest h e = (h.0, h.1, front_more contents content h.0 middle rest h.2 e)
+
+all_more : (contents : List (List ℕ)) (content : List ℕ) → AllByRecursion IsRecord contents → IsRecord content
+    → AllByRecursion IsRecord (contents ++ content ∷ [])
+all_more [] content all one = (one, tt)
+all_more (first ∷ contents) content all one = (all.0, all_more contents content all.1 one)
+
+appends_nothing : (text : Option (List ℕ)) → Appends text text []
+appends_nothing None = tt
+appends_nothing (Some text) = sym (append-nil text)
+
+appends_then : (t0 t1 t2 : Option (List ℕ)) (xs ys : List ℕ) → Appends t0 t1 xs → Appends t1 t2 ys → Appends t0 t2 (xs ++ ys)
+appends_then None t1 t2 xs ys a b = tt
+appends_then (Some x) None t2 xs ys a b = absurd a
+appends_then (Some x) (Some y) None xs ys a b = absurd b
+appends_then (Some x) (Some y) (Some z) xs ys a b = b ∙ ap (λ (text : List ℕ). text ++ ys) a ∙ append_assoc x xs ys
+
+-- ---- how far a dump has come
+
+-- these blocks were shown, and the dump stands after them; the room bounds how many there are, and how large
+pub record Dumping (old here : Place) (output output' : Output) (s : Stand) (contents : List (List ℕ)) : Type 0 where
+  pub shows : Shows old here output output' contents
+  pub stands : s ≡ after_all start contents
+  pub few : s.blocks + here.room ≤ 4194304
+  pub small : s.bytes ≤ 600 * s.blocks
+
+pub dump_begins : (old : Place) (output : Output) → old.room ≡ 4194304 → Dumping old old output output start []
+dump_begins old output room = record {
+  shows = record {
+    given = [];
+    took = took_nothing old;
+    blocks = λ rest. refl;
+    records = tt;
+    text = appends_nothing output.text;
+    faults = refl;
+  };
+  stands = refl;
+  few = omega (arith, room);
+  small = omega arith;
+}
+
+-- a block is some bytes
+none_is_no_block : (content rest : List ℕ) → first_block [] ≡ Ok (content, rest) → ⊥
+unfolding first_block
+none_is_no_block content rest e = cc
+
+some_given : (given content : List ℕ) → ((rest : List ℕ) → first_block (given ++ rest) ≡ Ok (content, rest)) → 0 < length given
+some_given [] content is = absurd (none_is_no_block content [] (is []))
+some_given (byte ∷ given) content is = omega arith
+
+pub room_falls : (here there : Place) (content : List ℕ) → Reads first_block here there content → there.room < here.room
+room_falls here there content r = omega (arith, some_given r.given content r.is, r.took.room)
+
+-- a reader that gave a result goes on
+pub reads_on : {X : Type 0} (has_failed : Bool) (returned : X) → (IsTrue has_failed ↔ IsErr {E = BlockFault} (Ok returned))
+    → has_failed ≡ false
+reads_on false returned h = refl
+reads_on {X} true returned h = absurd (let bad = h.0 refl in cc)
+
+module _ (old here : Place) (output output' : Output) (s : Stand) (contents : List (List ℕ))
+    (d : Dumping old here output output' s contents) where
+  pub blocks_fit : s.blocks < 2 ^ 32
+  blocks_fit = omega (arith, d.few)
+
+  pub bytes_fit : s.bytes < 2 ^ 48
+  bytes_fit = omega (arith, d.few, d.small)
+
+  pub dump_ends : (new : Place) (done : Unit {0}) → Stops first_block here new EndsBetween
+      → DumpsObject old new output output' (Ok done)
+  dump_ends new done stops = (contents, here, d.shows, stops)
+
+  place_is : (f : DumpFault) (said : Placed) → said ≡ placed_at f s → said ≡ placed_at f (after_all start contents)
+  place_is f said e = e ∙ ap (placed_at f) d.stands
+
+  stopped : (f : DumpFault) (new : Place) (final : Output) (said : Placed) → said ≡ placed_at f s
+      → StopsAfter f here new output' final contents → DumpsObject old new output final (Err said)
+  stopped f new final said e h =
+      let is = place_is f said e in
+      let same : said.fault ≡ f = ap (λ (p : Placed). p.fault) e in
+      let P : DumpFault → Type 0 = λ x. StopsAfter x here new output' final contents in
+      let Q : DumpFault → Type 0 = λ x. said ≡ placed_at x (after_all start contents) in
+      (contents, here, output', d.shows, subst P (sym same) h, subst Q (sym same) is)
+
+  pub block_refused : (new : Place) (inner : BlockFault) (said : Placed) → said ≡ placed_at (fault.Block inner) s
+      → Stops first_block here new (why_of inner) → DumpsObject old new output output' (Err said)
+  block_refused new inner said e h = stopped (fault.Block inner) new output' said e (h, refl)
+
+  module _ (new : Place) (content : List ℕ) (r : Reads first_block here new content) (final : Output) where
+    record_refused : (f : DumpFault) (said : Placed) → said ≡ placed_at f s
+        → ShowsBlock s content output' final (Err f) → DumpsObject old new output final (Err said)
+    record_refused (fault.Block inner) said e h = absurd h.1
+    record_refused (fault.Record inner) said e h = stopped (fault.Record inner) new final said e (content, r, h.0, h.1)
+    record_refused fault.Write said e h =
+        let P : Stand → Type 0 = λ x. FailsAt (shown x.address (content_of content)) output' final in
+        stopped fault.Write new final said e (content, r, h.0, subst P d.stands h.1)
+    record_refused fault.NoMemory said e h = stopped fault.NoMemory new final said e (content, r, h.0, h.1)
+
+    pub block_stops : (f : DumpFault) (said : Placed) → said ≡ placed_at f s
+        → ShowsBlock s content output' final (Err f) → DumpsObject old new output final (Err said)
+    block_stops f said e h = record_refused f said e h
+
+    pub block_shown : (s' : Stand) → length content ≤ 512 → ShowsBlock s content output' final (Ok s')
+        → Dumping old new output final s' (contents ++ content ∷ [])
+    block_shown s' long h =
+        let P : Stand → Type 0 = λ x. Appends output'.text final.text (shown x.address (content_of content)) in
+        let Q : List ℕ → Type 0 = λ text. Appends output.text final.text text in
+        let blocks : s'.blocks ≡ s.blocks + 1 = ap (λ (x : Stand). x.blocks) h.1.0 in
+        let bytes : s'.bytes ≡ s.bytes + length content + 5 = ap (λ (x : Stand). x.bytes) h.1.0 in
+        let less = room_falls here new content r in
+        record {
+          shows = record {
+            given = d.shows.given ++ r.given;
+            took = took_then old here new d.shows.given r.given d.shows.took r.took;
+            blocks = λ rest.
+                let R : List ℕ → Type 0 = λ bytes. AreInFront (contents ++ content ∷ []) bytes rest in
+                subst R (sym (append_assoc d.shows.given r.given rest))
+                (front_more contents content (d.shows.given ++ (r.given ++ rest)) (r.given ++ rest) rest
+                (d.shows.blocks (r.given ++ rest)) (r.is rest));
+            records = all_more contents content d.shows.records h.0;
+            text = subst Q (sym (text_more start contents content))
+                (appends_then output.text output'.text final.text (object_text contents)
+                (shown (after_all start contents).address (content_of content)) d.shows.text (subst P d.stands h.1.1));
+            faults = h.1.2 ∙ d.shows.faults;
+          };
+          stands = h.1.0 ∙ ap (λ (x : Stand). after x content) d.stands ∙ sym (after_more start contents content);
+          few = omega (arith, d.few, less, blocks);
+          small = omega (arith, d.small, long, blocks, bytes);
+        }

@@ -1,0 +1,71 @@
+use Rattle.std.proofs.Common.{[], ◌∷◌, ◌++◌, refl}
+use Rattle.m11_blocks.specs.Limited.{most_bytes, place}
+use Rattle.m11_writes.specs.Outputs.{output_of}
+use Rattle.m11_dump.proofs.Reading.{block_refused, block_shown, block_stops, dump_begins, dump_ends, reads_on, room_falls}
+use Rattle.m11_dump.proofs.objects.dump_object.Goals as goal
+
+pub reading-init : goal.reading-init
+reading-init g c = rw (c.new-reader.ensures, c.new-stand.ensures) (record {
+  reads = refl;
+  contents = [];
+  dumping = dump_begins (place (g.F.Feed.text c.args.feed.now) (g.F.Feed.faults c.args.feed.now) most_bytes)
+      (output_of g.S.Sink c.args.sink.now) refl;
+})
+
+pub reading-smaller : goal.reading-smaller
+reading-smaller g c =
+    let reads = rw (c.reading.invariant.reads, c.in-Ok-true.field-0-test) at c.in-Ok-true.ensures.reads in
+    room_falls (place (g.F.Feed.text c.reading.feed) (g.F.Feed.faults c.reading.feed) c.reading.reader.room)
+    (place (g.F.Feed.text c.next_into.new.feed) (g.F.Feed.faults c.next_into.new.feed) c.next_into.new.self.room)
+    c.next_into.new.block.items reads
+
+pub reading-preserved : goal.reading-preserved
+reading-preserved g c =
+    let reads = rw (c.reading.invariant.reads, c.in-Ok-true.field-0-test) at c.in-Ok-true.ensures.reads in record {
+      reads = reads_on c.next_into.new.self.has_failed c.in-Ok-true.field-0 c.in-Ok-true.ensures.fails;
+      contents = c.reading.invariant.contents ++ c.next_into.new.block.items ∷ [];
+      dumping = block_shown (place (g.F.Feed.text c.args.feed.now) (g.F.Feed.faults c.args.feed.now) most_bytes)
+          (place (g.F.Feed.text c.reading.feed) (g.F.Feed.faults c.reading.feed) c.reading.reader.room)
+          (output_of g.S.Sink c.args.sink.now) (output_of g.S.Sink c.reading.sink) c.reading.stand c.reading.invariant.contents
+          c.reading.invariant.dumping
+          (place (g.F.Feed.text c.next_into.new.feed) (g.F.Feed.faults c.next_into.new.feed) c.next_into.new.self.room)
+          c.next_into.new.block.items reads (output_of g.S.Sink c.show_block.new.sink) c.in-Ok.after c.in-Ok.ensures.fits
+          c.in-Ok.ensures.shows;
+    }
+
+pub returns-in-Err-show_block : goal.returns-in-Err-show_block
+returns-in-Err-show_block g c =
+    let reads = rw (c.reading.invariant.reads, c.in-Ok-true.field-0-test) at c.in-Ok-true.ensures.reads in (
+      c.next_into.new.self.room,
+      block_stops (place (g.F.Feed.text c.args.feed.now) (g.F.Feed.faults c.args.feed.now) most_bytes)
+          (place (g.F.Feed.text c.reading.feed) (g.F.Feed.faults c.reading.feed) c.reading.reader.room)
+          (output_of g.S.Sink c.args.sink.now) (output_of g.S.Sink c.reading.sink) c.reading.stand c.reading.invariant.contents
+          c.reading.invariant.dumping
+          (place (g.F.Feed.text c.next_into.new.feed) (g.F.Feed.faults c.next_into.new.feed) c.next_into.new.self.room)
+          c.next_into.new.block.items reads (output_of g.S.Sink c.show_block.new.sink) c.in-Err-show_block.fault
+          c.placed.result c.placed.ensures c.in-Err-show_block.ensures.shows,
+    )
+
+pub returns-in-Ok-false : goal.returns-in-Ok-false
+returns-in-Ok-false g c =
+    let stops = rw (c.reading.invariant.reads, c.in-Ok-false.field-0-test) at c.in-Ok-false.ensures.reads in (
+      c.next_into.new.self.room,
+      dump_ends (place (g.F.Feed.text c.args.feed.now) (g.F.Feed.faults c.args.feed.now) most_bytes)
+          (place (g.F.Feed.text c.reading.feed) (g.F.Feed.faults c.reading.feed) c.reading.reader.room)
+          (output_of g.S.Sink c.args.sink.now) (output_of g.S.Sink c.reading.sink) c.reading.stand c.reading.invariant.contents
+          c.reading.invariant.dumping
+          (place (g.F.Feed.text c.next_into.new.feed) (g.F.Feed.faults c.next_into.new.feed) c.next_into.new.self.room)
+          tt stops,
+    )
+
+pub returns-in-Err : goal.returns-in-Err
+returns-in-Err g c =
+    let stops = rw c.reading.invariant.reads at c.in-Err.ensures.reads in (
+      c.next_into.new.self.room,
+      block_refused (place (g.F.Feed.text c.args.feed.now) (g.F.Feed.faults c.args.feed.now) most_bytes)
+          (place (g.F.Feed.text c.reading.feed) (g.F.Feed.faults c.reading.feed) c.reading.reader.room)
+          (output_of g.S.Sink c.args.sink.now) (output_of g.S.Sink c.reading.sink) c.reading.stand c.reading.invariant.contents
+          c.reading.invariant.dumping
+          (place (g.F.Feed.text c.next_into.new.feed) (g.F.Feed.faults c.next_into.new.feed) c.next_into.new.self.room)
+          c.in-Err.fault c.placed-in-Err.result c.placed-in-Err.ensures stops,
+    )

@@ -1,0 +1,5 @@
+pub mod Octets
+pub mod Entries
+pub mod Relocations
+pub mod Records
+pub mod Objects

@@ -1,0 +1,38 @@
+-- What a dump shows of a record. (The records: RT-11 Volume and File Formats Manual, "Object file format". The lines are this
+-- project's own.)
+use Rattle.std.specs.Prelude.{ℕ, ◌++◌, [], ◌∷◌, codes, Result, Ok, Err}
+use Rattle.std.specs.List.{flat_map}
+use Rattle.m11_base.specs.Devices.{Bytes}
+use Rattle.m11_base.specs.Octal.{octal_text}
+use Rattle.m11_obj.specs.Records.{Content, Gsd, EndOfGsd, Text, Relocations, InternalSymbols, EndOfModule}
+use Rattle.m11_obj.specs.declared.fault.RecordFault.{RecordFault}
+use Rattle.m11_dump.specs.Entries.{entry_line}
+use Rattle.m11_dump.specs.Octets.{octets}
+use Rattle.m11_dump.specs.Relocations.{relocation_line}
+
+-- a text: its address in its section, and its bytes
+abbrev pub text_lines : ℕ → Bytes → Bytes
+text_lines address bytes = ((codes "TEXT " ++ octal_text address) ++ octets address bytes) ++ 10 ∷ []
+
+-- a record: a line for each entry and each relocation; the relocations are those of the text before, which lies at this address
+abbrev pub record_text : ℕ → Content → Bytes
+record_text address (Gsd entries) = flat_map entry_line entries
+record_text address EndOfGsd = codes "END OF DIRECTORY\n"
+record_text address (Text own bytes) = text_lines own bytes
+record_text address (Relocations relocations) = flat_map (relocation_line address) relocations
+record_text address InternalSymbols = codes "INTERNAL SYMBOLS\n"
+record_text address EndOfModule = codes "END OF MODULE\n"
+
+-- the address of the last text after a record
+abbrev pub address_after : ℕ → Content → ℕ
+address_after address (Text own bytes) = own
+address_after address content = address
+
+-- the same of a block's content, which is a record or shows nothing
+abbrev pub shown : ℕ → Result Content RecordFault → Bytes
+shown address (Ok content) = record_text address content
+shown address (Err fault) = []
+
+abbrev pub address_then : ℕ → Result Content RecordFault → ℕ
+address_then address (Ok content) = address_after address content
+address_then address (Err fault) = address

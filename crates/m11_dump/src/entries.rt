@@ -1,0 +1,149 @@
+//! The lines of a dump for the entries of a directory.
+
+ghost use Rattle.std.specs.Prelude.{◌≡◌, ◌≤◌, ◌+◌, ◌++◌, length};
+ghost use Rattle.arrayvec.specs.ArrayVec.{array_vec_len};
+ghost use Rattle.m11_dump.specs.Entries as spec;
+ghost use Rattle.m11_obj.specs.declared.gsd.GsdKind.TheVariants.{GlobalSymbol, ProgramSection};
+
+use bitflags::Flags;
+use m11_base::octal6;
+use m11_obj::{GsdEntry, GsdKind, SectionFlags, SymbolFlags};
+use m11_print::{Line, ended, put, put_attributes};
+
+// The word of a global symbol: it is defined here, or referred to.
+fn symbol_word(flags: SymbolFlags) -> &'static [u8]
+    ensures text { result.now ≡ spec.entry_word GlobalSymbol flags.0 }
+    ensures room { length result.now ≤ 10 }
+{
+    if flags.contains(SymbolFlags::DEFINED) {
+        b"GLOBAL    "
+    } else {
+        b"REFERENCE "
+    }
+}
+
+// The word of an entry.
+fn entry_word(entry: &GsdEntry) -> &'static [u8]
+    ensures text { result.now ≡ spec.entry_word entry.now.kind entry.now.flags }
+    ensures room { length result.now ≤ 10 }
+{
+    match entry.kind {
+        GsdKind::ModuleName => b"MODULE    ",
+        GsdKind::ControlSection => b"CSECT     ",
+        GsdKind::InternalSymbol => b"INTERNAL  ",
+        GsdKind::TransferAddress => b"TRANSFER  ",
+        GsdKind::GlobalSymbol => symbol_word(SymbolFlags::from_bits_retain(entry.flags)),
+        GsdKind::ProgramSection => b"SECTION   ",
+        GsdKind::Identification => b"IDENT     ",
+    }
+}
+
+// A value, after a blank.
+fn put_value(line: &mut Line, value: u16)
+    requires { array_vec_len line.old ≤ 160 }
+    ensures text { line.new.items ≡ line.old.items ++ spec.value_text value }
+    ensures room { array_vec_len line.new ≤ array_vec_len line.old + 7 }
+{
+    put(line, b" ");
+    put(line, &octal6(value));
+}
+
+// Whether the value of a global symbol moves with its section.
+fn relocation_word(flags: SymbolFlags) -> &'static [u8]
+    ensures text { result.now ≡ spec.relocation_word flags.0 }
+    ensures room { length result.now ≤ 4 }
+{
+    if flags.contains(SymbolFlags::RELOCATABLE) {
+        b" REL"
+    } else {
+        b" ABS"
+    }
+}
+
+// Whether a global symbol may stay undefined.
+fn weak_word(flags: SymbolFlags) -> &'static [u8]
+    ensures text { result.now ≡ spec.weak_word flags.0 }
+    ensures room { length result.now ≤ 5 }
+{
+    if flags.contains(SymbolFlags::WEAK) {
+        b" WEAK"
+    } else {
+        b""
+    }
+}
+
+// The value of a global symbol that is defined here.
+fn put_definition(line: &mut Line, flags: SymbolFlags, value: u16)
+    requires { array_vec_len line.old ≤ 100 }
+    ensures text { line.new.items ≡ line.old.items ++ (spec.value_text value ++ spec.relocation_word flags.0) }
+    ensures room { array_vec_len line.new ≤ array_vec_len line.old + 11 }
+{
+    put_value(line, value);
+    put(line, relocation_word(flags));
+}
+
+// What follows the name of a global symbol.
+fn put_symbol(line: &mut Line, flags: SymbolFlags, value: u16)
+    requires { array_vec_len line.old ≤ 100 }
+    ensures text { line.new.items ≡ line.old.items ++ spec.symbol_text flags.0 value }
+    ensures room { array_vec_len line.new ≤ array_vec_len line.old + 16 }
+{
+    if flags.contains(SymbolFlags::DEFINED) {
+        put_definition(line, flags, value);
+        put(line, weak_word(flags));
+    } else {
+        put(line, weak_word(flags));
+    }
+}
+
+// What follows the name of a section.
+fn put_section(line: &mut Line, flags: SectionFlags, value: u16)
+    requires { array_vec_len line.old ≤ 100 }
+    ensures text { line.new.items ≡ line.old.items ++ spec.entry_rest ProgramSection flags.0 value }
+    ensures room { array_vec_len line.new ≤ array_vec_len line.old + 28 }
+{
+    put_value(line, value);
+    put(line, b" ");
+    put_attributes(line, flags);
+}
+
+// What follows an entry's name.
+fn put_rest(line: &mut Line, entry: &GsdEntry)
+    requires { array_vec_len line.old ≤ 100 }
+    ensures text { line.new.items ≡ line.old.items
+        ++ spec.entry_rest entry.now.kind entry.now.flags entry.now.value }
+    ensures room { array_vec_len line.new ≤ array_vec_len line.old + 28 }
+{
+    match entry.kind {
+        GsdKind::ModuleName | GsdKind::Identification => {}
+        GsdKind::ControlSection | GsdKind::InternalSymbol | GsdKind::TransferAddress => {
+            put_value(line, entry.value);
+        }
+        GsdKind::GlobalSymbol => {
+            put_symbol(
+                line,
+                SymbolFlags::from_bits_retain(entry.flags),
+                entry.value,
+            );
+        }
+        GsdKind::ProgramSection => {
+            put_section(
+                line,
+                SectionFlags::from_bits_retain(entry.flags),
+                entry.value,
+            );
+        }
+    }
+}
+
+/// The line of an entry: its word, its name, and what follows it.
+#[tactic(auto, using(m11_print::proofs::Trimming::line_at))]
+pub(crate) fn entry_line(entry: &GsdEntry) -> Line
+    ensures { result.items ≡ spec.entry_line entry.now }
+{
+    let mut line = Line::new();
+    put(&mut line, entry_word(entry));
+    put(&mut line, &entry.name.characters());
+    put_rest(&mut line, entry);
+    ended(line)
+}

@@ -1,0 +1,39 @@
+//! Why a dump stops before the end of a file, and where.
+
+ghost use Rattle.std.specs.Prelude.{◌≡◌};
+ghost use Rattle.m11_dump.specs.declared.fault.DumpFault.TheVariants.{NoMemory};
+
+use m11_obj::{BlockFault, RecordFault};
+use std::alloc::AllocError;
+
+/// Why a dump of a file stops.
+#[derive(Clone, Copy, Debug, PartialEq, Eq)]
+pub enum DumpFault {
+    /// The blocks of an object: a fault of one of them, or the file failed.
+    Block(BlockFault),
+    /// A block of an object is no record.
+    Record(RecordFault),
+    /// The text could not be written.
+    Write,
+    /// Memory was refused.
+    NoMemory,
+}
+
+/// A fault, and the block of the file where it was found.
+#[derive(Clone, Copy, Debug, PartialEq, Eq)]
+pub struct Placed {
+    /// What is wrong.
+    pub fault: DumpFault,
+    /// The number of the block, from 1 on.
+    pub block: u64,
+    /// How many bytes the blocks before it have together. Zeros between blocks are none of them.
+    pub byte: u64,
+}
+
+impl From<AllocError> for DumpFault {
+    ghost from_gives = { λ _ e. e ≡ NoMemory };
+
+    fn from(_error: AllocError) -> DumpFault {
+        DumpFault::NoMemory
+    }
+}

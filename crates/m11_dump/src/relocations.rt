@@ -1,0 +1,161 @@
+//! The lines of a dump for relocations.
+
+ghost use Rattle.std.specs.Prelude.{◌≡◌, ◌≤◌, ◌+◌, ◌++◌, length};
+ghost use Rattle.arrayvec.specs.ArrayVec.{array_vec_len};
+ghost use Rattle.m11_dump.specs.Relocations as spec;
+ghost use Rattle.m11_obj.specs.Relocations.{parts_of};
+
+use m11_base::{Name, octal6};
+use m11_obj::{Relocation, Target};
+use m11_print::{Line, ended, put};
+
+// The words of a target.
+fn target_word(target: &Target) -> &'static [u8]
+    ensures text { result.now ≡ spec.target_word target.now }
+    ensures room { length result.now ≤ 29 }
+{
+    match target {
+        Target::Internal(_) => b"INTERNAL",
+        Target::Global(_) => b"GLOBAL",
+        Target::InternalDisplaced(_) => b"INTERNAL DISPLACED",
+        Target::GlobalDisplaced(_) => b"GLOBAL DISPLACED",
+        Target::GlobalAdditive(_, _) => b"GLOBAL ADDITIVE",
+        Target::GlobalAdditiveDisplaced(_, _) => b"GLOBAL ADDITIVE DISPLACED",
+        Target::LocationCounterDefinition(_, _) => b"LOCATION COUNTER DEFINITION",
+        Target::LocationCounterModification(_) => b"LOCATION COUNTER MODIFICATION",
+        Target::ProgramLimits => b"PROGRAM LIMITS",
+        Target::Section(_) => b"SECTION",
+        Target::SectionDisplaced(_) => b"SECTION DISPLACED",
+        Target::SectionAdditive(_, _) => b"SECTION ADDITIVE",
+        Target::SectionAdditiveDisplaced(_, _) => b"SECTION ADDITIVE DISPLACED",
+    }
+}
+
+// The name of a target, if it has one.
+fn name_of(target: &Target) -> Option<Name>
+    ensures { result ≡ (parts_of target.now).name }
+{
+    match target {
+        Target::Global(name)
+        | Target::GlobalDisplaced(name)
+        | Target::GlobalAdditive(name, _)
+        | Target::GlobalAdditiveDisplaced(name, _)
+        | Target::LocationCounterDefinition(name, _)
+        | Target::Section(name)
+        | Target::SectionDisplaced(name)
+        | Target::SectionAdditive(name, _)
+        | Target::SectionAdditiveDisplaced(name, _) => Some(*name),
+        Target::Internal(_)
+        | Target::InternalDisplaced(_)
+        | Target::LocationCounterModification(_)
+        | Target::ProgramLimits => None,
+    }
+}
+
+// The constant of a target, if it has one.
+fn constant_of(target: &Target) -> Option<u16>
+    ensures { result ≡ (parts_of target.now).constant }
+{
+    match target {
+        Target::Internal(constant)
+        | Target::InternalDisplaced(constant)
+        | Target::GlobalAdditive(_, constant)
+        | Target::GlobalAdditiveDisplaced(_, constant)
+        | Target::LocationCounterDefinition(_, constant)
+        | Target::LocationCounterModification(constant)
+        | Target::SectionAdditive(_, constant)
+        | Target::SectionAdditiveDisplaced(_, constant) => Some(*constant),
+        Target::Global(_)
+        | Target::GlobalDisplaced(_)
+        | Target::ProgramLimits
+        | Target::Section(_)
+        | Target::SectionDisplaced(_) => None,
+    }
+}
+
+// A name after a blank, if there is one.
+fn put_name(line: &mut Line, name: Option<Name>)
+    requires { array_vec_len line.old ≤ 100 }
+    ensures text { line.new.items ≡ line.old.items ++ spec.optional_name name }
+    ensures room { array_vec_len line.new ≤ array_vec_len line.old + 7 }
+{
+    if let Some(name) = name {
+        put(line, b" ");
+        put(line, &name.characters());
+    }
+}
+
+// A constant after a blank, if there is one.
+fn put_word(line: &mut Line, word: Option<u16>)
+    requires { array_vec_len line.old ≤ 110 }
+    ensures text { line.new.items ≡ line.old.items ++ spec.optional_word word }
+    ensures room { array_vec_len line.new ≤ array_vec_len line.old + 7 }
+{
+    if let Some(word) = word {
+        put(line, b" ");
+        put(line, &octal6(word));
+    }
+}
+
+// A target: its words, the name and the constant that it has.
+fn put_target(line: &mut Line, target: &Target)
+    requires { array_vec_len line.old ≤ 20 }
+    ensures text { line.new.items ≡ line.old.items ++ spec.target_text target.now }
+    ensures room { array_vec_len line.new ≤ array_vec_len line.old + 43 }
+{
+    put(line, target_word(target));
+    put_name(line, name_of(target));
+    put_word(line, constant_of(target));
+}
+
+// Whether only the low byte is stored.
+fn byte_word(is_byte: bool) -> &'static [u8]
+    ensures text { result.now ≡ spec.byte_word is_byte }
+    ensures room { length result.now ≤ 5 }
+{
+    if is_byte { b" BYTE" } else { b"" }
+}
+
+// The place that a displacement names in a text at this address: the first byte of the text has displacement 4.
+fn place_of(address: u16, displacement: u8) -> u16
+    ensures { result ≡ spec.place_of address displacement }
+{
+    address
+        .wrapping_add(u16::from(displacement))
+        .wrapping_add(65_532)
+}
+
+// Whether something is stored.
+fn stores(target: &Target) -> bool
+    ensures { result ≡ spec.stores target.now }
+{
+    !matches!(
+        target,
+        Target::LocationCounterDefinition(_, _) | Target::LocationCounterModification(_)
+    )
+}
+
+// The place of a relocation, or blanks.
+fn place_text(address: u16, relocation: &Relocation) -> [u8; 6]
+    ensures { result ≡ spec.place_text address relocation.now }
+{
+    if stores(&relocation.target) {
+        octal6(place_of(address, relocation.displacement))
+    } else {
+        *b"      "
+    }
+}
+
+/// The line of a relocation of the text at this address: its place, and what is stored there.
+#[tactic(auto, using(m11_print::proofs::Trimming::line_at))]
+pub(crate) fn relocation_line(address: u16, relocation: &Relocation) -> Line
+    ensures { result.items ≡ spec.relocation_line address relocation.now }
+{
+    let mut line = Line::new();
+    put(&mut line, b"  ");
+    put(&mut line, &place_text(address, relocation));
+    put(&mut line, b" ");
+    put_target(&mut line, &relocation.target);
+    put(&mut line, byte_word(relocation.is_byte));
+    ended(line)
+}

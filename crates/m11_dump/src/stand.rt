@@ -1,0 +1,28 @@
+//! Where a dump of an object stands.
+
+ghost use Rattle.std.specs.Prelude.{◌≡◌, ◌<◌, ◌^◌};
+ghost use Rattle.m11_obj.specs.Reading.{content_of};
+ghost use Rattle.m11_dump.specs.Records.{address_then};
+
+use m11_obj::{Record, RecordKind};
+
+/// What a dump of an object knows between two blocks.
+#[derive(Clone, Copy)]
+pub(crate) struct Stand {
+    /// The address of the last text.
+    pub(crate) address: u16,
+    /// How many blocks it has passed.
+    pub(crate) blocks: u64,
+    /// How many bytes these have.
+    pub(crate) bytes: u64,
+}
+
+/// The address of the last text after a record.
+pub(crate) fn address_after(address: u16, record: &Record<'_>) -> u16
+    ensures { result ≡ address_then address (content_of «record».now) }
+{
+    match record.kind() {
+        RecordKind::Text => record.text_address(),
+        _ => address,
+    }
+}
