@@ -1,4 +1,4 @@
-"""Builds a program over the unfolder, for the programs of this folder."""
+"""Builds a program over crates of the repository, for the programs of this folder."""
 
 import shutil
 import subprocess
@@ -6,30 +6,47 @@ import sys
 from pathlib import Path
 
 TOP = Path(__file__).resolve().parent.parent
-CRATES = [
-    "m11_base", "m11_arithmetic", "m11_lines", "m11_scan", "m11_values", "m11_statements", "m11_arguments", "m11_expansions",
-    "m11_unfolding", "m11_unfold",
-]
 
-# What each program has, and where it stands in its crate.
+# The crates that a program over the unfolder names.
+UNFOLDER = ["m11_arguments", "m11_base", "m11_lines", "m11_scan", "m11_unfold", "m11_unfolding", "m11_values"]
+
+# What each program over it has, and where it stands in its crate.
 SHARED = {"unfolding/unknown.txt": "src/unknown.rt", "unfolding/Known.txt": "specs/Known.antt"}
 
 
-def built(folder, files):
-    """The program of these files of this folder and of those that are shared, built in a folder as a crate of the name unfold."""
+def crates_below(names):
+    """The lines of crates.txt of these crates and of all that they stand on, in its order."""
+    listed = [line for line in (TOP / "crates.txt").read_text(encoding="utf-8").splitlines() if not line.startswith("#")]
+    named = {line.split(":")[0]: line.split(":")[1].split() for line in listed}
+    below, found = list(names), set()
+    while below:
+        name = below.pop()
+        if name in named and name not in found:
+            found.add(name)
+            below += named[name]
+    return [line for line in listed if line.split(":")[0] in found]
+
+
+def built_over(folder, names, files, specs):
+    """The program of these files of this folder, built in a folder as a crate of the name unfold that names these crates. Its definitions
+    stand in these modules."""
     crate = folder / "crates/unfold"
-    for name, path in (SHARED | files).items():
+    for name, path in files.items():
         (crate / path).parent.mkdir(parents=True, exist_ok=True)
         shutil.copy(TOP / "bench" / name, crate / path)
-    (crate / "specs/Lib.antt").write_text("pub mod Known\n", encoding="utf-8")
-    (crate / "proofs").mkdir(exist_ok=True)
-    (crate / "proofs/Lib.antt").write_text("", encoding="utf-8")
+    for part, modules in (("specs", specs), ("proofs", [])):
+        (crate / part).mkdir(exist_ok=True)
+        (crate / part / "Lib.antt").write_text("".join(f"pub mod {module}\n" for module in modules), encoding="utf-8")
     shutil.copy(TOP / "HANDLES", folder)
-    listed = (TOP / "crates.txt").read_text(encoding="utf-8").splitlines()
-    kept = [line for line in listed if line.split(":")[0] in CRATES]
-    kept.append("unfold: m11_arguments m11_base m11_lines m11_scan m11_unfold m11_unfolding m11_values")
-    (folder / "crates.txt").write_text("\n".join(kept) + "\n", encoding="utf-8")
-    for name in CRATES:
+    kept = crates_below(names)
+    (folder / "crates.txt").write_text("\n".join([*kept, f"unfold: {' '.join(names)}"]) + "\n", encoding="utf-8")
+    for line in kept:
+        name = line.split(":")[0]
         shutil.copytree(TOP / "crates" / name, folder / "crates" / name)
     subprocess.run(["rt", "run"], cwd=crate, stdin=subprocess.DEVNULL, stdout=sys.stderr, check=True)
     return crate / "out/unfold"
+
+
+def built(folder, files):
+    """The program over the unfolder of these files of this folder and of those that are shared, built in a folder."""
+    return built_over(folder, UNFOLDER, SHARED | files, ["Known"])
