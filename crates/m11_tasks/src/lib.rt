@@ -1,12 +1,14 @@
-//! What the words of a command line ask for: a task with its paths and numbers, or the refusal of the words; and the
-//! files of a task, opened.
+//! The words that the system gives to a program; what those of a command line ask for: a task with its paths and numbers, or
+//! the refusal of the words; and the files of a task, opened.
 #![tactic(auto)]
 
+mod arguments;
 mod commands;
 mod opened;
 mod tasks;
 mod usage;
 
+pub use arguments::{WordsFault, refusal_line, words};
 pub use opened::{
     AsmFiles, Inputs, LinkFiles, OpenFault, open_asm_files, open_link_files, open_sim_file,
 };
