@@ -1,4 +1,4 @@
-# Completion for bash of the command m11: source this file, or let ./install put it where bash-completion looks.
+# Completion for bash of the commands m11 and m11-dump: source this file, or let ./install put it where bash-completion looks.
 
 # Files that end so, in large or in small letters, and folders.
 _m11_files() {
@@ -39,4 +39,10 @@ _m11() {
     esac
 }
 
+_m11_dump() {
+    COMPREPLY=()
+    _m11_words "${COMP_WORDS[COMP_CWORD]}" OBJ '-h --help'
+}
+
 complete -F _m11 m11
+complete -F _m11_dump m11-dump

@@ -1,14 +1,14 @@
-"""Checks of the scripts at the top, m11 and install, over a small repository and a stand-in for rt. CHECKS lists them for tools/test.py.
+"""Checks of the scripts at the top, m11, m11-dump and install, over a small repository and a stand-in for rt. CHECKS lists them for tools/test.py.
 
-The stand-in `builds` a program that prints its words, and counts how often it was asked to. The folder has a blank in its name."""
+The stand-in `builds` programs that print their words, and counts how often it was asked to. The folder has a blank in its name."""
 import os
 import shutil
 import subprocess
 import tempfile
 
 TOP = os.path.dirname(os.path.dirname(os.path.dirname(os.path.realpath(__file__))))
-COPIED = ("m11", "install", "docs/man/m11.1", "tools/completion.bash")
-LISTS = "# a list for each crate\nm11_low: std\nm11_other: m11_low\nm11: m11_low\n"
+COPIED = ("m11", "m11-dump", "install", "docs/man/m11.1", "docs/man/m11-dump.1", "tools/completion.bash", "tools/program.bash")
+LISTS = "# a list for each crate\nm11_low: std\nm11_other: m11_low\nm11: m11_low\nm11_dumper: m11_low\n"
 NOBODY = 65534
 
 RT = r"""#!/bin/sh
@@ -25,8 +25,9 @@ run)
     echo "rt: chose --jobs 4 for m11"
     if [ -f $top/slow ]; then sleep 1.5; fi
     mkdir -p out
-    printf '#!/bin/sh\necho "ran $*"\n[ "$1" = --help ] || exit 4\n' >out/m11
-    chmod +x out/m11
+    name=${PWD##*/}
+    printf '#!/bin/sh\necho "ran $*"\n[ "$1" = --help ] || exit 4\n' >out/$name
+    chmod +x out/$name
     ;;
 esac
 """
@@ -49,7 +50,7 @@ class Repository:
             shutil.copy(os.path.join(TOP, name), os.path.join(self.top, name))
         put(self.at("crates.txt"), LISTS)
         for name in ("m11/src/main.rt", "m11_low/src/lib.rt", "m11_low/specs/Lib.antt", "m11_low/proofs/one/Answers.antt",
-                     "m11_other/src/lib.rt", "m11/data/P.MAC", "m11/args"):
+                     "m11_other/src/lib.rt", "m11/data/P.MAC", "m11/args", "m11_dumper/src/main.rt"):
             put(self.at("crates/" + name), name + "\n")
         put(os.path.join(folder, "bin", "rt"), RT)
         os.chmod(os.path.join(folder, "bin", "rt"), 0o755)
@@ -110,6 +111,23 @@ def check_builds(repository):
     os.remove(repository.at("crates/m11_low/proofs/one/Answers.antt"))
     repository.expect_builds("a proof that is gone", 6)
     repository.expect_builds("the call after it", 6)
+
+
+def check_dump(repository):
+    """The other program is built for itself, and says its own name."""
+    repository.expect_builds("the first call", 1)
+    for count, name in enumerate(("crates/m11_other/src/lib.rt", "crates/m11/src/main.rt", "crates/m11_dumper/src/main.rt"), 2):
+        repository.expect(f"before a change of {name}", repository.run(["a b", "-c"], "m11-dump")[:2], (4, "ran a b -c\n"))
+        put(repository.at(name), "new\n")
+        repository.expect(f"builds before a change of {name}", repository.builds(), min(count, 2))
+    repository.expect("after them", repository.run(["x"], "m11-dump")[:2], (4, "ran x\n"))
+    repository.expect("builds after them", repository.builds(), 3)
+    repository.expect("the version", repository.run(["--version"], "m11-dump")[1],
+                      "m11-dump: commit unknown (there is no git that knows it), kit kit-1 logic 1\n")
+    put(repository.at("fails"), "")
+    put(repository.at("crates/m11_low/src/lib.rt"), "new\n")
+    status, out, said = repository.run(["x"], "m11-dump")
+    repository.expect("a build that fails", (status, out, "m11-dump: the build failed" in said), (70, "", True))
 
 
 def check_copies(repository):
@@ -207,18 +225,21 @@ def check_paths(repository):
 def check_install(repository):
     """What install copies, also a second time, and what it refuses."""
     prefix = os.path.join(repository.folder, "pre fix")
-    copied = [os.path.join(prefix, name) for name in ("bin/m11", "share/man/man1/m11.1", "share/bash-completion/completions/m11")]
+    copied = [os.path.join(prefix, name) for name in (
+        "bin/m11", "share/man/man1/m11.1", "share/bash-completion/completions/m11",
+        "bin/m11-dump", "share/man/man1/m11-dump.1", "share/bash-completion/completions/m11-dump")]
     put(repository.at("crates/m11/out/m11"), "")
     for words in ([], [""], ["-x"], ["a", "b"]):
         repository.expect(f"install {words}", repository.run(words, "install")[0], 2)
     for _ in range(2):
         repository.expect("install", repository.run([prefix], "install")[:2], (0, "".join(f"copied to {path}\n" for path in copied)))
-    done = subprocess.run([copied[0], "y"], capture_output=True, text=True, check=False)
-    repository.expect("the installed program", done.stdout, "ran y\n")
-    with open(copied[1], encoding="utf-8") as file:
-        heading = file.readline()
-    repository.expect("the heading of the page", heading,
-                      '.TH M11 1 "" "commit unknown (there is no git that knows it), kit kit-1 logic 1" "Tools for PDP-11 software"\n')
+    for at, called in ((0, "M11"), (3, "M11-DUMP")):
+        done = subprocess.run([copied[at], "y"], capture_output=True, text=True, check=False)
+        repository.expect("the installed program", done.stdout, "ran y\n")
+        with open(copied[at + 1], encoding="utf-8") as file:
+            heading = file.readline()
+        repository.expect("the heading of the page", heading,
+                          f'.TH {called} 1 "" "commit unknown (there is no git that knows it), kit kit-1 logic 1" "Tools for PDP-11 software"\n')
     put(repository.at("fails"), "")
     put(repository.at("crates/m11/src/main.rt"), "new\n")
     repository.expect("a build that fails", repository.run([prefix], "install")[:2], (70, ""))
@@ -238,6 +259,17 @@ def check_completion(repository):
         repository.expect(f"after {words}", (" ".join(sorted(said.stdout.split())), said.stderr), (wanted, ""))
 
 
+def check_dump_completion(repository):
+    """What is completed after some words of the other program."""
+    for name in ("q.obj", "P.OBJ", "P.TAP"):
+        put(os.path.join(repository.folder, "work", name), "")
+    for words, wanted in (([""], "P.OBJ q.obj"), (["P.OBJ", "q"], "q.obj"), (["--h"], "--help")):
+        said = subprocess.run(["bash", "-c", 'source "$0"; COMP_WORDS=("$@"); COMP_CWORD=$(($# - 1)); _m11_dump; printf "%s\\n" "${COMPREPLY[@]}"',
+                               repository.at("tools/completion.bash"), "m11-dump", *words], cwd=os.path.join(repository.folder, "work"),
+                              capture_output=True, text=True, check=False)
+        repository.expect(f"after {words}", (" ".join(sorted(said.stdout.split())), said.stderr), (wanted, ""))
+
+
 def over_a_repository(check):
     """A check, as a call without words that gives the differences that it found."""
     def checked():
@@ -250,4 +282,5 @@ def over_a_repository(check):
 
 
 CHECKS = [(check.__name__.replace("check_", "scripts-"), over_a_repository(check), ())
-          for check in (check_builds, check_copies, check_failures, check_progress, check_version, check_paths, check_install, check_completion)]
+          for check in (check_builds, check_dump, check_copies, check_failures, check_progress, check_version, check_paths, check_install, check_completion,
+                        check_dump_completion)]

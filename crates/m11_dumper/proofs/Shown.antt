@@ -1,0 +1,48 @@
+-- Files that are shown one after another.
+use Rattle.std.proofs.Common.{◌≡◌, ℕ, List, ◌∷◌, Option, Result, Ok, Err, inl, inr, refl}
+use Rattle.std.specs.Prelude.{OnErr, OnOk}
+use Rattle.std.specs.Io.KnownBytes.{Appends}
+use Rattle.m11_base.specs.Devices.{Rises}
+use Rattle.m11_base.specs.Feed.{Text}
+use Rattle.m11_base.specs.Sink.{AppendsBeginning}
+use Rattle.m11_files.specs.Opens.{Files, Holds}
+use Rattle.m11_writes.specs.Outputs.{Output}
+use Rattle.m11_dumper.specs.Showing.{ShowsAll, ShowsFile, ShowsInput}
+use Rattle.m11_dumper.specs.Outcome.{Reports}
+use Rattle.m11_dumper.specs.declared.stop.Stop.{Stop}
+use Rattle.m11_dumper.specs.declared.stop.Stop.TheVariants.{NotOpened, InFile, Write, NoMemory}
+
+-- a file that was opened, by its path
+pub file_shown : (files : Option Files) (path : List ℕ) (text : Option Text) (faults : ℕ) (out out' : Output)
+    (result : Result (Unit {0}) Stop) → Holds files path text → ShowsInput text faults path out out' result
+    → ShowsFile files path out out' result
+file_shown files path text faults out out' (Ok done) h s = (text, faults, h, s)
+file_shown files path text faults out out' (Err (InFile named placed)) h s = (s.0, (text, faults, h, s.1))
+file_shown files path text faults out out' (Err (NotOpened named)) h s = absurd s
+file_shown files path text faults out out' (Err Write) h s = s
+file_shown files path text faults out out' (Err NoMemory) h s = s
+
+-- a file was shown, and then others, or some of them
+pub more_shown : (files : Option Files) (path : List ℕ) (paths : List (List ℕ)) (out middle out' : Output) (done : Unit {0})
+    (result : Result (Unit {0}) Stop) → ShowsFile files path out middle (Ok done) → ShowsAll files paths middle out' result
+    → ShowsAll files (path ∷ paths) out out' result
+more_shown files path paths out middle out' done (Ok all) h s = (middle, h, s)
+more_shown files path paths out middle out' done (Err stop) h s = inr (middle, h, s)
+
+-- a file at which showing stopped
+pub not_shown : (files : Option Files) (path : List ℕ) (paths : List (List ℕ)) (out out' : Output) (stop : Stop)
+    → ShowsFile files path out out' (Err stop) → ShowsAll files (path ∷ paths) out out' (Err stop)
+not_shown files path paths out out' stop h = inl h
+
+-- ---- what is reported
+
+-- a put that returned success or failure
+pub reports : {X E : Type 0} (r : Result X E) (text : List ℕ) (old new : Output)
+    → OnOk r (Appends old.text new.text text) → OnOk r (new.faults ≡ old.faults)
+    → OnErr r (AppendsBeginning old.text new.text text) → OnErr r (Rises old.faults new.faults)
+    → Reports text old new
+reports (Ok x) text old new whole sound beginning fault = inl (whole, sound)
+reports (Err e) text old new whole sound beginning fault = inr (inl (beginning, fault))
+
+pub reports_none : (text : List ℕ) (output : Output) → Reports text output output
+reports_none text output = inr (inr refl)

@@ -1,0 +1,16 @@
+use Rattle.std.proofs.Common.{◌∙◌, ℕ, List, subst}
+use Rattle.std.specs.Io.KnownBytes.{Appends}
+use Rattle.m11_blocks.specs.Limited.{place}
+use Rattle.m11_writes.specs.Outputs.{output_of}
+use Rattle.m11_dumper.proofs.showing.show_input.Goals as goal
+
+pub returns-in-Ok : goal.returns-in-Ok
+returns-in-Ok g c =
+    let middle = output_of g.O.Sink c.put_or_fail.new.sink in
+    let P : List ℕ → Type 0 = λ bytes. Appends (g.O.Sink.text c.args.out.now) (g.O.Sink.text c.put_or_fail.new.sink) bytes in
+    let whole = subst P (c.deref.ensures.value ∙ c.in_ok-head.ensures) c.in_ok-put_or_fail.ensures.0 in (
+      middle,
+      place (g.I.Feed.text c.dump_object.new.feed) (g.I.Feed.faults c.dump_object.new.feed) c.in-Ok.ensures.0,
+      (whole, c.in_ok-put_or_fail.ensures.1),
+      c.in-Ok.ensures.1,
+    )

@@ -1,0 +1,49 @@
+-- The lines of the program itself: the head of a file, and why not all files were shown. (This project's own.)
+use Rattle.std.specs.Prelude.{ℕ, [], ◌∷◌, ◌++◌, codes}
+use Rattle.std.specs.Fmt.{decimal}
+use Rattle.m11_base.specs.Devices.{Bytes}
+use Rattle.m11_blocks.specs.Blocks.{block_fault_name, block_fault_number}
+use Rattle.m11_blocks.specs.declared.block_fault.BlockFault.TheVariants as block
+use Rattle.m11_obj.specs.Fault.{record_fault_name, record_fault_number}
+use Rattle.m11_dump.specs.declared.fault.DumpFault.{DumpFault}
+use Rattle.m11_dump.specs.declared.fault.DumpFault.TheVariants as fault
+use Rattle.m11_dump.specs.declared.fault.Placed.{Placed}
+use Rattle.m11_dumper.specs.declared.stop.Stop.{Stop}
+use Rattle.m11_dumper.specs.declared.stop.Stop.TheVariants as stop
+
+-- a path after a word, and the end of the line
+abbrev pub path_end : Bytes → Bytes → Bytes
+path_end word path = (word ++ path) ++ 10 ∷ []
+
+-- what stands before the text of a file
+abbrev pub head_line : Bytes → Bytes
+head_line path = path_end (codes "OBJECT ") path
+
+-- a number and a name, after a word
+abbrev pub numbered : Bytes → ℕ → Bytes → Bytes
+numbered word number name = ((word ++ decimal number) ++ 32 ∷ []) ++ name
+
+-- the number and the name of a fault, as the linker has them
+abbrev pub fault_text : DumpFault → Bytes
+fault_text (fault.Block block.Device) = codes "1 Read"
+fault_text (fault.Block block.TooMuch) = codes "13 TooMuch"
+fault_text (fault.Block inner) = numbered (codes "3 Block ") (block_fault_number inner) (block_fault_name inner)
+fault_text (fault.Record inner) = numbered (codes "4 Record ") (record_fault_number inner) (record_fault_name inner)
+fault_text fault.Write = codes "2 Write"
+fault_text fault.NoMemory = codes "90 NoMemory"
+
+-- where a fault is: its block, and how many bytes the blocks before it have
+abbrev pub place_text : Placed → Bytes
+place_text placed = ((codes " IN BLOCK " ++ decimal placed.block) ++ codes " AT BYTE ") ++ decimal placed.byte
+
+-- the line of a fault: what it is, where, and of which file
+abbrev pub in_file_line : Bytes → Placed → Bytes
+in_file_line path placed =
+    ((codes "?M11 DUMP " ++ fault_text placed.fault) ++ place_text placed) ++ path_end (codes " OF ") path
+
+-- the line that says why not all files were shown
+abbrev pub stop_line : Stop → Bytes
+stop_line (stop.NotOpened path) = path_end (codes "?M11 OPEN ") path.now
+stop_line (stop.InFile path placed) = in_file_line path.now placed
+stop_line stop.Write = codes "?M11 DUMP 2 Write\n"
+stop_line stop.NoMemory = codes "?M11 DUMP 90 NoMemory\n"

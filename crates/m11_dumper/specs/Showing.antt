@@ -1,0 +1,64 @@
+-- Files that are shown one after another. (This project's own.)
+use Rattle.std.specs.Prelude.{◌≡◌, ◌⊎◌, ℕ, List, [], ◌∷◌, Option, Result, Ok, Err}
+use Rattle.std.specs.Io.KnownBytes.{Appends}
+use Rattle.m11_base.specs.Devices.{Bytes, Rises}
+use Rattle.m11_base.specs.Feed.{Text}
+use Rattle.m11_base.specs.Sink.{AppendsBeginning}
+use Rattle.m11_blocks.specs.Limited.{Place, most_bytes, place}
+use Rattle.m11_dump.specs.Objects.{DumpsObject}
+use Rattle.m11_dump.specs.declared.fault.Placed.{Placed}
+use Rattle.m11_dumper.specs.Lines.{head_line}
+use Rattle.m11_dumper.specs.declared.stop.Stop.{Stop}
+use Rattle.m11_dumper.specs.declared.stop.Stop.TheVariants.{NotOpened, InFile, Write, NoMemory}
+use Rattle.m11_files.specs.Opens.{Files, Holds, Lacks}
+use Rattle.m11_writes.specs.Outputs.{Output}
+
+-- a text was put whole; or the output failed after a beginning of it
+abbrev pub Gains : Bytes → Output → Output → Type 0
+Gains text out out' = Appends out.text out'.text text × (out'.faults ≡ out.faults)
+
+abbrev pub Fails : Bytes → Output → Output → Type 0
+Fails text out out' = AppendsBeginning out.text out'.text text × Rises out.faults out'.faults
+
+-- after the head of a file the output gained what a dump makes of its bytes, which it read from their beginning
+abbrev pub DumpsInput : Option Text → ℕ → Bytes → Output → Output → Result (Unit {0}) Placed → Type 0
+DumpsInput text faults path out out' result = (middle : Output) × (new : Place) × Gains (head_line path) out middle
+    × DumpsObject (place text faults most_bytes) new middle out' result
+
+-- the same of the file of a path
+abbrev pub Dumps : Option Files → Bytes → Output → Output → Result (Unit {0}) Placed → Type 0
+Dumps files path out out' result =
+    (text : Option Text) × (faults : ℕ) × Holds files path text × DumpsInput text faults path out out' result
+
+-- one file was shown; or it doesn't open; or its dump stopped; or its head couldn't be written, or memory was refused before that
+abbrev pub ShowsFile : Option Files → Bytes → Output → Output → Result (Unit {0}) Stop → Type 0
+ShowsFile files path out out' (Ok done) = Dumps files path out out' (Ok done)
+ShowsFile files path out out' (Err (InFile named placed)) = (named.now ≡ path) × Dumps files path out out' (Err placed)
+ShowsFile files path out out' (Err (NotOpened named)) = (named.now ≡ path) × Lacks files path × (out' ≡ out)
+ShowsFile files path out out' (Err Write) = Fails (head_line path) out out'
+ShowsFile files path out out' (Err NoMemory) = out' ≡ out
+
+-- all files were shown, in order; or those before one at which showing stopped
+abbrev pub ShowsAll : Option Files → List Bytes → Output → Output → Result (Unit {0}) Stop → Type 0
+ShowsAll files [] out out' (Ok done) = out' ≡ out
+ShowsAll files [] out out' (Err stop) = ⊥
+ShowsAll files (path ∷ paths) out out' (Ok done) =
+    (middle : Output) × ShowsFile files path out middle (Ok tt) × ShowsAll files paths middle out' (Ok done)
+ShowsAll files (path ∷ paths) out out' (Err stop) = ShowsFile files path out out' (Err stop)
+    ⊎ ((middle : Output) × ShowsFile files path out middle (Ok tt) × ShowsAll files paths middle out' (Err stop))
+
+-- a count of refusals rises exactly where a file doesn't open
+abbrev pub Counts : ℕ → ℕ → Result (Unit {0}) Stop → Type 0
+Counts old new (Err (NotOpened path)) = Rises old new
+Counts old new result = new ≡ old
+
+-- ---- one input
+
+-- a file that was opened was shown, or why it wasn't
+abbrev pub ShowsInput : Option Text → ℕ → Bytes → Output → Output → Result (Unit {0}) Stop → Type 0
+ShowsInput text faults path out out' (Ok done) = DumpsInput text faults path out out' (Ok done)
+ShowsInput text faults path out out' (Err (InFile named placed)) =
+    (named.now ≡ path) × DumpsInput text faults path out out' (Err placed)
+ShowsInput text faults path out out' (Err (NotOpened named)) = ⊥
+ShowsInput text faults path out out' (Err Write) = Fails (head_line path) out out'
+ShowsInput text faults path out out' (Err NoMemory) = out' ≡ out

@@ -1,0 +1,29 @@
+//! What the parser of command lines is given.
+
+ghost use Rattle.std.specs.Prelude.{IfOk};
+ghost use Rattle.m11_tasks.specs.Commands.{IsArgument, IsCommand};
+ghost use Rattle.m11_dumper.specs.Application.{application, files_rule};
+
+use clap::{Arg, ArgAction, Command};
+use std::alloc::{AllocError, Global};
+
+/// The parser of `m11-dump FILE...`. `AllocError` where memory is refused.
+pub(crate) fn application_command<'a>(alloc: Global) -> Result<Command<'a>, AllocError>
+    ensures { IfOk result (IsCommand application) }
+{
+    let about = "Show what MACRO-11 and RT-11 objects hold, record by record";
+    Command::new(alloc, "m11-dump")
+        .about(about)
+        .arg(files_argument(alloc))
+}
+
+// `FILE...`, one or more.
+fn files_argument<'a>(alloc: Global) -> Arg<'a>
+    ensures { IsArgument files_rule result }
+{
+    Arg::new(alloc, "files")
+        .value_name("FILE")
+        .help("The files to show, in order")
+        .required(true)
+        .action(ArgAction::Append)
+}

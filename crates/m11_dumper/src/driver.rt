@@ -1,0 +1,126 @@
+//! All of the program's work, over whatever opens files and takes bytes.
+
+ghost use Rattle.std.specs.Prelude.{◌≡◌, map};
+ghost use Rattle.m11_dumper.specs.Outcome.{Explains, ReportsOfWords, ReportsSome, Says, Yields, status_of, words_status};
+ghost use Rattle.m11_dumper.specs.declared.stop.Outcome.{Outcome};
+ghost use Rattle.m11_writes.specs.Outputs.{output_of};
+
+use crate::lines::stop_line;
+use crate::paths::plan;
+use crate::showing::show_all;
+use crate::stop::{Outcome, Stop, status};
+use m11_base::{Sink, put_all};
+use m11_files::Opens;
+use m11_tasks::{UsageFault, WordsFault, refusal_line};
+use std::alloc::Global;
+use std::convert::AsStr;
+
+/// Does what the words ask for, and returns the status that the process is to leave. The first word is the program's name.
+///
+/// The files are opened and shown on `out` one after another, up to the first that can't be shown: which it is, and why, goes to
+/// `err`. Help goes to `out` too, and refused words to `err`.
+pub(crate) fn command<'a, F, O, E, S>(
+    alloc: Global,
+    files: &mut F,
+    out: &mut O,
+    err: &mut E,
+    words: &'a [S],
+) -> u8
+where
+    F: Opens,
+    O: Sink,
+    E: Sink,
+    S: AsStr,
+    ensures command { (outcome : Outcome) × Yields (map S.text words.entry.now) (F.files files.old) outcome
+        (output_of O.Sink out.old) (output_of O.Sink out.new) (output_of E.Sink err.old) (output_of E.Sink err.new)
+        × (result ≡ status_of outcome) }
+    ensures files { F.files files.new ≡ F.files files.old }
+{
+    let outcome = outcome_of(alloc, files, out, err, words);
+    status(&outcome)
+}
+
+/// Stands for `command` where the system did not give the words: reports a word that is no text, and returns the status, that of
+/// want of memory or that of refused words.
+#[tactic(auto, using(crate::proofs::Shown::reports, crate::proofs::Shown::reports_none))]
+pub(crate) fn command_without_words<E: Sink>(alloc: Global, fault: WordsFault, err: &mut E) -> u8
+    ensures status { result ≡ words_status fault }
+    ensures reported { ReportsOfWords fault (output_of E.Sink err.old) (output_of E.Sink err.new) }
+{
+    match fault {
+        WordsFault::NoMemory => 5,
+        WordsFault::NotText(number) => {
+            if let Ok(line) = refusal_line(alloc, number) {
+                let _ = put_all(err, line.as_bytes());
+            }
+            2
+        }
+    }
+}
+
+// What the words yield, reported.
+fn outcome_of<'a, F, O, E, S>(
+    alloc: Global,
+    files: &mut F,
+    out: &mut O,
+    err: &mut E,
+    words: &'a [S],
+) -> Outcome<'a>
+where
+    F: Opens,
+    O: Sink,
+    E: Sink,
+    S: AsStr,
+    ensures yields { Yields (map S.text words.entry.now) (F.files files.old) result
+        (output_of O.Sink out.old) (output_of O.Sink out.new) (output_of E.Sink err.old) (output_of E.Sink err.new) }
+    ensures files { F.files files.new ≡ F.files files.old }
+{
+    match plan(alloc, words) {
+        Ok(paths) => {
+            let shown = show_all(alloc, files, paths.as_slice(), out);
+            say(alloc, &shown, err);
+            Outcome::Shown(shown)
+        }
+        Err(fault) => {
+            explain(alloc, &fault, out, err);
+            Outcome::Usage(fault)
+        }
+    }
+}
+
+// Reports why not all files were shown.
+#[tactic(auto, using(crate::proofs::Shown::reports, crate::proofs::Shown::reports_none))]
+fn say<E: Sink>(alloc: Global, shown: &Result<(), Stop<'_>>, err: &mut E)
+    ensures { Says shown.now (output_of E.Sink err.old) (output_of E.Sink err.new) }
+{
+    if let Err(stop) = shown
+        && let Ok(line) = stop_line(alloc, stop)
+    {
+        let _ = put_all(err, &line);
+    }
+}
+
+// The parser's text: help goes to `out`, and a refusal to `err`.
+fn explain<O: Sink, E: Sink>(alloc: Global, fault: &UsageFault, out: &mut O, err: &mut E)
+    ensures { Explains fault.now (output_of O.Sink out.old) (output_of O.Sink out.new)
+        (output_of E.Sink err.old) (output_of E.Sink err.new) }
+{
+    match fault {
+        UsageFault::Help(error) => report(alloc, error, out),
+        UsageFault::Words(error) => report(alloc, error, err),
+        UsageFault::BadOctal
+        | UsageFault::OddAddress
+        | UsageFault::BadAddress
+        | UsageFault::NoMemory => {}
+    }
+}
+
+// The text of an error, put at once. Where memory is refused for it, nothing is.
+#[tactic(auto, using(crate::proofs::Shown::reports, crate::proofs::Shown::reports_none))]
+fn report<S: Sink>(alloc: Global, error: &clap::Error, sink: &mut S)
+    ensures { ReportsSome (output_of S.Sink sink.old) (output_of S.Sink sink.new) }
+{
+    if let Ok(text) = error.to_string(alloc) {
+        let _ = put_all(sink, text.as_bytes());
+    }
+}

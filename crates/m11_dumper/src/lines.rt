@@ -1,0 +1,114 @@
+//! The lines of the program itself.
+
+ghost use Rattle.std.specs.Prelude.{◌≡◌, ◌++◌, IfOk, OnOk};
+ghost use Rattle.std.specs.Fmt.{decimal};
+ghost use Rattle.m11_dumper.specs.Lines as spec;
+
+use crate::stop::Stop;
+use m11_dump::{DumpFault, Placed};
+use m11_obj::BlockFault;
+use std::alloc::{AllocError, Global};
+
+// Adds a number in decimal.
+fn put_decimal(line: &mut Vec<u8>, alloc: Global, number: u64) -> Result<(), AllocError>
+    ensures { OnOk result (line.new.items ≡ line.old.items ++ decimal number) }
+{
+    let digits = number.to_string(alloc)?;
+    line.extend_from_slice(digits.as_bytes())
+}
+
+// Adds a number and a name, after a word.
+#[tactic(auto, using(m11_dump::proofs::Items::four_put))]
+fn put_numbered(
+    line: &mut Vec<u8>,
+    alloc: Global,
+    word: &str,
+    number: u8,
+    name: &str,
+) -> Result<(), AllocError>
+    ensures { OnOk result (line.new.items ≡ line.old.items ++ spec.numbered word.now number name.now) }
+{
+    line.extend_from_slice(word.as_bytes())?;
+    put_decimal(line, alloc, u64::from(number))?;
+    line.push(b' ')?;
+    line.extend_from_slice(name.as_bytes())
+}
+
+// Adds the number and the name of a fault, as the linker has them.
+fn put_fault(line: &mut Vec<u8>, alloc: Global, fault: DumpFault) -> Result<(), AllocError>
+    ensures { OnOk result (line.new.items ≡ line.old.items ++ spec.fault_text fault) }
+{
+    match fault {
+        DumpFault::Block(BlockFault::Device) => line.extend_from_slice(b"1 Read"),
+        DumpFault::Block(BlockFault::TooMuch) => line.extend_from_slice(b"13 TooMuch"),
+        DumpFault::Block(inner) => {
+            put_numbered(line, alloc, "3 Block ", inner.number(), inner.name())
+        }
+        DumpFault::Record(inner) => {
+            put_numbered(line, alloc, "4 Record ", inner.number(), inner.name())
+        }
+        DumpFault::Write => line.extend_from_slice(b"2 Write"),
+        DumpFault::NoMemory => line.extend_from_slice(b"90 NoMemory"),
+    }
+}
+
+// Adds where a fault is.
+#[tactic(auto, using(m11_dump::proofs::Items::four_put))]
+fn put_place(line: &mut Vec<u8>, alloc: Global, placed: Placed) -> Result<(), AllocError>
+    ensures { OnOk result (line.new.items ≡ line.old.items ++ spec.place_text placed) }
+{
+    line.extend_from_slice(b" IN BLOCK ")?;
+    put_decimal(line, alloc, placed.block)?;
+    line.extend_from_slice(b" AT BYTE ")?;
+    put_decimal(line, alloc, placed.byte)
+}
+
+// Adds a path after a word, and the end of the line.
+fn put_path(line: &mut Vec<u8>, word: &str, path: &str) -> Result<(), AllocError>
+    ensures { OnOk result (line.new.items ≡ line.old.items ++ spec.path_end word.now path.now) }
+{
+    line.extend_from_slice(word.as_bytes())?;
+    line.extend_from_slice(path.as_bytes())?;
+    line.push(b'\n')?;
+    Ok(())
+}
+
+// The line of a dump that stopped.
+fn in_file_line(alloc: Global, path: &str, placed: Placed) -> Result<Vec<u8>, AllocError>
+    ensures { IfOk result (λ line. line.items ≡ spec.in_file_line path.now placed) }
+{
+    let mut line = Vec::new(alloc);
+    line.extend_from_slice(b"?M11 DUMP ")?;
+    put_fault(&mut line, alloc, placed.fault)?;
+    put_place(&mut line, alloc, placed)?;
+    put_path(&mut line, " OF ", path)?;
+    Ok(line)
+}
+
+// A path after a word, as a line.
+fn path_line(alloc: Global, word: &str, path: &str) -> Result<Vec<u8>, AllocError>
+    ensures { IfOk result (λ line. line.items ≡ spec.path_end word.now path.now) }
+{
+    let mut line = Vec::new(alloc);
+    put_path(&mut line, word, path)?;
+    Ok(line)
+}
+
+/// The line before the text of a file. Error: memory was refused.
+pub(crate) fn head_line(alloc: Global, path: &str) -> Result<Vec<u8>, AllocError>
+    ensures { IfOk result (λ line. line.items ≡ spec.head_line path.now) }
+{
+    path_line(alloc, "OBJECT ", path)
+}
+
+/// The line that says why not all files were shown. Error: memory was refused.
+pub(crate) fn stop_line(alloc: Global, stop: &Stop<'_>) -> Result<Vec<u8>, AllocError>
+    ensures { IfOk result (λ line. line.items ≡ spec.stop_line stop.now) }
+{
+    match stop {
+        Stop::NotOpened(path) => path_line(alloc, "?M11 OPEN ", path),
+        Stop::InFile(path, placed) => in_file_line(alloc, path, *placed),
+        Stop::Write => Vec::from_slice(alloc, b"?M11 DUMP 2 Write\n"),
+        Stop::NoMemory => Vec::from_slice(alloc, b"?M11 DUMP 90 NoMemory\n"),
+    }
+}

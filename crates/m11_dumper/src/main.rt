@@ -1,0 +1,28 @@
+//! `m11-dump`: shows what objects hold, record by record. The words are read here, and the files are opened and shown one after
+//! another; what is shown of a file is the work of `m11_dump`.
+#![tactic(auto)]
+
+mod application;
+mod driver;
+mod lines;
+mod paths;
+mod showing;
+mod stop;
+
+use crate::driver::{command, command_without_words};
+use m11_base::WriterSink;
+use m11_files::SystemFiles;
+use m11_tasks::words;
+use std::process::ExitCode;
+
+fn main(rt: HostRuntime) -> ExitCode {
+    // Made before anything else is opened, so that no file takes the place of a stream that the caller closed.
+    let mut files = SystemFiles::new(&rt);
+    let mut out = WriterSink::new(rt.stdout());
+    let mut err = WriterSink::new(rt.stderr());
+    let status = match words(&rt) {
+        Ok(words) => command(rt.alloc(), &mut files, &mut out, &mut err, words.as_slice()),
+        Err(fault) => command_without_words(rt.alloc(), fault, &mut err),
+    };
+    ExitCode::from(status)
+}

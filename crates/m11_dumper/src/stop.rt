@@ -1,0 +1,85 @@
+//! What a command line yields: files that were shown, or why not all of them were.
+
+ghost use Rattle.std.specs.Prelude.{◌≡◌};
+ghost use Rattle.m11_dumper.specs.Outcome.{fault_status, status_of, stop_status, usage_status};
+ghost use Rattle.m11_dumper.specs.declared.stop.Stop.TheVariants.{NoMemory};
+
+use m11_dump::{DumpFault, Placed};
+use m11_obj::BlockFault;
+use m11_tasks::UsageFault;
+use std::alloc::AllocError;
+
+/// Why not all files were shown.
+#[derive(Clone, Copy, Debug)]
+pub(crate) enum Stop<'a> {
+    /// The file of this path doesn't open.
+    NotOpened(&'a str),
+    /// The dump of the file of this path stopped.
+    InFile(&'a str, Placed),
+    /// The head of a file could not be written.
+    Write,
+    /// Memory was refused before a file was read.
+    NoMemory,
+}
+
+impl From<AllocError> for Stop<'_> {
+    ghost from_gives = { λ _ e. e ≡ NoMemory };
+
+    fn from(_error: AllocError) -> Self {
+        Stop::NoMemory
+    }
+}
+
+/// What a command line yields.
+#[derive(Debug, Drop)]
+pub(crate) enum Outcome<'a> {
+    /// The words name no files.
+    Usage(UsageFault),
+    /// The files were shown, or some of them.
+    Shown(Result<(), Stop<'a>>),
+}
+
+fn fault_status(fault: DumpFault) -> u8
+    ensures { result ≡ fault_status fault }
+{
+    match fault {
+        DumpFault::Block(BlockFault::Device) | DumpFault::Write => 3,
+        DumpFault::Block(BlockFault::TooMuch) => 6,
+        DumpFault::Block(_) | DumpFault::Record(_) => 4,
+        DumpFault::NoMemory => 5,
+    }
+}
+
+fn stop_status(stop: &Stop<'_>) -> u8
+    ensures { result ≡ stop_status stop.now }
+{
+    match stop {
+        Stop::NotOpened(_) | Stop::Write => 3,
+        Stop::InFile(_, placed) => fault_status(placed.fault),
+        Stop::NoMemory => 5,
+    }
+}
+
+fn usage_status(fault: &UsageFault) -> u8
+    ensures { result ≡ usage_status fault.now }
+{
+    match fault {
+        UsageFault::Help(_) => 0,
+        UsageFault::NoMemory => 5,
+        UsageFault::Words(_)
+        | UsageFault::BadOctal
+        | UsageFault::OddAddress
+        | UsageFault::BadAddress => 2,
+    }
+}
+
+/// The status that an outcome leaves.
+pub(crate) fn status(outcome: &Outcome<'_>) -> u8
+    ensures { result ≡ status_of outcome.now }
+{
+    match outcome {
+        Outcome::Usage(fault) => usage_status(fault),
+        Outcome::Shown(Ok(())) => 0,
+        Outcome::Shown(Err(stop)) => stop_status(stop),
+    }
+}

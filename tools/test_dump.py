@@ -1,0 +1,127 @@
+#!/usr/bin/env python3
+"""Runs a built m11-dump on files that are made here: tools/test_dump.py PROGRAM
+
+Each check writes files into a fresh folder, runs PROGRAM there, and compares its status and each byte of what it says. What has to be
+said is written out by hand. The last line is `N passed, M failed`, and the status is 1 where one failed."""
+import os
+import subprocess
+import sys
+import tempfile
+
+LETTERS = " ABCDEFGHIJKLMNOPQRSTUVWXYZ$.?0123456789"
+
+
+def word(number):
+    """The two bytes of a word, the low one first."""
+    return bytes([number & 255, number >> 8])
+
+
+def name(text):
+    """The two words of a name of six characters in RADIX-50."""
+    codes = [LETTERS.index(letter) for letter in text.ljust(6)]
+    return b"".join(word(codes[at] * 1600 + codes[at + 1] * 40 + codes[at + 2]) for at in (0, 3))
+
+
+def block(content):
+    """The block of a content: of an object's record, or of the address and the data of a tape."""
+    front = b"\1\0" + word(len(content) + 4) + content
+    return front + bytes([-sum(front) & 255])
+
+
+def entry(text, flags, kind, value):
+    """An entry of a directory."""
+    return name(text) + bytes([flags, kind]) + word(value)
+
+
+DIRECTORY = block(word(1) + entry("MOD", 0, 0, 0) + entry("V01.00", 0, 6, 0) + entry("CODE", 0o40, 5, 0o20) + entry("START", 0o50, 4, 2)
+                  + entry("SIZE", 0o11, 4, 0o177777) + entry("OTHER", 0o40, 4, 0) + entry("MAYBE", 1, 4, 0) + entry("OLD", 0, 1, 6)
+                  + entry("INNER", 0, 2, 4) + entry("CODE", 0, 3, 2))
+TEXT = block(word(3) + word(0o10) + bytes(range(9)))
+PLACES = block(word(4) + b"\7\0" + name("CODE") + word(0o10) + b"\10\0" + word(4) + b"\1\4" + word(2) + b"\206\6" + name("OTHER") + word(1) + b"\11\10"
+               + b"\14\12" + name("OLD"))
+END = block(word(2)) + block(word(5)) + block(word(6))
+
+SHOWN = """\
+MODULE    MOD
+IDENT     V01.00
+SECTION   CODE   000020 RW,I,LCL,REL,CON
+GLOBAL    START  000002 REL
+GLOBAL    SIZE   177777 ABS WEAK
+REFERENCE OTHER
+REFERENCE MAYBE  WEAK
+CSECT     OLD    000006
+INTERNAL  INNER  000004
+TRANSFER  CODE   000002
+"""
+SHOWN_TEXT = """\
+TEXT 000010
+  000010 000 001 002 003 004 005 006 007
+  000020 010
+"""
+SHOWN_PLACES = """\
+         LOCATION COUNTER DEFINITION CODE   000010
+         LOCATION COUNTER MODIFICATION 000004
+  000010 INTERNAL 000002
+  000012 GLOBAL ADDITIVE DISPLACED OTHER  000001 BYTE
+  000014 PROGRAM LIMITS
+  000016 SECTION DISPLACED OLD
+"""
+SHOWN_END = "END OF DIRECTORY\nINTERNAL SYMBOLS\nEND OF MODULE\n"
+
+GOOD = DIRECTORY + TEXT + b"\0\0" + PLACES + END + b"\0" * 300
+BAD = TEXT[:-1] + bytes([TEXT[-1] ^ 1])
+
+# What it shows; the words; the files; the status, and what standard output and standard error get.
+CASES = (
+    ("an object", "A.OBJ", {"A.OBJ": GOOD}, 0, "OBJECT A.OBJ\n" + SHOWN + SHOWN_TEXT + SHOWN_PLACES + SHOWN_END, ""),
+    ("an empty file", "A.OBJ", {"A.OBJ": b""}, 0, "OBJECT A.OBJ\n", ""),
+    ("two files", "B.OBJ ./A.OBJ", {"A.OBJ": b"\0", "B.OBJ": END}, 0, "OBJECT B.OBJ\n" + SHOWN_END + "OBJECT ./A.OBJ\n", ""),
+    ("a bad sum", "A.OBJ B.OBJ", {"A.OBJ": DIRECTORY + BAD, "B.OBJ": GOOD}, 4, "OBJECT A.OBJ\n" + SHOWN,
+     f"?M11 DUMP 3 Block 3 BadSum IN BLOCK 2 AT BYTE {len(DIRECTORY)} OF A.OBJ\n"),
+    ("a file that is cut off", "A.OBJ", {"A.OBJ": DIRECTORY[:-1]}, 4, "OBJECT A.OBJ\n", "?M11 DUMP 3 Block 2 Truncated IN BLOCK 1 AT BYTE 0 OF A.OBJ\n"),
+    ("no block", "A.OBJ", {"A.OBJ": b"text\n"}, 4, "OBJECT A.OBJ\n", "?M11 DUMP 3 Block 5 BadStart IN BLOCK 1 AT BYTE 0 OF A.OBJ\n"),
+    ("no record", "A.OBJ", {"A.OBJ": DIRECTORY + TEXT + block(word(9))}, 4, "OBJECT A.OBJ\n" + SHOWN + SHOWN_TEXT,
+     f"?M11 DUMP 4 Record 1 UnknownType IN BLOCK 3 AT BYTE {len(DIRECTORY) + len(TEXT)} OF A.OBJ\n"),
+    ("too many bytes", "A.OBJ", {"A.OBJ": b"\0" * 4_194_305}, 6, "OBJECT A.OBJ\n", "?M11 DUMP 13 TooMuch IN BLOCK 1 AT BYTE 0 OF A.OBJ\n"),
+    ("a folder", "B", {"B/A.OBJ": b""}, 3, "OBJECT B\n", "?M11 DUMP 1 Read IN BLOCK 1 AT BYTE 0 OF B\n"),
+    ("no file", "A.OBJ B.OBJ", {"A.OBJ": b""}, 3, "OBJECT A.OBJ\n", "?M11 OPEN B.OBJ\n"),
+)
+
+
+def put(folder, path, content):
+    """Writes a file, with its folders."""
+    os.makedirs(os.path.dirname(os.path.join(folder, path)), exist_ok=True)
+    with open(os.path.join(folder, path), "wb") as file:
+        file.write(content)
+
+
+def check(program, words, files):
+    """The status of a call over these files, and what it says."""
+    with tempfile.TemporaryDirectory() as folder:
+        for path, content in files.items():
+            put(folder, path, content)
+        done = subprocess.run([program, *words.split()], cwd=folder, stdin=subprocess.DEVNULL, capture_output=True, timeout=60, check=False)
+        return done.returncode, done.stdout.decode(), done.stderr.decode()
+
+
+def main():
+    """Runs all checks."""
+    program, failed = os.path.abspath(sys.argv[1]), 0
+    cases = [(what, check(program, words, files), wanted) for what, words, files, *wanted in CASES]
+    with open("/dev/full", "wb") as full:
+        done = subprocess.run([program, program], stdout=full, stderr=subprocess.PIPE, check=False)
+    cases.append(("a full device", (done.returncode, "", done.stderr.decode()), (3, "", "?M11 DUMP 2 Write\n")))
+    helped = check(program, "--help", {})
+    cases.append(("help", (helped[0], "Usage: m11-dump" in helped[1], helped[2]), (0, True, "")))
+    refused = check(program, "", {})
+    cases.append(("no words", (refused[0], refused[1], refused[2] != ""), (2, "", True)))
+    for what, got, wanted in cases:
+        if tuple(got) != tuple(wanted):
+            failed += 1
+            print(f"{what}\n--- is\n{got}\n--- should be\n{wanted}")
+    print(f"{len(cases) - failed} passed, {failed} failed")
+    sys.exit(1 if failed else 0)
+
+
+if __name__ == "__main__":
+    main()
