@@ -77,11 +77,14 @@ def run(tool, words, folder, given=b""):
     return subprocess.run(command, cwd=folder, input=given, capture_output=True, timeout=60)
 
 
+def shown(value):
+    return value.decode("latin-1") if isinstance(value, bytes) else "" if value is None else value
+
+
 def differ(what, got, wanted):
     if got == wanted:
         return []
-    return [f"{what}\n--- is\n{got if isinstance(got, int) else (got or b'').decode('latin-1')}"
-            f"\n--- should be\n{wanted if isinstance(wanted, int) else (wanted or b'').decode('latin-1')}"]
+    return [f"{what}\n--- is\n{shown(got)}\n--- should be\n{shown(wanted)}"]
 
 
 def check_adapt(case, folder):
@@ -204,6 +207,8 @@ def check_refusals():
             wrong += differ(f"status of adapt {' '.join(words)}", run("adapt", words, folder).returncode, status)
         for words, status in (([], 2), (["C.MAC"], 3), (["A.MAC"], 0), (["--help"], 0)):
             wrong += differ(f"status of lines {' '.join(words)}", run("lines", words, folder).returncode, status)
+        done = run("lines", ["A.MAC", "C.MAC"], folder, b"?M11 OPEN C.MAC\nQ 1: X\n")
+        wrong += differ("what passes where a file isn't there", (done.stdout, done.returncode), (b"?M11 OPEN C.MAC\nQ 1: X\n", 3))
         wrong += differ("A.MAC", get(folder, "A.MAC"), b"\t.END\n")
     return wrong
 
@@ -250,7 +255,7 @@ def check_objects():
         done = run("lines", words[2:], folder, OF_A_LINK[2][0])
         wrong += differ("messages without a linker that is named", done.stdout, OF_A_LINK[2][1])
         done = run("lines", ["-m", "no linker", "B.OBJ"], folder, OF_A_LINK[0][0])
-        wrong += differ("status without a linker", done.returncode, 3)
+        wrong += differ("without a linker that is named", (done.stdout, done.returncode), (OF_A_LINK[0][0], 3))
     return wrong
 
 
