@@ -143,5 +143,5 @@ run_program() {
         fi
     fi
 
-    exec "$program" "$@"
+    exec -a "$name" "$program" "$@"
 }

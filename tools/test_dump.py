@@ -112,7 +112,7 @@ def main():
         done = subprocess.run([program, program], stdout=full, stderr=subprocess.PIPE, check=False)
     cases.append(("a full device", (done.returncode, "", done.stderr.decode()), (3, "", "?M11 DUMP 2 Write\n")))
     helped = check(program, "--help", {})
-    cases.append(("help", (helped[0], "Usage: m11-dump" in helped[1], helped[2]), (0, True, "")))
+    cases.append(("help", (helped[0], "<FILE>..." in helped[1], helped[2]), (0, True, "")))
     refused = check(program, "", {})
     cases.append(("no words", (refused[0], refused[1], refused[2] != ""), (2, "", True)))
     for what, got, wanted in cases:
