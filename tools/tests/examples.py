@@ -98,7 +98,7 @@ class Copy:
 
     def run(self, commands, within):
         """The status of commands, and what they print, on each of both streams and on one after the other."""
-        environment = {"PATH": "/usr/bin:/bin", "HOME": self.top, "LC_ALL": "C"}
+        environment = {"PATH": "/usr/local/bin:/usr/bin:/bin", "HOME": self.top, "LC_ALL": "C"}
         done = subprocess.run(["bash", "-e", "-c", "\n".join(commands)], cwd=os.path.join(self.top, within), env=environment, stdin=subprocess.DEVNULL,
                               capture_output=True, check=False, timeout=120, **self.user)
         out, said = done.stdout.decode("latin-1"), done.stderr.decode("latin-1")
