@@ -9,3 +9,4 @@ pub mod LabelsLie
 pub mod GlobalsLie
 pub mod NoMessages
 pub mod WorkedOut
+pub mod BranchesLead

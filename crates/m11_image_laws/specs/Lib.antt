@@ -4,3 +4,4 @@ pub mod Lines
 pub mod Agreement
 pub mod Labels
 pub mod Worked
+pub mod Branching

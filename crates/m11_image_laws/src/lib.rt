@@ -12,5 +12,8 @@ pub use labels::{
     labels_lie_where_their_lines_do,
 };
 pub use links::links_without_messages_agree;
-pub use values::{images_hold_what_their_lines_state, relative_words_lead_to_their_targets};
+pub use values::{
+    branches_lead_to_their_targets, images_hold_what_their_lines_state,
+    relative_words_lead_to_their_targets,
+};
 pub use worked::the_worked_program_states_four_words;
