@@ -4,11 +4,11 @@ use Rattle.std.specs.Prelude.{◌≡◌, ◌<◌, ◌*◌, ℕ, List, map}
 use Rattle.std.specs.Option.{unwrap_or}
 use Rattle.m11_base.specs.Devices.{Bytes}
 use Rattle.m11_chain.specs.Sources.{AllLive, sources_of}
-use Rattle.m11_cpu.specs.Machine.{byte_in}
-use Rattle.m11_cpu.specs.declared.machine.Machine.{Machine}
 use Rattle.m11_image.specs.Image.{addresses_of}
 use Rattle.m11_image_laws.specs.Agreement.{AbsolutesAgree}
 use Rattle.m11_image_laws.specs.Lines.{all_lying}
+use Rattle.m11_machine.specs.Machine.{byte_in}
+use Rattle.m11_machine.specs.declared.machine.Machine.{Machine}
 use Rattle.m11_passes.specs.Lines.{Numbered, givens}
 use Rattle.m11_tape_laws.specs.Image.{byte_of}
 
