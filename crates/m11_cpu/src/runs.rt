@@ -4,7 +4,7 @@ ghost use Rattle.m11_machine.specs.Dialogue.{Does, both};
 ghost use Rattle.m11_cpu.specs.Runs.{run, run_counted};
 
 use m11_base::{Feed, Sink};
-use m11_cpu_quick::quick_steps;
+use m11_cpu_quick::{KindTable, quick_steps};
 use m11_machine::{Machine, Stop, Turn};
 
 /// The outcome of a run.
@@ -39,7 +39,8 @@ pub(crate) fn run_counted<F: Feed, S: Sink>(
         (both (F.text feed.new) (F.faults feed.new) (S.text sink.new) (S.faults sink.new))
         (result, machine.new) }
 {
-    let mut done = quick_steps(machine, limit);
+    let kinds = KindTable::new();
+    let mut done = quick_steps(machine, &kinds, limit);
     'steps: while done < limit {
         match machine.step(feed, sink) {
             Turn::Next => {}
@@ -48,7 +49,7 @@ pub(crate) fn run_counted<F: Feed, S: Sink>(
                 steps: done + 1,
             },
         }
-        let quick = quick_steps(machine, limit - (done + 1));
+        let quick = quick_steps(machine, &kinds, limit - (done + 1));
         done = done + 1 + quick;
     }
     Ran {

@@ -1,2 +1,6 @@
+pub mod JumpsMade
+pub mod KindsFound
+pub mod OperandsFound
 pub mod QuickDone
-pub mod QuickJumps
+pub mod ResultsPut
+pub mod StepsMade

@@ -1,14 +1,10 @@
 -- Steps that are made at once, part by part.
-use Rattle.std.proofs.Common.{◌≡◌, ℕ, ◌+◌, ◌/◌, ◌%◌, ◌<◌, ◌==◌, Bool, true, false, not, ◌&&◌, cond, List, Option, Some, suc, refl, sym, ◌∙◌, ap, subst, length, arith, eqb-true}
+use Rattle.std.proofs.Common.{◌≡◌, ℕ, ◌+◌, ◌%◌, ◌<◌, Bool, true, false, not, ◌&&◌, cond, Option, Some, suc, refl, sym, ◌∙◌, ap, subst, length, arith}
 use Rattle.std.proofs.lemmas.Bool.{false≢true}
-use Rattle.std.proofs.lemmas.List.{set-get_or, set-set}
-use Rattle.std.specs.Prelude.{nat_lt, slice_set, Result, Ok}
-use Rattle.m11_arithmetic.specs.declared.results.Computed.{Computed}
+use Rattle.std.specs.Prelude.{nat_lt, Result, Ok}
 use Rattle.m11_base.proofs.Words.{tables_meaning}
 use Rattle.m11_base.specs.OperationTables.{operation_by_tables}
 use Rattle.m11_base.specs.Instructions.{instruction_of, meaning}
-use Rattle.m11_base.specs.Operand.{mode_of, register_number}
-use Rattle.m11_base.specs.declared.instruction.ConditionCodes.{ConditionCodes}
 use Rattle.m11_base.specs.declared.instruction.DoubleOp.{DoubleOp}
 use Rattle.m11_base.specs.declared.instruction.Insn.{Insn}
 use Rattle.m11_base.specs.declared.instruction.SingleOp.{SingleOp}
@@ -25,10 +21,10 @@ use Rattle.m11_machine.specs.DestinationUse.{use_by_double, use_by_single}
 use Rattle.m11_machine.specs.Dialogue.{after, Comes, Dialogue}
 use Rattle.m11_machine.specs.DoubleOperands.{change_double, compare, double_at, double_by, move_to}
 use Rattle.m11_machine.specs.Execution.{execute}
-use Rattle.m11_machine.specs.Machine.{advanced, finished, is_status, register_of, with_condition_codes, with_register}
+use Rattle.m11_machine.specs.Machine.{advanced, register_of, with_register}
 use Rattle.m11_machine.specs.Memory.{byte_at, with_byte, with_word, word_at}
 use Rattle.m11_cpu_quick.specs.Near.{NearKeeps, is_plain, plain_at}
-use Rattle.m11_machine.specs.Addressing.{deferred, fetch, fetch_operand, indexed, next_word, place_by, place_of, put_result, stepped_back, step_of, store}
+use Rattle.m11_machine.specs.Addressing.{deferred, fetch, fetch_operand, indexed, next_word, place_by, place_of, stepped_back, step_of, store}
 use Rattle.m11_cpu_quick.specs.Quick.{QuickRuns, StepsAtOnce}
 use Rattle.m11_machine.specs.SingleOperands.{change_single, single, single_by, test_operand, write}
 use Rattle.m11_machine.specs.Steps.{instruction, step, step_unless, turned}
@@ -62,7 +58,7 @@ byte_loads : (address : ℕ) (m : Machine) → is_plain Byte address m.memory �
 unfolding load_byte
 byte_loads address m e = first (nat_lt address (length m.memory)) _ _ e
 
-word_stores : (address v : ℕ) (m : Machine) → is_plain Word address m.memory ≡ true
+pub word_stores : (address v : ℕ) (m : Machine) → is_plain Word address m.memory ≡ true
     → store_word address v m ≡ Comes (Ok tt, record m { memory = with_word address v m.memory })
 unfolding store_word
 word_stores address v m e = chosen (is_odd address) (nat_lt address (length m.memory)) _ _ _ e
@@ -148,7 +144,7 @@ by_pointer operand size a m n e p f k =
     (advanced operand.register 2 m) _ (word_loads (register_of operand.register m) (advanced operand.register 2 m) p)
     ∙ comes_place _ a _ n f k
 
-next_at : (m : Machine) → is_plain Word (register_of Pc m) m.memory ≡ true
+pub next_at : (m : Machine) → is_plain Word (register_of Pc m) m.memory ≡ true
     → next_word m ≡ Comes (Ok (word_at m.memory (register_of Pc m)), advanced Pc 2 m)
 unfolding next_word
 next_at m p = bind_at (load_word (register_of Pc m)) _ m m _ (word_loads (register_of Pc m) m p)
@@ -176,26 +172,6 @@ pub by_index : (operand : Operand) (size : Size) (a : ℕ) (m n : Machine) → o
 by_index operand size a m n e f =
     placed operand size m mode.Index e ∙ bind_at (indexed operand.register) _ m n a f
 
--- a register that is put back
-pub put_back : (register : Register) (v old : ℕ) (m n k : Machine) → old ≡ register_of register m
-    → n ≡ with_register register v m → k ≡ with_register register old n → k ≡ m
-put_back register v old m n k e f g =
-    let i = register_number register in
-    let again = set-set m.registers i v old ∙ ap (λ (x : ℕ). slice_set m.registers i x) e
-    ∙ set-get_or m.registers i 0 in
-    let to : List ℕ → Machine = λ x. record m { registers = x } in
-    g ∙ ap (λ (x : Machine). with_register register old x) f ∙ ap to again
-
-pub counter_back : (old : ℕ) (m n k : Machine) → old ≡ register_of Pc m → n ≡ advanced Pc 2 m
-    → k ≡ with_register Pc old n → k ≡ m
-counter_back old m n k e f g = put_back Pc ((register_of Pc m + 2) % 0o200000) old m n k e f g
-
--- registers that are put back
-pub restored : (m n k : Machine) → n ≡ record m { registers = n.registers }
-    → k ≡ record n { registers = m.registers } → k ≡ m
-restored m n k e f =
-    let to : Machine → Machine = λ x. record x { registers = m.registers } in f ∙ ap to e
-
 -- ---- operands
 
 pub place_fetched : (operand : Operand) (size : Size) (place : OperandLocation) (v : ℕ) (m n : Machine)
@@ -204,12 +180,6 @@ pub place_fetched : (operand : Operand) (size : Size) (place : OperandLocation) 
 unfolding fetch_operand
 place_fetched operand size place v m n e f = bind_at (place_of operand size) _ m n place e ∙ f
 
-pub register_mode : (bits : ℕ) → (bits / 8 % 8 == 0) ≡ true → mode_of (bits % 64 / 8) ≡ mode.Register
-register_mode bits e =
-    let zero = eqb-true (bits / 8 % 8) 0 e in
-    let same : bits % 64 / 8 ≡ 0 = omega (arith, zero) in
-    ap mode_of same
-
 pub in_register : (operand : Operand) (size : Size) (m : Machine) → operand.mode ≡ mode.Register
     → place_of operand size m ≡ Comes (Ok (InRegister operand.register), m)
 in_register operand size m e = placed operand size m mode.Register e
@@ -217,30 +187,6 @@ in_register operand size m e = placed operand size m mode.Register e
 pub bind_comes : {A B : Type 0} (act : Act A) (next : A → Act B) (m n k : Machine) (x : A) (y : B)
     → act m ≡ Comes (Ok x, n) → next x n ≡ Comes (Ok y, k) → (act >>= next) m ≡ Comes (Ok y, k)
 bind_comes act next m n k x y e f = bind_at act next m n x e ∙ f
-
--- ---- results
-
-pub put_result_comes : (place : OperandLocation) (size : Size) (computed computed' : Computed) (m n : Machine)
-    → computed' ≡ computed → put_result place size computed' m ≡ Comes (Ok tt, n)
-    → put_result place size computed m ≡ Comes (Ok tt, n)
-put_result_comes place size computed computed' m n e f =
-    ap (λ (x : Computed). put_result place size x m) (sym e) ∙ f
-
-kept : {A : Type 0} (of : Machine → A) (test : Bool) (a b : Machine) → of a ≡ of b → of (cond test a b) ≡ of b
-kept of true a b e = e
-kept of false a b e = refl
-
-pub finished_stopped : (place : OperandLocation) (codes : ConditionCodes) (m n : Machine) → n ≡ finished place codes m
-    → n.stopped ≡ m.stopped
-finished_stopped place codes m n e =
-    ap (λ (x : Machine). x.stopped) e
-    ∙ kept (λ (x : Machine). x.stopped) (is_status place) m (with_condition_codes codes m) refl
-
-pub finished_trace : (place : OperandLocation) (codes : ConditionCodes) (m n : Machine) → n ≡ finished place codes m
-    → n.status.trace ≡ m.status.trace
-finished_trace place codes m n e =
-    ap (λ (x : Machine). x.status.trace) e
-    ∙ kept (λ (x : Machine). x.status.trace) (is_status place) m (with_condition_codes codes m) refl
 
 -- ---- operations, by what they do with their destination
 
@@ -306,13 +252,6 @@ step_made m k n counter word h r e p w f x t =
     ap (λ (s : Option LastingStop). step_unless s m) r.0
     ∙ ap (λ (d : Dialogue (Result Ending Abort × Machine)). after d (λ came. turned came.0 came.1)) (at ∙ same)
     ∙ turned_next n untraced
-
--- a step that isn't made
-pub step_left : (m k n l : Machine) (counter : ℕ) → counter ≡ register_of Pc m
-    → k ≡ with_register Pc ((counter + 2) % 0o200000) m → n ≡ k → l ≡ with_register Pc counter n → l ≡ m
-step_left m k n l counter e f g h =
-    put_back Pc ((counter + 2) % 0o200000) counter m k l e f
-    (h ∙ ap (λ (x : Machine). with_register Pc counter x) g)
 
 -- ---- steps one after the other
 

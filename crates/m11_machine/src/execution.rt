@@ -142,8 +142,9 @@ impl Machine {
         self.transmitter.is_enabled = false;
     }
 
-    // Clears or sets the condition codes that are named.
-    fn apply_conditions(&mut self, operation: ConditionOp, named: ConditionCodes)
+    /// Clears or sets the condition codes that are named.
+    #[inline(always)]
+    pub fn apply_conditions(&mut self, operation: ConditionOp, named: ConditionCodes)
         ensures { self.new ≡ conditions_applied operation named self.old }
     {
         let codes = self.status.codes;

@@ -80,8 +80,9 @@ impl Machine {
     }
 }
 
-// The register of the low word: the next one of an even register, and an odd one itself.
-fn low_word_of(register: Register) -> Register
+/// The register of the low word: the next one of an even register, and an odd one itself.
+#[inline(always)]
+pub fn low_word_of(register: Register) -> Register
     ensures { result ≡ low_word_of register }
 {
     match register {

@@ -23,6 +23,7 @@ pub use addressing::{OperandLocation, step_of, without_low_byte};
 pub use console::{Receiver, Transmitter};
 pub use destination_use::{DestinationUse, use_by_double, use_by_single};
 pub use double_operands::sign_extended;
+pub use extended::low_word_of;
 pub use jumps::words_on;
 pub use machine::Machine;
 pub use memory::Memory;

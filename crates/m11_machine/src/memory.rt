@@ -94,6 +94,7 @@ impl Memory {
         requires even { address % 2 ≡ 0 }
         requires inside { address < length self.old }
         ensures word { self.new ≡ with_word address value self.old }
+        ensures limit { length self.old ≤ 2 * most_words }
         ensures size { length self.new ≡ length self.old }
     {
         self.words[usize::from(address / 2)] = value;
@@ -105,6 +106,7 @@ impl Memory {
     pub fn set_byte(&mut self, address: u16, value: u8)
         requires { address < length self.old }
         ensures byte { self.new ≡ with_byte address value self.old }
+        ensures limit { length self.old ≤ 2 * most_words }
         ensures size { length self.new ≡ length self.old }
     {
         let place = usize::from(address / 2);

@@ -1,7 +1,9 @@
-use Rattle.m11_cpu_quick.proofs.QuickDone.{step_left}
+use Rattle.std.proofs.Common.{rules}
+use Rattle.m11_cpu_quick.proofs.StepsMade.{made}
 use Rattle.m11_cpu_quick.proofs.quick.quick_step.Goals as goal
 
-pub returns-in-None-clause-none : goal.returns-in-None-clause-none
-returns-in-None-clause-none c =
-    λ _. step_left _ _ _ _ _ c.requires.counter c.set_register.ensures (c.quick_word.ensures.none c.in-None.is)
-    c.set_register-in-None.ensures
+pub returns-clause-some : goal.returns-clause-some
+returns-clause-some c =
+    made c.args.counter c.in_ok-after.after c.in_ok-word.word c.args.registers.now c.act.new.registers c.args.machine.now
+    c.act.new.machine (search rules) c.requires (search rules) c.in_ok-word.ensures.plain c.in_ok-word.ensures.value
+    c.in_ok-after.ensures.some c.act.ensures.keeps

@@ -1,0 +1,259 @@
+-- Results that are put into registers and memory, where the registers are handed along.
+use Rattle.std.proofs.Common.{◌≡◌, ℕ, ◌+◌, ◌%◌, ◌<◌, ◌≤◌, ◌==◌, Bool, true, false, not, ◌&&◌, refl, sym, ◌∙◌, ap, List, length, arith}
+use Rattle.std.proofs.lemmas.Bool.{false≢true}
+use Rattle.std.proofs.lemmas.Bool.Decides.{nat_tests}
+use Rattle.std.specs.Prelude.{nat_lt, Result, Ok}
+use Rattle.m11_machine.specs.Access.{is_odd}
+use Rattle.m11_arithmetic.specs.Doubles.{double_result}
+use Rattle.m11_arithmetic.specs.Singles.{single_result}
+use Rattle.m11_arithmetic.specs.declared.results.Computed.{Computed}
+use Rattle.m11_base.specs.Operand.{register_number}
+use Rattle.m11_base.specs.declared.instruction.ConditionCodes.{ConditionCodes}
+use Rattle.m11_base.specs.declared.instruction.DoubleOp.{DoubleOp}
+use Rattle.m11_base.specs.declared.instruction.DoubleOp.TheVariants.{Mov, Cmp, Bit, Bic, Bis, Add, Sub}
+use Rattle.m11_base.specs.declared.instruction.SingleOp.{SingleOp}
+use Rattle.m11_base.specs.declared.operand.Operand.{Operand}
+use Rattle.m11_base.specs.declared.instruction.ExtendedOp.TheVariants.{Mul}
+use Rattle.m11_base.specs.declared.operand.Register.{Register}
+use Rattle.m11_base.specs.declared.operand.Register.TheVariants.{R0, R1, R2, R3, R4, R5, Sp, Pc}
+use Rattle.m11_arithmetic.specs.Extended.{product_of}
+use Rattle.m11_arithmetic.specs.declared.results.Pair.{Pair}
+use Rattle.m11_machine.specs.Extended.{extended, low_word_of}
+use Rattle.m11_base.specs.declared.operand.Size.{Size}
+use Rattle.m11_base.specs.declared.operand.Size.TheVariants.{Word, Byte}
+use Rattle.m11_machine.specs.Addressing.{fetch, fetch_operand, place_of, put_result, store, without_low_byte}
+use Rattle.m11_machine.specs.DestinationUse.{use_by_double}
+use Rattle.m11_machine.specs.Dialogue.{Comes, Dialogue}
+use Rattle.m11_machine.specs.declared.destination_use.DestinationUse.TheVariants.{Writes}
+use Rattle.m11_machine.specs.DoubleOperands.{change_double, compare, move_to, sign_extended, store_moved}
+use Rattle.m11_machine.specs.Machine.{finished, with_condition_codes, with_register}
+use Rattle.m11_cpu_quick.specs.Near.{is_plain}
+use Rattle.m11_cpu_quick.specs.Beside.{low, moved, shown, stored, with_low}
+use Rattle.m11_machine.specs.SingleOperands.{change_at, change_single, test_operand, write}
+use Rattle.m11_machine.specs.declared.abort.Abort.{Abort}
+use Rattle.m11_machine.specs.declared.addressing.OperandLocation.{OperandLocation}
+use Rattle.m11_machine.specs.declared.addressing.OperandLocation.TheVariants.{InMemory, InRegister}
+use Rattle.m11_machine.specs.declared.machine.Machine.{Machine}
+use Rattle.m11_machine.proofs.AtOnce.{bind_at, cond_not}
+use Rattle.m11_cpu_quick.proofs.OperandsFound.{held, other_put, other_register, with_held}
+use Rattle.m11_cpu_quick.proofs.QuickDone.{byte_stored, word_stored}
+
+abbrev done : Machine → Dialogue (Result (Unit {0}) Abort × Machine)
+done n = Comes (Ok tt, n)
+
+-- ---- stores
+
+register_stored : (register : Register) (size : Size) (v k : ℕ) (rs : List ℕ) (m : Machine) → register_number register < 7
+    → store (InRegister register) size v (shown k rs m)
+    ≡ done (shown k (with_held rs register (with_low size (held rs register) v)) m)
+unfolding store
+register_stored register Word v k rs m g = ap done (other_put k v rs register m g)
+register_stored register Byte v k rs m g =
+    ap (λ (x : ℕ). done (with_register register (without_low_byte x + v % 256) (shown k rs m)))
+    (other_register k rs register m g)
+    ∙ ap done (other_put k (without_low_byte (held rs register) + v % 256) rs register m g)
+
+register_moved : (register : Register) (size : Size) (v k : ℕ) (rs : List ℕ) (m : Machine) → register_number register < 7
+    → store_moved (InRegister register) size v (shown k rs m) ≡ done (shown k (with_held rs register (moved size v)) m)
+unfolding store_moved
+register_moved register Word v k rs m g = register_stored register Word v k rs m g
+register_moved register Byte v k rs m g = ap done (other_put k (sign_extended v) rs register m g)
+
+memory_stored : (a : ℕ) (size : Size) (v k : ℕ) (rs : List ℕ) (m : Machine) → is_plain size a m.memory ≡ true
+    → store (InMemory a) size v (shown k rs m) ≡ done (shown k rs (stored size a v m))
+memory_stored a Word v k rs m p = word_stored Word a v (shown k rs m) (shown k rs (stored Word a v m)) refl p refl
+memory_stored a Byte v k rs m p = byte_stored Byte a v (shown k rs m) (shown k rs (stored Byte a v m)) refl p refl
+
+-- ---- results and their codes
+
+pub put_register : (register : Register) (size : Size) (computed : Computed) (k : ℕ) (rs rs' : List ℕ) (m n : Machine)
+    → register_number register < 7
+    → rs' ≡ with_held rs register (with_low size (held rs register) computed.value)
+    → n ≡ with_condition_codes computed.codes m
+    → put_result (InRegister register) size computed (shown k rs m) ≡ done (shown k rs' n)
+unfolding put_result
+put_register register size computed k rs rs' m n g f e =
+    let rest : Unit {0} → Machine → Dialogue (Result (Unit {0}) Abort × Machine) =
+    λ _ x. done (finished (InRegister register) computed.codes x) in
+    bind_at (store (InRegister register) size computed.value) rest (shown k rs m) _ tt
+    (register_stored register size computed.value k rs m g)
+    ∙ ap (λ (x : List ℕ). done (shown k x (with_condition_codes computed.codes m))) (sym f)
+    ∙ ap (λ (x : Machine). done (shown k rs' x)) (sym e)
+
+pub put_memory : (a : ℕ) (size : Size) (computed : Computed) (k : ℕ) (rs : List ℕ) (m n : Machine)
+    → is_plain size a m.memory ≡ true → (a == 0o177776) ≡ false
+    → n ≡ with_condition_codes computed.codes (stored size a computed.value m)
+    → put_result (InMemory a) size computed (shown k rs m) ≡ done (shown k rs n)
+unfolding put_result
+put_memory a size computed k rs m n p q e =
+    let rest : Unit {0} → Machine → Dialogue (Result (Unit {0}) Abort × Machine) =
+    λ _ x. done (finished (InMemory a) computed.codes x) in
+    let s = shown k rs (stored size a computed.value m) in
+    bind_at (store (InMemory a) size computed.value) rest (shown k rs m) s tt (memory_stored a size computed.value k rs m p)
+    ∙ ap done (cond_not (a == 0o177776) s (with_condition_codes computed.codes s) q)
+    ∙ ap done (sym (coded size)) ∙ ap (λ (x : Machine). done (shown k rs x)) (sym e)
+  where
+    coded : (size : Size) → shown k rs (with_condition_codes computed.codes (stored size a computed.value m))
+        ≡ with_condition_codes computed.codes (shown k rs (stored size a computed.value m))
+    coded Word = refl
+    coded Byte = refl
+
+-- ---- MOV and MOVB
+
+pub moves_register : (register : Register) (size : Size) (v : ℕ) (computed : Computed) (k : ℕ) (rs rs' : List ℕ)
+    (m n : Machine) → register_number register < 7 → computed ≡ double_result Mov size v 0 m.status.codes
+    → rs' ≡ with_held rs register (moved size v) → n ≡ with_condition_codes computed.codes m
+    → move_to (InRegister register) size v (shown k rs m) ≡ done (shown k rs' n)
+unfolding move_to
+moves_register register size v computed k rs rs' m n g c f e =
+    let rest : Unit {0} → Machine → Dialogue (Result (Unit {0}) Abort × Machine) =
+    λ _ x. done (finished (InRegister register) (double_result Mov size v 0 m.status.codes).codes x) in
+    bind_at (store_moved (InRegister register) size v) rest (shown k rs m) _ tt (register_moved register size v k rs m g)
+    ∙ ap (λ (x : List ℕ). done (shown k x (with_condition_codes (double_result Mov size v 0 m.status.codes).codes m))) (sym f)
+    ∙ ap (λ (x : Computed). done (shown k rs' (with_condition_codes x.codes m))) (sym c)
+    ∙ ap (λ (x : Machine). done (shown k rs' x)) (sym e)
+
+pub moves_memory : (a : ℕ) (size : Size) (v : ℕ) (computed : Computed) (k : ℕ) (rs : List ℕ) (m n : Machine)
+    → is_plain size a m.memory ≡ true → (a == 0o177776) ≡ false
+    → computed ≡ double_result Mov size v 0 m.status.codes
+    → n ≡ with_condition_codes computed.codes (stored size a v m)
+    → move_to (InMemory a) size v (shown k rs m) ≡ done (shown k rs n)
+unfolding move_to store_moved
+moves_memory a size v computed k rs m n p q c e =
+    let codes = (double_result Mov size v 0 m.status.codes).codes in
+    let rest : Unit {0} → Machine → Dialogue (Result (Unit {0}) Abort × Machine) =
+    λ _ x. done (finished (InMemory a) codes x) in
+    let s = shown k rs (stored size a v m) in
+    bind_at (store_moved (InMemory a) size v) rest (shown k rs m) s tt (memory_stored a size v k rs m p)
+    ∙ ap done (cond_not (a == 0o177776) s (with_condition_codes codes s) q)
+    ∙ ap done (sym (coded size codes))
+    ∙ ap (λ (x : Computed). done (shown k rs (with_condition_codes x.codes (stored size a v m)))) (sym c)
+    ∙ ap (λ (x : Machine). done (shown k rs x)) (sym e)
+  where
+    coded : (size : Size) (codes : ConditionCodes) → shown k rs (with_condition_codes codes (stored size a v m))
+        ≡ with_condition_codes codes (shown k rs (stored size a v m))
+    coded Word codes = refl
+    coded Byte codes = refl
+
+-- ---- CMP and BIT, and operations that change their destination
+
+pub compares : (operation : DoubleOp) (place : OperandLocation) (size : Size) (source v : ℕ) (computed : Computed) (k : ℕ)
+    (rs : List ℕ) (m n : Machine) → fetch place size (shown k rs m) ≡ Comes (Ok v, shown k rs m)
+    → computed ≡ double_result operation size source v m.status.codes → n ≡ with_condition_codes computed.codes m
+    → compare operation place size source (shown k rs m) ≡ done (shown k rs n)
+unfolding compare
+compares operation place size source v computed k rs m n f c e =
+    bind_at (fetch place size) _ (shown k rs m) (shown k rs m) v f
+    ∙ ap (λ (x : Computed). done (shown k rs (with_condition_codes x.codes m))) (sym c)
+    ∙ ap (λ (x : Machine). done (shown k rs x)) (sym e)
+
+pub changes : (operation : DoubleOp) (place : OperandLocation) (size : Size) (source v : ℕ) (computed : Computed) (k : ℕ)
+    (rs rs' : List ℕ) (m n : Machine) → fetch place size (shown k rs m) ≡ Comes (Ok v, shown k rs m)
+    → computed ≡ double_result operation size source v m.status.codes
+    → put_result place size computed (shown k rs m) ≡ done (shown k rs' n)
+    → change_double operation place size source (shown k rs m) ≡ done (shown k rs' n)
+unfolding change_double
+changes operation place size source v computed k rs rs' m n f c e =
+    bind_at (fetch place size) _ (shown k rs m) (shown k rs m) v f
+    ∙ ap (λ (x : Computed). put_result place size x (shown k rs m)) (sym c) ∙ e
+
+-- ---- the processor status lies past all memory
+
+past : (a limit : ℕ) → nat_lt a limit ≡ true → limit ≤ 57344 → (a == 0o177776) ≡ false
+past a limit e l = grind (arith, nat_tests)
+
+inside : (odd inside : Bool) → (not odd && inside) ≡ true → inside ≡ true
+inside false true e = refl
+inside false false e = absurd (false≢true e)
+inside true b e = absurd (false≢true e)
+
+pub not_status : (size : Size) (a : ℕ) (memory : List ℕ) → is_plain size a memory ≡ true → length memory ≤ 57344
+    → (a == 0o177776) ≡ false
+not_status Word a memory p l = past a (length memory) (inside (is_odd a) (nat_lt a (length memory)) p) l
+not_status Byte a memory p l = past a (length memory) p l
+
+-- ---- operations on one operand
+
+pub writes : (operation : SingleOp) (size : Size) (operand : Operand) (place : OperandLocation) (computed : Computed)
+    (k k' : ℕ) (rs rs' rs'' : List ℕ) (m n : Machine)
+    → place_of operand size (shown k rs m) ≡ Comes (Ok place, shown k' rs' m)
+    → computed ≡ single_result operation size 0 m.status.codes
+    → put_result place size computed (shown k' rs' m) ≡ done (shown k' rs'' n)
+    → write operation size operand (shown k rs m) ≡ done (shown k' rs'' n)
+unfolding write
+writes operation size operand place computed k k' rs rs' rs'' m n p c e =
+    bind_at (place_of operand size) _ (shown k rs m) (shown k' rs' m) place p
+    ∙ ap (λ (x : Computed). put_result place size x (shown k' rs' m)) (sym c) ∙ e
+
+pub tests : (operation : SingleOp) (size : Size) (operand : Operand) (v : ℕ) (computed : Computed)
+    (k k' : ℕ) (rs rs' : List ℕ) (m n : Machine)
+    → fetch_operand operand size (shown k rs m) ≡ Comes (Ok v, shown k' rs' m)
+    → computed ≡ single_result operation size v m.status.codes → n ≡ with_condition_codes computed.codes m
+    → test_operand operation size operand (shown k rs m) ≡ done (shown k' rs' n)
+unfolding test_operand
+tests operation size operand v computed k k' rs rs' m n f c e =
+    bind_at (fetch_operand operand size) _ (shown k rs m) (shown k' rs' m) v f
+    ∙ ap (λ (x : Computed). done (shown k' rs' (with_condition_codes x.codes m))) (sym c)
+    ∙ ap (λ (x : Machine). done (shown k' rs' x)) (sym e)
+
+pub changes_one : (operation : SingleOp) (size : Size) (operand : Operand) (place : OperandLocation) (v : ℕ)
+    (computed : Computed) (k k' : ℕ) (rs rs' rs'' : List ℕ) (m n : Machine)
+    → place_of operand size (shown k rs m) ≡ Comes (Ok place, shown k' rs' m)
+    → fetch place size (shown k' rs' m) ≡ Comes (Ok v, shown k' rs' m)
+    → computed ≡ single_result operation size v m.status.codes
+    → put_result place size computed (shown k' rs' m) ≡ done (shown k' rs'' n)
+    → change_single operation size operand (shown k rs m) ≡ done (shown k' rs'' n)
+unfolding change_single change_at
+changes_one operation size operand place v computed k k' rs rs' rs'' m n p f c e =
+    bind_at (place_of operand size) _ (shown k rs m) (shown k' rs' m) place p
+    ∙ bind_at (fetch place size) _ (shown k' rs' m) (shown k' rs' m) v f
+    ∙ ap (λ (x : Computed). put_result place size x (shown k' rs' m)) (sym c) ∙ e
+
+-- MOV takes nothing of its destination
+pub written : (operation : DoubleOp) (size : Size) (source v : ℕ) (codes : ConditionCodes) (computed : Computed)
+    → use_by_double operation ≡ Writes → computed ≡ double_result operation size source v codes
+    → computed ≡ double_result Mov size source 0 codes
+unfolding double_result
+written Mov size source v codes computed u e = e
+written Cmp size source v codes computed u e = cc
+written Bit size source v codes computed u e = cc
+written Bic size source v codes computed u e = cc
+written Bis size source v codes computed u e = cc
+written Add size source v codes computed u e = cc
+written Sub size source v codes computed u e = cc
+
+-- ---- MUL
+
+low_general : (register : Register) → register_number register < 6 → register_number (low_word_of register) < 7
+low_general R0 h = omega arith
+low_general R1 h = omega arith
+low_general R2 h = omega arith
+low_general R3 h = omega arith
+low_general R4 h = omega arith
+low_general R5 h = omega arith
+low_general Sp h = absurd (omega arith)
+low_general Pc h = absurd (omega arith)
+
+-- of a register before SP, whose product is put high word first
+pub multiplies : (register : Register) (source : Operand) (v k k' : ℕ) (rs rs' high low : List ℕ) (product : Pair)
+    (m n : Machine) → register_number register < 6
+    → fetch_operand source Word (shown k rs m) ≡ Comes (Ok v, shown k' rs' m)
+    → product ≡ product_of (held rs' register) v → high ≡ with_held rs' register product.high
+    → low ≡ with_held high (low_word_of register) product.low → n ≡ with_condition_codes product.codes m
+    → extended Mul register source (shown k rs m) ≡ done (shown k' low n)
+unfolding extended
+multiplies register source v k k' rs rs' high low product m n g f p h l e =
+    let general : register_number register < 7 = omega (arith, g) in
+    let start = shown k' rs' m in
+    let put : Pair → Machine = λ x. with_condition_codes x.codes
+    (with_register (low_word_of register) x.low (with_register register x.high start)) in
+    let first = other_put k' product.high rs' register m general ∙ ap (λ (x : List ℕ). shown k' x m) (sym h) in
+    let last = other_put k' product.low high (low_word_of register) m (low_general register g)
+    ∙ ap (λ (x : List ℕ). shown k' x m) (sym l) in
+    bind_at (fetch_operand source Word) _ (shown k rs m) start v f
+    ∙ ap (λ (x : ℕ). done (put (product_of x v))) (other_register k' rs' register m general)
+    ∙ ap (λ (x : Pair). done (put x)) (sym p)
+    ∙ ap (λ (x : Machine). done (with_condition_codes product.codes (with_register (low_word_of register) product.low x)))
+    first
+    ∙ ap (λ (x : Machine). done (with_condition_codes product.codes x)) last
+    ∙ ap (λ (x : Machine). done (shown k' low x)) (sym e)

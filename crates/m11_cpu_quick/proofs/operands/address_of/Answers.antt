@@ -1,0 +1,40 @@
+use Rattle.std.proofs.Common.{rules, refl}
+use Rattle.m11_cpu_quick.proofs.OperandsFound.{at_absolute, at_decrement, at_deferred, at_immediate_place, at_increment, at_index, at_relative}
+use Rattle.m11_cpu_quick.proofs.operands.address_of.Goals as goal
+
+pub returns-else-not-is_plain-clause-some : goal.returns-else-not-is_plain-clause-some
+returns-else-not-is_plain-clause-some c =
+    let is = rw c.in-Deferred.is at c.requires in at_deferred _ _ _ _ _ c.args.machine.now is.0 is.1 c.held-address.ensures
+
+pub returns-else-not-is_plain-2-clause-some : goal.returns-else-not-is_plain-2-clause-some
+returns-else-not-is_plain-2-clause-some c =
+    let is = rw c.in-Increment.is at c.requires in
+    at_increment _ _ _ _ _ _ c.args.machine.now is.0 is.1 is.2 c.held-address-in-Increment.ensures
+    (rw (c.held-address-in-Increment.ensures, c.bytes_of.ensures) at c.hold.ensures)
+
+pub returns-else-not-is_plain-3-clause-some : goal.returns-else-not-is_plain-3-clause-some
+returns-else-not-is_plain-3-clause-some c =
+    let is = rw c.in-Decrement.is at c.requires in
+    at_decrement _ _ _ _ _ _ c.args.machine.now is.0 is.1 is.2 (rw (c.held.ensures, c.bytes_of-in-Decrement.ensures)) c.hold-in-Decrement.ensures
+
+pub returns-else-not-is_plain-4-clause-some : goal.returns-else-not-is_plain-4-clause-some
+returns-else-not-is_plain-4-clause-some c =
+    let is = rw c.in-Index.is at c.requires in
+    at_index _ _ _ _ _ _ c.args.machine.now is.0 is.1 (search rules) c.in_ok-index-in-Index.ensures.plain c.in_ok-index-in-Index.ensures.value
+    (rw c.held-in-Index.ensures)
+
+pub returns-else-not-is_plain-5-clause-some : goal.returns-else-not-is_plain-5-clause-some
+returns-else-not-is_plain-5-clause-some c =
+    let is = rw c.in-Absolute.is at c.requires in
+    at_absolute _ _ _ _ _ c.args.machine.now is.0 is.1 (search rules) c.in_ok-address-in-Absolute.ensures.plain c.in_ok-address-in-Absolute.ensures.value
+
+pub returns-else-not-is_plain-6-clause-some : goal.returns-else-not-is_plain-6-clause-some
+returns-else-not-is_plain-6-clause-some c =
+    let is = rw c.in-Relative.is at c.requires in
+    at_relative _ _ _ _ _ _ c.args.machine.now is.0 is.1 (search rules) c.in_ok-index-in-Relative.ensures.plain c.in_ok-index-in-Relative.ensures.value
+    refl
+
+pub returns-else-not-is_plain-7-clause-some : goal.returns-else-not-is_plain-7-clause-some
+returns-else-not-is_plain-7-clause-some c =
+    let is = rw c.in-Immediate.is at c.requires in
+    at_immediate_place _ _ _ _ _ c.args.machine.now is.0 is.1 (search rules) refl

@@ -1,0 +1,29 @@
+use Rattle.std.proofs.Common.{rules}
+use Rattle.m11_cpu_quick.specs.Beside.{shown}
+use Rattle.m11_cpu_quick.proofs.OperandsFound.{register_fetched}
+use Rattle.m11_cpu_quick.proofs.ResultsPut.{changes_one, put_memory, put_register}
+use Rattle.m11_cpu_quick.proofs.QuickDone.{in_register, plain_fetched}
+use Rattle.m11_cpu_quick.proofs.singles.change.Goals as goal
+
+pub returns-in-Register-clause-some : goal.returns-in-Register-clause-some
+returns-in-Register-clause-some c =
+    let is = rw c.in-Register.is at c.requires in
+    changes_one _ _ _ _ _ c.single-computed.result _ _ _ _ _ c.args.machine.now c.set_codes.new.self (in_register _ _ _ is.0)
+    (register_fetched _ _ _ _ _ c.args.machine.now is.1 (rw c.held-old.ensures at c.low.ensures.low))
+    (rw c.codes.ensures at c.single-computed.ensures.computed)
+    (put_register _ _ c.single-computed.result _ _ _ c.args.machine.now c.set_codes.new.self is.1
+    (rw (c.with_low.ensures, c.held-old.ensures) at c.hold.ensures) c.set_codes.ensures)
+
+pub returns-in_ok-address-in_default : goal.returns-in_ok-address-in_default
+returns-in_ok-address-in_default c = record {
+  some = changes_one _ _ _ _ _ c.single-computed-in_default.result _ _ _ _ _ c.args.machine.now
+      c.set_codes-in_default.new.self c.in_ok-address-in_default.ensures.some
+      (plain_fetched _ _ _ (shown _ _ c.args.machine.now) c.in_ok-address-in_default.ensures.plain c.plain-value.ensures.value)
+      (rw c.codes-in_default.ensures at c.single-computed-in_default.ensures.computed)
+      (put_memory _ _ c.single-computed-in_default.result _ _ c.args.machine.now c.set_codes-in_default.new.self
+      c.in_ok-address-in_default.ensures.plain c.put_plain.ensures.status
+      (rw c.put_plain.ensures.stored at c.set_codes-in_default.ensures));
+  keeps = search rules;
+  none = search rules;
+  registers = search rules;
+}

@@ -1,0 +1,32 @@
+-- A machine whose registers are handed along beside it, the program counter apart from the others. (This project's own.)
+use Rattle.std.specs.Prelude.{ℕ, ◌+◌, ◌%◌, List, slice_set}
+use Rattle.m11_base.specs.declared.operand.Size.{Size}
+use Rattle.m11_base.specs.declared.operand.Size.TheVariants.{Word, Byte}
+use Rattle.m11_machine.specs.Addressing.{without_low_byte}
+use Rattle.m11_machine.specs.DoubleOperands.{sign_extended}
+use Rattle.m11_machine.specs.Memory.{with_byte, with_word}
+use Rattle.m11_machine.specs.declared.machine.Machine.{Machine}
+
+-- the machine with these registers and this program counter
+abbrev pub shown : ℕ → List ℕ → Machine → Machine
+shown counter registers m = record m { registers = slice_set registers 7 counter }
+
+-- a word, or its low byte
+abbrev pub low : Size → ℕ → ℕ
+low Word value = value
+low Byte value = value % 256
+
+-- a word, or the low byte of one, was put into memory
+abbrev pub stored : Size → ℕ → ℕ → Machine → Machine
+stored Word address value m = record m { memory = with_word address value m.memory }
+stored Byte address value m = record m { memory = with_byte address (value % 256) m.memory }
+
+-- what a register holds after a result was put into it
+abbrev pub with_low : Size → ℕ → ℕ → ℕ
+with_low Word old value = value
+with_low Byte old value = without_low_byte old + value % 256
+
+-- what MOV and MOVB put into a register
+abbrev pub moved : Size → ℕ → ℕ
+moved Word value = value
+moved Byte value = sign_extended value

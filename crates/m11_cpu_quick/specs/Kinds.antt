@@ -1,0 +1,174 @@
+-- The kinds of instructions that have an arm of their own in the loop of quick steps. (This project's own.)
+use Rattle.std.specs.Prelude.{◌≡◌, ℕ, ◌/◌, ◌%◌, ◌<◌, Some, true, false}
+use Rattle.m11_base.specs.Instructions.{meaning}
+use Rattle.m11_base.specs.Operand.{operand_of}
+use Rattle.m11_base.specs.OperationTables.{operation_by_tables}
+use Rattle.m11_base.specs.declared.instruction.BranchOp.{BranchOp}
+use Rattle.m11_base.specs.declared.instruction.BranchOp.TheVariants as branch
+use Rattle.m11_base.specs.declared.instruction.ConditionCodes.{ConditionCodes}
+use Rattle.m11_base.specs.declared.instruction.ConditionOp.{ConditionOp}
+use Rattle.m11_base.specs.declared.instruction.ConditionOp.TheVariants.{Clear, Set}
+use Rattle.m11_base.specs.declared.instruction.DoubleOp.{DoubleOp}
+use Rattle.m11_base.specs.declared.instruction.DoubleOp.TheVariants.{Add, Bic, Bis, Cmp, Mov, Sub}
+use Rattle.m11_base.specs.declared.instruction.ExtendedOp.TheVariants.{Mul}
+use Rattle.m11_base.specs.declared.instruction.Insn.TheVariants as instruction
+use Rattle.m11_base.specs.declared.instruction.Op.TheVariants as op
+use Rattle.m11_base.specs.declared.instruction.RegisterOp.TheVariants.{Jsr}
+use Rattle.m11_base.specs.declared.instruction.SingleOp.{SingleOp}
+use Rattle.m11_base.specs.declared.instruction.SingleOp.TheVariants.{Adc, Asl, Asr, Clr, Com, Dec, Inc, Jmp, Neg, Rol, Ror, Sbc, Tst}
+use Rattle.m11_base.specs.declared.operand.Size.{Size}
+use Rattle.m11_base.specs.declared.operand.Size.TheVariants.{Word, Byte}
+use Rattle.m11_cpu_quick.specs.Forms.{IsForm}
+use Rattle.m11_cpu_quick.specs.declared.forms.Form.{Form}
+use Rattle.m11_cpu_quick.specs.declared.forms.Form.TheVariants as form
+use Rattle.m11_cpu_quick.specs.declared.kinds.Kind.{Kind}
+use Rattle.m11_cpu_quick.specs.declared.kinds.Kind.TheVariants as kind
+
+-- a word is that of an operation on operands of two forms
+pub record IsDouble (operation : DoubleOp) (size : Size) (source destination : Form) (word : ℕ) : Type 0 where
+  pub operation_is : operation_by_tables word ≡ Some (op.Double operation size)
+  pub source_is : IsForm source size (operand_of (word / 0o100 % 0o100))
+  pub destination_is : IsForm destination size (operand_of (word % 0o100))
+
+-- of an operation on one operand of a form
+pub record IsSingle (operation : SingleOp) (size : Size) (form : Form) (word : ℕ) : Type 0 where
+  pub operation_is : operation_by_tables word ≡ Some (op.Single operation size)
+  pub operand_is : IsForm form size (operand_of (word % 0o100))
+
+-- of a branch
+abbrev pub IsBranch : BranchOp → ℕ → Type 0
+IsBranch operation word = operation_by_tables word ≡ Some (op.Branch operation)
+
+-- of SOB, of a register that isn't the program counter
+pub record IsCount (word : ℕ) : Type 0 where
+  pub operation_is : operation_by_tables word ≡ Some op.Sob
+  pub general : word / 0o100 % 0o10 < 7
+
+-- of JSR of the program counter, to an operand of a form
+pub record IsCall (form : Form) (word : ℕ) : Type 0 where
+  pub operation_is : operation_by_tables word ≡ Some (op.Register Jsr)
+  pub counter : word / 0o100 % 0o10 ≡ 7
+  pub operand_is : IsForm form Word (operand_of (word % 0o100))
+
+-- of RTS of the program counter
+pub record IsReturn (word : ℕ) : Type 0 where
+  pub operation_is : operation_by_tables word ≡ Some op.Rts
+  pub counter : word % 0o10 ≡ 7
+
+-- of an operation on C alone
+abbrev pub carry_alone : ConditionCodes
+carry_alone = record { negative = false; zero = false; overflow = false; carry = true }
+
+abbrev pub IsOnCarry : ConditionOp → ℕ → Type 0
+IsOnCarry operation word = meaning (operation_by_tables word) word ≡ instruction.Condition operation carry_alone
+
+-- of MUL, of a register before SP
+pub record IsProduct (word : ℕ) : Type 0 where
+  pub operation_is : operation_by_tables word ≡ Some (op.Extended Mul)
+  pub general : word / 0o100 % 0o10 < 6
+
+-- a kind is that of a word
+abbrev pub Describes : Kind → ℕ → Type 0
+Describes kind.MovRegisterRegister word = IsDouble Mov Word form.Register form.Register word
+Describes kind.MovDeferredRegister word = IsDouble Mov Word form.Deferred form.Register word
+Describes kind.MovIncrementRegister word = IsDouble Mov Word form.Increment form.Register word
+Describes kind.MovIndexRegister word = IsDouble Mov Word form.Index form.Register word
+Describes kind.MovAbsoluteRegister word = IsDouble Mov Word form.Absolute form.Register word
+Describes kind.MovRelativeRegister word = IsDouble Mov Word form.Relative form.Register word
+Describes kind.MovImmediateRegister word = IsDouble Mov Word form.Immediate form.Register word
+Describes kind.MovRegisterDeferred word = IsDouble Mov Word form.Register form.Deferred word
+Describes kind.MovRegisterIncrement word = IsDouble Mov Word form.Register form.Increment word
+Describes kind.MovRegisterDecrement word = IsDouble Mov Word form.Register form.Decrement word
+Describes kind.MovRegisterIndex word = IsDouble Mov Word form.Register form.Index word
+Describes kind.MovRegisterAbsolute word = IsDouble Mov Word form.Register form.Absolute word
+Describes kind.MovRegisterRelative word = IsDouble Mov Word form.Register form.Relative word
+Describes kind.MovImmediateDecrement word = IsDouble Mov Word form.Immediate form.Decrement word
+Describes kind.MovImmediateIndex word = IsDouble Mov Word form.Immediate form.Index word
+Describes kind.MovIndexIndex word = IsDouble Mov Word form.Index form.Index word
+Describes kind.MovIndexDecrement word = IsDouble Mov Word form.Index form.Decrement word
+Describes kind.MovIndexDeferred word = IsDouble Mov Word form.Index form.Deferred word
+Describes kind.MovIncrementIncrement word = IsDouble Mov Word form.Increment form.Increment word
+Describes kind.MovDeferredDeferred word = IsDouble Mov Word form.Deferred form.Deferred word
+Describes kind.CmpRegisterRegister word = IsDouble Cmp Word form.Register form.Register word
+Describes kind.CmpDeferredRegister word = IsDouble Cmp Word form.Deferred form.Register word
+Describes kind.CmpIndexRegister word = IsDouble Cmp Word form.Index form.Register word
+Describes kind.CmpRegisterImmediate word = IsDouble Cmp Word form.Register form.Immediate word
+Describes kind.CmpIndexImmediate word = IsDouble Cmp Word form.Index form.Immediate word
+Describes kind.CmpIndexIndex word = IsDouble Cmp Word form.Index form.Index word
+Describes kind.BicImmediateRegister word = IsDouble Bic Word form.Immediate form.Register word
+Describes kind.BisRegisterRegister word = IsDouble Bis Word form.Register form.Register word
+Describes kind.BisIndexRegister word = IsDouble Bis Word form.Index form.Register word
+Describes kind.AddRegisterRegister word = IsDouble Add Word form.Register form.Register word
+Describes kind.AddIndexRegister word = IsDouble Add Word form.Index form.Register word
+Describes kind.AddImmediateRegister word = IsDouble Add Word form.Immediate form.Register word
+Describes kind.AddImmediateIndex word = IsDouble Add Word form.Immediate form.Index word
+Describes kind.MovbRegisterRegister word = IsDouble Mov Byte form.Register form.Register word
+Describes kind.MovbDeferredRegister word = IsDouble Mov Byte form.Deferred form.Register word
+Describes kind.MovbIncrementRegister word = IsDouble Mov Byte form.Increment form.Register word
+Describes kind.MovbIndexRegister word = IsDouble Mov Byte form.Index form.Register word
+Describes kind.MovbRegisterDeferred word = IsDouble Mov Byte form.Register form.Deferred word
+Describes kind.MovbRegisterIncrement word = IsDouble Mov Byte form.Register form.Increment word
+Describes kind.MovbRegisterIndex word = IsDouble Mov Byte form.Register form.Index word
+Describes kind.MovbIncrementIncrement word = IsDouble Mov Byte form.Increment form.Increment word
+Describes kind.MovbIndexIncrement word = IsDouble Mov Byte form.Index form.Increment word
+Describes kind.MovbDecrementIncrement word = IsDouble Mov Byte form.Decrement form.Increment word
+Describes kind.CmpbRegisterRegister word = IsDouble Cmp Byte form.Register form.Register word
+Describes kind.CmpbRegisterImmediate word = IsDouble Cmp Byte form.Register form.Immediate word
+Describes kind.CmpbDeferredImmediate word = IsDouble Cmp Byte form.Deferred form.Immediate word
+Describes kind.CmpbIncrementImmediate word = IsDouble Cmp Byte form.Increment form.Immediate word
+Describes kind.CmpbIndexImmediate word = IsDouble Cmp Byte form.Index form.Immediate word
+Describes kind.CmpbIncrementIncrement word = IsDouble Cmp Byte form.Increment form.Increment word
+Describes kind.BicbImmediateDeferred word = IsDouble Bic Byte form.Immediate form.Deferred word
+Describes kind.SubRegisterRegister word = IsDouble Sub Word form.Register form.Register word
+Describes kind.SubIndexRegister word = IsDouble Sub Word form.Index form.Register word
+Describes kind.ClrRegister word = IsSingle Clr Word form.Register word
+Describes kind.ClrIndex word = IsSingle Clr Word form.Index word
+Describes kind.ComRegister word = IsSingle Com Word form.Register word
+Describes kind.IncRegister word = IsSingle Inc Word form.Register word
+Describes kind.IncIndex word = IsSingle Inc Word form.Index word
+Describes kind.IncAbsolute word = IsSingle Inc Word form.Absolute word
+Describes kind.DecRegister word = IsSingle Dec Word form.Register word
+Describes kind.DecDeferred word = IsSingle Dec Word form.Deferred word
+Describes kind.DecIndex word = IsSingle Dec Word form.Index word
+Describes kind.NegRegister word = IsSingle Neg Word form.Register word
+Describes kind.AdcRegister word = IsSingle Adc Word form.Register word
+Describes kind.SbcRegister word = IsSingle Sbc Word form.Register word
+Describes kind.TstRegister word = IsSingle Tst Word form.Register word
+Describes kind.TstIndex word = IsSingle Tst Word form.Index word
+Describes kind.RorRegister word = IsSingle Ror Word form.Register word
+Describes kind.RolRegister word = IsSingle Rol Word form.Register word
+Describes kind.AsrRegister word = IsSingle Asr Word form.Register word
+Describes kind.AslRegister word = IsSingle Asl Word form.Register word
+Describes kind.TstbRegister word = IsSingle Tst Byte form.Register word
+Describes kind.TstbDeferred word = IsSingle Tst Byte form.Deferred word
+Describes kind.TstbIncrement word = IsSingle Tst Byte form.Increment word
+Describes kind.TstbIndex word = IsSingle Tst Byte form.Index word
+Describes kind.Br word = IsBranch branch.Br word
+Describes kind.Bne word = IsBranch branch.Bne word
+Describes kind.Beq word = IsBranch branch.Beq word
+Describes kind.Bge word = IsBranch branch.Bge word
+Describes kind.Blt word = IsBranch branch.Blt word
+Describes kind.Bgt word = IsBranch branch.Bgt word
+Describes kind.Ble word = IsBranch branch.Ble word
+Describes kind.Bpl word = IsBranch branch.Bpl word
+Describes kind.Bmi word = IsBranch branch.Bmi word
+Describes kind.Bhi word = IsBranch branch.Bhi word
+Describes kind.Blos word = IsBranch branch.Blos word
+Describes kind.Bvc word = IsBranch branch.Bvc word
+Describes kind.Bvs word = IsBranch branch.Bvs word
+Describes kind.Bcc word = IsBranch branch.Bcc word
+Describes kind.Bcs word = IsBranch branch.Bcs word
+Describes kind.Sob word = IsCount word
+Describes kind.JmpDeferred word = IsSingle Jmp Word form.Deferred word
+Describes kind.JmpIndex word = IsSingle Jmp Word form.Index word
+Describes kind.JmpAbsolute word = IsSingle Jmp Word form.Absolute word
+Describes kind.JmpRelative word = IsSingle Jmp Word form.Relative word
+Describes kind.JsrDeferred word = IsCall form.Deferred word
+Describes kind.JsrIndex word = IsCall form.Index word
+Describes kind.JsrAbsolute word = IsCall form.Absolute word
+Describes kind.JsrRelative word = IsCall form.Relative word
+Describes kind.Rts word = IsReturn word
+Describes kind.Clc word = IsOnCarry Clear word
+Describes kind.Sec word = IsOnCarry Set word
+Describes kind.Mul word = IsProduct word
+Describes kind.Rarer word = Unit {0}

@@ -1,0 +1,519 @@
+//! What each kind of instruction does: the program counter after it, or None where what it reads or writes isn't plain, and
+//! nothing has changed. What stands among the registers for the program counter counts for nothing.
+
+ghost use Rattle.std.specs.Prelude.{◌≡◌, IfSome, None};
+ghost use Rattle.m11_base.specs.Instructions.{meaning};
+ghost use Rattle.m11_base.specs.OperationTables.{operation_by_tables};
+ghost use Rattle.m11_base.specs.declared.instruction.Insn.TheVariants as instruction;
+ghost use Rattle.m11_base.specs.declared.instruction.SingleOp.TheVariants as one;
+ghost use Rattle.m11_base.specs.declared.operand.Size.TheVariants as size;
+ghost use Rattle.m11_cpu_quick.specs.Kinds.{Describes, IsBranch, IsCall, IsCount, IsDouble, IsOnCarry, IsProduct, IsReturn, IsSingle};
+ghost use Rattle.m11_cpu_quick.specs.Near.{NearKeeps};
+ghost use Rattle.m11_cpu_quick.specs.Quick.{Executes};
+ghost use Rattle.m11_cpu_quick.specs.declared.forms.Form.TheVariants as form;
+
+use crate::doubles::{double_to_memory, double_to_register};
+use crate::extended::multiply;
+use crate::forms::Form;
+use crate::forms::Form::{
+    Absolute, Decrement, Deferred, Immediate, Increment, Index, Register, Relative,
+};
+use crate::jumps::{call, count_down, jump, return_by_counter, take_branch};
+use crate::kinds::Kind;
+use crate::singles::single;
+use m11_base::DoubleOp::{Add, Bic, Bis, Cmp, Mov, Sub};
+use m11_base::SingleOp::{Adc, Asl, Asr, Clr, Com, Dec, Inc, Neg, Rol, Ror, Sbc, Tst};
+use m11_base::Size::{Byte, Word};
+use m11_base::{
+    BranchOp, ConditionCodes, ConditionOp, DoubleOp, Insn, Operand, SingleOp, Size, decode,
+};
+use m11_machine::Machine;
+
+/// The word of an instruction, and the program counter after it.
+#[derive(Clone, Copy)]
+pub(crate) struct Code {
+    pub(crate) word: u16,
+    pub(crate) counter: u16,
+}
+
+/// An instruction, by the kind of its word. It is one match, so that a step jumps once to what it does.
+#[inline(always)]
+pub(crate) fn act(
+    machine: &mut Machine,
+    kind: Kind,
+    code: Code,
+    registers: &mut [u16; 8],
+) -> Option<u16>
+    requires { Describes kind code.word }
+    ensures some { IfSome result (λ after.
+        Executes code.word code.counter registers.old machine.old after registers.new machine.new) }
+    ensures keeps { NearKeeps machine.old machine.new }
+    ensures none { result ≡ None → machine.new ≡ machine.old }
+    ensures registers { result ≡ None → registers.new ≡ registers.old }
+{
+    match kind {
+        Kind::MovRegisterRegister => to_register(machine, Mov, Word, Register, code, registers),
+        Kind::MovDeferredRegister => to_register(machine, Mov, Word, Deferred, code, registers),
+        Kind::MovIncrementRegister => to_register(machine, Mov, Word, Increment, code, registers),
+        Kind::MovIndexRegister => to_register(machine, Mov, Word, Index, code, registers),
+        Kind::MovAbsoluteRegister => to_register(machine, Mov, Word, Absolute, code, registers),
+        Kind::MovRelativeRegister => to_register(machine, Mov, Word, Relative, code, registers),
+        Kind::MovImmediateRegister => to_register(machine, Mov, Word, Immediate, code, registers),
+        Kind::MovRegisterDeferred => to_memory(
+            machine, Mov, Word, Register, Deferred, code, registers,
+        ),
+        Kind::MovRegisterIncrement => to_memory(
+            machine, Mov, Word, Register, Increment, code, registers,
+        ),
+        Kind::MovRegisterDecrement => to_memory(
+            machine, Mov, Word, Register, Decrement, code, registers,
+        ),
+        Kind::MovRegisterIndex => to_memory(machine, Mov, Word, Register, Index, code, registers),
+        Kind::MovRegisterAbsolute => to_memory(
+            machine, Mov, Word, Register, Absolute, code, registers,
+        ),
+        Kind::MovRegisterRelative => to_memory(
+            machine, Mov, Word, Register, Relative, code, registers,
+        ),
+        Kind::MovImmediateDecrement => to_memory(
+            machine, Mov, Word, Immediate, Decrement, code, registers,
+        ),
+        Kind::MovImmediateIndex => to_memory(machine, Mov, Word, Immediate, Index, code, registers),
+        Kind::MovIndexIndex => to_memory(machine, Mov, Word, Index, Index, code, registers),
+        Kind::MovIndexDecrement => to_memory(machine, Mov, Word, Index, Decrement, code, registers),
+        Kind::MovIndexDeferred => to_memory(machine, Mov, Word, Index, Deferred, code, registers),
+        Kind::MovIncrementIncrement => to_memory(
+            machine, Mov, Word, Increment, Increment, code, registers,
+        ),
+        Kind::MovDeferredDeferred => to_memory(
+            machine, Mov, Word, Deferred, Deferred, code, registers,
+        ),
+        Kind::CmpRegisterRegister => to_register(machine, Cmp, Word, Register, code, registers),
+        Kind::CmpDeferredRegister => to_register(machine, Cmp, Word, Deferred, code, registers),
+        Kind::CmpIndexRegister => to_register(machine, Cmp, Word, Index, code, registers),
+        Kind::CmpRegisterImmediate => to_memory(
+            machine, Cmp, Word, Register, Immediate, code, registers,
+        ),
+        Kind::CmpIndexImmediate => to_memory(machine, Cmp, Word, Index, Immediate, code, registers),
+        Kind::CmpIndexIndex => to_memory(machine, Cmp, Word, Index, Index, code, registers),
+        Kind::BicImmediateRegister => to_register(machine, Bic, Word, Immediate, code, registers),
+        Kind::BisRegisterRegister => to_register(machine, Bis, Word, Register, code, registers),
+        Kind::BisIndexRegister => to_register(machine, Bis, Word, Index, code, registers),
+        Kind::AddRegisterRegister => to_register(machine, Add, Word, Register, code, registers),
+        Kind::AddIndexRegister => to_register(machine, Add, Word, Index, code, registers),
+        Kind::AddImmediateRegister => to_register(machine, Add, Word, Immediate, code, registers),
+        Kind::AddImmediateIndex => to_memory(machine, Add, Word, Immediate, Index, code, registers),
+        Kind::MovbRegisterRegister => to_register(machine, Mov, Byte, Register, code, registers),
+        Kind::MovbDeferredRegister => to_register(machine, Mov, Byte, Deferred, code, registers),
+        Kind::MovbIncrementRegister => to_register(machine, Mov, Byte, Increment, code, registers),
+        Kind::MovbIndexRegister => to_register(machine, Mov, Byte, Index, code, registers),
+        Kind::MovbRegisterDeferred => to_memory(
+            machine, Mov, Byte, Register, Deferred, code, registers,
+        ),
+        Kind::MovbRegisterIncrement => to_memory(
+            machine, Mov, Byte, Register, Increment, code, registers,
+        ),
+        Kind::MovbRegisterIndex => to_memory(machine, Mov, Byte, Register, Index, code, registers),
+        Kind::MovbIncrementIncrement => to_memory(
+            machine, Mov, Byte, Increment, Increment, code, registers,
+        ),
+        Kind::MovbIndexIncrement => to_memory(
+            machine, Mov, Byte, Index, Increment, code, registers,
+        ),
+        Kind::MovbDecrementIncrement => to_memory(
+            machine, Mov, Byte, Decrement, Increment, code, registers,
+        ),
+        Kind::CmpbRegisterRegister => to_register(machine, Cmp, Byte, Register, code, registers),
+        Kind::CmpbRegisterImmediate => to_memory(
+            machine, Cmp, Byte, Register, Immediate, code, registers,
+        ),
+        Kind::CmpbDeferredImmediate => to_memory(
+            machine, Cmp, Byte, Deferred, Immediate, code, registers,
+        ),
+        Kind::CmpbIncrementImmediate => to_memory(
+            machine, Cmp, Byte, Increment, Immediate, code, registers,
+        ),
+        Kind::CmpbIndexImmediate => to_memory(
+            machine, Cmp, Byte, Index, Immediate, code, registers,
+        ),
+        Kind::CmpbIncrementIncrement => to_memory(
+            machine, Cmp, Byte, Increment, Increment, code, registers,
+        ),
+        Kind::BicbImmediateDeferred => to_memory(
+            machine, Bic, Byte, Immediate, Deferred, code, registers,
+        ),
+        Kind::SubRegisterRegister => to_register(machine, Sub, Word, Register, code, registers),
+        Kind::SubIndexRegister => to_register(machine, Sub, Word, Index, code, registers),
+        Kind::ClrRegister => on_one(machine, Clr, Word, Register, code, registers),
+        Kind::ClrIndex => on_one(machine, Clr, Word, Index, code, registers),
+        Kind::ComRegister => on_one(machine, Com, Word, Register, code, registers),
+        Kind::IncRegister => on_one(machine, Inc, Word, Register, code, registers),
+        Kind::IncIndex => on_one(machine, Inc, Word, Index, code, registers),
+        Kind::IncAbsolute => on_one(machine, Inc, Word, Absolute, code, registers),
+        Kind::DecRegister => on_one(machine, Dec, Word, Register, code, registers),
+        Kind::DecDeferred => on_one(machine, Dec, Word, Deferred, code, registers),
+        Kind::DecIndex => on_one(machine, Dec, Word, Index, code, registers),
+        Kind::NegRegister => on_one(machine, Neg, Word, Register, code, registers),
+        Kind::AdcRegister => on_one(machine, Adc, Word, Register, code, registers),
+        Kind::SbcRegister => on_one(machine, Sbc, Word, Register, code, registers),
+        Kind::TstRegister => on_one(machine, Tst, Word, Register, code, registers),
+        Kind::TstIndex => on_one(machine, Tst, Word, Index, code, registers),
+        Kind::RorRegister => on_one(machine, Ror, Word, Register, code, registers),
+        Kind::RolRegister => on_one(machine, Rol, Word, Register, code, registers),
+        Kind::AsrRegister => on_one(machine, Asr, Word, Register, code, registers),
+        Kind::AslRegister => on_one(machine, Asl, Word, Register, code, registers),
+        Kind::TstbRegister => on_one(machine, Tst, Byte, Register, code, registers),
+        Kind::TstbDeferred => on_one(machine, Tst, Byte, Deferred, code, registers),
+        Kind::TstbIncrement => on_one(machine, Tst, Byte, Increment, code, registers),
+        Kind::TstbIndex => on_one(machine, Tst, Byte, Index, code, registers),
+        Kind::Br => go(machine, BranchOp::Br, code, registers),
+        Kind::Bne => go(machine, BranchOp::Bne, code, registers),
+        Kind::Beq => go(machine, BranchOp::Beq, code, registers),
+        Kind::Bge => go(machine, BranchOp::Bge, code, registers),
+        Kind::Blt => go(machine, BranchOp::Blt, code, registers),
+        Kind::Bgt => go(machine, BranchOp::Bgt, code, registers),
+        Kind::Ble => go(machine, BranchOp::Ble, code, registers),
+        Kind::Bpl => go(machine, BranchOp::Bpl, code, registers),
+        Kind::Bmi => go(machine, BranchOp::Bmi, code, registers),
+        Kind::Bhi => go(machine, BranchOp::Bhi, code, registers),
+        Kind::Blos => go(machine, BranchOp::Blos, code, registers),
+        Kind::Bvc => go(machine, BranchOp::Bvc, code, registers),
+        Kind::Bvs => go(machine, BranchOp::Bvs, code, registers),
+        Kind::Bcc => go(machine, BranchOp::Bcc, code, registers),
+        Kind::Bcs => go(machine, BranchOp::Bcs, code, registers),
+        Kind::Sob => count(machine, code, registers),
+        Kind::JmpDeferred => jump_to(machine, Deferred, code, registers),
+        Kind::JmpIndex => jump_to(machine, Index, code, registers),
+        Kind::JmpAbsolute => jump_to(machine, Absolute, code, registers),
+        Kind::JmpRelative => jump_to(machine, Relative, code, registers),
+        Kind::JsrDeferred => call_to(machine, Deferred, code, registers),
+        Kind::JsrIndex => call_to(machine, Index, code, registers),
+        Kind::JsrAbsolute => call_to(machine, Absolute, code, registers),
+        Kind::JsrRelative => call_to(machine, Relative, code, registers),
+        Kind::Rts => return_to(machine, code, registers),
+        Kind::Clc => on_carry(machine, ConditionOp::Clear, code, registers),
+        Kind::Sec => on_carry(machine, ConditionOp::Set, code, registers),
+        Kind::Mul => product(machine, code, registers),
+        Kind::Rarer => rarer(machine, code, registers),
+    }
+}
+
+// An operation on two operands, whose destination is a register.
+#[inline(always)]
+fn to_register(
+    machine: &mut Machine,
+    operation: DoubleOp,
+    size: Size,
+    source: Form,
+    code: Code,
+    registers: &mut [u16; 8],
+) -> Option<u16>
+    requires { IsDouble operation size source form.Register code.word }
+    ensures some { IfSome result (λ after.
+        Executes code.word code.counter registers.old machine.old after registers.new machine.new) }
+    ensures keeps { NearKeeps machine.old machine.new }
+    ensures none { result ≡ None → machine.new ≡ machine.old }
+    ensures registers { result ≡ None → registers.new ≡ registers.old }
+{
+    let from = Operand::of_bits(code.word / 0o100);
+    let to = Operand::of_bits(code.word);
+    let after = double_to_register(
+        machine,
+        operation,
+        size,
+        source,
+        from,
+        to,
+        registers,
+        code.counter,
+    )?;
+    Some(after)
+}
+
+// An operation on two operands, whose destination lies in memory.
+#[inline(always)]
+fn to_memory(
+    machine: &mut Machine,
+    operation: DoubleOp,
+    size: Size,
+    source: Form,
+    destination: Form,
+    code: Code,
+    registers: &mut [u16; 8],
+) -> Option<u16>
+    requires { IsDouble operation size source destination code.word }
+    ensures some { IfSome result (λ after.
+        Executes code.word code.counter registers.old machine.old after registers.new machine.new) }
+    ensures keeps { NearKeeps machine.old machine.new }
+    ensures none { result ≡ None → machine.new ≡ machine.old }
+    ensures registers { result ≡ None → registers.new ≡ registers.old }
+{
+    let from = Operand::of_bits(code.word / 0o100);
+    let to = Operand::of_bits(code.word);
+    let after = double_to_memory(
+        machine,
+        operation,
+        size,
+        source,
+        destination,
+        from,
+        to,
+        registers,
+        code.counter,
+    )?;
+    Some(after)
+}
+
+// An operation on one operand.
+#[inline(always)]
+fn on_one(
+    machine: &mut Machine,
+    operation: SingleOp,
+    size: Size,
+    form: Form,
+    code: Code,
+    registers: &mut [u16; 8],
+) -> Option<u16>
+    requires { IsSingle operation size form code.word }
+    ensures some { IfSome result (λ after.
+        Executes code.word code.counter registers.old machine.old after registers.new machine.new) }
+    ensures keeps { NearKeeps machine.old machine.new }
+    ensures none { result ≡ None → machine.new ≡ machine.old }
+    ensures registers { result ≡ None → registers.new ≡ registers.old }
+{
+    let operand = Operand::of_bits(code.word);
+    let after = single(
+        machine,
+        operation,
+        size,
+        form,
+        operand,
+        registers,
+        code.counter,
+    )?;
+    Some(after)
+}
+
+// A branch.
+#[inline(always)]
+fn go(
+    machine: &mut Machine,
+    operation: BranchOp,
+    code: Code,
+    registers: &mut [u16; 8],
+) -> Option<u16>
+    requires { IsBranch operation code.word }
+    ensures some { IfSome result (λ after.
+        Executes code.word code.counter registers.old machine.old after registers.new machine.new) }
+    ensures keeps { NearKeeps machine.old machine.new }
+    ensures none { result ≡ None → machine.new ≡ machine.old }
+    ensures registers { result ≡ None → registers.new ≡ registers.old }
+{
+    Some(take_branch(machine, operation, code.word, registers, code.counter))
+}
+
+// SOB.
+#[inline(always)]
+fn count(machine: &mut Machine, code: Code, registers: &mut [u16; 8]) -> Option<u16>
+    requires { IsCount code.word }
+    ensures some { IfSome result (λ after.
+        Executes code.word code.counter registers.old machine.old after registers.new machine.new) }
+    ensures keeps { NearKeeps machine.old machine.new }
+    ensures none { result ≡ None → machine.new ≡ machine.old }
+    ensures registers { result ≡ None → registers.new ≡ registers.old }
+{
+    let register = m11_base::Register::of_bits(code.word / 0o100);
+    Some(count_down(register, code.word, registers, code.counter))
+}
+
+// JMP.
+#[inline(always)]
+fn jump_to(machine: &mut Machine, form: Form, code: Code, registers: &mut [u16; 8]) -> Option<u16>
+    requires { IsSingle one.Jmp size.Word form code.word }
+    ensures some { IfSome result (λ after.
+        Executes code.word code.counter registers.old machine.old after registers.new machine.new) }
+    ensures keeps { NearKeeps machine.old machine.new }
+    ensures none { result ≡ None → machine.new ≡ machine.old }
+    ensures registers { result ≡ None → registers.new ≡ registers.old }
+{
+    let operand = Operand::of_bits(code.word);
+    let target = jump(machine, form, operand, registers, code.counter)?;
+    Some(target)
+}
+
+// JSR of the program counter.
+#[inline(always)]
+fn call_to(machine: &mut Machine, form: Form, code: Code, registers: &mut [u16; 8]) -> Option<u16>
+    requires { IsCall form code.word }
+    ensures some { IfSome result (λ after.
+        Executes code.word code.counter registers.old machine.old after registers.new machine.new) }
+    ensures keeps { NearKeeps machine.old machine.new }
+    ensures none { result ≡ None → machine.new ≡ machine.old }
+    ensures registers { result ≡ None → registers.new ≡ registers.old }
+{
+    let operand = Operand::of_bits(code.word);
+    let target = call(machine, form, operand, registers, code.counter)?;
+    Some(target)
+}
+
+// RTS of the program counter.
+#[inline(always)]
+fn return_to(machine: &mut Machine, code: Code, registers: &mut [u16; 8]) -> Option<u16>
+    requires { IsReturn code.word }
+    ensures some { IfSome result (λ after.
+        Executes code.word code.counter registers.old machine.old after registers.new machine.new) }
+    ensures keeps { NearKeeps machine.old machine.new }
+    ensures none { result ≡ None → machine.new ≡ machine.old }
+    ensures registers { result ≡ None → registers.new ≡ registers.old }
+{
+    let target = return_by_counter(machine, registers, code.counter)?;
+    Some(target)
+}
+
+// CLC and SEC.
+#[inline(always)]
+fn on_carry(
+    machine: &mut Machine,
+    operation: ConditionOp,
+    code: Code,
+    registers: &mut [u16; 8],
+) -> Option<u16>
+    requires { IsOnCarry operation code.word }
+    ensures some { IfSome result (λ after.
+        Executes code.word code.counter registers.old machine.old after registers.new machine.new) }
+    ensures keeps { NearKeeps machine.old machine.new }
+    ensures none { result ≡ None → machine.new ≡ machine.old }
+    ensures registers { result ≡ None → registers.new ≡ registers.old }
+{
+    let carry = ConditionCodes {
+        negative: false,
+        zero: false,
+        overflow: false,
+        carry: true,
+    };
+    machine.apply_conditions(operation, carry);
+    Some(code.counter)
+}
+
+// MUL.
+#[inline(always)]
+fn product(machine: &mut Machine, code: Code, registers: &mut [u16; 8]) -> Option<u16>
+    requires { IsProduct code.word }
+    ensures some { IfSome result (λ after.
+        Executes code.word code.counter registers.old machine.old after registers.new machine.new) }
+    ensures keeps { NearKeeps machine.old machine.new }
+    ensures none { result ≡ None → machine.new ≡ machine.old }
+    ensures registers { result ≡ None → registers.new ≡ registers.old }
+{
+    let register = m11_base::Register::of_bits(code.word / 0o100);
+    let source = Operand::of_bits(code.word);
+    let after = multiply(machine, register, source, registers, code.counter)?;
+    Some(after)
+}
+
+// An instruction of none of the other kinds, where it is an operation on one operand or two.
+#[inline(always)]
+fn rarer(machine: &mut Machine, code: Code, registers: &mut [u16; 8]) -> Option<u16>
+    ensures some { IfSome result (λ after.
+        Executes code.word code.counter registers.old machine.old after registers.new machine.new) }
+    ensures keeps { NearKeeps machine.old machine.new }
+    ensures none { result ≡ None → machine.new ≡ machine.old }
+    ensures registers { result ≡ None → registers.new ≡ registers.old }
+{
+    match decode(code.word) {
+        Insn::Double(operation, size, source, destination) => rarer_double(
+            machine,
+            operation,
+            size,
+            source,
+            destination,
+            code,
+            registers,
+        ),
+        Insn::Single(operation, size, operand) => rarer_single(
+            machine, operation, size, operand, code, registers,
+        ),
+        _ => None,
+    }
+}
+
+// An operation on two operands of any forms.
+#[inline(always)]
+fn rarer_double(
+    machine: &mut Machine,
+    operation: DoubleOp,
+    size: Size,
+    source: Operand,
+    destination: Operand,
+    code: Code,
+    registers: &mut [u16; 8],
+) -> Option<u16>
+    requires { meaning (operation_by_tables code.word) code.word ≡ instruction.Double operation size source destination }
+    ensures some { IfSome result (λ after.
+        Executes code.word code.counter registers.old machine.old after registers.new machine.new) }
+    ensures keeps { NearKeeps machine.old machine.new }
+    ensures none { result ≡ None → machine.new ≡ machine.old }
+    ensures registers { result ≡ None → registers.new ≡ registers.old }
+{
+    let from = Form::of(size, source);
+    let to = Form::of(size, destination);
+    match to {
+        Form::Register => {
+            let after = double_to_register(
+                machine,
+                operation,
+                size,
+                from,
+                source,
+                destination,
+                registers,
+                code.counter,
+            )?;
+            Some(after)
+        }
+        _ => {
+            let after = double_to_memory(
+                machine,
+                operation,
+                size,
+                from,
+                to,
+                source,
+                destination,
+                registers,
+                code.counter,
+            )?;
+            Some(after)
+        }
+    }
+}
+
+// An operation on one operand of any form.
+#[inline(always)]
+fn rarer_single(
+    machine: &mut Machine,
+    operation: SingleOp,
+    size: Size,
+    operand: Operand,
+    code: Code,
+    registers: &mut [u16; 8],
+) -> Option<u16>
+    requires { meaning (operation_by_tables code.word) code.word ≡ instruction.Single operation size operand }
+    ensures some { IfSome result (λ after.
+        Executes code.word code.counter registers.old machine.old after registers.new machine.new) }
+    ensures keeps { NearKeeps machine.old machine.new }
+    ensures none { result ≡ None → machine.new ≡ machine.old }
+    ensures registers { result ≡ None → registers.new ≡ registers.old }
+{
+    let form = Form::of(size, operand);
+    let after = single(
+        machine,
+        operation,
+        size,
+        form,
+        operand,
+        registers,
+        code.counter,
+    )?;
+    Some(after)
+}

@@ -1,0 +1,165 @@
+//! Operations on two operands of known forms. (PDP-11/40 Processor Handbook, "Instruction set": double operand instructions.)
+
+ghost use Rattle.std.specs.Prelude.{◌≡◌, ◌<◌, ℕ, List, IfSome, None, true};
+ghost use Rattle.m11_arithmetic.specs.Sizes.{size_limit};
+ghost use Rattle.m11_base.specs.Operand.{register_number};
+ghost use Rattle.m11_machine.specs.DoubleOperands.{double, double_at};
+ghost use Rattle.m11_machine.specs.declared.addressing.OperandLocation.TheVariants.{InMemory, InRegister};
+ghost use Rattle.m11_cpu_quick.specs.Beside.{moved, shown};
+ghost use Rattle.m11_cpu_quick.specs.Forms.{IsForm};
+ghost use Rattle.m11_cpu_quick.specs.Near.{NearEnds, NearKeeps, is_plain};
+ghost use Rattle.m11_cpu_quick.specs.declared.forms.Form.TheVariants as form;
+
+use crate::forms::Form;
+use crate::near::{plain, put_plain};
+use crate::operands::{address_of, held, hold, low, value_of, with_low};
+use m11_base::{DoubleOp, Operand, Register, Size};
+use m11_machine::{DestinationUse, Machine, sign_extended, use_by_double};
+
+/// An operation whose destination is a register: the program counter after it; None where the source isn't plain, and
+/// nothing changes.
+#[inline(always)]
+pub(crate) fn double_to_register(
+    machine: &mut Machine,
+    operation: DoubleOp,
+    size: Size,
+    source_form: Form,
+    source: Operand,
+    destination: Operand,
+    registers: &mut [u16; 8],
+    counter: u16,
+) -> Option<u16>
+    requires source { IsForm source_form size source }
+    requires destination { IsForm form.Register size destination }
+    ensures some { IfSome result (λ after. NearEnds (double operation size source destination)
+        (shown counter registers.old machine.old) (shown after registers.new machine.new)) }
+    ensures keeps { NearKeeps machine.old machine.new }
+    ensures none { result ≡ None → machine.new ≡ machine.old }
+    ensures registers { result ≡ None → registers.new ≡ registers.old }
+{
+    let (value, after) = value_of(machine, source_form, size, source, registers, counter)?;
+    double_into_register(
+        machine,
+        operation,
+        size,
+        value,
+        destination.register,
+        registers,
+    );
+    Some(after)
+}
+
+/// An operation whose destination lies in memory, likewise.
+#[inline(always)]
+pub(crate) fn double_to_memory(
+    machine: &mut Machine,
+    operation: DoubleOp,
+    size: Size,
+    source_form: Form,
+    destination_form: Form,
+    source: Operand,
+    destination: Operand,
+    registers: &mut [u16; 8],
+    counter: u16,
+) -> Option<u16>
+    requires source { IsForm source_form size source }
+    requires destination { IsForm destination_form size destination }
+    ensures some { IfSome result (λ after. NearEnds (double operation size source destination)
+        (shown counter registers.old machine.old) (shown after registers.new machine.new)) }
+    ensures keeps { NearKeeps machine.old machine.new }
+    ensures none { result ≡ None → machine.new ≡ machine.old }
+    ensures registers { result ≡ None → registers.new ≡ registers.old }
+{
+    // The source's register alone is kept: to copy all would have each step wait for the last store into them.
+    let before = held(source.register, registers);
+    let (value, middle) = value_of(machine, source_form, size, source, registers, counter)?;
+    match address_of(
+        machine,
+        destination_form,
+        size,
+        destination,
+        registers,
+        middle,
+    ) {
+        Some((address, after)) => {
+            double_into_memory(machine, operation, size, value, address);
+            Some(after)
+        }
+        None => {
+            hold(source.register, before, registers);
+            None
+        }
+    }
+}
+
+// An operation on a source that was fetched, and a register.
+#[inline(always)]
+fn double_into_register(
+    machine: &mut Machine,
+    operation: DoubleOp,
+    size: Size,
+    source: u16,
+    register: Register,
+    registers: &mut [u16; 8],
+)
+    requires general { register_number register < 7 }
+    requires fits { source < size_limit size }
+    ensures done { (counter : ℕ) → NearEnds (double_at operation size source (InRegister register))
+        (shown counter registers.old machine.old) (shown counter registers.new machine.new) }
+    ensures keeps { NearKeeps machine.old machine.new }
+{
+    let old = held(register, registers);
+    let computed = m11_arithmetic::double(operation, size, source, low(size, old), machine.codes());
+    match use_by_double(operation) {
+        DestinationUse::Writes => {
+            hold(register, moved(size, source), registers);
+            machine.set_codes(computed.codes);
+        }
+        DestinationUse::Reads => machine.set_codes(computed.codes),
+        DestinationUse::Changes => {
+            hold(register, with_low(size, old, computed.value), registers);
+            machine.set_codes(computed.codes);
+        }
+    }
+}
+
+// The same on a word or byte in memory.
+#[inline(always)]
+fn double_into_memory(
+    machine: &mut Machine,
+    operation: DoubleOp,
+    size: Size,
+    source: u16,
+    address: u16,
+)
+    requires plain { is_plain size address machine.old.memory ≡ true }
+    requires fits { source < size_limit size }
+    ensures done { (counter : ℕ) (registers : List ℕ) → NearEnds (double_at operation size source (InMemory address))
+        (shown counter registers machine.old) (shown counter registers machine.new) }
+    ensures keeps { NearKeeps machine.old machine.new }
+{
+    let value = plain(machine, size, address);
+    let computed = m11_arithmetic::double(operation, size, source, value, machine.codes());
+    match use_by_double(operation) {
+        DestinationUse::Writes => {
+            put_plain(machine, size, address, source);
+            machine.set_codes(computed.codes);
+        }
+        DestinationUse::Reads => machine.set_codes(computed.codes),
+        DestinationUse::Changes => {
+            put_plain(machine, size, address, computed.value);
+            machine.set_codes(computed.codes);
+        }
+    }
+}
+
+// What MOV and MOVB put into a register: a byte extends its sign.
+#[inline(always)]
+fn moved(size: Size, value: u16) -> u16
+    ensures { result ≡ moved size value }
+{
+    match size {
+        Size::Word => value,
+        Size::Byte => sign_extended(value),
+    }
+}

@@ -1,0 +1,67 @@
+//! The forms of operands that a quick step distinguishes. (PDP-11/40 Processor Handbook, "Addressing modes".)
+
+ghost use Rattle.std.specs.Prelude.{◌≡◌};
+ghost use Rattle.m11_cpu_quick.specs.Forms.{IsForm, bytes_of};
+
+use m11_base::{Mode, Operand, Size};
+use m11_machine::step_of;
+
+/// How an operand is found. The first five are those of a register that isn't the program counter.
+#[derive(Clone, Copy)]
+pub(crate) enum Form {
+    /// `R`.
+    Register,
+    /// `(R)`.
+    Deferred,
+    /// `(R)+`, where the register steps by the bytes of the operand.
+    Increment,
+    /// `-(R)`, likewise.
+    Decrement,
+    /// `X(R)`.
+    Index,
+    /// `@#a`.
+    Absolute,
+    /// `a`.
+    Relative,
+    /// `#n`.
+    Immediate,
+    /// Any other: it is left to the general step.
+    Other,
+}
+
+impl Form {
+    /// The form of an operand.
+    #[inline(always)]
+    pub(crate) fn of(size: Size, operand: Operand) -> Form
+        ensures { IsForm result size operand }
+    {
+        if operand.register.number() == 7 {
+            return match operand.mode {
+                Mode::Autoincrement => Form::Immediate,
+                Mode::AutoincrementDeferred => Form::Absolute,
+                Mode::Index => Form::Relative,
+                _ => Form::Other,
+            };
+        }
+        let steps = step_of(size, operand.register) == bytes_of(size);
+        match operand.mode {
+            Mode::Register => Form::Register,
+            Mode::RegisterDeferred => Form::Deferred,
+            Mode::Autoincrement => if steps { Form::Increment } else { Form::Other },
+            Mode::Autodecrement => if steps { Form::Decrement } else { Form::Other },
+            Mode::Index => Form::Index,
+            _ => Form::Other,
+        }
+    }
+}
+
+/// The bytes of a size.
+#[inline(always)]
+pub(crate) fn bytes_of(size: Size) -> u16
+    ensures { result ≡ bytes_of size }
+{
+    match size {
+        Size::Word => 2,
+        Size::Byte => 1,
+    }
+}
