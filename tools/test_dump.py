@@ -71,11 +71,26 @@ SHOWN_END = "END OF DIRECTORY\nINTERNAL SYMBOLS\nEND OF MODULE\n"
 GOOD = DIRECTORY + TEXT + b"\0\0" + PLACES + END + b"\0" * 300
 BAD = TEXT[:-1] + bytes([TEXT[-1] ^ 1])
 
+# A tape's block is one of an object but for its count, which has the address in it, too.
+TAPE = (block(word(0o1000) + word(0o12700) + word(5) + b"\2") + b"\377\0" + block(word(0o1001) + b"\1\2") + block(word(4) + b"\7" * 18)
+        + block(word(0o1000)))
+LONG = block(word(0o2000) + b"\0" * 600)
+
+SHOWN_TAPE = """\
+BLOCK 001000
+  001000 012700 000005 002
+BLOCK 001001
+  001001 001 002
+BLOCK 000004
+  000004 003407 003407 003407 003407 003407 003407 003407 003407
+  000024 003407
+"""
+
 # What it shows; the words; the files; the status, and what standard output and standard error get.
 CASES = (
     ("an object", "A.OBJ", {"A.OBJ": GOOD}, 0, "OBJECT A.OBJ\n" + SHOWN + SHOWN_TEXT + SHOWN_PLACES + SHOWN_END, ""),
     ("an empty file", "A.OBJ", {"A.OBJ": b""}, 0, "OBJECT A.OBJ\n", ""),
-    ("two files", "B.OBJ ./A.OBJ", {"A.OBJ": b"\0", "B.OBJ": END}, 0, "OBJECT B.OBJ\n" + SHOWN_END + "OBJECT ./A.OBJ\n", ""),
+    ("two files", "B.OBJ ./A.OBJ", {"A.OBJ": b"\0", "B.OBJ": DIRECTORY + END}, 0, "OBJECT B.OBJ\n" + SHOWN + SHOWN_END + "OBJECT ./A.OBJ\n", ""),
     ("a bad sum", "A.OBJ B.OBJ", {"A.OBJ": DIRECTORY + BAD, "B.OBJ": GOOD}, 4, "OBJECT A.OBJ\n" + SHOWN,
      f"?M11 DUMP 3 Block 3 BadSum IN BLOCK 2 AT BYTE {len(DIRECTORY)} OF A.OBJ\n"),
     ("a file that is cut off", "A.OBJ", {"A.OBJ": DIRECTORY[:-1]}, 4, "OBJECT A.OBJ\n", "?M11 DUMP 3 Block 2 Truncated IN BLOCK 1 AT BYTE 0 OF A.OBJ\n"),
@@ -84,6 +99,12 @@ CASES = (
      f"?M11 DUMP 4 Record 1 UnknownType IN BLOCK 3 AT BYTE {len(DIRECTORY) + len(TEXT)} OF A.OBJ\n"),
     ("too many bytes", "A.OBJ", {"A.OBJ": b"\0" * 4_194_305}, 6, "OBJECT A.OBJ\n", "?M11 DUMP 13 TooMuch IN BLOCK 1 AT BYTE 0 OF A.OBJ\n"),
     ("a folder", "B", {"B/A.OBJ": b""}, 3, "OBJECT B\n", "?M11 DUMP 1 Read IN BLOCK 1 AT BYTE 0 OF B\n"),
+    ("a tape", "A.TAP", {"A.TAP": TAPE + b"more"}, 0, "TAPE A.TAP\n" + SHOWN_TAPE + "START 001000\n", ""),
+    ("a tape with a long block", "A.TAP", {"A.TAP": LONG}, 4, "TAPE A.TAP\nBLOCK 002000"
+     + "".join(f"\n  {0o2000 + 16 * at:06o}" + " 000000" * min(8, 300 - 8 * at) for at in range(38)) + "\n",
+     f"?M11 DUMP 20 Tape 8 NoTransfer IN BLOCK 2 AT BYTE {len(LONG)} OF A.TAP\n"),
+    ("a tape that is cut off", "A.TAP B.OBJ", {"A.TAP": TAPE[:17], "B.OBJ": GOOD}, 4, "TAPE A.TAP\nBLOCK 001000\n  001000 012700 000005 002\n",
+     "?M11 DUMP 20 Tape 2 Truncated IN BLOCK 2 AT BYTE 12 OF A.TAP\n"),
     ("no file", "A.OBJ B.OBJ", {"A.OBJ": b""}, 3, "OBJECT A.OBJ\n", "?M11 OPEN B.OBJ\n"),
 )
 

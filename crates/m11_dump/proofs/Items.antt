@@ -5,7 +5,7 @@ use Rattle.std.proofs.lemmas.List.{drop_more, drop_all}
 use Rattle.std.proofs.lemmas.Option.{slice_get_within, get_or_from_slice_get}
 
 -- what is left begins with the item at the index
-drop_at : {X : Type 0} (xs : List X) (index : ℕ) (x : X) → slice_get xs index ≡ Some x
+pub drop_at : {X : Type 0} (xs : List X) (index : ℕ) (x : X) → slice_get xs index ≡ Some x
     → drop index xs ≡ x ∷ drop (index + 1) xs
 drop_at {X} xs index x e =
     let P : X → Type 0 = λ y. drop index xs ≡ y ∷ drop (index + 1) xs in

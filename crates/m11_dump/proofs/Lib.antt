@@ -2,3 +2,5 @@ pub mod EachOctet
 pub mod Fields
 pub mod Items
 pub mod Reading
+pub mod Taping
+pub mod WordsShown

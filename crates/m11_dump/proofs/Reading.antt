@@ -40,11 +40,11 @@ all_more : (contents : List (List ℕ)) (content : List ℕ) → AllByRecursion 
 all_more [] content all one = (one, tt)
 all_more (first ∷ contents) content all one = (all.0, all_more contents content all.1 one)
 
-appends_nothing : (text : Option (List ℕ)) → Appends text text []
+pub appends_nothing : (text : Option (List ℕ)) → Appends text text []
 appends_nothing None = tt
 appends_nothing (Some text) = sym (append-nil text)
 
-appends_then : (t0 t1 t2 : Option (List ℕ)) (xs ys : List ℕ) → Appends t0 t1 xs → Appends t1 t2 ys → Appends t0 t2 (xs ++ ys)
+pub appends_then : (t0 t1 t2 : Option (List ℕ)) (xs ys : List ℕ) → Appends t0 t1 xs → Appends t1 t2 ys → Appends t0 t2 (xs ++ ys)
 appends_then None t1 t2 xs ys a b = tt
 appends_then (Some x) None t2 xs ys a b = absurd a
 appends_then (Some x) (Some y) None xs ys a b = absurd b
@@ -125,6 +125,7 @@ module _ (old here : Place) (output output' : Output) (s : Stand) (contents : Li
         → ShowsBlock s content output' final (Err f) → DumpsObject old new output final (Err said)
     record_refused (fault.Block inner) said e h = absurd h.1
     record_refused (fault.Record inner) said e h = stopped (fault.Record inner) new final said e (content, r, h.0, h.1)
+    record_refused (fault.Tape inner) said e h = absurd h.1
     record_refused fault.Write said e h =
         let P : Stand → Type 0 = λ x. FailsAt (shown x.address (content_of content)) output' final in
         stopped fault.Write new final said e (content, r, h.0, subst P d.stands h.1)

@@ -68,6 +68,7 @@ StopsAfter (fault.Block inner) here new output output' contents =
     Stops first_block here new (why_of inner) × (output' ≡ output)
 StopsAfter (fault.Record inner) here new output output' contents =
     (bad : Bytes) × Reads first_block here new bad × (content_of bad ≡ Err inner) × (output' ≡ output)
+StopsAfter (fault.Tape inner) here new output output' contents = ⊥
 StopsAfter fault.Write here new output output' contents =
     (last : Bytes) × Reads first_block here new last × IsRecord last
     × FailsAt (shown (after_all start contents).address (content_of last)) output output'
@@ -95,6 +96,7 @@ ShowsRecord s content output output' (Ok s') = (s' ≡ after s content)
     × Appends output.text output'.text (shown s.address (content_of content)) × (output'.faults ≡ output.faults)
 ShowsRecord s content output output' (Err (fault.Block inner)) = ⊥
 ShowsRecord s content output output' (Err (fault.Record inner)) = ⊥
+ShowsRecord s content output output' (Err (fault.Tape inner)) = ⊥
 ShowsRecord s content output output' (Err fault.Write) = FailsAt (shown s.address (content_of content)) output output'
 ShowsRecord s content output output' (Err fault.NoMemory) = output' ≡ output
 

@@ -3,8 +3,8 @@
 ghost use Rattle.std.specs.Prelude.{◌≡◌};
 ghost use Rattle.m11_dump.specs.declared.fault.DumpFault.TheVariants.{NoMemory};
 
-use m11_obj::{BlockFault, RecordFault};
-use std::alloc::AllocError;
+use m11_obj::{BlockFault, RecordFault, TapeFault};
+use std::alloc::{AllocError, AllocFailed};
 
 /// Why a dump of a file stops.
 #[derive(Clone, Copy, Debug, PartialEq, Eq)]
@@ -13,6 +13,8 @@ pub enum DumpFault {
     Block(BlockFault),
     /// A block of an object is no record.
     Record(RecordFault),
+    /// The blocks of a tape: a fault of one of them, or the file failed.
+    Tape(TapeFault),
     /// The text could not be written.
     Write,
     /// Memory was refused.
@@ -34,6 +36,14 @@ impl From<AllocError> for DumpFault {
     ghost from_gives = { λ _ e. e ≡ NoMemory };
 
     fn from(_error: AllocError) -> DumpFault {
+        DumpFault::NoMemory
+    }
+}
+
+impl<T: Drop> From<AllocFailed<T>> for DumpFault {
+    ghost from_gives = { λ _ e. e ≡ NoMemory };
+
+    fn from(_error: AllocFailed<T>) -> DumpFault {
         DumpFault::NoMemory
     }
 }

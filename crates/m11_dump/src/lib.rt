@@ -1,17 +1,22 @@
-//! What a dump of a file shows: the lines of an object's records, one block after another, up to the end of its bytes or to
-//! their first fault. (RT-11 Volume and File Formats Manual, "Object file format"; the lines are this project's own.) No more
-//! is kept than the text of one block.
+//! What a dump of a file shows: the lines of an object's records or the words of a tape, one block after another, up to the end
+//! of its bytes or to their first fault. (RT-11 Volume and File Formats Manual, "Object file format" and "Absolute binary file
+//! format"; the lines are this project's own.) No more is kept than one block and its text.
 #![tactic(auto)]
 
 mod entries;
 mod fault;
+mod kind;
 mod laws;
 mod objects;
 mod octets;
 mod records;
 mod relocations;
 mod stand;
+mod tapes;
+mod words;
 
 pub use fault::{DumpFault, Placed};
+pub use kind::{Kind, kind_of};
 pub use laws::each_byte_is_shown_once_in_order;
 pub use objects::dump_object;
+pub use tapes::dump_tape;

@@ -16,7 +16,7 @@ use std::alloc::Global;
 
 impl Stand {
     // At the start of an object.
-    fn new() -> Stand
+    pub(crate) fn new() -> Stand
         ensures { result ≡ spec.start }
     {
         Stand {
@@ -41,7 +41,7 @@ impl Stand {
     }
 
     // A fault of the block that comes next.
-    fn placed(self, fault: DumpFault) -> Placed
+    pub(crate) fn placed(self, fault: DumpFault) -> Placed
         requires { self.blocks < 2 ^ 32 }
         ensures { result ≡ spec.placed_at fault self }
     {

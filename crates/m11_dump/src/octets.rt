@@ -15,8 +15,8 @@ pub(crate) fn octal3(byte: u8) -> [u8; 3]
     [b'0' + byte / 64 % 8, b'0' + byte / 8 % 8, b'0' + byte % 8]
 }
 
-// The place that lies so many bytes after an address.
-fn place_after(address: u16, index: usize) -> u16
+/// The place that lies so many bytes after an address.
+pub(crate) fn place_after(address: u16, index: usize) -> u16
     requires { index < 65536 }
     ensures { result ≡ spec.place_after address index }
 {

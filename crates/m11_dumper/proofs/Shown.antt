@@ -7,20 +7,21 @@ use Rattle.m11_base.specs.Feed.{Text}
 use Rattle.m11_base.specs.Sink.{AppendsBeginning}
 use Rattle.m11_files.specs.Opens.{Files, Holds}
 use Rattle.m11_writes.specs.Outputs.{Output}
-use Rattle.m11_dumper.specs.Showing.{ShowsAll, ShowsFile, ShowsInput}
+use Rattle.m11_dumper.specs.Showing.{IsOfKind, ShowsAll, ShowsFile, ShowsInput}
+use Rattle.m11_dump.specs.declared.kind.Kind.{Kind}
 use Rattle.m11_dumper.specs.Outcome.{Reports}
 use Rattle.m11_dumper.specs.declared.stop.Stop.{Stop}
 use Rattle.m11_dumper.specs.declared.stop.Stop.TheVariants.{NotOpened, InFile, Write, NoMemory}
 
 -- a file that was opened, by its path
-pub file_shown : (files : Option Files) (path : List ℕ) (text : Option Text) (faults : ℕ) (out out' : Output)
-    (result : Result (Unit {0}) Stop) → Holds files path text → ShowsInput text faults path out out' result
-    → ShowsFile files path out out' result
-file_shown files path text faults out out' (Ok done) h s = (text, faults, h, s)
-file_shown files path text faults out out' (Err (InFile named placed)) h s = (s.0, (text, faults, h, s.1))
-file_shown files path text faults out out' (Err (NotOpened named)) h s = absurd s
-file_shown files path text faults out out' (Err Write) h s = s
-file_shown files path text faults out out' (Err NoMemory) h s = s
+pub file_shown : (files : Option Files) (path : List ℕ) (kind : Kind) (text : Option Text) (faults : ℕ) (out out' : Output)
+    (result : Result (Unit {0}) Stop) → IsOfKind files path kind → Holds files path text
+    → ShowsInput kind text faults path out out' result → ShowsFile files path out out' result
+file_shown files path kind text faults out out' (Ok done) k h s = (kind, (k, (text, faults, h, s)))
+file_shown files path kind text faults out out' (Err (InFile named placed)) k h s = (kind, s.0, (k, (text, faults, h, s.1)))
+file_shown files path kind text faults out out' (Err (NotOpened named)) k h s = absurd s
+file_shown files path kind text faults out out' (Err Write) k h s = (kind, k, s)
+file_shown files path kind text faults out out' (Err NoMemory) k h s = s
 
 -- a file was shown, and then others, or some of them
 pub more_shown : (files : Option Files) (path : List ℕ) (paths : List (List ℕ)) (out middle out' : Output) (done : Unit {0})

@@ -4,10 +4,14 @@ use Rattle.std.specs.Fmt.{decimal}
 use Rattle.m11_base.specs.Devices.{Bytes}
 use Rattle.m11_blocks.specs.Blocks.{block_fault_name, block_fault_number}
 use Rattle.m11_blocks.specs.declared.block_fault.BlockFault.TheVariants as block
+use Rattle.m11_blocks.specs.Tapes.{tape_fault_name, tape_fault_number}
+use Rattle.m11_blocks.specs.declared.tape_fault.TapeFault.TheVariants as tape
 use Rattle.m11_obj.specs.Fault.{record_fault_name, record_fault_number}
 use Rattle.m11_dump.specs.declared.fault.DumpFault.{DumpFault}
 use Rattle.m11_dump.specs.declared.fault.DumpFault.TheVariants as fault
 use Rattle.m11_dump.specs.declared.fault.Placed.{Placed}
+use Rattle.m11_dump.specs.declared.kind.Kind.{Kind}
+use Rattle.m11_dump.specs.declared.kind.Kind.TheVariants.{Object, Tape}
 use Rattle.m11_dumper.specs.declared.stop.Stop.{Stop}
 use Rattle.m11_dumper.specs.declared.stop.Stop.TheVariants as stop
 
@@ -15,18 +19,26 @@ use Rattle.m11_dumper.specs.declared.stop.Stop.TheVariants as stop
 abbrev pub path_end : Bytes → Bytes → Bytes
 path_end word path = (word ++ path) ++ 10 ∷ []
 
+-- what a file is
+abbrev pub kind_word : Kind → Bytes
+kind_word Object = codes "OBJECT "
+kind_word Tape = codes "TAPE "
+
 -- what stands before the text of a file
-abbrev pub head_line : Bytes → Bytes
-head_line path = path_end (codes "OBJECT ") path
+abbrev pub head_line : Kind → Bytes → Bytes
+head_line kind path = path_end (kind_word kind) path
 
 -- a number and a name, after a word
 abbrev pub numbered : Bytes → ℕ → Bytes → Bytes
 numbered word number name = ((word ++ decimal number) ++ 32 ∷ []) ++ name
 
--- the number and the name of a fault, as the linker has them
+-- the number and the name of a fault: of an object as the linker has them, and of a tape as the simulator has those of the tape
 abbrev pub fault_text : DumpFault → Bytes
 fault_text (fault.Block block.Device) = codes "1 Read"
 fault_text (fault.Block block.TooMuch) = codes "13 TooMuch"
+fault_text (fault.Tape tape.Device) = codes "1 Read"
+fault_text (fault.Tape tape.TooMuch) = codes "13 TooMuch"
+fault_text (fault.Tape inner) = numbered (codes "20 Tape ") (tape_fault_number inner) (tape_fault_name inner)
 fault_text (fault.Block inner) = numbered (codes "3 Block ") (block_fault_number inner) (block_fault_name inner)
 fault_text (fault.Record inner) = numbered (codes "4 Record ") (record_fault_number inner) (record_fault_name inner)
 fault_text fault.Write = codes "2 Write"

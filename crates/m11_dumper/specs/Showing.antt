@@ -5,7 +5,11 @@ use Rattle.m11_base.specs.Devices.{Bytes, Rises}
 use Rattle.m11_base.specs.Feed.{Text}
 use Rattle.m11_base.specs.Sink.{AppendsBeginning}
 use Rattle.m11_blocks.specs.Limited.{Place, most_bytes, place}
+use Rattle.m11_dump.specs.Kind.{IsKind}
 use Rattle.m11_dump.specs.Objects.{DumpsObject}
+use Rattle.m11_dump.specs.Tapes.{DumpsTape}
+use Rattle.m11_dump.specs.declared.kind.Kind.{Kind}
+use Rattle.m11_dump.specs.declared.kind.Kind.TheVariants.{Object, Tape}
 use Rattle.m11_dump.specs.declared.fault.Placed.{Placed}
 use Rattle.m11_dumper.specs.Lines.{head_line}
 use Rattle.m11_dumper.specs.declared.stop.Stop.{Stop}
@@ -20,22 +24,33 @@ Gains text out out' = Appends out.text out'.text text × (out'.faults ≡ out.fa
 abbrev pub Fails : Bytes → Output → Output → Type 0
 Fails text out out' = AppendsBeginning out.text out'.text text × Rises out.faults out'.faults
 
--- after the head of a file the output gained what a dump makes of its bytes, which it read from their beginning
-abbrev pub DumpsInput : Option Text → ℕ → Bytes → Output → Output → Result (Unit {0}) Placed → Type 0
-DumpsInput text faults path out out' result = (middle : Output) × (new : Place) × Gains (head_line path) out middle
-    × DumpsObject (place text faults most_bytes) new middle out' result
+-- what a dump of a file of this kind does
+abbrev pub DumpsKind : Kind → Place → Place → Output → Output → Result (Unit {0}) Placed → Type 0
+DumpsKind Object old new out out' result = DumpsObject old new out out' result
+DumpsKind Tape old new out out' result = DumpsTape old new out out' result
 
--- the same of the file of a path
-abbrev pub Dumps : Option Files → Bytes → Output → Output → Result (Unit {0}) Placed → Type 0
-Dumps files path out out' result =
-    (text : Option Text) × (faults : ℕ) × Holds files path text × DumpsInput text faults path out out' result
+-- after the head of a file the output gained what a dump makes of its bytes, which it read from their beginning
+abbrev pub DumpsInput : Kind → Option Text → ℕ → Bytes → Output → Output → Result (Unit {0}) Placed → Type 0
+DumpsInput kind text faults path out out' result = (middle : Output) × (new : Place) × Gains (head_line kind path) out middle
+    × DumpsKind kind (place text faults most_bytes) new middle out' result
+
+-- a file is of this kind
+abbrev pub IsOfKind : Option Files → Bytes → Kind → Type 0
+IsOfKind files path kind =
+    (text : Option Text) × (faults : ℕ) × (new : Place) × Holds files path text × IsKind (place text faults most_bytes) new kind
+
+-- the file of a path was dumped, which is of this kind
+abbrev pub Dumps : Kind → Option Files → Bytes → Output → Output → Result (Unit {0}) Placed → Type 0
+Dumps kind files path out out' result = IsOfKind files path kind
+    × ((text : Option Text) × (faults : ℕ) × Holds files path text × DumpsInput kind text faults path out out' result)
 
 -- one file was shown; or it doesn't open; or its dump stopped; or its head couldn't be written, or memory was refused before that
 abbrev pub ShowsFile : Option Files → Bytes → Output → Output → Result (Unit {0}) Stop → Type 0
-ShowsFile files path out out' (Ok done) = Dumps files path out out' (Ok done)
-ShowsFile files path out out' (Err (InFile named placed)) = (named.now ≡ path) × Dumps files path out out' (Err placed)
+ShowsFile files path out out' (Ok done) = (kind : Kind) × Dumps kind files path out out' (Ok done)
+ShowsFile files path out out' (Err (InFile named placed)) =
+    (kind : Kind) × (named.now ≡ path) × Dumps kind files path out out' (Err placed)
 ShowsFile files path out out' (Err (NotOpened named)) = (named.now ≡ path) × Lacks files path × (out' ≡ out)
-ShowsFile files path out out' (Err Write) = Fails (head_line path) out out'
+ShowsFile files path out out' (Err Write) = (kind : Kind) × IsOfKind files path kind × Fails (head_line kind path) out out'
 ShowsFile files path out out' (Err NoMemory) = out' ≡ out
 
 -- all files were shown, in order; or those before one at which showing stopped
@@ -54,11 +69,11 @@ Counts old new result = new ≡ old
 
 -- ---- one input
 
--- a file that was opened was shown, or why it wasn't
-abbrev pub ShowsInput : Option Text → ℕ → Bytes → Output → Output → Result (Unit {0}) Stop → Type 0
-ShowsInput text faults path out out' (Ok done) = DumpsInput text faults path out out' (Ok done)
-ShowsInput text faults path out out' (Err (InFile named placed)) =
-    (named.now ≡ path) × DumpsInput text faults path out out' (Err placed)
-ShowsInput text faults path out out' (Err (NotOpened named)) = ⊥
-ShowsInput text faults path out out' (Err Write) = Fails (head_line path) out out'
-ShowsInput text faults path out out' (Err NoMemory) = out' ≡ out
+-- a file of a kind that was opened was shown, or why it wasn't
+abbrev pub ShowsInput : Kind → Option Text → ℕ → Bytes → Output → Output → Result (Unit {0}) Stop → Type 0
+ShowsInput kind text faults path out out' (Ok done) = DumpsInput kind text faults path out out' (Ok done)
+ShowsInput kind text faults path out out' (Err (InFile named placed)) =
+    (named.now ≡ path) × DumpsInput kind text faults path out out' (Err placed)
+ShowsInput kind text faults path out out' (Err (NotOpened named)) = ⊥
+ShowsInput kind text faults path out out' (Err Write) = Fails (head_line kind path) out out'
+ShowsInput kind text faults path out out' (Err NoMemory) = out' ≡ out

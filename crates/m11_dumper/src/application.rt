@@ -11,7 +11,7 @@ use std::alloc::{AllocError, Global};
 pub(crate) fn application_command<'a>(alloc: Global) -> Result<Command<'a>, AllocError>
     ensures { IfOk result (IsCommand application) }
 {
-    let about = "Show what MACRO-11 and RT-11 objects hold, record by record";
+    let about = "Show what RT-11 objects and absolute loader tapes hold";
     Command::new(alloc, "m11-dump")
         .about(about)
         .arg(files_argument(alloc))

@@ -5,8 +5,8 @@ ghost use Rattle.std.specs.Fmt.{decimal};
 ghost use Rattle.m11_dumper.specs.Lines as spec;
 
 use crate::stop::Stop;
-use m11_dump::{DumpFault, Placed};
-use m11_obj::BlockFault;
+use m11_dump::{DumpFault, Kind, Placed};
+use m11_obj::{BlockFault, TapeFault};
 use std::alloc::{AllocError, Global};
 
 // Adds a number in decimal.
@@ -34,13 +34,18 @@ fn put_numbered(
     line.extend_from_slice(name.as_bytes())
 }
 
-// Adds the number and the name of a fault, as the linker has them.
+// Adds the number and the name of a fault.
 fn put_fault(line: &mut Vec<u8>, alloc: Global, fault: DumpFault) -> Result<(), AllocError>
     ensures { OnOk result (line.new.items ≡ line.old.items ++ spec.fault_text fault) }
 {
     match fault {
         DumpFault::Block(BlockFault::Device) => line.extend_from_slice(b"1 Read"),
         DumpFault::Block(BlockFault::TooMuch) => line.extend_from_slice(b"13 TooMuch"),
+        DumpFault::Tape(TapeFault::Device) => line.extend_from_slice(b"1 Read"),
+        DumpFault::Tape(TapeFault::TooMuch) => line.extend_from_slice(b"13 TooMuch"),
+        DumpFault::Tape(inner) => {
+            put_numbered(line, alloc, "20 Tape ", inner.number(), inner.name())
+        }
         DumpFault::Block(inner) => {
             put_numbered(line, alloc, "3 Block ", inner.number(), inner.name())
         }
@@ -95,10 +100,13 @@ fn path_line(alloc: Global, word: &str, path: &str) -> Result<Vec<u8>, AllocErro
 }
 
 /// The line before the text of a file. Error: memory was refused.
-pub(crate) fn head_line(alloc: Global, path: &str) -> Result<Vec<u8>, AllocError>
-    ensures { IfOk result (λ line. line.items ≡ spec.head_line path.now) }
+pub(crate) fn head_line(alloc: Global, kind: Kind, path: &str) -> Result<Vec<u8>, AllocError>
+    ensures { IfOk result (λ line. line.items ≡ spec.head_line kind path.now) }
 {
-    path_line(alloc, "OBJECT ", path)
+    match kind {
+        Kind::Object => path_line(alloc, "OBJECT ", path),
+        Kind::Tape => path_line(alloc, "TAPE ", path),
+    }
 }
 
 /// The line that says why not all files were shown. Error: memory was refused.

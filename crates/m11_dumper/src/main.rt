@@ -1,4 +1,4 @@
-//! `m11-dump`: shows what objects hold, record by record. The words are read here, and the files are opened and shown one after
+//! `m11-dump`: shows what objects and tapes hold. The words are read here, and the files are opened and shown one after
 //! another; what is shown of a file is the work of `m11_dump`.
 #![tactic(auto)]
 

@@ -1,14 +1,15 @@
 //! Shows files, one after another.
 
-ghost use Rattle.std.specs.Prelude.{◌≡◌};
-ghost use Rattle.m11_dumper.specs.Showing.{Counts, ShowsAll, ShowsFile, ShowsInput};
+ghost use Rattle.std.specs.Prelude.{◌≡◌, ℕ};
+ghost use Rattle.m11_blocks.specs.Limited.{most_bytes, place};
+ghost use Rattle.m11_dumper.specs.Showing.{Counts, DumpsKind, ShowsAll, ShowsFile, ShowsInput};
 ghost use Rattle.m11_tasks.specs.Opened.{texts};
 ghost use Rattle.m11_writes.specs.Outputs.{output_of};
 
 use crate::lines::head_line;
 use crate::stop::Stop;
 use m11_base::{Feed, Sink};
-use m11_dump::dump_object;
+use m11_dump::{Kind, Placed, dump_object, dump_tape, kind_of};
 use m11_files::{OpenRefusal, Opens};
 use m11_writes::put_or_fail;
 use std::alloc::Global;
@@ -48,8 +49,11 @@ fn show_file<'a, F: Opens, O: Sink>(
     ensures files { F.files files.new ≡ F.files files.old }
     ensures counts { Counts (F.refusals files.old) (F.refusals files.new) result }
 {
-    match files.open(path) {
-        Ok(mut input) => show_input(alloc, &mut input, path, out),
+    match files.open_twice(path) {
+        Ok((mut first, mut second)) => {
+            let kind = kind_of(&mut first);
+            show_input(alloc, &mut second, kind, path, out)
+        }
         Err(OpenRefusal::NotOpened) => Err(Stop::NotOpened(path)),
         Err(OpenRefusal::NoMemory) => Err(Stop::NoMemory),
     }
@@ -59,16 +63,34 @@ fn show_file<'a, F: Opens, O: Sink>(
 fn show_input<'a, I: Feed, O: Sink>(
     alloc: Global,
     input: &mut I,
+    kind: Kind,
     path: &'a str,
     out: &mut O,
 ) -> Result<(), Stop<'a>>
-    ensures { ShowsInput (I.text input.old) (I.faults input.old) path.entry.now (output_of O.Sink out.old)
+    ensures { ShowsInput kind (I.text input.old) (I.faults input.old) path.entry.now (output_of O.Sink out.old)
         (output_of O.Sink out.new) result }
 {
-    let head = head_line(alloc, path)?;
+    let head = head_line(alloc, kind, path)?;
     put_or_fail(out, &head, Stop::Write)?;
-    match dump_object(alloc, input, out) {
+    match dump(alloc, input, kind, out) {
         Ok(()) => Ok(()),
         Err(placed) => Err(Stop::InFile(path, placed)),
+    }
+}
+
+// What a file of this kind holds.
+fn dump<I: Feed, O: Sink>(
+    alloc: Global,
+    input: &mut I,
+    kind: Kind,
+    out: &mut O,
+) -> Result<(), Placed>
+    ensures { (room : ℕ) × DumpsKind kind (place (I.text input.old) (I.faults input.old) most_bytes)
+        (place (I.text input.new) (I.faults input.new) room)
+        (output_of O.Sink out.old) (output_of O.Sink out.new) result }
+{
+    match kind {
+        Kind::Object => dump_object(alloc, input, out),
+        Kind::Tape => dump_tape(alloc, input, out),
     }
 }

@@ -5,7 +5,7 @@ ghost use Rattle.m11_dumper.specs.Outcome.{fault_status, status_of, stop_status,
 ghost use Rattle.m11_dumper.specs.declared.stop.Stop.TheVariants.{NoMemory};
 
 use m11_dump::{DumpFault, Placed};
-use m11_obj::BlockFault;
+use m11_obj::{BlockFault, TapeFault};
 use m11_tasks::UsageFault;
 use std::alloc::AllocError;
 
@@ -43,9 +43,11 @@ fn fault_status(fault: DumpFault) -> u8
     ensures { result ≡ fault_status fault }
 {
     match fault {
-        DumpFault::Block(BlockFault::Device) | DumpFault::Write => 3,
-        DumpFault::Block(BlockFault::TooMuch) => 6,
-        DumpFault::Block(_) | DumpFault::Record(_) => 4,
+        DumpFault::Block(BlockFault::Device)
+        | DumpFault::Tape(TapeFault::Device)
+        | DumpFault::Write => 3,
+        DumpFault::Block(BlockFault::TooMuch) | DumpFault::Tape(TapeFault::TooMuch) => 6,
+        DumpFault::Block(_) | DumpFault::Record(_) | DumpFault::Tape(_) => 4,
         DumpFault::NoMemory => 5,
     }
 }

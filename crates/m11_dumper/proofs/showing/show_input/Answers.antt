@@ -10,7 +10,7 @@ returns-in-Ok g c =
     let P : List ℕ → Type 0 = λ bytes. Appends (g.O.Sink.text c.args.out.now) (g.O.Sink.text c.put_or_fail.new.sink) bytes in
     let whole = subst P (c.deref.ensures.value ∙ c.in_ok-head.ensures) c.in_ok-put_or_fail.ensures.0 in (
       middle,
-      place (g.I.Feed.text c.dump_object.new.feed) (g.I.Feed.faults c.dump_object.new.feed) c.in-Ok.ensures.0,
+      place (g.I.Feed.text c.dump.new.input) (g.I.Feed.faults c.dump.new.input) c.in-Ok.ensures.0,
       (whole, c.in_ok-put_or_fail.ensures.1),
       c.in-Ok.ensures.1,
     )

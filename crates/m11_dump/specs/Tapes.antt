@@ -1,0 +1,145 @@
+-- A dump of a tape: its blocks one after another, up to its transfer block or to the first fault. (RT-11 Volume and File Formats
+-- Manual, "Absolute binary file format". The lines, which faults there are, and how they are placed, are this project's own.)
+use Rattle.std.specs.Prelude.{◌≡◌, ◌⊎◌, ℕ, ◌+◌, ◌<◌, List, [], ◌∷◌, ◌++◌, length, codes, ⊤, Result, Ok, Err}
+use Rattle.std.specs.List.{flat_map}
+use Rattle.std.specs.Io.KnownBytes.{Appends}
+use Rattle.m11_base.specs.Devices.{Bytes}
+use Rattle.m11_base.specs.Octal.{octal_text}
+use Rattle.m11_blocks.specs.Limited.{Place, Read, Reads, Stops, Took}
+use Rattle.m11_blocks.specs.Tapes.{IsTape, data_byte, first_part, next_part, total_of, why_of}
+use Rattle.m11_blocks.specs.declared.tape_fault.TapeFault.{TapeFault}
+use Rattle.m11_blocks.specs.declared.tape_part.TapePart.{TapePart}
+use Rattle.m11_blocks.specs.declared.tape_part.TapePart.TheVariants.{Data, Start}
+use Rattle.m11_blocks.specs.declared.tape_part.TapeStage.{TapeStage}
+use Rattle.m11_blocks.specs.declared.tape_part.TapeStage.TheVariants.{InBlock}
+use Rattle.m11_writes.specs.Outputs.{Output}
+use Rattle.m11_dump.specs.Objects.{FailsAt, placed_at, stand}
+use Rattle.m11_dump.specs.Words.{data_cells}
+use Rattle.m11_dump.specs.declared.fault.DumpFault.{DumpFault}
+use Rattle.m11_dump.specs.declared.fault.DumpFault.TheVariants as fault
+use Rattle.m11_dump.specs.declared.fault.Placed.{Placed}
+use Rattle.m11_dump.specs.declared.stand.Stand.{Stand}
+
+-- ---- the text of a tape
+
+-- a block of data: its address, and its words
+abbrev pub block_text : ℕ → Bytes → Bytes
+block_text address bytes = ((codes "BLOCK " ++ octal_text address) ++ data_cells address bytes) ++ 10 ∷ []
+
+abbrev pub tape_text : List (ℕ × Bytes) → Bytes
+tape_text blocks = flat_map (λ block. block_text block.0 block.1) blocks
+
+-- the transfer block: an odd address starts nothing
+abbrev pub start_text : ℕ → Bytes
+start_text address = (codes "START " ++ octal_text address) ++ 10 ∷ []
+
+-- ---- reading
+
+-- what reads the part after blocks: after the data of one it begins with the sum byte of that block
+abbrev pub part_after : (Bytes → Read TapeFault TapePart) → List (ℕ × Bytes) → Bytes → Read TapeFault TapePart
+part_after read [] = read
+part_after read (block ∷ blocks) = part_after (next_part (total_of block.0 block.1)) blocks
+
+-- bytes that hold blocks: for each those that are read as its header, and its data
+abbrev pub Hold : (Bytes → Read TapeFault TapePart) → List (ℕ × Bytes) → Bytes → Type 0
+Hold read [] bytes = bytes ≡ []
+Hold read (block ∷ blocks) bytes = (header : Bytes) × (following : Bytes) × (bytes ≡ header ++ (block.1 ++ following))
+    × ((rest : Bytes) → read (header ++ rest) ≡ Ok (Data block.0 (length block.1), rest))
+    × Hold (next_part (total_of block.0 block.1)) blocks following
+
+-- a feed gave these blocks, and an output gained their text
+pub record ShowsTape (old here : Place) (output output' : Output) (blocks : List (ℕ × Bytes)) : Type 0 where
+  pub given : Bytes
+  pub took : Took old here given
+  pub hold : Hold first_part blocks given
+  pub text : Appends output.text output'.text (tape_text blocks)
+  pub faults : output'.faults ≡ output.faults
+
+-- a block's header was read, and some of its data, but not all
+pub record InsideData (read : Bytes → Read TapeFault TapePart) (here inside : Place) : Type 0 where
+  pub address : ℕ
+  pub count : ℕ
+  pub opened : Place
+  pub header : Reads read here opened (Data address count)
+  pub taken : Bytes
+  pub took : Took opened inside taken
+  pub some : length taken < count
+
+-- the next part is a block of data, all of which was read; or the transfer block: with what is to be shown of it
+abbrev pub ReadsText : (Bytes → Read TapeFault TapePart) → Place → Bytes → Type 0
+ReadsText read here text =
+    ((address : ℕ) × (bytes : Bytes) × (opened : Place) × (end : Place)
+    × Reads read here opened (Data address (length bytes)) × Took opened end bytes × (text ≡ block_text address bytes))
+    ⊎ ((address : ℕ) × (end : Place) × Reads read here end (Start address) × (text ≡ start_text address))
+
+-- why a dump stopped after blocks: no further part could be read, or not all data of one; or what is shown of it couldn't be
+-- written; or memory was refused
+abbrev pub StopsTape : DumpFault → Place → Place → Output → Output → List (ℕ × Bytes) → Type 0
+StopsTape (fault.Tape inner) here new output output' blocks = (output' ≡ output)
+    × (Stops (part_after first_part blocks) here new (why_of inner)
+    ⊎ ((inside : Place) × InsideData (part_after first_part blocks) here inside × Stops data_byte inside new (why_of inner)))
+StopsTape fault.Write here new output output' blocks =
+    (text : Bytes) × ReadsText (part_after first_part blocks) here text × FailsAt text output output'
+StopsTape fault.NoMemory here new output output' blocks = output' ≡ output
+StopsTape (fault.Block inner) here new output output' blocks = ⊥
+StopsTape (fault.Record inner) here new output output' blocks = ⊥
+
+-- after one more block: 7 bytes stand round its data
+abbrev pub after_data : Stand → ℕ → Stand
+after_data s count = stand s.address (s.blocks + 1) (s.bytes + count + 7)
+
+abbrev pub after_blocks : Stand → List (ℕ × Bytes) → Stand
+after_blocks s [] = s
+after_blocks s (block ∷ blocks) = after_blocks (after_data s (length block.1)) blocks
+
+-- a whole tape: its blocks and its transfer block, after which nothing is read, and the output gained the text of all
+pub record DumpsWhole (old new : Place) (output output' : Output) : Type 0 where
+  pub blocks : List (ℕ × Bytes)
+  pub start : ℕ
+  pub here : Place
+  pub middle : Output
+  pub shows : ShowsTape old here output middle blocks
+  pub last : Reads (part_after first_part blocks) here new (Start start)
+  pub tape : IsTape blocks start (shows.given ++ last.given)
+  pub text : Appends middle.text output'.text (start_text start)
+  pub faults : output'.faults ≡ middle.faults
+
+-- what a dump of a tape does: the output gains the text of the whole tape; or of all blocks before the first fault
+abbrev pub DumpsTape : Place → Place → Output → Output → Result (Unit {0}) Placed → Type 0
+DumpsTape old new output output' (Ok done) = DumpsWhole old new output output'
+DumpsTape old new output output' (Err said) = (blocks : List (ℕ × Bytes)) × (here : Place) × (middle : Output)
+    × ShowsTape old here output middle blocks × StopsTape said.fault here new middle output' blocks
+    × (said ≡ placed_at said.fault (after_blocks (stand 0 0 0) blocks))
+
+-- ---- parts of it
+
+-- a text was put, or refused after a beginning of it; or memory was refused for it
+abbrev pub Puts : Bytes → Output → Output → Result (Unit {0}) DumpFault → Type 0
+Puts text output output' (Ok done) = Appends output.text output'.text text × (output'.faults ≡ output.faults)
+Puts text output output' (Err fault.Write) = FailsAt text output output'
+Puts text output output' (Err fault.NoMemory) = output' ≡ output
+Puts text output output' (Err (fault.Block inner)) = ⊥
+Puts text output output' (Err (fault.Record inner)) = ⊥
+Puts text output output' (Err (fault.Tape inner)) = ⊥
+
+-- all data of a block was read, and the reader then stands at the end of that
+abbrev pub ReadsData : Place → Place → TapeStage → ℕ → ℕ → Bytes → Type 0
+ReadsData opened end stage address count bytes =
+    (length bytes ≡ count) × Took opened end bytes × (stage ≡ InBlock 0 (total_of address bytes))
+
+-- some of it was, and then no more could be; or memory was refused for it
+abbrev pub StopsData : DumpFault → Place → Place → ℕ → Type 0
+StopsData (fault.Tape inner) opened new count = (taken : Bytes) × (inside : Place) × Took opened inside taken
+    × (length taken < count) × Stops data_byte inside new (why_of inner)
+StopsData fault.NoMemory opened new count = ⊤
+StopsData fault.Write opened new count = ⊥
+StopsData (fault.Block inner) opened new count = ⊥
+StopsData (fault.Record inner) opened new count = ⊥
+
+-- the data of a block was read and shown, or why it wasn't
+abbrev pub TakesData : Place → Place → TapeStage → ℕ → ℕ → Output → Output → Result (Unit {0}) DumpFault → Type 0
+TakesData opened new stage address count output output' (Err (fault.Tape inner)) =
+    StopsData (fault.Tape inner) opened new count × (output' ≡ output)
+TakesData opened new stage address count output output' (Err fault.NoMemory) = output' ≡ output
+TakesData opened new stage address count output output' result =
+    (bytes : Bytes) × ReadsData opened new stage address count bytes × Puts (block_text address bytes) output output' result

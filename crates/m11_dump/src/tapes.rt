@@ -1,0 +1,156 @@
+//! Dumps tapes, a block at a time.
+
+ghost use Rattle.std.specs.Prelude.{◌≡◌, ◌%◌, ◌≤◌, ◌<◌, ◌^◌, ◌++◌, ℕ, length, sum, MatchResult, OnOk, IfOk};
+ghost use Rattle.m11_blocks.specs.Limited.{most_bytes, place};
+ghost use Rattle.m11_blocks.specs.Tapes.{data_limit, tape_header, total_of};
+ghost use Rattle.m11_blocks.specs.declared.tape_part.TapeStage.TheVariants.{InBlock};
+ghost use Rattle.m11_writes.specs.Outputs.{output_of};
+ghost use Rattle.m11_dump.specs.Tapes as spec;
+
+use crate::fault::{DumpFault, Placed};
+use crate::stand::Stand;
+use crate::words::put_data;
+use m11_base::{Feed, Sink, octal6};
+use m11_blocks::{TapePart, TapeReader};
+use m11_writes::put_or_fail;
+use std::alloc::{AllocError, Global};
+
+// What is shown of a block of data.
+fn data_text(alloc: Global, address: u16, bytes: &[u8]) -> Result<Vec<u8>, AllocError>
+    requires { length bytes.now ≤ data_limit }
+    ensures { IfOk result (λ text. text.items ≡ spec.block_text address bytes.now) }
+{
+    let mut text = Vec::new(alloc);
+    text.extend_from_slice(b"BLOCK ")?;
+    text.extend_from_slice(&octal6(address))?;
+    put_data(&mut text, address, bytes)?;
+    text.push(b'\n')?;
+    Ok(text)
+}
+
+// What is shown of the transfer block.
+fn start_text(alloc: Global, address: u16) -> Result<Vec<u8>, AllocError>
+    ensures { IfOk result (λ text. text.items ≡ spec.start_text address) }
+{
+    let mut text = Vec::new(alloc);
+    text.extend_from_slice(b"START ")?;
+    text.extend_from_slice(&octal6(address))?;
+    text.push(b'\n')?;
+    Ok(text)
+}
+
+// Shows the transfer block.
+fn show_start<S: Sink>(alloc: Global, address: u16, sink: &mut S) -> Result<(), DumpFault>
+    ensures { spec.Puts (spec.start_text address) (output_of S.Sink sink.old) (output_of S.Sink sink.new) result }
+{
+    let text = start_text(alloc, address)?;
+    put_or_fail(sink, &text, DumpFault::Write)
+}
+
+// Shows the data of a block.
+fn show_data<S: Sink>(
+    alloc: Global,
+    address: u16,
+    bytes: &[u8],
+    sink: &mut S,
+) -> Result<(), DumpFault>
+    requires { length bytes.now ≤ data_limit }
+    ensures { spec.Puts (spec.block_text address bytes.now) (output_of S.Sink sink.old) (output_of S.Sink sink.new) result }
+{
+    let text = data_text(alloc, address, bytes)?;
+    put_or_fail(sink, &text, DumpFault::Write)
+}
+
+// The data of the open block.
+fn read_data<F: Feed>(
+    alloc: Global,
+    reader: &mut TapeReader,
+    feed: &mut F,
+    address: u16,
+    count: u16,
+) -> Result<Vec<u8>, DumpFault>
+    requires { reader.old.stage ≡ InBlock count (sum (tape_header address count) % 256) }
+    ensures { MatchResult result
+        (λ bytes. spec.ReadsData (place (F.text feed.old) (F.faults feed.old) reader.old.room)
+        (place (F.text feed.new) (F.faults feed.new) reader.new.room) reader.new.stage address count bytes.items)
+        (λ fault. spec.StopsData fault (place (F.text feed.old) (F.faults feed.old) reader.old.room)
+        (place (F.text feed.new) (F.faults feed.new) reader.new.room) count) }
+{
+    let mut bytes = Vec::new(alloc);
+    'bytes: for index in 0..count {
+        match reader.byte(feed) {
+            Ok(byte) => bytes.push(byte)?,
+            Err(fault) => return Err(DumpFault::Tape(fault)),
+        }
+    }
+    Ok(bytes)
+}
+
+impl Stand {
+    // After one more block of this many bytes of data.
+    fn after_data(self, count: u16) -> Stand
+        requires blocks { self.blocks < 2 ^ 32 }
+        requires bytes { self.bytes < 2 ^ 48 }
+        ensures { result ≡ spec.after_data self count }
+    {
+        Stand {
+            address: self.address,
+            blocks: self.blocks + 1,
+            bytes: self.bytes + u64::from(count) + 7,
+        }
+    }
+}
+
+// Reads and shows the data of the open block.
+fn take_data<F: Feed, S: Sink>(
+    alloc: Global,
+    reader: &mut TapeReader,
+    feed: &mut F,
+    address: u16,
+    count: u16,
+    sink: &mut S,
+) -> Result<(), DumpFault>
+    requires stage { reader.old.stage ≡ InBlock count (sum (tape_header address count) % 256) }
+    requires fits { count ≤ data_limit }
+    ensures { spec.TakesData (place (F.text feed.old) (F.faults feed.old) reader.old.room)
+        (place (F.text feed.new) (F.faults feed.new) reader.new.room) reader.new.stage address count
+        (output_of S.Sink sink.old) (output_of S.Sink sink.new) result }
+{
+    match read_data(alloc, reader, feed, address, count) {
+        Ok(bytes) => show_data(alloc, address, &bytes, sink),
+        Err(fault) => Err(fault),
+    }
+}
+
+/// Puts the lines of a tape's blocks, one after another, each block's before the next one is read, and at last its start. After
+/// the transfer block nothing is read.
+///
+/// Faults, each with the number of its block and the bytes of the blocks before it: `Tape`, where the bytes are no block, or the
+/// feed failed, ended without a transfer block or has more bytes than a tape may have; that the bytes of a block don't add up is found
+/// when the next one is read, and said of that one. `Write`, where the sink failed, after a beginning of the block's lines;
+/// `NoMemory`, where memory was refused for its data or lines. What the blocks before show is written then.
+pub fn dump_tape<F: Feed, S: Sink>(alloc: Global, feed: &mut F, sink: &mut S) -> Result<(), Placed>
+    ensures { (room : ℕ) × spec.DumpsTape (place (F.text feed.old) (F.faults feed.old) most_bytes)
+        (place (F.text feed.new) (F.faults feed.new) room)
+        (output_of S.Sink sink.old) (output_of S.Sink sink.new) result }
+{
+    let mut reader = TapeReader::new();
+    let mut stand = Stand::new();
+    'parts: loop {
+        match reader.next(feed) {
+            Ok(TapePart::Data { address, count }) => {
+                match take_data(alloc, &mut reader, feed, address, count, sink) {
+                    Ok(()) => stand = stand.after_data(count),
+                    Err(fault) => return Err(stand.placed(fault)),
+                }
+            }
+            Ok(TapePart::Start(address)) => {
+                return match show_start(alloc, address, sink) {
+                    Ok(()) => Ok(()),
+                    Err(fault) => Err(stand.placed(fault)),
+                };
+            }
+            Err(fault) => return Err(stand.placed(DumpFault::Tape(fault))),
+        }
+    }
+}

@@ -1,0 +1,89 @@
+//! The words of a tape in a dump, eight in a line.
+
+ghost use Rattle.std.specs.Prelude.{◌≡◌, ◌+◌, ◌*◌, ◌≤◌, ◌<◌, ◌++◌, drop, length, OnOk};
+ghost use Rattle.m11_dump.specs.Words as spec;
+
+use crate::octets::{octal3, place_after, put_octets};
+use byteorder::{ByteOrder, LittleEndian};
+use m11_base::octal6;
+use std::alloc::AllocError;
+
+// The start of a line, where the word at an index is the first one of its line.
+fn put_start(text: &mut Vec<u8>, address: u16, index: usize) -> Result<(), AllocError>
+    requires { index < 65536 }
+    ensures { OnOk result (text.new.items ≡ text.old.items ++ spec.words_start address index) }
+{
+    if index % 16 != 0 {
+        return Ok(());
+    }
+    text.extend_from_slice(b"\n  ")?;
+    text.extend_from_slice(&octal6(place_after(address, index)))
+}
+
+fn put_word(text: &mut Vec<u8>, address: u16, index: usize, word: u16) -> Result<(), AllocError>
+    requires { index < 65536 }
+    ensures { OnOk result (text.new.items ≡ text.old.items ++ spec.word_cell address index word) }
+{
+    put_start(text, address, index)?;
+    text.push(b' ')?;
+    text.extend_from_slice(&octal6(word))
+}
+
+fn put_byte(text: &mut Vec<u8>, address: u16, index: usize, byte: u8) -> Result<(), AllocError>
+    requires { index < 65536 }
+    ensures { OnOk result (text.new.items ≡ text.old.items ++ spec.byte_cell address index byte) }
+{
+    put_start(text, address, index)?;
+    text.push(b' ')?;
+    text.extend_from_slice(&octal3(byte))
+}
+
+// The byte at an index, where it is the last one.
+#[tactic(auto, using(crate::proofs::WordsShown::last_shown, crate::proofs::WordsShown::none_shown))]
+fn put_last(text: &mut Vec<u8>, address: u16, index: usize, bytes: &[u8]) -> Result<(), AllocError>
+    requires place { index < 65536 }
+    requires few { length bytes.now ≤ index + 1 }
+    ensures { OnOk result (text.new.items ≡ text.old.items ++ spec.words_from address index (drop index bytes.now)) }
+{
+    match bytes.get(index) {
+        Some(byte) => put_byte(text, address, index, *byte),
+        None => Ok(()),
+    }
+}
+
+// The word of two bytes, the low one first.
+fn word_of(low: u8, high: u8) -> u16
+    ensures { result ≡ low + 256 * high }
+{
+    LittleEndian::read_u16(&[low, high])
+}
+
+// Bytes as words, from the first on.
+fn put_words(text: &mut Vec<u8>, address: u16, bytes: &[u8]) -> Result<(), AllocError>
+    requires { length bytes.now < 65536 }
+    ensures { OnOk result (text.new.items ≡ text.old.items ++ spec.words_from address 0 bytes.now) }
+{
+    let mut index = 0;
+    'words: while index + 1 < bytes.len() {
+        put_word(
+            text,
+            address,
+            index,
+            word_of(bytes[index], bytes[index + 1]),
+        )?;
+        index += 2;
+    }
+    put_last(text, address, index, bytes)
+}
+
+/// Adds what is shown of the data of a block, fewer than 65,536 bytes, that lies at an address.
+pub(crate) fn put_data(text: &mut Vec<u8>, address: u16, bytes: &[u8]) -> Result<(), AllocError>
+    requires { length bytes.now < 65536 }
+    ensures { OnOk result (text.new.items ≡ text.old.items ++ spec.data_cells address bytes.now) }
+{
+    if address % 2 == 1 {
+        put_octets(text, address, bytes)
+    } else {
+        put_words(text, address, bytes)
+    }
+}
