@@ -16,9 +16,11 @@ def library_in(folder):
 
 
 def run_of(program, library, source, number):
-    """A run with one call refused: its status, the lines that it prints, and what it reports on standard error."""
+    """A run of a program, or of a list of words, with one call refused: its status, the lines that it prints, and what it reports on standard
+    error."""
+    words = program if isinstance(program, list) else [program]
     environment = {"LD_PRELOAD": str(library), "REFUSED": str(number)}
-    run = subprocess.run([program], input=source, capture_output=True, env=os.environ | environment, encoding="ascii", timeout=60)
+    run = subprocess.run(words, input=source, capture_output=True, env=os.environ | environment, encoding="ascii", timeout=60)
     return run.returncode, run.stdout.splitlines(), run.stderr
 
 
