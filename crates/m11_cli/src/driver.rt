@@ -14,7 +14,6 @@ ghost use Rattle.m11_cli.specs.declared.outcome.Outcome.{Outcome};
 ghost use Rattle.m11_cli.specs.declared.outcome.Outcome.TheVariants.{NotOpened};
 ghost use Rattle.m11_tasks.specs.declared.tasks.Task.TheVariants.{Asm, Link, Sim};
 
-use crate::arguments::{WordsFault, refusal_line};
 use crate::fault_lines::{fault_line, not_opened_line};
 use crate::outcome::{Outcome, status};
 use m11_asm::{AsmDone, AsmFault, asm_run};
@@ -23,8 +22,8 @@ use m11_cpu::{SimDone, SimFault, sim_run};
 use m11_files::Opens;
 use m11_link::{LinkDone, LinkFault, link_run};
 use m11_tasks::{
-    AsmFiles, AsmTask, LinkFiles, LinkTask, OpenFault, SimTask, Task, UsageFault, open_asm_files,
-    open_link_files, open_sim_file, plan,
+    AsmFiles, AsmTask, LinkFiles, LinkTask, OpenFault, SimTask, Task, UsageFault, WordsFault,
+    open_asm_files, open_link_files, open_sim_file, plan, refusal_line,
 };
 use std::alloc::Global;
 use std::convert::AsStr;

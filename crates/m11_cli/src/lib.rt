@@ -1,14 +1,12 @@
 //! The commands of the tool chain: the files of a task, its run, and the status and the line that it leaves.
 #![tactic(auto)]
 
-mod arguments;
 mod driver;
 mod fault_lines;
 mod outcome;
 
-pub use arguments::{WordsFault, words};
 pub use driver::{command, command_without_words};
 pub use fault_lines::fault_line;
 pub use m11_files::{MadeFile, MemoryFile, MemoryFiles, OpenRefusal, Opens, SystemFiles};
-pub use m11_tasks::{AsmTask, LinkTask, SimTask, Task, UsageFault, plan};
+pub use m11_tasks::{AsmTask, LinkTask, SimTask, Task, UsageFault, WordsFault, plan, words};
 pub use outcome::{Outcome, status};
