@@ -1,6 +1,6 @@
 -- Takers of bytes. (This project's own.) A known text of a sink is all that it has taken; adding to
 -- a known text is `Appends` of the standard library, which says nothing of an unknown one.
-use Rattle.std.specs.Prelude.{◌≡◌, ℕ, zero, suc, [], ◌++◌, length, take, Option, Result, MatchResult}
+use Rattle.std.specs.Prelude.{◌≡◌, ℕ, zero, suc, ◌-◌, [], ◌++◌, length, take, Option, option_map, Result, MatchResult}
 use Rattle.std.specs.Io.KnownBytes.{Appends}
 use Rattle.m11_base.specs.Devices.{Bytes, Rises}
 
@@ -18,6 +18,14 @@ CountsAt old new (suc n) m = new ≡ old
 abbrev pub Counts : {E : Type 0} → ℕ → ℕ → Result ℕ E → Bytes → Type 0
 Counts old new result bytes =
     MatchResult result (λ n. CountsAt old new n (length bytes)) (λ _. Rises old new)
+
+-- and where all that is held back was to be handed on
+abbrev pub CountsFlush : {A E : Type 0} → ℕ → ℕ → Result A E → Type 0
+CountsFlush old new result = MatchResult result (λ _. new ≡ old) (λ _. Rises old new)
+
+-- what the device has got: all that was taken but for the last bytes, as many as are held back
+abbrev pub handed_on : Option Bytes → ℕ → Option Bytes
+handed_on text held = option_map (λ bytes. take (length bytes - held) bytes) text
 
 -- a known text grew by a beginning of the bytes, perhaps by none or by all of them
 abbrev pub AppendsBeginning : Option Bytes → Option Bytes → Bytes → Type 0

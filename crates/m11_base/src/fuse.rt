@@ -1,10 +1,11 @@
 //! A feed and a sink that begin to fail after a number of calls, for tests of failing devices.
 
-ghost use Rattle.std.specs.Prelude.{◌≡◌, ◌≢◌, ◌≤◌, ◌<◌, ◌+◌, ◌-◌, length, take, MatchResult, MatchOption, IfOk, IsErr};
+ghost use Rattle.std.specs.Prelude.{◌≡◌, ◌≢◌, ◌≤◌, ◌<◌, ◌+◌, ◌-◌, length, take, MatchResult, MatchOption, IfOk, OnOk, IsErr};
+ghost use Rattle.std.specs.Io.KnownBytes.{Keeps};
 ghost use Rattle.m11_base.specs.Devices.{Rises, last_count};
 ghost use Rattle.m11_base.specs.Feed.{Gives, GivesBytes, ready_within, text_through_fuse};
 ghost use Rattle.m11_base.specs.Fuse.{GivesAndCounts};
-ghost use Rattle.m11_base.specs.Sink.{Takes, Counts};
+ghost use Rattle.m11_base.specs.Sink.{Takes, Counts, CountsFlush};
 
 use crate::fault::DeviceFault;
 use crate::feed::Feed;
@@ -157,6 +158,8 @@ impl<S: Sink> Sink for FuseSink<S> {
 
     ghost faults = { λ s. s.faults };
 
+    ghost held = { λ s. S.held s.sink };
+
     fn put(&mut self, bytes: &[u8]) -> Result<usize, DeviceFault>
         ensures within { IfOk result (λ n. n ≤ length bytes.now) }
         ensures takes { Takes (S.text self.old.sink) (S.text self.new.sink) result bytes.now }
@@ -182,6 +185,33 @@ impl<S: Sink> Sink for FuseSink<S> {
         let front = &bytes[..bytes.len().min(self.most)];
         let returned = self.sink.put(front);
         if returned.is_err() || (matches!(returned, Ok(0)) && !bytes.is_empty()) {
+            self.faults += 1;
+        }
+        returned
+    }
+
+    fn flush(&mut self) -> Result<(), DeviceFault>
+        ensures all { OnOk result (S.held self.new.sink ≡ 0) }
+        ensures keeps { Keeps (S.text self.old.sink) (S.text self.new.sink) }
+        ensures counts { CountsFlush self.old.faults self.new.faults result }
+        ensures last { self.old.faults ≡ last_count → IsErr result }
+        ensures keeps_limit { self.new.most ≡ self.old.most }
+        ensures spends { self.old.faults ≢ last_count → self.new.calls ≡ self.old.calls - 1 }
+        ensures blows { self.old.calls ≡ 0 → IsErr result }
+        // while calls are left, the result is the sink's own
+        ensures passes { 0 < self.old.calls → self.old.faults ≢ last_count
+            → CountsFlush (S.faults self.old.sink) (S.faults self.new.sink) result }
+    {
+        if self.faults == u64::MAX {
+            return Err(DeviceFault);
+        }
+        if self.calls == 0 {
+            self.faults += 1;
+            return Err(DeviceFault);
+        }
+        self.calls -= 1;
+        let returned = self.sink.flush();
+        if returned.is_err() {
             self.faults += 1;
         }
         returned

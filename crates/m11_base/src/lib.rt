@@ -3,6 +3,7 @@
 #![tactic(auto)]
 
 mod buffered;
+mod buffered_sink;
 mod decoding;
 mod encoding;
 mod fault;
@@ -23,6 +24,7 @@ mod sink;
 mod stream;
 
 pub use buffered::BufferedFeed;
+pub use buffered_sink::BufferedSink;
 pub use decoding::{decode, decode_by_list};
 pub use encoding::encode;
 pub use fault::{DeviceFault, OctalFault, PutFault};

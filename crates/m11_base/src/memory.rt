@@ -95,6 +95,8 @@ impl Sink for MemorySink {
 
     ghost faults = { λ s. s.faults };
 
+    ghost held = { λ _. 0 };
+
     fn put(&mut self, bytes: &[u8]) -> Result<usize, DeviceFault> {
         if self.faults == u64::MAX {
             return Err(DeviceFault);
@@ -106,5 +108,13 @@ impl Sink for MemorySink {
                 Err(DeviceFault)
             }
         }
+    }
+
+    // Nothing is held back.
+    fn flush(&mut self) -> Result<(), DeviceFault> {
+        if self.faults == u64::MAX {
+            return Err(DeviceFault);
+        }
+        Ok(())
     }
 }

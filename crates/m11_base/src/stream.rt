@@ -114,6 +114,8 @@ impl<W: Write> Sink for WriterSink<W> {
 
     ghost faults = { λ s. s.faults };
 
+    ghost held = { λ _. 0 };
+
     fn put(&mut self, bytes: &[u8]) -> Result<usize, DeviceFault> {
         if self.faults == u64::MAX {
             return Err(DeviceFault);
@@ -123,6 +125,14 @@ impl<W: Write> Sink for WriterSink<W> {
             self.faults += 1;
         }
         returned
+    }
+
+    // Nothing is held back.
+    fn flush(&mut self) -> Result<(), DeviceFault> {
+        if self.faults == u64::MAX {
+            return Err(DeviceFault);
+        }
+        Ok(())
     }
 }
 

@@ -1,0 +1,90 @@
+//! A sink over the buffered writer of the standard library.
+
+ghost use Rattle.std.specs.Prelude.{◌≡◌, ◌≤◌, [], length, IfOk, OnOk};
+ghost use Rattle.std.specs.Io.KnownBytes.{Keeps, WriteAppends};
+ghost use Rattle.std.specs.Io.Buffered.{writer_buffer, writer_contents};
+ghost use Rattle.m11_base.specs.Sink.{handed_on};
+
+use crate::fault::DeviceFault;
+use crate::interrupted::until_done;
+use crate::sink::Sink;
+use std::io::{BufWriter, Write};
+
+/// Takes bytes into the buffer of a writer, and hands them on when that is full, and at `flush`. So a failed write may show
+/// only there, or at a later put. A write that a signal interrupted is tried again. It is for files: someone who reads
+/// along would wait.
+#[derive(Drop)]
+pub struct BufferedSink<W: Write + Drop> {
+    writer: BufWriter<W>,
+    faults: u64,
+}
+
+impl<W: Write + Drop> BufferedSink<W> {
+    /// A sink that writes by `writer`.
+    pub fn new(writer: BufWriter<W>) -> BufferedSink<W>
+        ensures text { ⟦<BufferedSink<W> as Sink>⟧.text result ≡ writer_contents W.contents writer }
+        ensures unfailed { ⟦<BufferedSink<W> as Sink>⟧.faults result ≡ 0 }
+    {
+        BufferedSink { writer, faults: 0 }
+    }
+
+    /// The writer alone. What is held back is given up: the writer has got just what was handed on.
+    pub fn into_writer(self) -> W
+        ensures { W.contents result ≡ handed_on (⟦<BufferedSink<W> as Sink>⟧.text self) (⟦<BufferedSink<W> as Sink>⟧.held self) }
+    {
+        let (writer, _held) = self.writer.into_parts();
+        writer
+    }
+}
+
+impl<W: Write + Drop> Sink for BufferedSink<W> {
+    ghost text = { λ s. writer_contents W.contents s.writer };
+
+    ghost faults = { λ s. s.faults };
+
+    ghost held = { λ s. length (writer_buffer s.writer) };
+
+    #[inline]
+    fn put(&mut self, bytes: &[u8]) -> Result<usize, DeviceFault> {
+        if self.faults == u64::MAX {
+            return Err(DeviceFault);
+        }
+        let returned = write_some(&mut self.writer, bytes);
+        if returned.is_err() || (matches!(returned, Ok(0)) && !bytes.is_empty()) {
+            self.faults += 1;
+        }
+        returned
+    }
+
+    fn flush(&mut self) -> Result<(), DeviceFault> {
+        if self.faults == u64::MAX {
+            return Err(DeviceFault);
+        }
+        let returned = flush_all(&mut self.writer);
+        if returned.is_err() {
+            self.faults += 1;
+        }
+        returned
+    }
+}
+
+// One write of bytes from the front of `bytes`, into the buffer where they fit.
+#[inline]
+fn write_some<W: Write + Drop>(
+    writer: &mut BufWriter<W>,
+    bytes: &[u8],
+) -> Result<usize, DeviceFault>
+    ensures within { IfOk result (λ n. n ≤ length bytes.now) }
+    ensures appends { WriteAppends (writer_contents W.contents writer.old) (writer_contents W.contents writer.new) result
+        bytes.now }
+{
+    until_done!(writer.write(bytes))
+}
+
+// All that the buffer holds. What a failure leaves unwritten stays in it.
+fn flush_all<W: Write + Drop>(writer: &mut BufWriter<W>) -> Result<(), DeviceFault>
+    ensures empty { OnOk result (writer_buffer writer.new ≡ []) }
+    ensures bytes { Keeps (writer_contents W.contents writer.old) (writer_contents W.contents writer.new) }
+{
+    until_done!(writer.flush())
+}
