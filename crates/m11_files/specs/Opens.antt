@@ -7,7 +7,7 @@ use Rattle.m11_base.specs.Feed.{Text}
 use Rattle.m11_files.specs.declared.opens.OpenRefusal.{OpenRefusal}
 use Rattle.m11_files.specs.declared.opens.OpenRefusal.TheVariants.{NotOpened, NoMemory}
 
--- a file that was created, and what was written to it, once its output was handed back
+-- a file that was created, and what it has got, once its output was handed back
 pub record Made : Type 0 where
   pub path : Bytes
   pub kept : Option Bytes
@@ -84,7 +84,7 @@ abbrev pub Creates : {O : Type 0} → Bytes → Option Files → Option Files �
 Creates path old new (Ok output) = new ≡ creating (path ∷ []) old
 Creates path old new (Err refusal) = new ≡ old
 
--- the first file that was created at this path holds what was written to an output
+-- the first file that was created at this path holds what an output has handed on
 abbrev pub kept_among : Bytes → Option Bytes → List Made → List Made
 kept_among path text [] = []
 kept_among path text (made ∷ more) =
@@ -100,7 +100,7 @@ IsEmptiedSome text files None None = ⊤
 IsEmptiedSome text files (Some path) (Some output) = IsEmptied files (text output)
 IsEmptiedSome text files path output = ⊥
 
--- what was written to an output is kept, if there is one
+-- what an output has handed on is kept, if there is one
 abbrev pub keeping_some : {O : Type 0} → (O → Option Bytes) → Option (Bor Bytes) → Option O → Option Files
     → Option Files
 keeping_some text (Some path) (Some output) files = keeping path.now (text output) files

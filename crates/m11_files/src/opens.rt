@@ -1,6 +1,7 @@
 //! What opens the files of a task.
 
 ghost use Rattle.std.specs.Prelude.{◌≡◌, ℕ, Option, IfOk};
+ghost use Rattle.m11_base.specs.Sink.{handed_on};
 ghost use Rattle.m11_files.specs.Opens.{Files, Creates, CountsRefusal, Finds, FindsTwice, IsEmptied, keeping};
 
 use m11_base::{Feed, Sink};
@@ -59,8 +60,10 @@ pub trait Opens {
         ensures creates { Creates path.now (files self.old) (files self.new) result }
         ensures counts { CountsRefusal (refusals self.old) (refusals self.new) result };
 
-    /// Takes back the output that was created at a path, when all has been written to it.
+    /// Takes back the output that was created at a path, when a run has ended. The file has what the output has handed on: all
+    /// that it has taken where it was flushed.
     fn keep(&mut self, path: &str, output: Self::Output)
-        ensures keeps { files self.new ≡ keeping path.now (Self.Output.text output) (files self.old) }
+        ensures keeps { files self.new
+            ≡ keeping path.now (handed_on (Self.Output.text output) (Self.Output.held output)) (files self.old) }
         ensures counts { refusals self.new ≡ refusals self.old };
 }

@@ -6,14 +6,14 @@ ghost use Rattle.m11_files.specs.declared.opens.OpenRefusal.TheVariants.{NoMemor
 
 use crate::opens::{OpenRefusal, Opens};
 use crate::stand_ins::StandIns;
-use m11_base::{BufferedFeed, WriterSink};
-use std::io::{BufReader, ErrorKind, Seek};
+use m11_base::{BufferedFeed, BufferedSink};
+use std::io::{BufReader, BufWriter, ErrorKind, Seek};
 use std::os::fd::AsRawFd;
 use std::rt::Files;
 use std::{fs, io};
 
-/// Opens files by the runtime. What is read comes through a buffer; what is written goes to the file at once, so that a
-/// failed write shows at the put that made it. Of the texts of files nothing is known. No file that is opened is a standard
+/// Opens files by the runtime. What is read comes through a buffer, and what is written goes through one: it is with the
+/// file when its sink was flushed. Of the texts of files nothing is known. No file that is opened is a standard
 /// stream, also where the caller closed some: others stand in for those for as long as this lives.
 #[derive(Drop)]
 pub struct SystemFiles<'a, R: Files> {
@@ -43,7 +43,7 @@ impl<'a, R: Files + AllocGlobal> Opens for SystemFiles<'a, R> {
 
     type Input = BufferedFeed<R::File>;
 
-    type Output = WriterSink<R::File>;
+    type Output = BufferedSink<R::File>;
 
     ghost files = { λ _. None };
 
@@ -67,16 +67,16 @@ impl<'a, R: Files + AllocGlobal> Opens for SystemFiles<'a, R> {
         Ok((buffered(self.rt, first)?, buffered(self.rt, second)?))
     }
 
-    fn create(&mut self, path: &str) -> Result<WriterSink<R::File>, OpenRefusal> {
+    fn create(&mut self, path: &str) -> Result<BufferedSink<R::File>, OpenRefusal> {
         match fs::create(self.rt, path) {
-            Ok(file) => Ok(WriterSink::new(file)),
+            Ok(file) => buffered_sink(self.rt, file),
             Err(error) => Err(refusal(&error, &mut self.refusals)),
         }
     }
 
-    // All that was put is written, so nothing is left to do.
-    fn keep(&mut self, _path: &str, output: WriterSink<R::File>) {
-        drop(output);
+    // What is still held back comes after a write that failed, and is given up.
+    fn keep(&mut self, _path: &str, output: BufferedSink<R::File>) {
+        drop(output.into_writer());
     }
 }
 
@@ -99,6 +99,19 @@ fn buffered<R: Files + AllocGlobal>(
 {
     match BufReader::new(rt.alloc(), file) {
         Ok(reader) => Ok(BufferedFeed::new(reader)),
+        Err(_) => Err(OpenRefusal::NoMemory),
+    }
+}
+
+// What takes the bytes of a file, through a buffer. Nothing but memory is refused.
+fn buffered_sink<R: Files + AllocGlobal>(
+    rt: &R,
+    file: R::File,
+) -> Result<BufferedSink<R::File>, OpenRefusal>
+    ensures { IfErr result (λ refusal. refusal ≡ NoMemory) }
+{
+    match BufWriter::new(rt.alloc(), file) {
+        Ok(writer) => Ok(BufferedSink::new(writer)),
         Err(_) => Err(OpenRefusal::NoMemory),
     }
 }

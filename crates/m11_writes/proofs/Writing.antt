@@ -4,7 +4,7 @@ use Rattle.std.proofs.lemmas.Grind.{flat_map-append}
 use Rattle.std.specs.Io.KnownBytes.{Appends}
 use Rattle.m11_base.proofs.Known.{Appends-Appends}
 use Rattle.m11_writes.specs.Outputs.{Output, Puts}
-use Rattle.m11_writes.specs.Writes.{Kinds, Stop, In, Between, Write, to_output, gained, gained_by, GainTexts, Gains, StopsIn, StopsBetween, StopsAt, Stops, Writes, LeavesBeginnings}
+use Rattle.m11_writes.specs.Writes.{Kinds, Stop, In, Between, Write, to_output, gained, gained_by, GainTexts, Gains, StopsIn, StopsBetween, StopsAt, Stops, Writes, LeavesBeginnings, Finishes, flushes}
 
 pub keeps : (text : Option (List ℕ)) → Appends text text []
 keeps None = tt
@@ -232,3 +232,60 @@ module _ {O E : Type 0} (kinds : Kinds O E) where
   pub beginnings_left : (old new : O → Output) (writes : List (Write O)) (fault : E) → Stops kinds old new writes fault
       → LeavesBeginnings kinds old new writes
   beginnings_left old new writes fault h = left old new writes (kinds.stop fault) h
+
+  -- ---- a flush
+
+  nothing_by : (b : Bool) → ◌≡◌ {A = List ℕ} (if b then [] else []) []
+  nothing_by true = refl
+  nothing_by false = refl
+
+  pub flushes_add_nothing : (output : O) (outputs : List O) → gained kinds output (flushes outputs) ≡ []
+  unfolding gained
+  flushes_add_nothing output [] = refl
+  flushes_add_nothing output (first ∷ outputs) =
+      ap (λ (t : List ℕ). t ++ gained kinds output (flushes outputs)) (nothing_by (kinds.is output first))
+      ∙ flushes_add_nothing output outputs
+
+  gained_still : (output : O) (xs : List (Write O)) (outputs : List O)
+      → gained kinds output (xs ++ flushes outputs) ≡ gained kinds output xs
+  gained_still output xs outputs = gained-append output xs (flushes outputs)
+      ∙ ap (λ (t : List ℕ). gained kinds output xs ++ t) (flushes_add_nothing output outputs)
+      ∙ append-nil (gained kinds output xs)
+
+  pub gains_still : (a b : O → Output) (xs : List (Write O)) (outputs : List O) → Gains kinds a b (xs ++ flushes outputs)
+      → Gains kinds a b xs
+  gains_still a b xs outputs g = record {
+    texts = λ output. subst (λ (t : List ℕ). Appends (a output).text (b output).text t) (gained_still output xs outputs)
+        (g.texts output);
+    faults = g.faults;
+  }
+
+  -- writes that were made, and then a flush that failed
+  pub flush_stops : {A : Type 0} (a b c : O → Output) (xs : List (Write O)) (outputs : List O) (fault : E) (result : Result A E)
+      → Gains kinds a b xs → Stops kinds b c (flushes outputs) fault → IsErrAnd result (λ f. f ≡ fault)
+      → Finishes kinds a c xs outputs result
+  flush_stops a b c xs outputs fault (Ok done) g h e = absurd e
+  flush_stops a b c xs outputs fault (Err stopped) g h e =
+      let P : E → Type 0 = λ these. Stops kinds a c (xs ++ flushes outputs) these in
+      subst P (sym e) (stops_after a b c xs (flushes outputs) fault g h)
+
+  -- writes that were made, and then others, which finish
+  pub finishes_then : {A : Type 0} (a b c : O → Output) (xs ys : List (Write O)) (outputs : List O) (result : Result A E)
+      → Gains kinds a b xs → Finishes kinds b c ys outputs result → Finishes kinds a c (xs ++ ys) outputs result
+  finishes_then a b c xs ys outputs (Ok done) g h = (gains_then a b c xs ys g h.0, h.1)
+  finishes_then a b c xs ys outputs (Err stopped) g h =
+      rw (append_assoc xs ys (flushes outputs)) (stops_after a b c xs (ys ++ flushes outputs) stopped g h)
+
+  -- writes that stopped
+  pub finishes_early : {A : Type 0} (a b : O → Output) (xs : List (Write O)) (outputs : List O) (fault : E) (result : Result A E)
+      → Stops kinds a b xs fault → IsErrAnd result (λ f. f ≡ fault) → Finishes kinds a b xs outputs result
+  finishes_early a b xs outputs fault (Ok done) h e = absurd e
+  finishes_early a b xs outputs fault (Err stopped) h e =
+      let P : E → Type 0 = λ these. Stops kinds a b (xs ++ flushes outputs) these in
+      subst P (sym e) (stops_before a b xs (flushes outputs) fault h)
+
+  pub flushed_beginnings : (old new : O → Output) (writes : List (Write O)) (outputs : List O) (fault : E)
+      → Stops kinds old new (writes ++ flushes outputs) fault → LeavesBeginnings kinds old new writes
+  flushed_beginnings old new writes outputs fault h = λ output.
+      let begun = beginnings_left old new (writes ++ flushes outputs) fault h output in
+      (begun.0, begun.1, sym (gained_still output writes outputs) ∙ begun.2, begun.3)

@@ -5,18 +5,20 @@ use Rattle.m11_base.specs.Devices.{Bytes, Rises}
 use Rattle.m11_base.specs.Sink.{AppendsBeginning}
 use Rattle.m11_base.specs.declared.sink.Sink.{Ghosts}
 
--- an output: what it has taken, where that is known, and its count of failures
+-- an output: what it has taken, where that is known, its count of failures, and how many of the last bytes that it has
+-- taken it holds back
 pub record Output : Type 0 where
   pub text : Option Bytes
   pub faults : ℕ
+  pub held : ℕ
 
 -- the output that a sink is
 abbrev pub output_of : {S : Type 0} → Ghosts S → S → Output
-output_of known sink = record { text = known.text sink; faults = known.faults sink }
+output_of known sink = record { text = known.text sink; faults = known.faults sink; held = known.held sink }
 
--- nothing is known of an output that isn't there, and it doesn't fail
+-- nothing is known of an output that isn't there; it doesn't fail, and it holds nothing back
 abbrev pub no_output : Output
-no_output = record { text = None; faults = 0 }
+no_output = record { text = None; faults = 0; held = 0 }
 
 abbrev pub optional_output : {S : Type 0} → Ghosts S → Option S → Output
 optional_output known None = no_output

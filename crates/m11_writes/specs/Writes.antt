@@ -1,5 +1,5 @@
 -- Writes to several outputs in one order, and what became of them. (This project's own.)
-use Rattle.std.specs.Prelude.{◌≡◌, ◌≢◌, Bool, true, List, [], ◌∷◌, ◌++◌, Option, Some, None, Result, Ok, Err, if◌then◌else◌}
+use Rattle.std.specs.Prelude.{◌≡◌, ◌≢◌, Bool, true, List, [], ◌∷◌, ◌++◌, map, ⊤, Option, Some, None, Result, Ok, Err, if◌then◌else◌}
 use Rattle.std.specs.List.{flat_map}
 use Rattle.std.specs.Io.KnownBytes.{Appends}
 use Rattle.m11_base.specs.Devices.{Bytes, Rises}
@@ -81,6 +81,23 @@ Stops kinds old new writes fault = StopsAt kinds old new writes (kinds.stop faul
 abbrev pub Writes : {A O E : Type 0} → Kinds O E → (O → Output) → (O → Output) → List (Write O) → Result A E → Type 0
 Writes kinds old new writes (Ok done) = Gains kinds old new writes
 Writes kinds old new writes (Err stopped) = Stops kinds old new writes stopped
+
+-- ---- the end of a run
+
+-- a flush of outputs, in this order, is told as writes of no bytes: each of them may fail, and none adds a byte
+abbrev pub flushes : {O : Type 0} → List O → List (Write O)
+flushes outputs = map (λ output. to_output output []) outputs
+
+-- these hold nothing back
+abbrev pub AreFlushed : {O : Type 0} → (O → Output) → List O → Type 0
+AreFlushed now [] = ⊤
+AreFlushed now (output ∷ outputs) = ((now output).held ≡ 0) × AreFlushed now outputs
+
+-- writes, and then a flush of outputs: all was written, and they hold nothing back; or it stopped in one of the writes,
+-- or in the flush
+abbrev pub Finishes : {A O E : Type 0} → Kinds O E → (O → Output) → (O → Output) → List (Write O) → List O → Result A E → Type 0
+Finishes kinds old new writes outputs (Ok done) = Gains kinds old new writes × AreFlushed new outputs
+Finishes kinds old new writes outputs (Err stopped) = Stops kinds old new (writes ++ flushes outputs) stopped
 
 -- ---- laws
 

@@ -4,5 +4,5 @@
 mod laws;
 mod outputs;
 
-pub use laws::early_ends_leave_beginnings;
-pub use outputs::put_or_fail;
+pub use laws::{devices_have_beginnings, early_ends_leave_beginnings};
+pub use outputs::{flush_or_fail, put_or_fail};
