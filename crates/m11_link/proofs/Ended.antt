@@ -17,7 +17,7 @@ use Rattle.m11_link.specs.declared.emit.LinkDone.{LinkDone}
 use Rattle.m11_link.specs.Emit.{Emitting, EmitEnds, GoesOn, EmitStands, begin_writes, begun_reporting, written}
 use Rattle.m11_link_text.specs.Findings.{planned}
 use Rattle.m11_link.specs.Front.{front_writes}
-use Rattle.m11_link.specs.Outputs.{Outputs, Write, Gains, StopsBetween, StopsIn, Writes, to_tape}
+use Rattle.m11_link.specs.Outputs.{Outputs, Write, Finishes, Gains, StopsBetween, StopsIn, flushes, to_tape}
 use Rattle.m11_link.specs.Written.{counted, link_writes}
 use Rattle.m11_link.proofs.Counting.{counted-append}
 use Rattle.m11_link.proofs.Emitted.{begun_counts, begun_holds, here, none_written}
@@ -66,6 +66,14 @@ module _ {seen : Emitting} (plan : Planned) (before : List Part) (s : Emitting) 
         → GoesOn Went (written plan seen.has_begun before) (link_writes (planned plan) before)
     went_on Went h = record { more = made; split = split; went = h }
 
+    went_flushing : (Went : List Write → Type 0) → Went (made ++ flushes)
+        → GoesOn Went (written plan seen.has_begun before) (link_writes (planned plan) before ++ flushes)
+    went_flushing Went h = record {
+      more = made ++ flushes;
+      split = ap (λ ws. ws ++ flushes) split ∙ append_assoc (written plan seen.has_begun before) made flushes;
+      went = h;
+    }
+
     counts : (done : LinkDone) → done.messages ≡ (begun_reporting seen).messages
         → done.messages ≡ counted 0 (link_writes (planned plan) before)
     counts done e = e
@@ -80,11 +88,11 @@ module _ {seen : Emitting} (plan : Planned) (before : List Part) (s : Emitting) 
     Ended a b x result = EmitEnds plan before a b x result
 
     ended_here : (a b : Outputs) (result : Result LinkDone LinkFault) → fault_of before EndOfFile ≡ None
-        → Writes a b made result → IfOk result (λ done. done.messages ≡ (begun_reporting seen).messages)
+        → Finishes a b made result → IfOk result (λ done. done.messages ≡ (begun_reporting seen).messages)
         → Ended a b seen result
-    ended_here a b (Ok done) sound h n = (sound, counts done n, went_on (λ more. Gains a b more) h)
-    ended_here a b (Err (fault.Write output)) sound h n = (sound, went_on (λ more. StopsIn output a b more) h)
-    ended_here a b (Err fault.NoMemory) sound h n = (sound, went_on (λ more. StopsBetween a b more) h)
+    ended_here a b (Ok done) sound h n = (sound, counts done n, went_on (λ more. Gains a b more) h.0, h.1)
+    ended_here a b (Err (fault.Write output)) sound h n = (sound, went_flushing (λ more. StopsIn output a b more) h)
+    ended_here a b (Err fault.NoMemory) sound h n = (sound, went_flushing (λ more. StopsBetween a b more) h)
     ended_here a b (Err fault.Read) sound h n = absurd h
     ended_here a b (Err (fault.Block inner)) sound h n = absurd h
     ended_here a b (Err (fault.Record inner)) sound h n = absurd h
@@ -104,7 +112,7 @@ module _ {seen : Emitting} (plan : Planned) (before : List Part) (s : Emitting) 
     sound_end e = head_none (fault_of before EndOfFile) None e
 
     pub ended : (a b : Outputs) (known : Known) (result : Result LinkDone LinkFault)
-        → (seen.known ≡ known_of before → TakesAfter before known (EndOfFile ∷ []) (Ok tt)) → Writes a b made result
+        → (seen.known ≡ known_of before → TakesAfter before known (EndOfFile ∷ []) (Ok tt)) → Finishes a b made result
         → IfOk result (λ done. done.messages ≡ (begun_reporting seen).messages) → Ended a b s result
     ended a b known result t h n =
         let P : Emitting → Type 0 = λ x. Ended a b x result in

@@ -22,7 +22,7 @@ use Rattle.m11_link.specs.declared.emit.LinkDone.{LinkDone}
 use Rattle.m11_link_text.specs.Findings.{planned}
 use Rattle.m11_link.specs.Written.{link_writes}
 use Rattle.m11_link.specs.SecondPass.{Emits, EmitsObject, Emitted, IsOfItems, ReadsSecond, StopsAt, StopsBefore, StopsLink, StopsWithin, WrittenAfter, begun_by, start_at}
-use Rattle.m11_link.specs.Outputs.{Outputs, Write, Gains, StopsBetween, StopsIn, link}
+use Rattle.m11_link.specs.Outputs.{Outputs, Write, Gains, StopsBetween, StopsIn, flushes, link}
 use Rattle.m11_base.proofs.FeedsRead.{SoFar, begin, all_read, failed_here, given_more, none_failed, read_more}
 use Rattle.m11_link.proofs.FirstRead.{are_after, one_object}
 use Rattle.m11_link.proofs.Steady.{objects_come}
@@ -553,6 +553,7 @@ module _ {F : Type 0} (text : F → Option FeedText) (faults : F → ℕ) (feeds
       h.3.taken-is,
       gains_on old now new (written plan emit.has_begun h.3.parts) (link_writes (planned plan) h.3.parts) h.3.gains e.2,
       e.1,
+      e.3,
     )
     second_ends (Err (fault.Write output)) e = (
       h.0,
@@ -563,7 +564,7 @@ module _ {F : Type 0} (text : F → Option FeedText) (faults : F → ℕ) (feeds
         parts = h.3.parts;
         taken-is = h.3.taken-is;
         stops = stops_in_on output old now new (written plan emit.has_begun h.3.parts)
-            (link_writes (planned plan) h.3.parts) h.3.gains e.1;
+            (link_writes (planned plan) h.3.parts ++ flushes) h.3.gains e.1;
       }),
     )
     second_ends (Err fault.NoMemory) e = (
@@ -575,7 +576,7 @@ module _ {F : Type 0} (text : F → Option FeedText) (faults : F → ℕ) (feeds
         parts = h.3.parts;
         taken-is = h.3.taken-is;
         stops = stops_between_on old now new (written plan emit.has_begun h.3.parts)
-            (link_writes (planned plan) h.3.parts) h.3.gains e.1;
+            (link_writes (planned plan) h.3.parts ++ flushes) h.3.gains e.1;
       }),
     )
     second_ends (Err fault.BadOrder) e = absurd (none_some rule.BadOrder (sym h.3.between ∙ e.0))

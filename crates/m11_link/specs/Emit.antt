@@ -23,7 +23,7 @@ use Rattle.m11_layout.specs.declared.fault.LinkFault.TheVariants as fault
 use Rattle.m11_link.specs.declared.emit.LinkDone.{LinkDone}
 use Rattle.m11_link_text.specs.Findings.{Findings, planned}
 use Rattle.m11_link.specs.Front.{front_writes}
-use Rattle.m11_link.specs.Outputs.{Write, Outputs, Gains, Stops, StopsBetween, StopsIn}
+use Rattle.m11_link.specs.Outputs.{Write, Outputs, AreFlushed, Gains, Stops, StopsBetween, StopsIn, flushes}
 use Rattle.m11_link.specs.Written.{PlacedText, placed_text, text_writes, with_relocation, symbol_writes, entry_writes, defined_names, parts_writes, link_writes, counted}
 
 -- ---- what stands between two records
@@ -252,15 +252,15 @@ abbrev pub FailsAgain : Emitting → Emitting → Outputs → Outputs → Result
 FailsAgain state state' old new result = (stopped : LinkFault) → state.fault ≡ Some stopped
     → (result ≡ Err stopped) × (state' ≡ state) × (new ≡ old)
 
--- the end of the second pass: the whole link is written; or the parts end inside a module, and nothing more was
--- written; or they don't, and an output failed, or memory was refused
+-- the end of the second pass: the whole link is written, and the files hold nothing back; or the parts end inside a module,
+-- and nothing more was written; or they don't, and an output failed, perhaps at the flush, or memory was refused
 abbrev pub EmitEnds : Planned → List Part → Outputs → Outputs → Emitting → Result LinkDone LinkFault → Type 0
 EmitEnds plan parts old new state (Ok done) = (fault_of parts EndOfFile ≡ None)
     × (done.messages ≡ counted 0 (link_writes (planned plan) parts))
-    × GoesOn (Gains old new) (written plan state.has_begun parts) (link_writes (planned plan) parts)
+    × GoesOn (Gains old new) (written plan state.has_begun parts) (link_writes (planned plan) parts) × AreFlushed new
 EmitEnds plan parts old new state (Err (fault.Write output)) = (fault_of parts EndOfFile ≡ None)
-    × GoesOn (StopsIn output old new) (written plan state.has_begun parts) (link_writes (planned plan) parts)
+    × GoesOn (StopsIn output old new) (written plan state.has_begun parts) (link_writes (planned plan) parts ++ flushes)
 EmitEnds plan parts old new state (Err fault.NoMemory) = (fault_of parts EndOfFile ≡ None)
-    × GoesOn (StopsBetween old new) (written plan state.has_begun parts) (link_writes (planned plan) parts)
+    × GoesOn (StopsBetween old new) (written plan state.has_begun parts) (link_writes (planned plan) parts ++ flushes)
 EmitEnds plan parts old new state (Err fault.BadOrder) = (fault_of parts EndOfFile ≡ Some rule.BadOrder) × (new ≡ old)
 EmitEnds plan parts old new state (Err stopped) = ⊥

@@ -1,6 +1,6 @@
 -- The outputs of a link, and writes to them in one order. (This project's own. What becomes of such writes stands in
 -- m11_writes.)
-use Rattle.std.specs.Prelude.{◌≡◌, Bool, true, false, List, Option, Some, None, Result, refl}
+use Rattle.std.specs.Prelude.{◌≡◌, Bool, true, false, List, [], ◌∷◌, Option, Some, None, Result, refl}
 use Rattle.m11_base.specs.Devices.{Bytes}
 use Rattle.m11_base.specs.declared.sink.Sink.{Ghosts}
 use Rattle.m11_layout.specs.declared.fault.LinkFault.{LinkFault}
@@ -88,3 +88,20 @@ Stops old new all stopped = writes.Stops link old new all stopped
 
 abbrev pub Writes : {A : Type 0} → Outputs → Outputs → List Write → Result A LinkFault → Type 0
 Writes old new all result = writes.Writes link old new all result
+
+-- ---- the end
+
+-- those that may hold bytes back: a link flushes them in this order when all is written. The messages are for someone who
+-- reads along
+abbrev pub files : List LinkOutput
+files = Tape ∷ Map ∷ []
+
+abbrev pub flushes : List Write
+flushes = writes.flushes files
+
+-- the files hold nothing back
+abbrev pub AreFlushed : Outputs → Type 0
+AreFlushed now = writes.AreFlushed now files
+
+abbrev pub Finishes : {A : Type 0} → Outputs → Outputs → List Write → Result A LinkFault → Type 0
+Finishes old new all result = writes.Finishes link old new all files result

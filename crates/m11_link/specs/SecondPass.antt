@@ -12,7 +12,7 @@ use Rattle.m11_link.specs.Emit.{Emitting, EmitStands, written}
 use Rattle.m11_link_text.specs.Findings.{planned}
 use Rattle.m11_link.specs.FirstPass.{AreTaken, Pass, ReadsFirst}
 use Rattle.m11_link.specs.Objects.{Item, taken, taken_item, GivesItems, BeginsItems, GiveItems, FailAfter}
-use Rattle.m11_link.specs.Outputs.{Write, Outputs, Gains, StopsIn, StopsBetween}
+use Rattle.m11_link.specs.Outputs.{Write, Outputs, AreFlushed, Gains, StopsIn, StopsBetween, flushes}
 use Rattle.m11_link.specs.Written.{counted, link_writes}
 
 -- ---- what is written where a pass stops
@@ -116,13 +116,13 @@ Emits pass start now emit (Err stopped) = NoneFailed pass.faults pass.old pass.n
 
 -- ---- the whole second pass, and the run
 
--- the items have no fault, and it stops among all that the link writes
+-- the items have no fault, and it stops among all that the link writes, or at the flush after it
 pub record StopsLast (Stop : List Write → Type 0) (plan : Planned) (items : List Item) : Type 0 where
   pub parts : List Part
   pub taken-is : taken [] items ≡ Ok parts
-  pub stops : Stop (link_writes (planned plan) parts)
+  pub stops : Stop (link_writes (planned plan) parts ++ flushes)
 
--- where a second pass stops: as its items do, or in the last write
+-- where a second pass stops: as its items do, or at its end
 abbrev pub StopsLink : LinkFault → Planned → List Item → Outputs → Outputs → Type 0
 StopsLink (fault.Write output) plan items old new =
     StopsWithin (StopsIn output old new) plan [] items ⊎ StopsLast (StopsIn output old new) plan items
@@ -130,14 +130,14 @@ StopsLink fault.NoMemory plan items old new =
     StopsWithin (StopsBetween old new) plan [] items ⊎ StopsLast (StopsBetween old new) plan items
 StopsLink stopped plan items old new = StopsBefore plan false [] items stopped old new
 
--- the second pass by a plan: the items have no fault, and all is written; or a feed failed, or an item was refused, and
+-- the second pass by a plan: the items have no fault, all is written, and the files hold nothing back; or a feed failed, or an item was refused, and
 -- exactly what is written for the items before is there; or memory was refused between two writes for items before the
 -- first fault, or an output failed in one, and nothing was written after it
 abbrev pub ReadsSecond : {F : Type 0} → Pass F → Planned → Outputs → Outputs → Result LinkDone LinkFault → Type 0
 ReadsSecond pass plan old new (Ok done) = NoneFailed pass.faults pass.old pass.new
     × (items : List Item) × GiveItems pass.text pass.old items
     × (parts : List Part) × (taken [] items ≡ Ok parts) × Gains old new (link_writes (planned plan) parts)
-    × (done.messages ≡ counted 0 (link_writes (planned plan) parts))
+    × (done.messages ≡ counted 0 (link_writes (planned plan) parts)) × AreFlushed new
 ReadsSecond pass plan old new (Err fault.Read) =
     (items : List Item) × FailAfter pass.text pass.faults pass.old pass.new items × AreTaken [] items
     × WrittenAfter plan false [] items old new

@@ -11,9 +11,10 @@ ghost use Rattle.m11_layout.specs.declared.fault.LinkFault.{LinkFault};
 ghost use Rattle.m11_link.specs.Emit.{EmitEnds, EmitStands, FailsAgain, Goes, TakesBlock, TakesParts, begin_writes, begun_reporting, bytes_writes, call_of, held_with, held_with_all, relocated_parts, with_bytes, with_held, with_reporting};
 ghost use Rattle.m11_link_text.specs.Findings.{planned};
 ghost use Rattle.m11_writes.specs.Outputs.{Output, optional_output, output_of};
-ghost use Rattle.m11_link.specs.Outputs.{Writes, outputs, outputs_of, to_tape};
+ghost use Rattle.m11_link.specs.Outputs.{Finishes, Writes, outputs, outputs_of, to_tape};
 
 use crate::held::ModuleSection;
+use crate::outputs::flush_files;
 use crate::reporting::Reporter;
 use m11_base::{Latch, Sink};
 use m11_layout::{LinkFault, Plan};
@@ -116,7 +117,7 @@ impl Emit {
         self.fault.keep(taken)
     }
 
-    /// The end of the second pass: the transfer block is written.
+    /// The end of the second pass: the transfer block is written, and the tape and the map are flushed.
     ///
     /// Faults: the one that came before, and then nothing is written; `BadOrder` inside a module; `Write` and
     /// `NoMemory`.
@@ -159,7 +160,7 @@ impl Emit {
     {
         self.fault.check()?;
         self.rules.end_of_file()?;
-        self.write_transfer(tape, map, messages)
+        self.write_last(tape, map, messages)
     }
 
     // What `feed` does where no fault came before.
@@ -349,6 +350,26 @@ impl Emit {
     {
         self.rules.end_of_file()?;
         self.begin(map, messages)
+    }
+
+    // Writes the transfer block, and before it what is written first, and flushes the files; returns the count of messages.
+    fn write_last<S: Sink, T: Sink, U: Sink>(
+        &mut self,
+        tape: &mut S,
+        map: &mut Option<T>,
+        messages: &mut U,
+    ) -> Result<LinkDone, LinkFault>
+        ensures finishes { Finishes
+            (outputs_of S.Sink T.Sink U.Sink tape.old map.old messages.old)
+            (outputs_of S.Sink T.Sink U.Sink tape.new map.new messages.new)
+            (begin_writes self.old ++ to_tape (tape_block (planned (begun_reporting self.old).plan).transfer []) ∷ [])
+            result }
+        ensures count { IfOk result (λ done. done.messages ≡ (begun_reporting self.old).messages) }
+        ensures stays { is_some map.new ≡ is_some map.old }
+    {
+        let done = self.write_transfer(tape, map, messages)?;
+        flush_files(tape, map)?;
+        Ok(done)
     }
 
     // Writes the transfer block, and before it what is written first; returns the count of messages.

@@ -8,5 +8,5 @@ returns-in_err-end_of_file-clause-ends g c = λ plan before stands. ended_inside
 
 pub returns-clause-ends : goal.returns-clause-ends
 returns-clause-ends g c = λ plan before stands. ended plan before c.args.self.now c.self.view_is stands _ _ c.end_of_file.new.self
-    c.write_transfer.result (c.in_ok-end_of_file.ensures.takes before) c.write_transfer.ensures.writes
-    c.write_transfer.ensures.count
+    c.write_last.result (c.in_ok-end_of_file.ensures.takes before) c.write_last.ensures.finishes
+    c.write_last.ensures.count
