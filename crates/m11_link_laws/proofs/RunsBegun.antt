@@ -13,7 +13,7 @@ use Rattle.m11_link.specs.FirstPass.{pass_of}
 use Rattle.m11_link.specs.Front.{front_writes}
 use Rattle.m11_link.specs.Objects.{AreItems, BeginningItems, FailAfter, GiveItems, Item, BlockOf, ObjectItems, taken}
 use Rattle.m11_link.specs.Objects as objects
-use Rattle.m11_link.specs.Outputs.{Gains, Outputs, Stops, Write, link, to_tape}
+use Rattle.m11_link.specs.Outputs.{Gains, Outputs, Stops, Write, files, flushes, link, to_tape}
 use Rattle.m11_link.specs.SecondPass.{ReadsSecond, StopsLast, StopsWithin, begun_by}
 use Rattle.m11_link.specs.Written.{link_writes, parts_writes}
 use Rattle.m11_link.proofs.ItemsTaken.{PartsOrFault, taken_after}
@@ -21,7 +21,7 @@ use Rattle.m11_link.proofs.Sole.{objects_same}
 use Rattle.m11_link.proofs.Steady.{block_steady, object_comes, objects_come}
 use Rattle.m11_link.proofs.WritesAfter.{parts_more}
 use Rattle.m11_writes.specs.Writes.{LeavesBeginnings, gained}
-use Rattle.m11_writes.proofs.Writing.{beginnings_left, gained-append, keeps, stops_before}
+use Rattle.m11_writes.proofs.Writing.{beginnings_left, flushed_beginnings, gained-append, keeps, stops_before}
 use Rattle.m11_link_laws.specs.Runs.{AreKnown, IsKnown}
 use Rattle.m11_link_laws.proofs.ItemsParts.{items_parts, parts_are}
 
@@ -199,8 +199,8 @@ module _ {F : Type 0} (text : F → Option Text) (faults : F → ℕ) (feeds fee
       let here : h.parts ≡ parts =
       one_parts (taken [] items) h.parts parts (ap (taken []) (sym same) ∙ h.taken-is) taken-is in
       let P : List Part → Type 0 = λ these. LeavesBeginnings link old new (link_writes (planned plan) these) in
-      subst P here (beginnings_left link old new (link_writes (planned plan) h.parts) stopped
-      (are_stops (link_writes (planned plan) h.parts) h.stops))
+      subst P here (flushed_beginnings link old new (link_writes (planned plan) h.parts) files stopped
+      (are_stops (link_writes (planned plan) h.parts ++ flushes) h.stops))
 
   -- an output failed, or memory was refused
   pub stop_begun : (stopped : LinkFault) (Stop : List Write → Type 0)

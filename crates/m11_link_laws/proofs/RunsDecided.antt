@@ -10,7 +10,7 @@ use Rattle.m11_layout.specs.declared.fault.LinkFault.TheVariants as fault
 use Rattle.m11_link_text.specs.Findings.{findings_of, planned}
 use Rattle.m11_link.specs.FirstPass.{ReadsFirst, pass_of}
 use Rattle.m11_link.specs.Objects.{◌>>=◌, AreItems, GiveItems, Item, outcome, taken, unless_too_large}
-use Rattle.m11_link.specs.Outputs.{Gains, Outputs, StopsBetween, StopsIn, Write, link}
+use Rattle.m11_link.specs.Outputs.{AreFlushed, Gains, Outputs, StopsBetween, StopsIn, Write, link}
 use Rattle.m11_link.specs.SecondPass.{LinkRuns, ReadsSecond}
 use Rattle.m11_link.specs.Written.{counted, link_writes}
 use Rattle.m11_link.specs.declared.emit.LinkDone.{LinkDone}
@@ -94,8 +94,8 @@ module _ {F : Type 0} (text : F → Option Text) (faults : F → ℕ) (bottom : 
 
     second_writes : (done : LinkDone) → ReadsSecond (pass_of text faults second second') plan old new (Ok done)
         → (parts : List Part) × (taken [] items ≡ Ok parts) × Gains old new (link_writes (planned plan) parts)
-        × (done.messages ≡ counted 0 (link_writes (planned plan) parts))
-    second_writes done h = (h.3, ap (taken []) (sym (same_items second known h.1 h.2)) ∙ h.4, h.5, h.6)
+        × (done.messages ≡ counted 0 (link_writes (planned plan) parts)) × AreFlushed new
+    second_writes done h = (h.3, ap (taken []) (sym (same_items second known h.1 h.2)) ∙ h.4, h.5, h.6, h.7)
 
     -- where it stops, each output has a beginning of what all parts make
     abbrev Begun : List Part → Type 0
@@ -163,7 +163,7 @@ module _ {F : Type 0} (text : F → Option Text) (faults : F → ℕ) (bottom : 
         ap (λ these. link_writes (planned plan) these) same
         ∙ written_by_definition bottom parts parts plan (subst P here planned-so.2) in
         let G : List Write → Type 0 = λ these. Gains old new these in
-        (subst G ws wrote.2, wrote.3 ∙ ap (λ these. counted 0 these) ws)
+        (subst G ws wrote.2, wrote.3 ∙ ap (λ these. counted 0 these) ws, wrote.4)
 
     begun : (parts : List Part) → outcome bottom items ≡ Ok parts → (stopped : LinkFault) → (plan : Planned)
         → ReadsFirst (pass_of text faults first first') bottom (Ok plan) → taken [] items ≡ Ok parts

@@ -9,7 +9,7 @@ use Rattle.m11_layout.specs.declared.fault.LinkOutput.TheVariants.{Tape, Map, Me
 use Rattle.m11_link_text.specs.Findings.{findings_of}
 use Rattle.m11_link.specs.FirstPass.{pass_of}
 use Rattle.m11_link.specs.Objects.{AreItems, Item, outcome}
-use Rattle.m11_link.specs.Outputs.{Gains, Outputs}
+use Rattle.m11_link.specs.Outputs.{AreFlushed, Gains, Outputs}
 use Rattle.m11_link.specs.SecondPass.{LinkRuns}
 use Rattle.m11_link.specs.Written.{counted, link_writes}
 use Rattle.m11_link.specs.declared.emit.LinkDone.{LinkDone}
@@ -24,8 +24,9 @@ use Rattle.m11_link_laws.proofs.TapesOfObjects.{objects_make_a_tape, tape_of_obj
 leaves : (bottom : ℕ) (sources : List (List ℕ)) (items : List Item) (parts : List Part) (old new : Outputs)
     (done : LinkDone) → AreItems sources items → outcome bottom items ≡ Ok parts
     → Gains old new (link_writes (findings_of bottom parts) parts)
-    → done.messages ≡ counted 0 (link_writes (findings_of bottom parts) parts) → Leaves bottom parts old new done
-leaves bottom sources items parts old new done are e gains count =
+    → done.messages ≡ counted 0 (link_writes (findings_of bottom parts) parts) → AreFlushed new
+    → Leaves bottom parts old new done
+leaves bottom sources items parts old new done are e gains count flushed =
     let found = findings_of bottom parts in
     let is = tape_of_objects bottom sources items parts are e in
     let T : List ℕ → Type 0 = λ bytes. Appends (old Tape).text (new Tape).text bytes in
@@ -38,6 +39,7 @@ leaves bottom sources items parts old new done are e gains count =
       map = subst M (map_of_lines found parts) (gains.texts Map);
       messages = subst S (messages_of_lines found parts) (gains.texts Messages);
       count = count ∙ lines_counted found parts;
+      flushed = flushed;
     }
 
 pub run_leaves : {F : Type 0} (text : F → Option Text) (faults : F → ℕ) (first first' second second' : List F)
@@ -50,4 +52,4 @@ run_leaves text faults first first' second second' bottom sources items parts ol
     let P : PartsOrFault → Type 0 = λ o. IsDecided bottom o old new (Ok done) in
     let decided = subst P e
     (run_decided text faults first first' second second' bottom sources items old new (Ok done) are known again h) in
-    leaves bottom sources items parts old new done are e decided.0 decided.1
+    leaves bottom sources items parts old new done are e decided.0 decided.1 decided.2

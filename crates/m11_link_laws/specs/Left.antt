@@ -9,7 +9,7 @@ use Rattle.m11_modules.specs.Parts.{Part}
 use Rattle.m11_layout.specs.Transfers.{transfer_address}
 use Rattle.m11_layout.specs.declared.fault.LinkOutput.TheVariants.{Tape, Map, Messages}
 use Rattle.m11_link_text.specs.Findings.{findings_of}
-use Rattle.m11_link.specs.Outputs.{Outputs}
+use Rattle.m11_link.specs.Outputs.{AreFlushed, Outputs}
 use Rattle.m11_link.specs.Written.{most_messages}
 use Rattle.m11_link.specs.declared.emit.LinkDone.{LinkDone}
 use Rattle.m11_link_laws.specs.LinkedTexts.{linked_texts, tape_blocks}
@@ -27,10 +27,12 @@ map_text bottom parts = concat (map_lines (findings_of bottom parts))
 abbrev pub messages_of : ℕ → List Part → List Bytes
 messages_of bottom parts = message_lines (findings_of bottom parts) parts
 
--- each output has its text after what it had before, the tape can be read again, and the messages are counted
+-- each output has its text after what it had before, of which tape and map hold nothing back, the tape can be read again,
+-- and the messages are counted
 pub record Leaves (bottom : ℕ) (parts : List Part) (old new : Outputs) (done : LinkDone) : Type 0 where
   pub tape : Appends (old Tape).text (new Tape).text (tape_text bottom parts)
   pub again : IsTape (tape_blocks (findings_of bottom parts) parts) (transfer_address bottom parts) (tape_text bottom parts)
   pub map : Appends (old Map).text (new Map).text (map_text bottom parts)
   pub messages : Appends (old Messages).text (new Messages).text (concat (messages_of bottom parts))
   pub count : done.messages ≡ min (length (messages_of bottom parts)) most_messages
+  pub flushed : AreFlushed new

@@ -5,7 +5,7 @@ use Rattle.m11_modules.specs.Parts.{Part}
 use Rattle.m11_layout.specs.declared.fault.LinkFault.{LinkFault}
 use Rattle.m11_layout.specs.declared.fault.LinkFault.TheVariants as fault
 use Rattle.m11_link_text.specs.Findings.{findings_of}
-use Rattle.m11_link.specs.Outputs.{Outputs, Gains, link}
+use Rattle.m11_link.specs.Outputs.{Outputs, AreFlushed, Gains, link}
 use Rattle.m11_link.specs.Written.{counted, link_writes}
 use Rattle.m11_link.specs.declared.emit.LinkDone.{LinkDone}
 use Rattle.m11_writes.specs.Writes.{LeavesBeginnings}
@@ -35,11 +35,12 @@ IsRefusal refused fault.Read = ⊤
 IsRefusal refused fault.NoMemory = ⊤
 IsRefusal refused stopped = stopped ≡ refused
 
--- objects of these parts: all that the definitions say was written, and its messages counted; or it was stopped, and each
+-- objects of these parts: all that the definitions say was written, tape and map hold nothing of it back, and its messages
+-- are counted; or it was stopped, and each
 -- output has a beginning of what it would have gained. Objects that are refused: the refusal, and nothing written
 abbrev pub IsDecided : ℕ → Result (List Part) LinkFault → Outputs → Outputs → Result LinkDone LinkFault → Type 0
 IsDecided bottom (Ok parts) old new (Ok done) = Gains old new (link_writes (findings_of bottom parts) parts)
-    × (done.messages ≡ counted 0 (link_writes (findings_of bottom parts) parts))
+    × (done.messages ≡ counted 0 (link_writes (findings_of bottom parts) parts)) × AreFlushed new
 IsDecided bottom (Ok parts) old new (Err stopped) = MayStop stopped
     × LeavesBeginnings link old new (link_writes (findings_of bottom parts) parts)
 IsDecided bottom (Err refused) old new (Ok done) = ⊥
