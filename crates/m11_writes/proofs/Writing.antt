@@ -284,8 +284,12 @@ module _ {O E : Type 0} (kinds : Kinds O E) where
       let P : E → Type 0 = λ these. Stops kinds a b (xs ++ flushes outputs) these in
       subst P (sym e) (stops_before a b xs (flushes outputs) fault h)
 
+  pub beginnings_still : (old new : O → Output) (writes : List (Write O)) (outputs : List O)
+      → LeavesBeginnings kinds old new (writes ++ flushes outputs) → LeavesBeginnings kinds old new writes
+  beginnings_still old new writes outputs left = λ output.
+      let begun = left output in (begun.0, begun.1, sym (gained_still output writes outputs) ∙ begun.2, begun.3)
+
   pub flushed_beginnings : (old new : O → Output) (writes : List (Write O)) (outputs : List O) (fault : E)
       → Stops kinds old new (writes ++ flushes outputs) fault → LeavesBeginnings kinds old new writes
-  flushed_beginnings old new writes outputs fault h = λ output.
-      let begun = beginnings_left old new (writes ++ flushes outputs) fault h output in
-      (begun.0, begun.1, sym (gained_still output writes outputs) ∙ begun.2, begun.3)
+  flushed_beginnings old new writes outputs fault h =
+      beginnings_still old new writes outputs (beginnings_left old new (writes ++ flushes outputs) fault h)
