@@ -4,7 +4,7 @@ use Rattle.std.proofs.lemmas.List.Sums.{count_by-le-length}
 use Rattle.std.specs.Prelude.{OnOk}
 use Rattle.m11_asm_outputs.specs.Object.{AllFit, object_contents}
 use Rattle.m11_asm_faults.specs.declared.fault.AsmFault.{AsmFault}
-use Rattle.m11_asm_outputs.specs.Outputs.{Gains, Outputs, Write, Writes, assembly}
+use Rattle.m11_asm_outputs.specs.Outputs.{AreFlushed, Gains, Outputs, Write, Writes, assembly}
 use Rattle.m11_first.specs.Facts.{Facts}
 use Rattle.m11_first.specs.First.{Symbols}
 use Rattle.m11_lines.specs.Line.{SourceLine}
@@ -110,8 +110,8 @@ module _ (program : Program) (source : List SourceLine) (first now : Outputs) (s
   pub second_finishes : (new : Outputs) (result : Result AsmDone AsmFault) → Writes now new (last_writes program stands.lines (ended_with state)) result
       → IfOk result (λ done. done.flagged ≡ flagged_count program stands.lines state.has_ended)
       → OnOk result (AllFit (object_contents program.rows (pieces_in program.map stands.lines)))
-      → SecondEnds program source first new state result
-  second_finishes new result writes count fit = record {
+      → OnOk result (AreFlushed new) → SecondEnds program source first new state result
+  second_finishes new result writes count fit flushed = record {
     lines = stands.lines;
     stage = state.going.unfolder.stage;
     live = stands.taken.stands.lines_are;
@@ -122,4 +122,5 @@ module _ (program : Program) (source : List SourceLine) (first now : Outputs) (s
         stands.taken.gains writes;
     count = count;
     fit = fit;
+    flushed = flushed;
   }

@@ -1,7 +1,7 @@
 -- Both passes make the run.
 use Rattle.std.proofs.Common.{◌≤◌, ℕ, List, [], length, Result, Ok, Err, refl, sym, subst, inr}
 use Rattle.m11_asm_faults.specs.declared.fault.AsmFault.{AsmFault}
-use Rattle.m11_asm_outputs.specs.Outputs.{Gains, Outputs, Write}
+use Rattle.m11_asm_outputs.specs.Outputs.{AreFlushed, Gains, Outputs, Write}
 use Rattle.m11_first.specs.First.{Symbols}
 use Rattle.m11_passes.specs.Lines.{Numbered, givens}
 use Rattle.m11_placement.specs.Limits.{most_sections}
@@ -60,7 +60,7 @@ module _ {F : Type 0} (first second : Pass F) where
 -- a run that is Ok has the outcome of its readings
 pub has_outcome : {F : Type 0} (first second : Pass F) (old new : Outputs) (done : AsmDone) → AsmRuns first second old new (Ok done)
     → (one : Reading) × (other : Reading) × Reads first one × Reads second other
-    × (writes : List Write) × HasOutcome one other (Assembled writes done.flagged) × Gains old new writes
+    × (writes : List Write) × HasOutcome one other (Assembled writes done.flagged) × Gains old new writes × AreFlushed new
 has_outcome first second old new done (lines, read, reads) =
     let program : Program = program_of (givens lines) in
     let all : List Write = program_writes program reads.2.lines reads.2.ended in
@@ -73,4 +73,5 @@ has_outcome first second old new done (lines, read, reads) =
       subst P (sym reads.2.count)
           (outcome.HasOutcome.Assembles lines read.2 program reads.2.lines reads.2.ended read.3 refl reads.2.ends),
       reads.2.gains,
+      reads.2.flushed,
     )

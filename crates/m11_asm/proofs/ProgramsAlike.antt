@@ -235,6 +235,7 @@ module _ (one other : Program) (alike : AlikePrograms one other) where
             ended = s.2.ended;
             ends = ends_alike s.0 s.2.lines s.2.ended s.2.ends;
             gains = subst P (program_alike s.2.lines s.2.ended) s.2.gains;
+            flushed = s.2.flushed;
             count = s.2.count ∙ counts_alike s.2.lines s.2.ended.has_end;
             fit = fit_as _ _
                 (ap (λ (rows : List DirectoryRow). object_contents rows (pieces_in one.map s.2.lines)) alike.rows

@@ -7,7 +7,7 @@ use Rattle.m11_asm_faults.specs.declared.fault.AsmFault.{AsmFault}
 use Rattle.m11_asm_outputs.specs.Object.{IsOpenAfter, content_writes, head_contents, records_closed_by, AllFit, closed_records, last_records, object_contents}
 use Rattle.m11_asm_outputs.proofs.Closing.{closed-append, closed_from_nothing, in_parts, no_closed_records}
 use Rattle.m11_asm_outputs.proofs.Fitting.{all_fit-append, fit_as}
-use Rattle.m11_obj.specs.Records.{Content, EndOfModule}
+use Rattle.m11_obj.specs.Records.{EndOfModule}
 use Rattle.m11_asm_outputs.specs.Outputs.{Gains, Outputs, Stops, Write, Writes, assembly, to_messages}
 use Rattle.m11_base.specs.Devices.{Bytes}
 use Rattle.m11_base.specs.Rad50.{Name}

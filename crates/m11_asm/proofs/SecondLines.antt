@@ -5,7 +5,7 @@ use Rattle.std.specs.Prelude.{OnOk}
 use Rattle.m11_asm_outputs.specs.Object.{AllFit, object_contents}
 use Rattle.m11_asm_faults.specs.declared.fault.AsmFault.{AsmFault}
 use Rattle.m11_asm_faults.specs.declared.fault.AsmFault.TheVariants as fault
-use Rattle.m11_asm_outputs.specs.Outputs.{Outputs, StopsBetween, StopsIn, Write, Writes, assembly}
+use Rattle.m11_asm_outputs.specs.Outputs.{AreFlushed, Outputs, StopsBetween, StopsIn, Write, Writes, assembly}
 use Rattle.m11_base.specs.Feed.{Text}
 use Rattle.m11_lines.specs.Line.{SourceLine}
 use Rattle.m11_lines.specs.Lines.{most_lines}
@@ -271,24 +271,32 @@ module _ {F : Type 0} (text : F → Option Text) (faults : F → ℕ) (program :
     ends_so : (result : Result AsmDone AsmFault) → Writes old new (program_writes program ends.lines (ended_with second)) result
         → IfOk result (λ done. done.flagged ≡ flagged_count program ends.lines second.has_ended)
         → OnOk result (AllFit (object_contents program.rows (pieces_in program.map ends.lines)))
-        → PutsAll pass program old new result
-    ends_so (Ok done) gains count fit = (
+        → OnOk result (AreFlushed new) → PutsAll pass program old new result
+    ends_so (Ok done) gains count fit flushed = (
       (
         taken.reading,
         taken.reads,
-        record { lines = ends.lines; ended = ended_with second; ends = all_ends; gains = gains; count = count; fit = fit },
+        record {
+          lines = ends.lines;
+          ended = ended_with second;
+          ends = all_ends;
+          gains = gains;
+          flushed = flushed;
+          count = count;
+          fit = fit;
+        },
       ),
       (ends.lines, gives_to_end second.has_ended refl taken.given),
     )
-    ends_so (Err (fault.Write output)) stops count fit = (
+    ends_so (Err (fault.Write output)) stops count fit flushed = (
       (taken.reading, taken.reads, among_all (StopsIn output old new) stops),
       gives_to_stop second.has_ended refl taken.given,
     )
-    ends_so (Err fault.NoMemory) stops count fit = (
+    ends_so (Err fault.NoMemory) stops count fit flushed = (
       (taken.reading, taken.reads, among_all (StopsBetween old new) stops),
       gives_to_stop second.has_ended refl taken.given,
     )
-    ends_so (Err other) stops count fit = absurd stops
+    ends_so (Err other) stops count fit flushed = absurd stops
 
     pub second_ends : PutsAll pass program old new result
-    second_ends = ends_so result ends.writes ends.count ends.fit
+    second_ends = ends_so result ends.writes ends.count ends.fit ends.flushed

@@ -3,7 +3,7 @@ use Rattle.std.specs.Prelude.{◌≡◌, List, [], ◌++◌, None, Option, ℕ, 
 use Rattle.m11_asm_outputs.specs.Object.{AllFit, object_contents}
 use Rattle.m11_asm_faults.specs.declared.fault.AsmFault.{AsmFault}
 use Rattle.m11_asm_faults.specs.declared.fault.AsmFault.TheVariants as fault
-use Rattle.m11_asm_outputs.specs.Outputs.{Gains, Outputs, StopsBetween, StopsIn, Write}
+use Rattle.m11_asm_outputs.specs.Outputs.{AreFlushed, Gains, Outputs, StopsBetween, StopsIn, Write}
 use Rattle.m11_base.specs.Feed.{NoneFailed, Text}
 use Rattle.m11_lines.specs.Line.{SourceLine}
 use Rattle.m11_passes.specs.Lines.{Numbered, PassLines}
@@ -61,12 +61,13 @@ pub record StopsAmongWrites (Stop : List Write → Type 0) (program : Program) (
   pub are : AreWrites program reading writes
   pub stops : Stop writes
 
--- all is written, and each record of the object fits its block
+-- all is written, object and listing hold nothing of it back, and each record of the object fits its block
 pub record WritesAll (program : Program) (reading : Reading) (old new : Outputs) (done : AsmDone) : Type 0 where
   pub lines : List Numbered
   pub ended : Ended
   pub ends : Ends program.map program.mentioned.names reading lines ended
   pub gains : Gains old new (program_writes program lines ended)
+  pub flushed : AreFlushed new
   pub count : done.flagged ≡ flagged_count program lines ended.has_end
   pub fit : AllFit (object_contents program.rows (pieces_in program.map lines))
 

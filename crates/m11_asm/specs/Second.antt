@@ -11,7 +11,7 @@ use Rattle.m11_passes.specs.Lines.{Numbered, PassLines}
 use Rattle.m11_passes.specs.Reaching.{Exceeds}
 use Rattle.m11_passes.specs.States.{Going, PassState, PassStands}
 use Rattle.m11_asm_outputs.specs.Object.{AllFit, object_contents}
-use Rattle.m11_asm_outputs.specs.Outputs.{Gains, Outputs, StopsBetween, StopsIn, Write, Writes}
+use Rattle.m11_asm_outputs.specs.Outputs.{AreFlushed, Gains, Outputs, StopsBetween, StopsIn, Write, Writes}
 use Rattle.m11_asm.specs.Program.{Program}
 use Rattle.m11_asm.specs.Written.{Ended, flagged_count, pieces_in, program_writes, written}
 use Rattle.m11_asm.specs.Writing.{Writing, WritingStands}
@@ -115,7 +115,7 @@ abbrev pub ended_with : SecondState → Ended
 ended_with state = record { read = state.read; has_end = state.has_ended }
 
 -- after all lines of a source, or after that in which `.END` became live: all is written, or it stops among that; where all is written,
--- each record of the object fits its block
+-- object and listing hold nothing of it back, and each record of the object fits its block
 pub record SecondEnds (program : Program) (source : List SourceLine) (first now : Outputs) (state : SecondState)
     (result : Result AsmDone AsmFault) : Type 0 where
   pub lines : List Numbered
@@ -127,3 +127,4 @@ pub record SecondEnds (program : Program) (source : List SourceLine) (first now 
   pub writes : Writes first now (program_writes program lines (ended_with state)) result
   pub count : IfOk result (λ done. done.flagged ≡ flagged_count program lines state.has_ended)
   pub fit : OnOk result (AllFit (object_contents program.rows (pieces_in program.map lines)))
+  pub flushed : OnOk result (AreFlushed now)

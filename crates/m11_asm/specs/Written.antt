@@ -22,7 +22,7 @@ use Rattle.m11_placement.specs.Placements.{Placed, placement}
 use Rattle.m11_placement.specs.Sources.{directed, end_in}
 use Rattle.m11_placement.specs.Tables.{Table, place}
 use Rattle.m11_asm_outputs.specs.Object.{content_writes, head_contents, last_records, records_closed_by}
-use Rattle.m11_asm_outputs.specs.Outputs.{Write, to_messages}
+use Rattle.m11_asm_outputs.specs.Outputs.{Write, flushes, to_messages}
 use Rattle.m11_passes.specs.Lines.{Numbered, givens, table_at}
 use Rattle.m11_passes.specs.Placed.{all_letters}
 use Rattle.m11_asm.specs.Program.{Program}
@@ -110,11 +110,12 @@ added_to_both letters read counter = all_to_listing (added_lines letters read co
 abbrev pub added_writes : Ended → ℕ → List Write
 added_writes ended counter = if ended.has_end then [] else added_to_both letter_E ended.read counter
 
--- the last text and the end of the module; the symbol table; the count of flagged lines
+-- the last text and the end of the module; the symbol table; a flush of object and listing, which have then got all; the count of flagged
+-- lines
 abbrev pub closing_writes : List Piece → List SymbolEntry → List SectionEntry → ℕ → List Write
 closing_writes pieces symbols sections count =
     content_writes (last_records pieces ++ EndOfModule ∷ [])
-    ++ (all_to_listing (last_lines symbols sections count) ++ to_messages (count_line count) ∷ [])
+    ++ (all_to_listing (last_lines symbols sections count) ++ (flushes ++ to_messages (count_line count) ∷ []))
 
 -- where the location counter stands after some lines
 abbrev pub last_place : Program → List Numbered → ℕ

@@ -4,13 +4,14 @@ ghost use Rattle.std.specs.Prelude.{List, Ok};
 ghost use Rattle.m11_asm.specs.Outcome.{Assembled, HasOutcome};
 ghost use Rattle.m11_asm.specs.Passes.{Pass, Reads};
 ghost use Rattle.m11_asm.specs.Run.{AsmRuns};
-ghost use Rattle.m11_asm_outputs.specs.Outputs.{Gains, Outputs, Write};
+ghost use Rattle.m11_asm_outputs.specs.Outputs.{AreFlushed, Gains, Outputs, Write};
 ghost use Rattle.m11_readings.specs.Readings.{Reading};
 ghost use Rattle.m11_asm.specs.declared.done.AsmDone.{AsmDone};
 
-/// A run that is Ok writes exactly what the outcome of its two readings says, and counts the flagged lines that it says.
+/// A run that is Ok writes exactly what the outcome of its two readings says, holds nothing of it back in object and listing, and counts
+/// the flagged lines that it says.
 pub fn a_run_writes_the_outcome_of_its_sources<F>()
     ensures { (first second : Pass F) (old new : Outputs) (done : AsmDone) → AsmRuns first second old new (Ok done)
         → (one : Reading) × (other : Reading) × Reads first one × Reads second other
-        × (writes : List Write) × HasOutcome one other (Assembled writes done.flagged) × Gains old new writes }
+        × (writes : List Write) × HasOutcome one other (Assembled writes done.flagged) × Gains old new writes × AreFlushed new }
 {}

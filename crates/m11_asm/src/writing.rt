@@ -5,9 +5,10 @@
 ghost use Rattle.std.specs.Prelude.{◌≡◌, ◌≤◌, ◌++◌, ◌∷◌, [], List, IfOk, OnOk, length, option_map};
 ghost use Rattle.m11_asm_outputs.specs.Object.{AllFit, IsOpenAfter, content_writes, head_contents, last_records, object_contents, records_closed_by};
 ghost use Rattle.m11_obj.specs.Records.{EndOfModule};
-ghost use Rattle.m11_asm_outputs.specs.Outputs.{Writes, outputs, outputs_of};
+ghost use Rattle.m11_asm_outputs.specs.Outputs.{AreFlushed, Writes, flushes, outputs, outputs_of, to_messages};
 ghost use Rattle.m11_directory.specs.FirstPass.{directory_facts};
 ghost use Rattle.m11_listed.specs.Listed.{listing_writes};
+ghost use Rattle.m11_listing.specs.Messages.{count_line};
 ghost use Rattle.m11_object_text.specs.declared.pieces.Piece.{Piece};
 ghost use Rattle.m11_passes.specs.Lines.{Numbered, table_at};
 ghost use Rattle.m11_passes.specs.Placed.{IsPlaced};
@@ -28,7 +29,9 @@ ghost use Rattle.m11_writes.specs.Outputs.{Output, optional_output, output_of};
 use crate::done::AsmDone;
 use bitflags::Flags;
 use m11_asm_faults::AsmFault;
-use m11_asm_outputs::{open_text, put_count, put_flagged, put_head, put_last, put_pieces};
+use m11_asm_outputs::{
+    flush_files, open_text, put_count, put_flagged, put_head, put_last, put_pieces,
+};
 use m11_base::Sink;
 use m11_directory::{FirstPass, directory_rows};
 use m11_first::Facts;
@@ -232,8 +235,8 @@ impl Writing {
     }
 
     /// What stands after all lines: the head, if there was none; where `.END` didn't become live a line that is added; the last text and the
-    /// end of the module, the symbol table, and the count of flagged lines. `read` is the number of lines that were read, and `place` that
-    /// of the location counter after them.
+    /// end of the module, the symbol table, the flush of object and listing, and the count of flagged lines. `read` is the number of lines
+    /// that were read, and `place` that of the location counter after them.
     ///
     /// Errors: `Write` of an output, and `NoMemory` between two writes.
     pub fn end<S: Sink, T: Sink, U: Sink>(
@@ -255,6 +258,7 @@ impl Writing {
             → IfOk result (λ done. done.flagged ≡ flagged_count program lines has_ended) }
         ensures fit { (program : Program) (lines : List Numbered) → WritingStands program lines self.old
             → OnOk result (AllFit (object_contents program.rows (pieces_in program.map lines))) }
+        ensures flushed { OnOk result (AreFlushed (outputs_of S.Sink T.Sink U.Sink object.new listing.new messages.new)) }
     {
         self.begin(object)?;
         self.add_line(has_ended, read, place, listing, messages)?;
@@ -283,7 +287,7 @@ impl Writing {
         self.report(Letters::E, read, &[], messages)
     }
 
-    // The last text and the end of the module, the symbol table, and the count.
+    // The last text and the end of the module, the symbol table, the flush, and the count.
     fn close<S: Sink, T: Sink, U: Sink>(
         &mut self,
         object: &mut S,
@@ -297,16 +301,34 @@ impl Writing {
         ensures counts { IfOk result (λ done. done.flagged ≡ self.old.flagged) }
         ensures fit { (pieces : List Piece) → IsOpenAfter pieces self.old.text
             → OnOk result (AllFit (last_records pieces ++ EndOfModule ∷ [])) }
+        ensures flushed { OnOk result (AreFlushed (outputs_of S.Sink T.Sink U.Sink object.new listing.new messages.new)) }
     {
         let text = mem::replace(&mut self.text, open_text());
         put_last(self.alloc, object, text)?;
         let symbols = self.symbols.as_slice();
         put_symbol_table(listing, symbols, self.sections.as_slice(), self.flagged)?;
-        put_count(messages, self.flagged)?;
+        flush_and_count(object, listing, messages, self.flagged)?;
         Ok(AsmDone {
             flagged: self.flagged,
         })
     }
+}
+
+// The flush of object and listing, and after it the count: so it isn't told of files that lack lines.
+fn flush_and_count<S: Sink, T: Sink, U: Sink>(
+    object: &mut S,
+    listing: &mut Option<T>,
+    messages: &mut U,
+    flagged: u32,
+) -> Result<(), AsmFault>
+    ensures writes { Writes
+        (outputs_of S.Sink T.Sink U.Sink object.old listing.old messages.old)
+        (outputs_of S.Sink T.Sink U.Sink object.new listing.new messages.new)
+        (flushes ++ to_messages (count_line flagged) ∷ []) result }
+    ensures flushed { OnOk result (AreFlushed (outputs_of S.Sink T.Sink U.Sink object.new listing.new messages.new)) }
+{
+    flush_files(object, listing)?;
+    put_count(messages, flagged)
 }
 
 // What a first pass found of the directory and of the symbol table.

@@ -1,6 +1,6 @@
 -- The outputs of an assembly, and writes to them in one order. (This project's own. What becomes of such writes stands
 -- in m11_writes.)
-use Rattle.std.specs.Prelude.{◌≡◌, Bool, true, false, List, Option, Some, None, Result, refl}
+use Rattle.std.specs.Prelude.{◌≡◌, Bool, true, false, List, [], ◌∷◌, Option, Some, None, Result, refl}
 use Rattle.m11_asm_faults.specs.declared.fault.AsmFault.{AsmFault}
 use Rattle.m11_asm_faults.specs.declared.fault.AsmFault.TheVariants as fault
 use Rattle.m11_asm_faults.specs.declared.fault.AsmOutput.{AsmOutput}
@@ -88,3 +88,16 @@ Stops old new all stopped = writes.Stops assembly old new all stopped
 
 abbrev pub Writes : {A : Type 0} → Outputs → Outputs → List Write → Result A AsmFault → Type 0
 Writes old new all result = writes.Writes assembly old new all result
+
+-- ---- the flush
+
+-- those that may hold bytes back, in the order in which an assembly flushes them. The messages are for someone who reads along
+abbrev pub files : List AsmOutput
+files = Object ∷ Listing ∷ []
+
+abbrev pub flushes : List Write
+flushes = writes.flushes files
+
+-- the files hold nothing back
+abbrev pub AreFlushed : Outputs → Type 0
+AreFlushed now = writes.AreFlushed now files

@@ -10,4 +10,4 @@ mod outputs;
 pub use laws::{pieces_close_texts_in_turn, the_parts_are_the_object};
 pub use messages::{put_count, put_flagged};
 pub use object::{open_text, put_head, put_last, put_pieces};
-pub use outputs::{put_listing, put_message, put_record};
+pub use outputs::{flush_files, put_listing, put_message, put_record};

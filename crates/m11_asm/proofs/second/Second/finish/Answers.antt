@@ -16,4 +16,4 @@ returns-clause-ends g c = λ program source first.
     (c.place-place.ensures ∙ ap (λ (t : Table). place t) c.table.ensures ∙ place_is program source first before _ stands)
     (few_flagged program source first before _ stands))
     (c.end.ensures.counts program stands.lines stands.taken.keeps (few_flagged program source first before _ stands))
-    (c.end.ensures.fit program stands.lines stands.taken.keeps))
+    (c.end.ensures.fit program stands.lines stands.taken.keeps) c.end.ensures.flushed)

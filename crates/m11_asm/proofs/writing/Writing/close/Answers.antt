@@ -1,6 +1,6 @@
 use Rattle.std.proofs.Common.{[], ◌∷◌, ◌++◌, List, Option, sym, ap, subst, ℕ, ◌∙◌}
 use Rattle.m11_asm_outputs.specs.Object.{IsOpenAfter, content_writes, last_records}
-use Rattle.m11_asm_outputs.specs.Outputs.{Write, assembly, to_messages}
+use Rattle.m11_asm_outputs.specs.Outputs.{Write, assembly, flushes, to_messages}
 use Rattle.m11_listed.specs.Listed.{all_to_listing}
 use Rattle.m11_listing.specs.Messages.{count_line}
 use Rattle.m11_listing.specs.SymbolTable.{last_lines}
@@ -16,7 +16,7 @@ returns-in_err-put_last-clause-writes g c = λ pieces opens.
     let P : Option TextParts → Type 0 = λ t. IsOpenAfter pieces t in
     let self = c.args.self.now in
     let table : List Write = all_to_listing (last_lines self.symbols self.sections self.flagged) in
-    let count : List Write = to_messages (count_line self.flagged) ∷ [] in
+    let count : List Write = flushes ++ to_messages (count_line self.flagged) ∷ [] in
     stopped_first assembly _ _ (content_writes (last_records pieces ++ EndOfModule ∷ [])) (table ++ count) _ _
     (c.in_err-put_last.ensures.writes pieces (subst P (sym (ap (λ (w : Writing). w.text) c.self.view_is) ∙ sym c.replace-text.ensures.value) opens) _ _)
     c.from_residual.ensures.1
@@ -26,7 +26,7 @@ returns-in_err-put_symbol_table-clause-writes g c = λ pieces opens.
     let P : Option TextParts → Type 0 = λ t. IsOpenAfter pieces t in
     let self = c.args.self.now in
     let table : List Write = all_to_listing (last_lines self.symbols self.sections self.flagged) in
-    let count : List Write = to_messages (count_line self.flagged) ∷ [] in
+    let count : List Write = flushes ++ to_messages (count_line self.flagged) ∷ [] in
     writes_then assembly _ _ _ (content_writes (last_records pieces ++ EndOfModule ∷ [])) (table ++ count) _
     (c.in_ok-put_last.ensures.writes pieces (subst P (sym (ap (λ (w : Writing). w.text) c.self.view_is) ∙ sym c.replace-text.ensures.value) opens) _ _)
     (stopped_first assembly _ _ table count _ _
@@ -35,12 +35,12 @@ returns-in_err-put_symbol_table-clause-writes g c = λ pieces opens.
     (c.as_slice.ensures.value ∙ ap (λ (w : Writing). w.sections) c.self.view_is) (ap (λ (w : Writing). w.flagged) c.self.view_is))
     (c.in_err-put_symbol_table.ensures _ _)) c.from_residual-in_err-put_symbol_table.ensures.1)
 
-pub returns-in_err-put_count-clause-writes : goal.returns-in_err-put_count-clause-writes
-returns-in_err-put_count-clause-writes g c = λ pieces opens.
+pub returns-in_err-flush_and_count-clause-writes : goal.returns-in_err-flush_and_count-clause-writes
+returns-in_err-flush_and_count-clause-writes g c = λ pieces opens.
     let P : Option TextParts → Type 0 = λ t. IsOpenAfter pieces t in
     let self = c.args.self.now in
     let table : List Write = all_to_listing (last_lines self.symbols self.sections self.flagged) in
-    let count : List Write = to_messages (count_line self.flagged) ∷ [] in
+    let count : List Write = flushes ++ to_messages (count_line self.flagged) ∷ [] in
     writes_then assembly _ _ _ (content_writes (last_records pieces ++ EndOfModule ∷ [])) (table ++ count) _
     (c.in_ok-put_last.ensures.writes pieces (subst P (sym (ap (λ (w : Writing). w.text) c.self.view_is) ∙ sym c.replace-text.ensures.value) opens) _ _)
     (writes_then assembly _ _ _ table count _
@@ -48,15 +48,15 @@ returns-in_err-put_count-clause-writes g c = λ pieces opens.
     (table_so self _ _ _ (c.as_slice-symbols.ensures.value ∙ ap (λ (w : Writing). w.symbols) c.self.view_is)
     (c.as_slice.ensures.value ∙ ap (λ (w : Writing). w.sections) c.self.view_is) (ap (λ (w : Writing). w.flagged) c.self.view_is))
     (c.in_ok-put_symbol_table.ensures _ _))
-    (writes_as _ _ _ _ _ (ap (λ (n : ℕ). to_messages (count_line n) ∷ []) (ap (λ (w : Writing). w.flagged) c.self.view_is))
-    (stopped_alone assembly _ _ _ _ _ (c.in_err-put_count.ensures.writes _ _) c.from_residual-in_err-put_count.ensures.1)))
+    (writes_as _ _ _ _ _ (ap (λ (n : ℕ). flushes ++ to_messages (count_line n) ∷ []) (ap (λ (w : Writing). w.flagged) c.self.view_is))
+    (stopped_alone assembly _ _ _ _ _ (c.in_err-flush_and_count.ensures.writes) c.from_residual-in_err-flush_and_count.ensures.1)))
 
 pub returns-clause-writes : goal.returns-clause-writes
 returns-clause-writes g c = λ pieces opens.
     let P : Option TextParts → Type 0 = λ t. IsOpenAfter pieces t in
     let self = c.args.self.now in
     let table : List Write = all_to_listing (last_lines self.symbols self.sections self.flagged) in
-    let count : List Write = to_messages (count_line self.flagged) ∷ [] in
+    let count : List Write = flushes ++ to_messages (count_line self.flagged) ∷ [] in
     gains_then assembly _ _ _ (content_writes (last_records pieces ++ EndOfModule ∷ [])) (table ++ count)
     (c.in_ok-put_last.ensures.writes pieces (subst P (sym (ap (λ (w : Writing). w.text) c.self.view_is) ∙ sym c.replace-text.ensures.value) opens) _ _)
     (gains_then assembly _ _ _ table count
@@ -64,8 +64,8 @@ returns-clause-writes g c = λ pieces opens.
     (table_so self _ _ _ (c.as_slice-symbols.ensures.value ∙ ap (λ (w : Writing). w.symbols) c.self.view_is)
     (c.as_slice.ensures.value ∙ ap (λ (w : Writing). w.sections) c.self.view_is) (ap (λ (w : Writing). w.flagged) c.self.view_is))
     (c.in_ok-put_symbol_table.ensures _ _))
-    (gains_as _ _ _ _ (ap (λ (n : ℕ). to_messages (count_line n) ∷ []) (ap (λ (w : Writing). w.flagged) c.self.view_is))
-    (c.in_ok-put_count.ensures.writes _ _)))
+    (gains_as _ _ _ _ (ap (λ (n : ℕ). flushes ++ to_messages (count_line n) ∷ []) (ap (λ (w : Writing). w.flagged) c.self.view_is))
+    (c.in_ok-flush_and_count.ensures.writes)))
 
 pub returns-clause-fit : goal.returns-clause-fit
 returns-clause-fit g c = λ pieces opens.
