@@ -2,7 +2,6 @@
 use Rattle.std.proofs.Common.{◌≡◌, ℕ, List, [], Option, Result, Ok, Err, inl, inr, sym, subst}
 use Rattle.m11_asm.specs.Outcome.{Ends, Refuses}
 use Rattle.m11_asm.specs.Passes.{ReadsFirst, ReadsSecond, pass_of}
-use Rattle.m11_asm.specs.Program.{program_of}
 use Rattle.m11_asm.specs.Run.{AsmRuns}
 use Rattle.m11_asm.specs.Written.{Ended, pieces_in, program_writes}
 use Rattle.m11_asm.specs.declared.done.AsmDone.{AsmDone}
@@ -12,7 +11,7 @@ use Rattle.m11_asm_outputs.specs.Object.{AllFit, object_contents}
 use Rattle.m11_asm_outputs.specs.Outputs.{Gains, Outputs}
 use Rattle.m11_base.specs.Devices.{Bytes}
 use Rattle.m11_base.specs.Feed.{Text}
-use Rattle.m11_passes.specs.Lines.{Numbered, givens}
+use Rattle.m11_passes.specs.Lines.{Numbered}
 use Rattle.m11_placement.specs.Meanings.{empty_map}
 use Rattle.m11_readings.specs.Readings.{Reading, reading_of}
 use Rattle.m11_outcome_laws.specs.Beginnings.{AreKnown, MayStop}
@@ -47,6 +46,7 @@ module _ (alike : EndAlike) (passes_none : PassesNone) {F : Type 0} (text : F �
           ends = ends;
           gains = subst (λ (e : Ended). Gains old new (program_writes (program_after lines) lines e)) (sym same.1)
               (subst (λ (ls : List Numbered). Gains old new (program_writes (program_after lines) ls h.ended)) (sym same.0) h.gains);
+          flushed = h.flushed;
           fit = subst (λ (ls : List Numbered).
               AllFit (object_contents (program_after lines).rows (pieces_in (program_after lines).map ls))) (sym same.0) h.fit;
         }

@@ -2,7 +2,7 @@
 use Rattle.std.proofs.Common.{◌≡◌, ◌∙◌, ℕ, ◌+◌, Bool, true, false, if◌then◌else◌, List, [], ◌∷◌, ◌++◌, cond, count_by, ap, arith, refl}
 use Rattle.std.proofs.lemmas.List.Sums.{sum_by-append, sum_by-cons}
 use Rattle.m11_asm_outputs.specs.Object.{content_write, content_writes, head_contents, last_records, records_closed_by}
-use Rattle.m11_asm_outputs.specs.Outputs.{Write, to_listing, to_messages}
+use Rattle.m11_asm_outputs.specs.Outputs.{Write, flushes, to_listing, to_messages}
 use Rattle.m11_base.specs.Devices.{Bytes}
 use Rattle.m11_listed.specs.Listed.{added_lines, all_to_listing, lines_of, listing_writes}
 use Rattle.m11_listing.specs.Messages.{count_line, message_line}
@@ -113,8 +113,8 @@ module _ (program : Program) where
   of_closing all count =
       let contents = last_records (pieces_in program.map all) ++ EndOfModule ∷ [] in
       let table = last_lines program.symbols program.sections count in
-      of_both (content_writes contents) (all_to_listing table ++ to_messages (count_line count) ∷ [])
-      ∙ ap (λ (n : ℕ). messages_in (content_writes contents) + n) (of_both (all_to_listing table) (to_messages (count_line count) ∷ []))
+      of_both (content_writes contents) (all_to_listing table ++ (flushes ++ to_messages (count_line count) ∷ []))
+      ∙ ap (λ (n : ℕ). messages_in (content_writes contents) + n) (of_both (all_to_listing table) (flushes ++ to_messages (count_line count) ∷ []))
       ∙ omega (arith, of_contents contents, of_listing table)
 
   pub as_many_messages : (all : List Numbered) (ended : Ended)

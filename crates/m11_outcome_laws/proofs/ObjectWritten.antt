@@ -8,7 +8,7 @@ use Rattle.m11_asm.specs.Written.{Ended, added_writes, closing_writes, flagged_c
 use Rattle.m11_asm_faults.specs.declared.fault.AsmOutput.TheVariants.{Object}
 use Rattle.m11_asm_outputs.proofs.Closing.{all_records, closed-append}
 use Rattle.m11_asm_outputs.specs.Object.{closed_records, content_writes, head_contents, last_records, object_contents, records_closed_by}
-use Rattle.m11_asm_outputs.specs.Outputs.{Write, assembly, to_messages}
+use Rattle.m11_asm_outputs.specs.Outputs.{Write, assembly, flushes, to_messages}
 use Rattle.m11_base.specs.Devices.{Bytes}
 use Rattle.m11_listed.specs.Listed.{added_lines, all_to_listing, lines_of, listing_writes}
 use Rattle.m11_listing.specs.Messages.{count_line, message_line}
@@ -188,7 +188,7 @@ module _ (program : Program) where
       by_end true = of_nothing
       by_end false = either
 
-  of_count : (count : ℕ) → gains (to_messages (count_line count) ∷ []) ≡ []
+  of_count : (count : ℕ) → gains (flushes ++ to_messages (count_line count) ∷ []) ≡ []
   unfolding gained
   of_count count = refl
 
@@ -198,7 +198,7 @@ module _ (program : Program) where
   of_closing lines count =
       let last = last_records (pieces_at lines) ++ EndOfModule ∷ [] in
       then_two (content_writes last) (all_to_listing (last_lines program.symbols program.sections count))
-      (to_messages (count_line count) ∷ []) (of_listing (last_lines program.symbols program.sections count))
+      (flushes ++ to_messages (count_line count) ∷ []) (of_listing (last_lines program.symbols program.sections count))
       (of_count count) ∙ of_contents last
 
   -- all texts, of closed ones and the last

@@ -7,7 +7,7 @@ use Rattle.m11_asm.specs.Written.{Ended, added_writes, closing_writes, flagged_c
 use Rattle.m11_asm_faults.specs.declared.fault.AsmOutput.{AsmOutput}
 use Rattle.m11_asm_faults.specs.declared.fault.AsmOutput.TheVariants.{Listing, Messages}
 use Rattle.m11_asm_outputs.specs.Object.{content_writes, head_contents, last_records, records_closed_by}
-use Rattle.m11_asm_outputs.specs.Outputs.{Write, assembly, to_messages}
+use Rattle.m11_asm_outputs.specs.Outputs.{Write, assembly, flushes, to_messages}
 use Rattle.m11_base.specs.Devices.{Bytes}
 use Rattle.m11_listed.specs.Listed.{added_lines, all_to_listing, lines_of, listing_writes}
 use Rattle.m11_listing.specs.Messages.{count_line, message_line}
@@ -62,6 +62,10 @@ message_unlisted : (bytes : Bytes) → Makes Listing (to_messages bytes ∷ []) 
 unfolding gained
 message_unlisted bytes = refl
 
+end_unlisted : (bytes : Bytes) → Makes Listing (flushes ++ to_messages bytes ∷ []) []
+unfolding gained
+end_unlisted bytes = refl
+
 if_listed : (lines : List Bytes) (b : Bool) → Makes Listing (if b then all_to_listing lines else []) (if b then lines else [])
 if_listed lines true = lines_made lines
 if_listed lines false = none_made Listing
@@ -85,6 +89,10 @@ lines_unsaid (line ∷ lines) = lines_unsaid lines
 message_made : (bytes : Bytes) → Makes Messages (to_messages bytes ∷ []) (bytes ∷ [])
 unfolding gained
 message_made bytes = refl
+
+end_made : (bytes : Bytes) → Makes Messages (flushes ++ to_messages bytes ∷ []) (bytes ∷ [])
+unfolding gained
+end_made bytes = refl
 
 lines_if_unsaid : (lines : List Bytes) (b : Bool) → Makes Messages (if b then all_to_listing lines else []) []
 lines_if_unsaid lines true = lines_unsaid lines
@@ -220,18 +228,18 @@ module _ (program : Program) where
 
     closing_listed : Makes Listing (closing_writes (pieces_in program.map lines) program.symbols program.sections count) table
     closing_listed =
-        then_made Listing (content_writes ends) (all_to_listing table ++ to_messages (count_line count) ∷ []) [] table
+        then_made Listing (content_writes ends) (all_to_listing table ++ (flushes ++ to_messages (count_line count) ∷ [])) [] table
         (contents_unlisted ends)
-        (then_skipped Listing (all_to_listing table) (to_messages (count_line count) ∷ []) table (lines_made table)
-        (message_unlisted (count_line count)))
+        (then_skipped Listing (all_to_listing table) (flushes ++ to_messages (count_line count) ∷ []) table (lines_made table)
+        (end_unlisted (count_line count)))
 
     closing_said : Makes Messages (closing_writes (pieces_in program.map lines) program.symbols program.sections count)
         (count_line count ∷ [])
     closing_said =
-        then_made Messages (content_writes ends) (all_to_listing table ++ to_messages (count_line count) ∷ []) []
+        then_made Messages (content_writes ends) (all_to_listing table ++ (flushes ++ to_messages (count_line count) ∷ [])) []
         (count_line count ∷ []) (contents_unsaid ends)
-        (then_made Messages (all_to_listing table) (to_messages (count_line count) ∷ []) [] (count_line count ∷ [])
-        (lines_unsaid table) (message_made (count_line count)))
+        (then_made Messages (all_to_listing table) (flushes ++ to_messages (count_line count) ∷ []) [] (count_line count ∷ [])
+        (lines_unsaid table) (end_made (count_line count)))
 
   module _ (lines : List Numbered) (ended : Ended) where
     abbrev count : ℕ

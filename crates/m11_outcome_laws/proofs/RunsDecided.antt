@@ -9,7 +9,7 @@ use Rattle.m11_asm.specs.Written.{Ended, flagged_count, head_before, last_writes
 use Rattle.m11_asm.specs.declared.done.AsmDone.{AsmDone}
 use Rattle.m11_asm_faults.specs.declared.fault.AsmFault.{AsmFault}
 use Rattle.m11_asm_faults.specs.declared.fault.AsmFault.TheVariants as fault
-use Rattle.m11_asm_outputs.specs.Outputs.{Gains, Outputs, Stops, StopsBetween, StopsIn, Write, assembly}
+use Rattle.m11_asm_outputs.specs.Outputs.{AreFlushed, Gains, Outputs, Stops, StopsBetween, StopsIn, Write, assembly}
 use Rattle.m11_base.specs.Devices.{Bytes}
 use Rattle.m11_base.specs.Feed.{Text}
 use Rattle.m11_base.specs.Rad50.{Name}
@@ -168,13 +168,14 @@ module _ (once : EndsOnce) (limit_once : ExceedsOnce) (either : EndsOrExceeds) (
           (subst (λ (r : Reading). Refuses program.map names r h.2 stopped) same h.3))
 
       second_writes : (done : AsmDone) → ReadsSecond second program old new (Ok done)
-          → Gains old new all × (done.flagged ≡ flagged_count program lines ended.has_end)
+          → Gains old new all × (done.flagged ≡ flagged_count program lines ended.has_end) × AreFlushed new
       second_writes done (read, reads, h) =
           let same = same_reading text faults feeds feeds' sources read known reads in
           let ends' = subst (λ (r : Reading). Ends program.map names r h.lines h.ended) same h.ends in
           let alike' = same_end alike passes_none reading lines ended ends h.lines h.ended ends' in (
             subst (λ (ws : List Write). Gains old new ws) (sym (all_alike h.lines h.ended ends')) h.gains,
             h.count ∙ sym (ap₂ (λ (ls : List Numbered) (e : Ended). flagged_count program ls e.has_end) alike'.0 alike'.1),
+            h.flushed,
           )
 
     module _ (feeds feeds' : List F) (known : AreKnown text feeds sources) where

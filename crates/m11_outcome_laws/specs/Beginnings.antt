@@ -5,7 +5,7 @@ use Rattle.m11_asm_faults.specs.declared.fault.AsmFault.{AsmFault}
 use Rattle.m11_asm_faults.specs.declared.fault.AsmFault.TheVariants as fault
 use Rattle.m11_base.specs.Devices.{Bytes}
 use Rattle.m11_base.specs.Feed.{Text}
-use Rattle.m11_asm_outputs.specs.Outputs.{Gains, Outputs, assembly}
+use Rattle.m11_asm_outputs.specs.Outputs.{AreFlushed, Gains, Outputs, assembly}
 use Rattle.m11_writes.specs.Writes.{LeavesBeginnings}
 use Rattle.m11_asm.specs.Outcome.{Assembled, Outcome, Refused}
 use Rattle.m11_asm.specs.declared.done.AsmDone.{AsmDone}
@@ -35,10 +35,11 @@ IsRefusal refused fault.Read = ⊤
 IsRefusal refused fault.NoMemory = ⊤
 IsRefusal refused stopped = stopped ≡ refused
 
--- sources that are assembled: all that the outcome says was written, and its flagged lines counted; or the run was stopped, and
+-- sources that are assembled: all that the outcome says was written, object and listing hold nothing of it back, and its flagged
+-- lines are counted; or the run was stopped, and
 -- each output has a beginning of what it would have gained. Sources that are refused: the refusal, and nothing written
 abbrev pub IsDecided : Outcome → Outputs → Outputs → Result AsmDone AsmFault → Type 0
-IsDecided (Assembled writes flagged) old new (Ok done) = Gains old new writes × (done.flagged ≡ flagged)
+IsDecided (Assembled writes flagged) old new (Ok done) = Gains old new writes × (done.flagged ≡ flagged) × AreFlushed new
 IsDecided (Assembled writes flagged) old new (Err stopped) = MayStop stopped × LeavesBeginnings assembly old new writes
 IsDecided (Refused refused writes) old new (Ok done) = ⊥
 IsDecided (Refused refused writes) old new (Err stopped) = IsRefusal refused stopped × (new ≡ old)

@@ -6,7 +6,7 @@ use Rattle.m11_asm.specs.Written.{Ended, pieces_in, program_writes}
 use Rattle.m11_asm.specs.declared.done.AsmDone.{AsmDone}
 use Rattle.m11_asm_faults.specs.declared.fault.AsmFault.{AsmFault}
 use Rattle.m11_asm_outputs.specs.Object.{AllFit, object_contents}
-use Rattle.m11_asm_outputs.specs.Outputs.{Gains, Outputs}
+use Rattle.m11_asm_outputs.specs.Outputs.{AreFlushed, Gains, Outputs}
 use Rattle.m11_base.specs.Devices.{Bytes}
 use Rattle.m11_passes.specs.Lines.{Numbered}
 use Rattle.m11_placement.specs.Meanings.{empty_map}
@@ -14,12 +14,14 @@ use Rattle.m11_readings.specs.Readings.{reading_of}
 use Rattle.m11_outcome_laws.specs.Beginnings.{MayStop}
 use Rattle.m11_outcome_laws.specs.OneText.{program_after}
 
--- all that the live lines of the sources write was written, and each record of the object fits its block
+-- all that the live lines of the sources write was written, object and listing hold nothing of it back, and each record of the object fits
+-- its block
 pub record WritesLive (sources : List Bytes) (old new : Outputs) : Type 0 where
   pub lines : List Numbered
   pub ended : Ended
   pub ends : Ends empty_map [] (reading_of sources) lines ended
   pub gains : Gains old new (program_writes (program_after lines) lines ended)
+  pub flushed : AreFlushed new
   pub fit : AllFit (object_contents (program_after lines).rows (pieces_in (program_after lines).map lines))
 
 -- this is the first refusal of the sources
