@@ -1,9 +1,10 @@
 -- What a link says of its feeds it says of their texts and counts of failures.
 use Rattle.std.proofs.Common.{◌≡◌, ℕ, List, inl, inr, refl, ap, option_map, Option, Some, None, Result, Ok, Err}
 use Rattle.std.specs.Borrow.{Bor}
+use Rattle.m11_base.specs.Devices.{Bytes}
 use Rattle.m11_base.specs.Feed.{NoneFailed, Text}
+use Rattle.m11_base.specs.Sink.{handed_on}
 use Rattle.m11_base.specs.declared.sink.Sink.{Ghosts}
-use Rattle.m11_machine.specs.Dialogue.{Output, output_of}
 use Rattle.m11_files.specs.Opens.{Files, IsEmptiedSome, keeping_some}
 use Rattle.m11_layout.specs.Plan.{Planned}
 use Rattle.m11_layout.specs.declared.fault.LinkFault.{LinkFault}
@@ -11,19 +12,19 @@ use Rattle.m11_layout.specs.declared.fault.LinkFault.TheVariants as fault
 use Rattle.m11_link.specs.FirstPass.{ReadsFirst, pass_of}
 use Rattle.m11_link.specs.Objects.{Item, GiveItems, FailAfter}
 use Rattle.m11_link.specs.SecondPass.{ReadsSecond, LinkRuns}
-use Rattle.m11_writes.specs.Outputs.{optional_output}
+use Rattle.m11_writes.specs.Outputs.{Output, optional_output, output_of}
 use Rattle.m11_link.specs.Outputs.{Outputs}
 use Rattle.m11_link.specs.declared.emit.LinkDone.{LinkDone}
-use Rattle.m11_cli.specs.Driver.{known}
+use Rattle.m11_cli.specs.Driver.{got, known}
 use Rattle.m11_cli.proofs.Sources.{give, none, one, seen}
 
--- a sink, as what it has taken and its count of failures
-abbrev pub seen_sink : {S : Type 0} → Ghosts S → S → Output
-seen_sink sinks sink = output_of (sinks.text sink) (sinks.faults sink)
-
--- one that may be left out
+-- an output that may be left out
 abbrev pub seen_output : {S : Type 0} → Ghosts S → Option S → Option Output
-seen_output sinks map = option_map (seen_sink sinks) map
+seen_output sinks map = option_map (output_of sinks) map
+
+-- what a sink has handed on
+abbrev pub handed_on_by : {S : Type 0} → Ghosts S → S → Option Bytes
+handed_on_by sinks sink = handed_on (sinks.text sink) (sinks.held sink)
 
 pub same_output : {S : Type 0} (sinks : Ghosts S) (map : Option S)
     → optional_output sinks map ≡ optional_output known (seen_output sinks map)
@@ -40,7 +41,7 @@ emptied sinks files (Some path) None h = absurd h
 emptied sinks files (Some path) (Some s) h = h
 
 pub kept : {S : Type 0} (sinks : Ghosts S) (path : Option (Bor (List ℕ))) (map : Option S) (files : Option Files)
-    → keeping_some sinks.text path map files ≡ keeping_some (λ output. output.text) path (seen_output sinks map) files
+    → keeping_some (handed_on_by sinks) path map files ≡ keeping_some got path (seen_output sinks map) files
 kept sinks None None files = refl
 kept sinks None (Some s) files = refl
 kept sinks (Some path) None files = refl
@@ -96,7 +97,7 @@ module _ {F : Type 0} (text : F → Option Text) (faults : F → ℕ) where
       → ReadsSecond (pass_of text faults olds news) plan old new result
       → ReadsSecond (pass_of (λ s. s.text) (λ s. s.faults) (seen text faults olds) (seen text faults news)) plan old new result
   second olds news plan old new (Ok done) h =
-      (none text faults olds news h.0, h.1, given olds h.1 h.2, h.3, h.4, h.5, h.6)
+      (none text faults olds news h.0, h.1, given olds h.1 h.2, h.3, h.4, h.5, h.6, h.7)
   second olds news plan old new (Err fault.Read) h = (h.0, failed olds news h.0 h.1, h.2, h.3)
   second olds news plan old new (Err (fault.Block inner)) h =
       (none text faults olds news h.0, h.1, given olds h.1 h.2, h.3, h.4)

@@ -6,7 +6,7 @@ use Rattle.m11_asm_faults.specs.declared.fault.AsmFault.{AsmFault}
 use Rattle.m11_asm_faults.specs.declared.fault.AsmFault.TheVariants as asm-fault
 use Rattle.m11_base.specs.Devices.{Bytes, Rises}
 use Rattle.m11_base.specs.Feed as feed
-use Rattle.m11_base.specs.Sink.{AppendsBeginning}
+use Rattle.m11_base.specs.Sink.{AppendsBeginning, handed_on}
 use Rattle.m11_base.specs.declared.sink.Sink.{Ghosts}
 use Rattle.m11_asm.specs.Passes as assembling
 use Rattle.m11_asm.specs.Run.{AsmRuns}
@@ -36,6 +36,7 @@ use Rattle.m11_tasks.specs.declared.tasks.Task.TheVariants as task
 use Rattle.m11_tasks.specs.declared.usage.UsageFault.{UsageFault}
 use Rattle.m11_tasks.specs.declared.usage.UsageFault.TheVariants.{Help, Words}
 use Rattle.m11_link.specs.FirstPass.{pass_of}
+use Rattle.m11_writes.specs.Outputs as written
 
 -- ---- what a process has
 
@@ -92,35 +93,45 @@ RefusesFile inputs outputs old new reported reported' = Rises old.refusals new.r
 -- ---- an assembly
 
 -- an output, as the sink that an assembly or a link takes it for
-abbrev pub known : Ghosts Output
-known = record { text = λ output. output.text; faults = λ output. output.faults }
+abbrev pub known : Ghosts written.Output
+known = record { text = λ output. output.text; faults = λ output. output.faults; held = λ output. output.held }
+
+-- what is reported, of which it isn't said how much is held back
+abbrev pub holding : ℕ → Output → written.Output
+holding held output = record { text = output.text; faults = output.faults; held = held }
+
+-- what a file has got
+abbrev pub got : written.Output → Option Bytes
+got output = handed_on output.text output.held
 
 -- the object, the listing if there is one, and the messages of an assembly
-abbrev pub asm_outputs_of : Output → Option Output → Output → assembled.Outputs
+abbrev pub asm_outputs_of : written.Output → Option written.Output → written.Output → assembled.Outputs
 asm_outputs_of object listing reported = assembled.outputs_of known known known object listing reported
 
 -- the sources are the files of their paths, in both passes. By their texts the object and the listing, which are empty at
 -- first, and what is reported become what an assembly makes of them; object and listing are created in this order, and
--- kept under their paths
+-- what they have got is kept under their paths
 pub record Assembles (asm : AsmTask) (old new : Store) (reported reported' : Output) (result : Result AsmDone AsmFault)
     : Type 0 where
   pub first : List Input
   pub first' : List Input
   pub second : List Input
   pub second' : List Input
-  pub object : Output
-  pub object' : Output
-  pub listing : Option Output
-  pub listing' : Option Output
+  pub object : written.Output
+  pub object' : written.Output
+  pub listing : Option written.Output
+  pub listing' : Option written.Output
+  pub held : ℕ
+  pub held' : ℕ
   pub read : AreFiles (λ s. s.text) old.files (asm_inputs asm) first
   pub read-again : AreFiles (λ s. s.text) old.files (asm_inputs asm) second
   pub emptied : IsEmptied old.files object.text
   pub emptied-listing : IsEmptiedSome (λ l. l.text) old.files asm.listing listing
   pub runs : AsmRuns (assembling.pass_of (λ s. s.text) (λ s. s.faults) first first')
       (assembling.pass_of (λ s. s.text) (λ s. s.faults) second second')
-      (asm_outputs_of object listing reported) (asm_outputs_of object' listing' reported') result
-  pub kept : new.files ≡ keeping_some (λ l. l.text) asm.listing listing'
-      (keeping asm.object.now object'.text (creating (asm_outputs asm) old.files))
+      (asm_outputs_of object listing (holding held reported)) (asm_outputs_of object' listing' (holding held' reported')) result
+  pub kept : new.files ≡ keeping_some got asm.listing listing'
+      (keeping asm.object.now (got object') (creating (asm_outputs asm) old.files))
   pub opened : new.refusals ≡ old.refusals
 
 abbrev pub MayAssemble : AsmTask → Store → Store → Output → Output → Result AsmDone AsmFault → Type 0
@@ -130,31 +141,33 @@ MayAssemble asm old new reported reported' result = Assembles asm old new report
 -- ---- a link
 
 -- the tape, the map if there is one, and the messages of a link
-abbrev pub outputs : Output → Option Output → Output → Outputs
+abbrev pub outputs : written.Output → Option written.Output → written.Output → Outputs
 outputs tape map reported = outputs_of known known known tape map reported
 
 -- the objects are the files of their paths, in both passes. By their texts the tape and the map, which are empty at
 -- first, and what is reported become what a link from this bottom on makes of them; tape and map are created in this
--- order, and kept under their paths
+-- order, and what they have got is kept under their paths
 pub record Links (task : LinkTask) (old new : Store) (reported reported' : Output) (result : Result LinkDone LinkFault)
     : Type 0 where
   pub first : List Input
   pub first' : List Input
   pub second : List Input
   pub second' : List Input
-  pub tape : Output
-  pub tape' : Output
-  pub map : Option Output
-  pub map' : Option Output
+  pub tape : written.Output
+  pub tape' : written.Output
+  pub map : Option written.Output
+  pub map' : Option written.Output
+  pub held : ℕ
+  pub held' : ℕ
   pub read : AreFiles (λ s. s.text) old.files (link_inputs task) first
   pub read-again : AreFiles (λ s. s.text) old.files (link_inputs task) second
   pub emptied : IsEmptied old.files tape.text
   pub emptied-map : IsEmptiedSome (λ m. m.text) old.files task.map map
   pub runs : linking.LinkRuns (pass_of (λ s. s.text) (λ s. s.faults) first first')
       (pass_of (λ s. s.text) (λ s. s.faults) second second') task.bottom
-      (outputs tape map reported) (outputs tape' map' reported') result
-  pub kept : new.files ≡ keeping_some (λ m. m.text) task.map map'
-      (keeping task.tape.now tape'.text (creating (link_outputs task) old.files))
+      (outputs tape map (holding held reported)) (outputs tape' map' (holding held' reported')) result
+  pub kept : new.files ≡ keeping_some got task.map map'
+      (keeping task.tape.now (got tape') (creating (link_outputs task) old.files))
   pub opened : new.refusals ≡ old.refusals
 
 abbrev pub MayLink : LinkTask → Store → Store → Output → Output → Result LinkDone LinkFault → Type 0

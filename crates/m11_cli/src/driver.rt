@@ -5,6 +5,7 @@ ghost use Rattle.m11_machine.specs.Dialogue.{Input, Output, both, input_of, outp
 ghost use Rattle.m11_cpu.specs.Simulation.{Simulates, request_of, run_devices};
 ghost use Rattle.m11_cli.specs.Driver.{Assembles, Carries, HasOutcome, Explains, Links, Obeys, Store, Reports, ReportsSome, store, streams};
 ghost use Rattle.m11_cli.specs.FaultLines.{line_of, open_line};
+ghost use Rattle.m11_base.specs.Sink.{handed_on};
 ghost use Rattle.m11_files.specs.Opens.{AreFiles, IsEmptied, IsEmptiedSome, creating, keeping_some};
 ghost use Rattle.m11_tasks.specs.Opened.{asm_inputs, asm_outputs, link_inputs, link_outputs};
 ghost use Rattle.m11_cli.specs.Outcome.{LeavesConsole, status_of};
@@ -276,7 +277,8 @@ fn run_link<F: Opens, E: Sink>(
 
 // Hands back the output of a path, if there is one.
 fn keep_some<F: Opens>(files: &mut F, path: Option<&str>, output: Option<F::Output>)
-    ensures keeps { F.files files.new ≡ keeping_some F.Output.text path.entry output (F.files files.old) }
+    ensures keeps { F.files files.new ≡ keeping_some (λ o. handed_on (F.Output.text o) (F.Output.held o)) path.entry output
+        (F.files files.old) }
     ensures counts { F.refusals files.new ≡ F.refusals files.old }
 {
     if let (Some(path), Some(output)) = (path, output) {

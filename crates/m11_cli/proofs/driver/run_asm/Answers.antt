@@ -2,10 +2,11 @@ use Rattle.std.proofs.Common.{◌∙◌, ap}
 use Rattle.m11_asm.specs.Passes.{pass_of}
 use Rattle.m11_asm.specs.Run.{AsmRuns}
 use Rattle.m11_files.specs.Opens.{keeping, keeping_some}
-use Rattle.m11_cli.specs.Driver.{asm_outputs_of}
+use Rattle.m11_cli.specs.Driver.{got, asm_outputs_of}
 use Rattle.m11_tasks.specs.Opened.{asm_inputs}
 use Rattle.m11_cli.proofs.Assembled.{asm_runs}
-use Rattle.m11_cli.proofs.Linked.{emptied, kept, same_output, seen_output, seen_sink}
+use Rattle.m11_cli.proofs.Linked.{emptied, kept, same_output, seen_output}
+use Rattle.m11_writes.specs.Outputs.{output_of}
 use Rattle.m11_cli.proofs.Sources.{are, seen}
 use Rattle.m11_cli.proofs.driver.run_asm.Goals as goal
 
@@ -17,12 +18,12 @@ returns g c =
     let task = c.args.task.now in
     let first = c.args.opened.sources.first.items in
     let second = c.args.opened.sources.second.items in
-    let object = seen_sink sink c.args.opened.object in
-    let object' = seen_sink sink c.asm_run-returned.new.object in
+    let object = output_of sink c.args.opened.object in
+    let object' = output_of sink c.asm_run-returned.new.object in
     let listing = seen_output sink c.args.opened.listing in
     let listing' = seen_output sink c.asm_run-returned.new.listing in
-    let reported = seen_sink g.E.Sink c.args.err.now in
-    let reported' = seen_sink g.E.Sink c.asm_run-returned.new.messages in
+    let reported = output_of g.E.Sink c.args.err.now in
+    let reported' = output_of g.E.Sink c.asm_run-returned.new.messages in
     let ran : AsmRuns (pass_of text faults first c.asm_run-returned.new.first)
     (pass_of text faults second c.asm_run-returned.new.second)
     (asm_outputs_of object listing reported) (asm_outputs_of object' listing' reported') c.asm_run-returned.result =
@@ -41,6 +42,8 @@ returns g c =
       object' = object';
       listing = listing;
       listing' = listing';
+      held = reported.held;
+      held' = reported'.held;
       read = are text faults before.files (asm_inputs task) first read;
       read-again = are text faults before.files (asm_inputs task) second again;
       emptied = emptied-object;
@@ -48,8 +51,8 @@ returns g c =
       runs = asm_runs text faults _ _ _ _ _ _ c.asm_run-returned.result ran;
       kept = c.keep_some.ensures.keeps
           ∙ kept sink task.listing c.asm_run-returned.new.listing _
-          ∙ ap (λ files. keeping_some (λ output. output.text) task.listing listing' files)
+          ∙ ap (λ files. keeping_some got task.listing listing' files)
           (c.keep.ensures.keeps
-          ∙ ap (λ files. keeping task.object.now (sink.text c.asm_run-returned.new.object) files) created);
+          ∙ ap (λ files. keeping task.object.now (got object') files) created);
       opened = c.keep_some.ensures.counts ∙ c.keep.ensures.counts ∙ same;
     }

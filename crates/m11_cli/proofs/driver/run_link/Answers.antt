@@ -1,9 +1,10 @@
 use Rattle.std.proofs.Common.{◌∙◌, ap}
 use Rattle.m11_files.specs.Opens.{keeping, keeping_some}
 use Rattle.m11_link.specs.SecondPass.{LinkRuns}
-use Rattle.m11_cli.specs.Driver.{outputs}
+use Rattle.m11_cli.specs.Driver.{got, outputs}
 use Rattle.m11_tasks.specs.Opened.{link_inputs}
-use Rattle.m11_cli.proofs.Linked.{emptied, kept, link_runs, same_output, seen_output, seen_sink}
+use Rattle.m11_cli.proofs.Linked.{emptied, kept, link_runs, same_output, seen_output}
+use Rattle.m11_writes.specs.Outputs.{output_of}
 use Rattle.m11_cli.proofs.Sources.{are, seen}
 use Rattle.m11_cli.proofs.driver.run_link.Goals as goal
 use Rattle.m11_link.specs.FirstPass.{pass_of}
@@ -16,12 +17,12 @@ returns g c =
     let task = c.args.task.now in
     let first = c.args.opened.objects.first.items in
     let second = c.args.opened.objects.second.items in
-    let tape = seen_sink sink c.args.opened.tape in
-    let tape' = seen_sink sink c.link_run-returned.new.tape in
+    let tape = output_of sink c.args.opened.tape in
+    let tape' = output_of sink c.link_run-returned.new.tape in
     let map = seen_output sink c.args.opened.map in
     let map' = seen_output sink c.link_run-returned.new.map in
-    let reported = seen_sink g.E.Sink c.args.err.now in
-    let reported' = seen_sink g.E.Sink c.link_run-returned.new.messages in
+    let reported = output_of g.E.Sink c.args.err.now in
+    let reported' = output_of g.E.Sink c.link_run-returned.new.messages in
     let ran : LinkRuns (pass_of text faults first c.link_run-returned.new.first)
     (pass_of text faults second c.link_run-returned.new.second) task.bottom
     (outputs tape map reported) (outputs tape' map' reported') c.link_run-returned.result =
@@ -40,6 +41,8 @@ returns g c =
       tape' = tape';
       map = map;
       map' = map';
+      held = reported.held;
+      held' = reported'.held;
       read = are text faults before.files (link_inputs task) first read;
       read-again = are text faults before.files (link_inputs task) second again;
       emptied = emptied-tape;
@@ -47,7 +50,7 @@ returns g c =
       runs = link_runs text faults _ _ _ _ _ _ _ c.link_run-returned.result ran;
       kept = c.keep_some.ensures.keeps
           ∙ kept sink task.map c.link_run-returned.new.map _
-          ∙ ap (λ files. keeping_some (λ output. output.text) task.map map' files)
-          (c.keep.ensures.keeps ∙ ap (λ files. keeping task.tape.now (sink.text c.link_run-returned.new.tape) files) created);
+          ∙ ap (λ files. keeping_some got task.map map' files)
+          (c.keep.ensures.keeps ∙ ap (λ files. keeping task.tape.now (got tape') files) created);
       opened = c.keep_some.ensures.counts ∙ c.keep.ensures.counts ∙ same;
     }
