@@ -1,8 +1,10 @@
 //! Devices that fail: the console of a program that runs, and its messages; the object and the listing of an assembly.
 
-use m11_base::{DeviceFault, FuseFeed, FuseSink, MemoryFeed, MemorySink, Sink, WriterSink};
+use m11_base::{BufferedSink, FuseFeed, FuseSink, MemoryFeed, MemorySink, WriterSink};
 use m11_cli::{MemoryFile, MemoryFiles, OpenRefusal, Opens, command};
 use std::alloc::{AllocError, Global};
+use std::io;
+use std::io::{BufWriter, Write};
 use std::process::Abort;
 use std::test::Fail;
 
@@ -111,9 +113,6 @@ static OBJECT: [u8; 79] = [
     0x00, 0x03, 0x00, 0x00, 0x00, 0x01, 0x00, 0xF1, 0x01, 0x00, 0x06, 0x00, 0x06, 0x00, 0xF3,
 ];
 
-// How many bytes of it are written before the listing's first line.
-const HEAD: usize = 46;
-
 // The listing of that source.
 static LISTING: [u8; 202] = *b"         1 000000 000001                  .WORD 1
          2 000002                         .END
@@ -126,56 +125,34 @@ SYMBOL TABLE
 ERRORS DETECTED: 0
 ";
 
-// How many bytes of it are the lines of the source.
-const LINES: usize = 97;
-
-// A file that takes as many bytes as it has room for, and then fails.
+// A file that takes as many bytes as it has room for, and then none.
 #[derive(Drop)]
 struct ShortFile {
     taken: Vec<u8>,
     room: usize,
-    faults: u64,
 }
 
-impl ShortFile {
-    // An empty one.
-    fn new(alloc: Global, room: usize) -> ShortFile {
-        ShortFile {
-            taken: Vec::new(alloc),
-            room,
-            faults: 0,
-        }
-    }
-}
-
-impl Sink for ShortFile {
-    ghost use Rattle.std.specs.Prelude.{None};
-
-    ghost text = { λ _. None };
-
-    ghost faults = { λ s. s.faults };
-
-    fn put(&mut self, bytes: &[u8]) -> Result<usize, DeviceFault> {
-        if self.faults == u64::MAX {
-            return Err(DeviceFault);
-        }
+impl Write for ShortFile {
+    fn write(&mut self, bytes: &[u8]) -> io::Result<usize> {
         let count = bytes.len().min(self.room);
-        let is_full = count == 0 && !bytes.is_empty();
-        if is_full || self.taken.extend_from_slice(&bytes[..count]).is_err() {
-            self.faults += 1;
-            return Err(DeviceFault);
-        }
+        self.taken.extend_from_slice(&bytes[..count])?;
         self.room -= count;
         Ok(count)
     }
+
+    fn flush(&mut self) -> io::Result<()> {
+        Ok(())
+    }
 }
 
-// The files of an assembly of that source. One that is created at the path `short` takes `room` bytes.
+// The files of an assembly of that source, each behind a buffer of `capacity` bytes. One that is created at the path `short` takes `room`
+// bytes.
 #[derive(Drop)]
 struct ShortFiles {
     alloc: Global,
     short: &'static str,
     room: usize,
+    capacity: usize,
     object: Vec<u8>,
     listing: Vec<u8>,
 }
@@ -185,7 +162,7 @@ impl Opens for ShortFiles {
 
     type Input = MemoryFeed<'static>;
 
-    type Output = ShortFile;
+    type Output = BufferedSink<ShortFile>;
 
     ghost files = { λ _. None };
 
@@ -195,19 +172,27 @@ impl Opens for ShortFiles {
         Ok(MemoryFeed::new(b".WORD 1\n.END\n"))
     }
 
-    fn create(&mut self, path: &str) -> Result<ShortFile, OpenRefusal> {
+    fn create(&mut self, path: &str) -> Result<BufferedSink<ShortFile>, OpenRefusal> {
         let room = if path == self.short {
             self.room
         } else {
             usize::MAX
         };
-        Ok(ShortFile::new(self.alloc, room))
+        let file = ShortFile {
+            taken: Vec::new(self.alloc),
+            room,
+        };
+        match BufWriter::with_capacity(self.alloc, self.capacity, file) {
+            Ok(writer) => Ok(BufferedSink::new(writer)),
+            Err(_) => Err(OpenRefusal::NoMemory),
+        }
     }
 
-    fn keep(&mut self, path: &str, output: ShortFile) {
+    fn keep(&mut self, path: &str, output: BufferedSink<ShortFile>) {
+        let taken = output.into_writer().taken;
         match path {
-            "P.LST" => self.listing = output.taken,
-            _ => self.object = output.taken,
+            "P.LST" => self.listing = taken,
+            _ => self.object = taken,
         }
     }
 }
@@ -220,12 +205,14 @@ struct Left {
     reported: &'static [u8],
 }
 
-// Whether an assembly whose output at the path `short` takes `room` bytes leaves this, and the status of a device.
-fn leaves(alloc: Global, short: &'static str, room: usize, left: Left) -> bool {
+// Whether an assembly whose output at the path `short` takes `room` bytes leaves beginnings of this, of the short one all that it has room
+// for, and the status of a device.
+fn leaves(alloc: Global, short: &'static str, room: usize, capacity: usize, left: Left) -> bool {
     let mut files = ShortFiles {
         alloc,
         short,
         room,
+        capacity,
         object: Vec::new(alloc),
         listing: Vec::new(alloc),
     };
@@ -244,45 +231,65 @@ fn leaves(alloc: Global, short: &'static str, room: usize, left: Left) -> bool {
         listing,
         ..
     } = files;
+    let short_one = if short == "P.LST" { &listing } else { &object };
     status == 3
         && out.bytes().is_empty()
         && err.bytes() == left.reported
-        && object.as_slice() == left.object
-        && listing.as_slice() == left.listing
+        && short_one.len() == room
+        && left.object.starts_with(object.as_slice())
+        && left.listing.starts_with(listing.as_slice())
 }
 
+// Buffers that hold nothing, a part of an output, and all of it.
+static CAPACITIES: [usize; 3] = [0, 20, 1000];
+
 #[test]
-fn a_listing_that_fails_leaves_a_beginning_and_the_object_up_to_there(
-    rt: HostRuntime,
-) -> Result<(), Fail> {
-    for room in 0..LISTING.len() {
-        let written = if room < LINES { HEAD } else { OBJECT.len() };
-        let left = Left {
-            object: &OBJECT[..written],
-            listing: &LISTING[..room],
-            reported: b"?M11 ASM 2 Write LISTING\n",
-        };
-        assert!(rt;
-            leaves(rt.alloc(), "P.LST", room, left),
-            "room for {room} bytes"
-        );
+fn a_listing_that_fails_leaves_beginnings(rt: HostRuntime) -> Result<(), Fail> {
+    let left = Left {
+        object: &OBJECT,
+        listing: &LISTING,
+        reported: b"?M11 ASM 2 Write LISTING\n",
+    };
+    for capacity in CAPACITIES {
+        for room in 0..LISTING.len() {
+            assert!(rt;
+                leaves(rt.alloc(), "P.LST", room, capacity, left),
+                "room for {room} bytes, a buffer of {capacity}"
+            );
+        }
     }
     Ok(())
 }
 
 #[test]
-fn an_object_that_fails_leaves_a_beginning_and_the_listing_up_to_there(
-    rt: HostRuntime,
-) -> Result<(), Fail> {
+fn an_object_that_fails_leaves_beginnings(rt: HostRuntime) -> Result<(), Fail> {
+    let left = Left {
+        object: &OBJECT,
+        listing: &LISTING,
+        reported: b"?M11 ASM 2 Write OBJECT\n",
+    };
+    for capacity in CAPACITIES {
+        for room in 0..OBJECT.len() {
+            assert!(rt;
+                leaves(rt.alloc(), "P.OBJ", room, capacity, left),
+                "room for {room} bytes, a buffer of {capacity}"
+            );
+        }
+    }
+    Ok(())
+}
+
+// The object is flushed before the listing, which is then not written at all.
+#[test]
+fn an_object_that_fails_when_it_is_flushed_leaves_no_listing(rt: HostRuntime) -> Result<(), Fail> {
     for room in 0..OBJECT.len() {
-        let listed = if room < HEAD { 0 } else { LINES };
         let left = Left {
             object: &OBJECT[..room],
-            listing: &LISTING[..listed],
+            listing: b"",
             reported: b"?M11 ASM 2 Write OBJECT\n",
         };
         assert!(rt;
-            leaves(rt.alloc(), "P.OBJ", room, left),
+            leaves(rt.alloc(), "P.OBJ", room, 1000, left),
             "room for {room} bytes"
         );
     }

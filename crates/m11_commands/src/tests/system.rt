@@ -150,8 +150,8 @@ fn commands_read_and_write_the_files_of_the_system(rt: HostRuntime) -> Result<()
     Ok(fs::remove_dir(&rt, "SOURCES")?)
 }
 
-// Outputs on a device that is always full, the object and the listing, and what is reported of them.
-static FULL: [(&[&str], u8, &str); 2] = [
+// Outputs on a device that is always full, and what is reported of them.
+static FULL: [(&[&str], u8, &str); 5] = [
     (
         &["m11", "asm", "-o", "/dev/full", "FULL.MAC"],
         3,
@@ -170,6 +170,21 @@ static FULL: [(&[&str], u8, &str); 2] = [
         3,
         "?M11 ASM 2 Write LISTING\n",
     ),
+    (
+        &["m11", "asm", "-o", "ONE.OBJ", "FULL.MAC"],
+        0,
+        "ERRORS DETECTED: 0\n",
+    ),
+    (
+        &["m11", "link", "-o", "/dev/full", "ONE.OBJ"],
+        3,
+        "?M11 LINK 2 Write TAPE\n",
+    ),
+    (
+        &["m11", "link", "-o", "ONE.TAP", "-m", "/dev/full", "ONE.OBJ"],
+        3,
+        "?M11 LINK 2 Write MAP\n",
+    ),
 ];
 
 #[test]
@@ -178,8 +193,10 @@ fn a_full_device_is_reported_as_the_output_on_it(rt: HostRuntime) -> Result<(), 
     if fs::open(&rt, "/dev/full").is_ok() {
         fs::write(&rt, "FULL.MAC", ".END\n")?;
         check_commands(&rt, &FULL)?;
-        // The directory stands before the first line of a listing.
-        remove(&rt, &[("FULL.OBJ", 46)])?;
+        // The object is flushed first.
+        remove(&rt, &[("FULL.OBJ", 53), ("ONE.OBJ", 53)])?;
+        // So is the tape.
+        fs::remove_file(&rt, "ONE.TAP")?;
         fs::remove_file(&rt, "FULL.MAC")?;
     }
     Ok(())

@@ -2,10 +2,11 @@
 
 use super::same;
 use m11_base::{
-    BufferedFeed, DeviceFault, Feed, FuseFeed, FuseSink, MemoryFeed, MemorySink, PutFault,
-    ReaderFeed, Sink, WriterSink, put_all,
+    BufferedFeed, BufferedSink, DeviceFault, Feed, FuseFeed, FuseSink, MemoryFeed, MemorySink,
+    PutFault, ReaderFeed, Sink, WriterSink, put_all,
 };
-use std::io::BufReader;
+use std::alloc::Global;
+use std::io::{BufReader, BufWriter};
 use std::process::Abort;
 use std::test::Fail;
 
@@ -73,6 +74,41 @@ fn a_memory_sink_keeps_all_that_it_is_given(rt: HostRuntime) -> Result<(), Fail>
     let counts = (sink.put(b"abc")?, sink.put(b"")?, sink.put(b"d")?);
     same(&rt, &"the counts", &counts, &(3, 0, 1));
     same(&rt, &"the bytes", &sink.bytes(), &b"abcd".as_slice());
+    Ok(())
+}
+
+// What a buffer of four bytes is given before it is flushed, and after that; and what its writer has got in the end.
+static BUFFERED: [(&str, &[u8], bool, &[u8], &[u8]); 5] = [
+    ("held back", b"abc", false, b"", b""),
+    ("flushed", b"abc", true, b"", b"abc"),
+    ("held back after a flush", b"abc", true, b"d", b"abc"),
+    ("handed on when it is full", b"abc", false, b"de", b"abc"),
+    ("more than it holds", b"abcdefg", false, b"", b"abcdefg"),
+];
+
+// What a writer has got by a sink with a buffer of four bytes.
+fn written_through(
+    alloc: Global,
+    before: &[u8],
+    flushes: bool,
+    after: &[u8],
+) -> Result<Vec<u8>, Fail> {
+    let writer = BufWriter::with_capacity(alloc, 4, Vec::new(alloc))?;
+    let mut sink = BufferedSink::new(writer);
+    put_all(&mut sink, before)?;
+    if flushes {
+        sink.flush()?;
+    }
+    put_all(&mut sink, after)?;
+    Ok(sink.into_writer())
+}
+
+#[test]
+fn a_buffered_sink_hands_on_when_it_is_full_or_flushed(rt: HostRuntime) -> Result<(), Fail> {
+    for (name, before, flushes, after, wanted) in &BUFFERED {
+        let got = written_through(rt.alloc(), before, *flushes, after)?;
+        same(&rt, name, &got.as_slice(), wanted);
+    }
     Ok(())
 }
 

@@ -190,17 +190,17 @@ const TWICE_ASSEMBLED: Wanted<'static> = Wanted {
     flagged: 0,
 };
 
-// A device, how many bytes an output takes a call at most, and how many calls of the device an assembly makes. No source is read after its
-// last byte.
+// A device, how many bytes an output takes a call at most, and how many calls of the device an assembly makes: the last one of the object
+// and of the listing is the flush. No source is read after its last byte.
 type Failing = (Device, usize, u64);
 
 static ONE_WORD_FAILING: [Failing; 8] = [
     (Device::First, 512, 13),
     (Device::Second, 512, 13),
-    (Device::Output(AsmOutput::Object), 512, 5),
-    (Device::Output(AsmOutput::Object), 7, 13),
-    (Device::Output(AsmOutput::Listing), 512, 9),
-    (Device::Output(AsmOutput::Listing), 7, 33),
+    (Device::Output(AsmOutput::Object), 512, 6),
+    (Device::Output(AsmOutput::Object), 7, 14),
+    (Device::Output(AsmOutput::Listing), 512, 10),
+    (Device::Output(AsmOutput::Listing), 7, 34),
     (Device::Output(AsmOutput::Messages), 512, 1),
     (Device::Output(AsmOutput::Messages), 7, 3),
 ];
@@ -208,10 +208,10 @@ static ONE_WORD_FAILING: [Failing; 8] = [
 static TWICE_FAILING: [Failing; 8] = [
     (Device::First, 512, 103),
     (Device::Second, 512, 103),
-    (Device::Output(AsmOutput::Object), 512, 5),
-    (Device::Output(AsmOutput::Object), 7, 15),
-    (Device::Output(AsmOutput::Listing), 512, 15),
-    (Device::Output(AsmOutput::Listing), 7, 75),
+    (Device::Output(AsmOutput::Object), 512, 6),
+    (Device::Output(AsmOutput::Object), 7, 16),
+    (Device::Output(AsmOutput::Listing), 512, 16),
+    (Device::Output(AsmOutput::Listing), 7, 76),
     (Device::Output(AsmOutput::Messages), 512, 1),
     (Device::Output(AsmOutput::Messages), 7, 3),
 ];
