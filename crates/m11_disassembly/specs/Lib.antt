@@ -1,0 +1,5 @@
+pub mod Numbers
+pub mod Arguments
+pub mod Statements
+pub mod Texts
+pub mod Instructions

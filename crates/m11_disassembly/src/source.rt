@@ -1,0 +1,18 @@
+//! Lines of source in the making.
+
+ghost use Rattle.std.specs.Prelude.{◌≡◌, ◌≤◌, ◌+◌, ◌++◌, length};
+ghost use Rattle.arrayvec.specs.ArrayVec.{array_vec_len};
+
+use arrayvec::ArrayVec;
+
+/// A line of source, without a line feed. The longest is that of an operation with two indexed operands.
+pub type Source = ArrayVec<u8, 40>;
+
+/// Adds bytes to a line.
+pub(crate) fn put(line: &mut Source, bytes: &[u8])
+    requires { array_vec_len line.old + length bytes.now ≤ 40 }
+    ensures items { line.new.items ≡ line.old.items ++ bytes.now }
+    ensures size { array_vec_len line.new ≡ array_vec_len line.old + length bytes.now }
+{
+    line.try_extend_from_slice(bytes).unwrap();
+}
