@@ -11,45 +11,46 @@ use Rattle.m11_obj.specs.declared.records.RecordKind.TheVariants as kind
 use Rattle.m11_dump.specs.Entries.{entry_line}
 use Rattle.m11_dump.specs.Records.{shown, address_then, text_lines}
 use Rattle.m11_dump.specs.Relocations.{relocation_line}
+use Rattle.m11_dump.specs.declared.view.View.{View}
 
 -- what is shown, by the fields of a record of this type
-abbrev pub ShowsFields : ℕ → Result Content RecordFault → RecordKind → Type 0
-ShowsFields address r kind.Gsd = flat_map entry_line (entries_in r) ≡ shown address r
-ShowsFields address r kind.EndOfGsd = codes "END OF DIRECTORY\n" ≡ shown address r
-ShowsFields address r kind.Text = (own : ℕ) (bytes : List ℕ) → option_map (λ t. t.0) (text_in r) ≡ Some own
-    → option_map (λ t. t.1) (text_in r) ≡ Some bytes → text_lines own bytes ≡ shown address r
-ShowsFields address r kind.Relocations = flat_map (relocation_line address) (relocations_in r) ≡ shown address r
-ShowsFields address r kind.InternalSymbols = codes "INTERNAL SYMBOLS\n" ≡ shown address r
-ShowsFields address r kind.EndOfModule = codes "END OF MODULE\n" ≡ shown address r
+abbrev pub ShowsFields : View → ℕ → Result Content RecordFault → RecordKind → Type 0
+ShowsFields view address r kind.Gsd = flat_map entry_line (entries_in r) ≡ shown view address r
+ShowsFields view address r kind.EndOfGsd = codes "END OF DIRECTORY\n" ≡ shown view address r
+ShowsFields view address r kind.Text = (own : ℕ) (bytes : List ℕ) → option_map (λ t. t.0) (text_in r) ≡ Some own
+    → option_map (λ t. t.1) (text_in r) ≡ Some bytes → text_lines view own bytes ≡ shown view address r
+ShowsFields view address r kind.Relocations = flat_map (relocation_line address) (relocations_in r) ≡ shown view address r
+ShowsFields view address r kind.InternalSymbols = codes "INTERNAL SYMBOLS\n" ≡ shown view address r
+ShowsFields view address r kind.EndOfModule = codes "END OF MODULE\n" ≡ shown view address r
 
-text_shown : (own own' : ℕ) (bytes bytes' : List ℕ) → Some own ≡ Some own' → Some bytes ≡ Some bytes'
-    → text_lines own' bytes' ≡ text_lines own bytes
-text_shown own own' bytes bytes' a b = let x : own ≡ own' = cc in let y : bytes ≡ bytes' = cc in ap₂ text_lines (sym x) (sym y)
+text_shown : (view : View) (own own' : ℕ) (bytes bytes' : List ℕ) → Some own ≡ Some own' → Some bytes ≡ Some bytes'
+    → text_lines view own' bytes' ≡ text_lines view own bytes
+text_shown view own own' bytes bytes' a b = let x : own ≡ own' = cc in let y : bytes ≡ bytes' = cc in ap₂ (text_lines view) (sym x) (sym y)
 
 -- the type of a record that says this is this one
 same_kind : {k other : RecordKind} → done k ≡ done other → k ≡ other
 same_kind e = cc
 
-fields_by : (address : ℕ) (r : Result Content RecordFault) (k : RecordKind) → (r >>= λ content. Ok (kind_in content)) ≡ Ok k
-    → ShowsFields address r k
-fields_by address (Err fault) k e = cc
-fields_by address (Ok (Gsd entries)) k e =
-    let P : RecordKind → Type 0 = ShowsFields address (Ok (Gsd entries)) in subst P (same_kind e) refl
-fields_by address (Ok EndOfGsd) k e =
-    let P : RecordKind → Type 0 = ShowsFields address (Ok EndOfGsd) in subst P (same_kind e) refl
-fields_by address (Ok (Text own bytes)) k e =
-    let P : RecordKind → Type 0 = ShowsFields address (Ok (Text own bytes)) in
-    subst P (same_kind e) (λ own' bytes' a b. text_shown own own' bytes bytes' a b)
-fields_by address (Ok (Relocations relocations)) k e =
-    let P : RecordKind → Type 0 = ShowsFields address (Ok (Relocations relocations)) in subst P (same_kind e) refl
-fields_by address (Ok InternalSymbols) k e =
-    let P : RecordKind → Type 0 = ShowsFields address (Ok InternalSymbols) in subst P (same_kind e) refl
-fields_by address (Ok EndOfModule) k e =
-    let P : RecordKind → Type 0 = ShowsFields address (Ok EndOfModule) in subst P (same_kind e) refl
+fields_by : (view : View) (address : ℕ) (r : Result Content RecordFault) (k : RecordKind) → (r >>= λ content. Ok (kind_in content)) ≡ Ok k
+    → ShowsFields view address r k
+fields_by view address (Err fault) k e = cc
+fields_by view address (Ok (Gsd entries)) k e =
+    let P : RecordKind → Type 0 = ShowsFields view address (Ok (Gsd entries)) in subst P (same_kind e) refl
+fields_by view address (Ok EndOfGsd) k e =
+    let P : RecordKind → Type 0 = ShowsFields view address (Ok EndOfGsd) in subst P (same_kind e) refl
+fields_by view address (Ok (Text own bytes)) k e =
+    let P : RecordKind → Type 0 = ShowsFields view address (Ok (Text own bytes)) in
+    subst P (same_kind e) (λ own' bytes' a b. text_shown view own own' bytes bytes' a b)
+fields_by view address (Ok (Relocations relocations)) k e =
+    let P : RecordKind → Type 0 = ShowsFields view address (Ok (Relocations relocations)) in subst P (same_kind e) refl
+fields_by view address (Ok InternalSymbols) k e =
+    let P : RecordKind → Type 0 = ShowsFields view address (Ok InternalSymbols) in subst P (same_kind e) refl
+fields_by view address (Ok EndOfModule) k e =
+    let P : RecordKind → Type 0 = ShowsFields view address (Ok EndOfModule) in subst P (same_kind e) refl
 
-pub fields_shown : (address : ℕ) (bytes : List ℕ) (k : RecordKind) → record_kind bytes ≡ Ok k
-    → ShowsFields address (content_of bytes) k
-fields_shown address bytes k e = fields_by address (content_of bytes) k e
+pub fields_shown : (view : View) (address : ℕ) (bytes : List ℕ) (k : RecordKind) → record_kind bytes ≡ Ok k
+    → ShowsFields view address (content_of bytes) k
+fields_shown view address bytes k e = fields_by view address (content_of bytes) k e
 
 -- ---- the address of the last text
 

@@ -14,16 +14,17 @@ use Rattle.m11_dump.specs.declared.fault.DumpFault.{DumpFault}
 use Rattle.m11_dump.specs.declared.fault.DumpFault.TheVariants as fault
 use Rattle.m11_dump.specs.declared.fault.Placed.{Placed}
 use Rattle.m11_dump.specs.declared.stand.Stand.{Stand}
+use Rattle.m11_dump.specs.declared.view.View.{View}
 
 -- ---- one block more
 
-text_more : (s : Stand) (contents : List (List ℕ)) (content : List ℕ)
-    → text_from s (contents ++ content ∷ []) ≡ text_from s contents ++ shown (after_all s contents).address (content_of content)
-text_more s [] content = append-nil (shown s.address (content_of content))
-text_more s (first ∷ contents) content =
-    ap (λ (text : List ℕ). shown s.address (content_of first) ++ text) (text_more (after s first) contents content)
-    ∙ sym (append_assoc (shown s.address (content_of first)) (text_from (after s first) contents)
-    (shown (after_all (after s first) contents).address (content_of content)))
+text_more : (view : View) (s : Stand) (contents : List (List ℕ)) (content : List ℕ)
+    → text_from view s (contents ++ content ∷ []) ≡ text_from view s contents ++ shown view (after_all s contents).address (content_of content)
+text_more view s [] content = append-nil (shown view s.address (content_of content))
+text_more view s (first ∷ contents) content =
+    ap (λ (text : List ℕ). shown view s.address (content_of first) ++ text) (text_more view (after s first) contents content)
+    ∙ sym (append_assoc (shown view s.address (content_of first)) (text_from view (after s first) contents)
+    (shown view (after_all (after s first) contents).address (content_of content)))
 
 after_more : (s : Stand) (contents : List (List ℕ)) (content : List ℕ)
     → after_all s (contents ++ content ∷ []) ≡ after (after_all s contents) content
@@ -53,14 +54,14 @@ appends_then (Some x) (Some y) (Some z) xs ys a b = b ∙ ap (λ (text : List �
 -- ---- how far a dump has come
 
 -- these blocks were shown, and the dump stands after them; the room bounds how many there are, and how large
-pub record Dumping (old here : Place) (output output' : Output) (s : Stand) (contents : List (List ℕ)) : Type 0 where
-  pub shows : Shows old here output output' contents
+pub record Dumping (view : View) (old here : Place) (output output' : Output) (s : Stand) (contents : List (List ℕ)) : Type 0 where
+  pub shows : Shows view old here output output' contents
   pub stands : s ≡ after_all start contents
   pub few : s.blocks + here.room ≤ 4194304
   pub small : s.bytes ≤ 600 * s.blocks
 
-pub dump_begins : (old : Place) (output : Output) → old.room ≡ 4194304 → Dumping old old output output start []
-dump_begins old output room = record {
+pub dump_begins : (view : View) (old : Place) (output : Output) → old.room ≡ 4194304 → Dumping view old old output output start []
+dump_begins view old output room = record {
   shows = record {
     given = [];
     took = took_nothing old;
@@ -92,8 +93,8 @@ pub reads_on : {X : Type 0} (has_failed : Bool) (returned : X) → (IsTrue has_f
 reads_on false returned h = refl
 reads_on {X} true returned h = absurd (let bad = h.0 refl in cc)
 
-module _ (old here : Place) (output output' : Output) (s : Stand) (contents : List (List ℕ))
-    (d : Dumping old here output output' s contents) where
+module _ (view : View) (old here : Place) (output output' : Output) (s : Stand) (contents : List (List ℕ))
+    (d : Dumping view old here output output' s contents) where
   pub blocks_fit : s.blocks < 2 ^ 32
   blocks_fit = omega (arith, d.few)
 
@@ -101,44 +102,44 @@ module _ (old here : Place) (output output' : Output) (s : Stand) (contents : Li
   bytes_fit = omega (arith, d.few, d.small)
 
   pub dump_ends : (new : Place) (done : Unit {0}) → Stops first_block here new EndsBetween
-      → DumpsObject old new output output' (Ok done)
+      → DumpsObject view old new output output' (Ok done)
   dump_ends new done stops = (contents, here, d.shows, stops)
 
   place_is : (f : DumpFault) (said : Placed) → said ≡ placed_at f s → said ≡ placed_at f (after_all start contents)
   place_is f said e = e ∙ ap (placed_at f) d.stands
 
   stopped : (f : DumpFault) (new : Place) (final : Output) (said : Placed) → said ≡ placed_at f s
-      → StopsAfter f here new output' final contents → DumpsObject old new output final (Err said)
+      → StopsAfter view f here new output' final contents → DumpsObject view old new output final (Err said)
   stopped f new final said e h =
       let is = place_is f said e in
       let same : said.fault ≡ f = ap (λ (p : Placed). p.fault) e in
-      let P : DumpFault → Type 0 = λ x. StopsAfter x here new output' final contents in
+      let P : DumpFault → Type 0 = λ x. StopsAfter view x here new output' final contents in
       let Q : DumpFault → Type 0 = λ x. said ≡ placed_at x (after_all start contents) in
       (contents, here, output', d.shows, subst P (sym same) h, subst Q (sym same) is)
 
   pub block_refused : (new : Place) (inner : BlockFault) (said : Placed) → said ≡ placed_at (fault.Block inner) s
-      → Stops first_block here new (why_of inner) → DumpsObject old new output output' (Err said)
+      → Stops first_block here new (why_of inner) → DumpsObject view old new output output' (Err said)
   block_refused new inner said e h = stopped (fault.Block inner) new output' said e (h, refl)
 
   module _ (new : Place) (content : List ℕ) (r : Reads first_block here new content) (final : Output) where
     record_refused : (f : DumpFault) (said : Placed) → said ≡ placed_at f s
-        → ShowsBlock s content output' final (Err f) → DumpsObject old new output final (Err said)
+        → ShowsBlock view s content output' final (Err f) → DumpsObject view old new output final (Err said)
     record_refused (fault.Block inner) said e h = absurd h.1
     record_refused (fault.Record inner) said e h = stopped (fault.Record inner) new final said e (content, r, h.0, h.1)
     record_refused (fault.Tape inner) said e h = absurd h.1
     record_refused fault.Write said e h =
-        let P : Stand → Type 0 = λ x. FailsAt (shown x.address (content_of content)) output' final in
+        let P : Stand → Type 0 = λ x. FailsAt (shown view x.address (content_of content)) output' final in
         stopped fault.Write new final said e (content, r, h.0, subst P d.stands h.1)
     record_refused fault.NoMemory said e h = stopped fault.NoMemory new final said e (content, r, h.0, h.1)
 
     pub block_stops : (f : DumpFault) (said : Placed) → said ≡ placed_at f s
-        → ShowsBlock s content output' final (Err f) → DumpsObject old new output final (Err said)
+        → ShowsBlock view s content output' final (Err f) → DumpsObject view old new output final (Err said)
     block_stops f said e h = record_refused f said e h
 
-    pub block_shown : (s' : Stand) → length content ≤ 512 → ShowsBlock s content output' final (Ok s')
-        → Dumping old new output final s' (contents ++ content ∷ [])
+    pub block_shown : (s' : Stand) → length content ≤ 512 → ShowsBlock view s content output' final (Ok s')
+        → Dumping view old new output final s' (contents ++ content ∷ [])
     block_shown s' long h =
-        let P : Stand → Type 0 = λ x. Appends output'.text final.text (shown x.address (content_of content)) in
+        let P : Stand → Type 0 = λ x. Appends output'.text final.text (shown view x.address (content_of content)) in
         let Q : List ℕ → Type 0 = λ text. Appends output.text final.text text in
         let blocks : s'.blocks ≡ s.blocks + 1 = ap (λ (x : Stand). x.blocks) h.1.0 in
         let bytes : s'.bytes ≡ s.bytes + length content + 5 = ap (λ (x : Stand). x.bytes) h.1.0 in
@@ -153,9 +154,9 @@ module _ (old here : Place) (output output' : Output) (s : Stand) (contents : Li
                 (front_more contents content (d.shows.given ++ (r.given ++ rest)) (r.given ++ rest) rest
                 (d.shows.blocks (r.given ++ rest)) (r.is rest));
             records = all_more contents content d.shows.records h.0;
-            text = subst Q (sym (text_more start contents content))
-                (appends_then output.text output'.text final.text (object_text contents)
-                (shown (after_all start contents).address (content_of content)) d.shows.text (subst P d.stands h.1.1));
+            text = subst Q (sym (text_more view start contents content))
+                (appends_then output.text output'.text final.text (object_text view contents)
+                (shown view (after_all start contents).address (content_of content)) d.shows.text (subst P d.stands h.1.1));
             faults = h.1.2 ∙ d.shows.faults;
           };
           stands = h.1.0 ∙ ap (λ (x : Stand). after x content) d.stands ∙ sym (after_more start contents content);

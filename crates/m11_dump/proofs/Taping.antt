@@ -21,6 +21,7 @@ use Rattle.m11_dump.specs.declared.fault.DumpFault.{DumpFault}
 use Rattle.m11_dump.specs.declared.fault.DumpFault.TheVariants as fault
 use Rattle.m11_dump.specs.declared.fault.Placed.{Placed}
 use Rattle.m11_dump.specs.declared.stand.Stand.{Stand}
+use Rattle.m11_dump.specs.declared.view.View.{View}
 
 abbrev Reader : Type 0
 Reader = List ℕ → Read TapeFault TapePart
@@ -96,23 +97,23 @@ puts_as text old new (Err f) p =
     let P : DumpFault → Type 0 = λ x. Puts text old new (Err x) in subst P (sym p.0) (p.1, p.2)
 
 -- what was read is shown, or not
-pub data_taken : (start end : Place) (stage : TapeStage) (address count : ℕ) (bytes : List ℕ) (output output' : Output)
+pub data_taken : (view : View) (start end : Place) (stage : TapeStage) (address count : ℕ) (bytes : List ℕ) (output output' : Output)
     (result : Result (Unit {0}) DumpFault) → ReadsData start end stage address count bytes
-    → Puts (block_text address bytes) output output' result → TakesData start end stage address count output output' result
-data_taken start end stage address count bytes output output' (Ok done) r p = (bytes, r, p)
-data_taken start end stage address count bytes output output' (Err fault.Write) r p = (bytes, r, p)
-data_taken start end stage address count bytes output output' (Err fault.NoMemory) r p = p
-data_taken start end stage address count bytes output output' (Err (fault.Block inner)) r p = absurd p
-data_taken start end stage address count bytes output output' (Err (fault.Record inner)) r p = absurd p
-data_taken start end stage address count bytes output output' (Err (fault.Tape inner)) r p = absurd p
+    → Puts (block_text view address bytes) output output' result → TakesData view start end stage address count output output' result
+data_taken view start end stage address count bytes output output' (Ok done) r p = (bytes, r, p)
+data_taken view start end stage address count bytes output output' (Err fault.Write) r p = (bytes, r, p)
+data_taken view start end stage address count bytes output output' (Err fault.NoMemory) r p = p
+data_taken view start end stage address count bytes output output' (Err (fault.Block inner)) r p = absurd p
+data_taken view start end stage address count bytes output output' (Err (fault.Record inner)) r p = absurd p
+data_taken view start end stage address count bytes output output' (Err (fault.Tape inner)) r p = absurd p
 
-pub data_not_taken : (start end : Place) (stage : TapeStage) (address count : ℕ) (output : Output) (f : DumpFault)
-    → StopsData f start end count → TakesData start end stage address count output output (Err f)
-data_not_taken start end stage address count output fault.Write s = absurd s
-data_not_taken start end stage address count output fault.NoMemory s = refl
-data_not_taken start end stage address count output (fault.Block inner) s = absurd s
-data_not_taken start end stage address count output (fault.Record inner) s = absurd s
-data_not_taken start end stage address count output (fault.Tape inner) s = (s, refl)
+pub data_not_taken : (view : View) (start end : Place) (stage : TapeStage) (address count : ℕ) (output : Output) (f : DumpFault)
+    → StopsData f start end count → TakesData view start end stage address count output output (Err f)
+data_not_taken view start end stage address count output fault.Write s = absurd s
+data_not_taken view start end stage address count output fault.NoMemory s = refl
+data_not_taken view start end stage address count output (fault.Block inner) s = absurd s
+data_not_taken view start end stage address count output (fault.Record inner) s = absurd s
+data_not_taken view start end stage address count output (fault.Tape inner) s = (s, refl)
 
 -- ---- one block more
 
@@ -143,12 +144,12 @@ hold_more read (block ∷ blocks) address given header content held is =
       hold_more (next_part (total_of block.0 block.1)) blocks address held.1 header content held.4 is,
     )
 
-text_more : (blocks : List (ℕ × List ℕ)) (address : ℕ) (content : List ℕ)
-    → tape_text (blocks ++ (address, content) ∷ []) ≡ tape_text blocks ++ block_text address content
-text_more [] address content = append-nil (block_text address content)
-text_more (block ∷ blocks) address content =
-    ap (λ (text : List ℕ). block_text block.0 block.1 ++ text) (text_more blocks address content)
-    ∙ sym (append_assoc (block_text block.0 block.1) (tape_text blocks) (block_text address content))
+text_more : (view : View) (blocks : List (ℕ × List ℕ)) (address : ℕ) (content : List ℕ)
+    → tape_text view (blocks ++ (address, content) ∷ []) ≡ tape_text view blocks ++ block_text view address content
+text_more view [] address content = append-nil (block_text view address content)
+text_more view (block ∷ blocks) address content =
+    ap (λ (text : List ℕ). block_text view block.0 block.1 ++ text) (text_more view blocks address content)
+    ∙ sym (append_assoc (block_text view block.0 block.1) (tape_text view blocks) (block_text view address content))
 
 stand_more : (s : Stand) (blocks : List (ℕ × List ℕ)) (address : ℕ) (content : List ℕ)
     → after_blocks s (blocks ++ (address, content) ∷ []) ≡ after_data (after_blocks s blocks) (length content)
@@ -196,17 +197,17 @@ next_is (AtEnd address) read old new after result stands r = absurd stands
 next_is AfterFault read old new after result stands r = absurd stands
 
 -- these blocks were given and shown, and the reader stands before the part after them
-pub record Taping (old here : Place) (output output' : Output) (stage : TapeStage) (s : Stand) (blocks : List (ℕ × List ℕ))
+pub record Taping (view : View) (old here : Place) (output output' : Output) (stage : TapeStage) (s : Stand) (blocks : List (ℕ × List ℕ))
     : Type 0 where
-  pub shows : ShowsTape old here output output' blocks
+  pub shows : ShowsTape view old here output output' blocks
   pub before : StandsBefore stage (part_after first_part blocks)
   pub stands : s ≡ after_blocks (stand 0 0 0) blocks
   pub few : s.blocks + here.room ≤ 4194304
   pub small : s.bytes ≤ 70000 * s.blocks
 
-pub tape_begins : (old : Place) (output : Output) → old.room ≡ 4194304
-    → Taping old old output output BeforeBlock (stand 0 0 0) []
-tape_begins old output room = record {
+pub tape_begins : (view : View) (old : Place) (output : Output) → old.room ≡ 4194304
+    → Taping view old old output output BeforeBlock (stand 0 0 0) []
+tape_begins view old output room = record {
   shows = record {
     given = [];
     took = took_nothing old;
@@ -226,8 +227,8 @@ none_left (InBlock left total) read stands = stands.0
 none_left (AtEnd address) read stands = refl
 none_left AfterFault read stands = refl
 
-module _ (old here : Place) (output output' : Output) (stage : TapeStage) (s : Stand) (blocks : List (ℕ × List ℕ))
-    (d : Taping old here output output' stage s blocks) where
+module _ (view : View) (old here : Place) (output output' : Output) (stage : TapeStage) (s : Stand) (blocks : List (ℕ × List ℕ))
+    (d : Taping view old here output output' stage s blocks) where
   pub block_ended : left_of stage ≡ 0
   block_ended = none_left stage (part_after first_part blocks) d.before
 
@@ -238,11 +239,11 @@ module _ (old here : Place) (output output' : Output) (stage : TapeStage) (s : S
   bytes_few = omega (arith, d.few, d.small)
 
   stopped : (f : DumpFault) (new : Place) (final : Output) (said : Placed) → said ≡ placed_at f s
-      → StopsTape f here new output' final blocks → DumpsTape old new output final (Err said)
+      → StopsTape view f here new output' final blocks → DumpsTape view old new output final (Err said)
   stopped f new final said e h =
       let is : said ≡ placed_at f (after_blocks (stand 0 0 0) blocks) = e ∙ ap (placed_at f) d.stands in
       let same : said.fault ≡ f = ap (λ (p : Placed). p.fault) e in
-      let P : DumpFault → Type 0 = λ x. StopsTape x here new output' final blocks in
+      let P : DumpFault → Type 0 = λ x. StopsTape view x here new output' final blocks in
       let Q : DumpFault → Type 0 = λ x. said ≡ placed_at x (after_blocks (stand 0 0 0) blocks) in
       (blocks, here, output', d.shows, subst P (sym same) h, subst Q (sym same) is)
 
@@ -260,14 +261,14 @@ module _ (old here : Place) (output output' : Output) (stage : TapeStage) (s : S
     stage_is same is = part_read.1 ∙ ap stage_after is
 
     pub part_stops : (inner : TapeFault) (said : Placed) → result ≡ Err inner → said ≡ placed_at (fault.Tape inner) s
-        → DumpsTape old new output output' (Err said)
+        → DumpsTape view old new output output' (Err said)
     part_stops inner said is e = stopped (fault.Tape inner) new output' said e (refl, inl (part_as (Err inner) is))
 
     module _ (start : ℕ) (is : result ≡ Ok (Start start)) (final : Output) where
       last : Reads (part_after first_part blocks) here new (Start start)
       last = part_as (Ok (Start start)) is
 
-      pub tape_ends : (done : Unit {0}) → Puts (start_text start) output' final (Ok done) → DumpsTape old new output final (Ok done)
+      pub tape_ends : (done : Unit {0}) → Puts (start_text start) output' final (Ok done) → DumpsTape view old new output final (Ok done)
       tape_ends done p = record {
         blocks = blocks;
         start = start;
@@ -281,7 +282,7 @@ module _ (old here : Place) (output output' : Output) (stage : TapeStage) (s : S
       }
 
       start_refused : (f : DumpFault) (said : Placed) → said ≡ placed_at f s → Puts (start_text start) output' final (Err f)
-          → DumpsTape old new output final (Err said)
+          → DumpsTape view old new output final (Err said)
       start_refused fault.Write said e p =
           stopped fault.Write new final said e (start_text start, inr (start, new, last, refl), p)
       start_refused fault.NoMemory said e p = stopped fault.NoMemory new final said e p
@@ -290,7 +291,7 @@ module _ (old here : Place) (output output' : Output) (stage : TapeStage) (s : S
       start_refused (fault.Tape inner) said e p = absurd p
 
       pub start_stops : (f : DumpFault) (said : Placed) → said ≡ placed_at f s → Puts (start_text start) output' final (Err f)
-          → DumpsTape old new output final (Err said)
+          → DumpsTape view old new output final (Err said)
       start_stops f said e p = start_refused f said e p
 
     module _ (address count : ℕ) (is : result ≡ Ok (Data address count)) (end : Place) (stage' : TapeStage) (final : Output) where
@@ -303,9 +304,9 @@ module _ (old here : Place) (output output' : Output) (stage : TapeStage) (s : S
           subst P (sym long) header
 
       data_refused : (f : DumpFault) (said : Placed) → said ≡ placed_at f s
-          → TakesData new end stage' address count output' final (Err f) → DumpsTape old end output final (Err said)
+          → TakesData view new end stage' address count output' final (Err f) → DumpsTape view old end output final (Err said)
       data_refused fault.Write said e t = stopped fault.Write end final said e (
-        block_text address t.0,
+        block_text view address t.0,
         inl (address, t.0, new, end, header_of t.0 t.1.0, t.1.1, refl),
         t.2,
       )
@@ -330,16 +331,16 @@ module _ (old here : Place) (output output' : Output) (stage : TapeStage) (s : S
       )
 
       pub data_fails : (f : DumpFault) (said : Placed) → said ≡ placed_at f s
-          → TakesData new end stage' address count output' final (Err f) → DumpsTape old end output final (Err said)
+          → TakesData view new end stage' address count output' final (Err f) → DumpsTape view old end output final (Err said)
       data_fails f said e t = data_refused f said e t
 
       module _ (done : Unit {0}) (some : 0 < count) (fits : count ≤ 65529)
-          (t : TakesData new end stage' address count output' final (Ok done)) where
+          (t : TakesData view new end stage' address count output' final (Ok done)) where
         pub tape_room_falls : end.room < here.room
         tape_room_falls = omega (arith, header.took.room, t.1.1.room, t.1.0, some)
 
         pub data_shown : (s' : Stand) → s' ≡ after_data s count
-            → Taping old end output final stage' s' (blocks ++ (address, t.0) ∷ [])
+            → Taping view old end output final stage' s' (blocks ++ (address, t.0) ∷ [])
         data_shown s' e =
             let bytes : List ℕ = t.0 in
             let own = header_of bytes t.1.0 in
@@ -356,8 +357,8 @@ module _ (old here : Place) (output output' : Output) (stage : TapeStage) (s : S
                 took = took_then old here end d.shows.given (own.given ++ bytes) d.shows.took
                     (took_then here new end own.given bytes own.took t.1.1);
                 hold = hold_more first_part blocks address d.shows.given own.given bytes d.shows.hold own.is;
-                text = subst Q (sym (text_more blocks address bytes))
-                    (appends_then output.text output'.text final.text (tape_text blocks) (block_text address bytes)
+                text = subst Q (sym (text_more view blocks address bytes))
+                    (appends_then output.text output'.text final.text (tape_text view blocks) (block_text view address bytes)
                     d.shows.text t.2.0);
                 faults = t.2.1 ∙ d.shows.faults;
               };

@@ -1,4 +1,5 @@
 pub mod Octets
+pub mod Instructions
 pub mod Entries
 pub mod Relocations
 pub mod Records

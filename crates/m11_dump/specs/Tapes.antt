@@ -19,15 +19,19 @@ use Rattle.m11_dump.specs.declared.fault.DumpFault.{DumpFault}
 use Rattle.m11_dump.specs.declared.fault.DumpFault.TheVariants as fault
 use Rattle.m11_dump.specs.declared.fault.Placed.{Placed}
 use Rattle.m11_dump.specs.declared.stand.Stand.{Stand}
+use Rattle.m11_dump.specs.Instructions.{head_line, lines}
+use Rattle.m11_dump.specs.declared.view.View.{View}
+use Rattle.m11_dump.specs.declared.view.View.TheVariants.{Octal, Instructions}
 
 -- ---- the text of a tape
 
--- a block of data: its address, and its words
-abbrev pub block_text : ℕ → Bytes → Bytes
-block_text address bytes = ((codes "BLOCK " ++ octal_text address) ++ data_cells address bytes) ++ 10 ∷ []
+-- a block of data: its address, and its words in octal, or as instructions
+abbrev pub block_text : View → ℕ → Bytes → Bytes
+block_text Octal address bytes = ((codes "BLOCK " ++ octal_text address) ++ data_cells address bytes) ++ 10 ∷ []
+block_text Instructions address bytes = head_line (codes "BLOCK ") address ++ lines address bytes
 
-abbrev pub tape_text : List (ℕ × Bytes) → Bytes
-tape_text blocks = flat_map (λ block. block_text block.0 block.1) blocks
+abbrev pub tape_text : View → List (ℕ × Bytes) → Bytes
+tape_text view blocks = flat_map (λ block. block_text view block.0 block.1) blocks
 
 -- the transfer block: an odd address starts nothing
 abbrev pub start_text : ℕ → Bytes
@@ -48,11 +52,11 @@ Hold read (block ∷ blocks) bytes = (header : Bytes) × (following : Bytes) × 
     × Hold (next_part (total_of block.0 block.1)) blocks following
 
 -- a feed gave these blocks, and an output gained their text
-pub record ShowsTape (old here : Place) (output output' : Output) (blocks : List (ℕ × Bytes)) : Type 0 where
+pub record ShowsTape (view : View) (old here : Place) (output output' : Output) (blocks : List (ℕ × Bytes)) : Type 0 where
   pub given : Bytes
   pub took : Took old here given
   pub hold : Hold first_part blocks given
-  pub text : Appends output.text output'.text (tape_text blocks)
+  pub text : Appends output.text output'.text (tape_text view blocks)
   pub faults : output'.faults ≡ output.faults
 
 -- a block's header was read, and some of its data, but not all
@@ -66,23 +70,23 @@ pub record InsideData (read : Bytes → Read TapeFault TapePart) (here inside : 
   pub some : length taken < count
 
 -- the next part is a block of data, all of which was read; or the transfer block: with what is to be shown of it
-abbrev pub ReadsText : (Bytes → Read TapeFault TapePart) → Place → Bytes → Type 0
-ReadsText read here text =
+abbrev pub ReadsText : View → (Bytes → Read TapeFault TapePart) → Place → Bytes → Type 0
+ReadsText view read here text =
     ((address : ℕ) × (bytes : Bytes) × (opened : Place) × (end : Place)
-    × Reads read here opened (Data address (length bytes)) × Took opened end bytes × (text ≡ block_text address bytes))
+    × Reads read here opened (Data address (length bytes)) × Took opened end bytes × (text ≡ block_text view address bytes))
     ⊎ ((address : ℕ) × (end : Place) × Reads read here end (Start address) × (text ≡ start_text address))
 
 -- why a dump stopped after blocks: no further part could be read, or not all data of one; or what is shown of it couldn't be
 -- written; or memory was refused
-abbrev pub StopsTape : DumpFault → Place → Place → Output → Output → List (ℕ × Bytes) → Type 0
-StopsTape (fault.Tape inner) here new output output' blocks = (output' ≡ output)
+abbrev pub StopsTape : View → DumpFault → Place → Place → Output → Output → List (ℕ × Bytes) → Type 0
+StopsTape view (fault.Tape inner) here new output output' blocks = (output' ≡ output)
     × (Stops (part_after first_part blocks) here new (why_of inner)
     ⊎ ((inside : Place) × InsideData (part_after first_part blocks) here inside × Stops data_byte inside new (why_of inner)))
-StopsTape fault.Write here new output output' blocks =
-    (text : Bytes) × ReadsText (part_after first_part blocks) here text × FailsAt text output output'
-StopsTape fault.NoMemory here new output output' blocks = output' ≡ output
-StopsTape (fault.Block inner) here new output output' blocks = ⊥
-StopsTape (fault.Record inner) here new output output' blocks = ⊥
+StopsTape view fault.Write here new output output' blocks =
+    (text : Bytes) × ReadsText view (part_after first_part blocks) here text × FailsAt text output output'
+StopsTape view fault.NoMemory here new output output' blocks = output' ≡ output
+StopsTape view (fault.Block inner) here new output output' blocks = ⊥
+StopsTape view (fault.Record inner) here new output output' blocks = ⊥
 
 -- after one more block: 7 bytes stand round its data
 abbrev pub after_data : Stand → ℕ → Stand
@@ -93,22 +97,22 @@ after_blocks s [] = s
 after_blocks s (block ∷ blocks) = after_blocks (after_data s (length block.1)) blocks
 
 -- a whole tape: its blocks and its transfer block, after which nothing is read, and the output gained the text of all
-pub record DumpsWhole (old new : Place) (output output' : Output) : Type 0 where
+pub record DumpsWhole (view : View) (old new : Place) (output output' : Output) : Type 0 where
   pub blocks : List (ℕ × Bytes)
   pub start : ℕ
   pub here : Place
   pub middle : Output
-  pub shows : ShowsTape old here output middle blocks
+  pub shows : ShowsTape view old here output middle blocks
   pub last : Reads (part_after first_part blocks) here new (Start start)
   pub tape : IsTape blocks start (shows.given ++ last.given)
   pub text : Appends middle.text output'.text (start_text start)
   pub faults : output'.faults ≡ middle.faults
 
 -- what a dump of a tape does: the output gains the text of the whole tape; or of all blocks before the first fault
-abbrev pub DumpsTape : Place → Place → Output → Output → Result (Unit {0}) Placed → Type 0
-DumpsTape old new output output' (Ok done) = DumpsWhole old new output output'
-DumpsTape old new output output' (Err said) = (blocks : List (ℕ × Bytes)) × (here : Place) × (middle : Output)
-    × ShowsTape old here output middle blocks × StopsTape said.fault here new middle output' blocks
+abbrev pub DumpsTape : View → Place → Place → Output → Output → Result (Unit {0}) Placed → Type 0
+DumpsTape view old new output output' (Ok done) = DumpsWhole view old new output output'
+DumpsTape view old new output output' (Err said) = (blocks : List (ℕ × Bytes)) × (here : Place) × (middle : Output)
+    × ShowsTape view old here output middle blocks × StopsTape view said.fault here new middle output' blocks
     × (said ≡ placed_at said.fault (after_blocks (stand 0 0 0) blocks))
 
 -- ---- parts of it
@@ -137,9 +141,9 @@ StopsData (fault.Block inner) opened new count = ⊥
 StopsData (fault.Record inner) opened new count = ⊥
 
 -- the data of a block was read and shown, or why it wasn't
-abbrev pub TakesData : Place → Place → TapeStage → ℕ → ℕ → Output → Output → Result (Unit {0}) DumpFault → Type 0
-TakesData opened new stage address count output output' (Err (fault.Tape inner)) =
+abbrev pub TakesData : View → Place → Place → TapeStage → ℕ → ℕ → Output → Output → Result (Unit {0}) DumpFault → Type 0
+TakesData view opened new stage address count output output' (Err (fault.Tape inner)) =
     StopsData (fault.Tape inner) opened new count × (output' ≡ output)
-TakesData opened new stage address count output output' (Err fault.NoMemory) = output' ≡ output
-TakesData opened new stage address count output output' result =
-    (bytes : Bytes) × ReadsData opened new stage address count bytes × Puts (block_text address bytes) output output' result
+TakesData view opened new stage address count output output' (Err fault.NoMemory) = output' ≡ output
+TakesData view opened new stage address count output output' result =
+    (bytes : Bytes) × ReadsData opened new stage address count bytes × Puts (block_text view address bytes) output output' result

@@ -5,6 +5,7 @@
 
 mod entries;
 mod fault;
+mod instructions;
 mod kind;
 mod laws;
 mod objects;
@@ -13,6 +14,7 @@ mod records;
 mod relocations;
 mod stand;
 mod tapes;
+mod view;
 mod words;
 
 pub use fault::{DumpFault, Placed};
@@ -20,3 +22,4 @@ pub use kind::{Kind, kind_of};
 pub use laws::each_byte_is_shown_once_in_order;
 pub use objects::dump_object;
 pub use tapes::dump_tape;
+pub use view::View;

@@ -9,6 +9,7 @@ ghost use Rattle.m11_dump.specs.Objects as spec;
 use crate::fault::{DumpFault, Placed};
 use crate::records::record_text;
 use crate::stand::{Stand, address_after};
+use crate::view::View;
 use m11_base::{Feed, Sink};
 use m11_obj::{Block, BlockReader, Record, read_record};
 use m11_writes::put_or_fail;
@@ -56,16 +57,17 @@ impl Stand {
 // Shows a record, and returns where the dump then stands.
 fn show_record<S: Sink>(
     alloc: Global,
+    view: View,
     record: &Record<'_>,
     stand: Stand,
     sink: &mut S,
 ) -> Result<Stand, DumpFault>
     requires blocks { stand.blocks < 2 ^ 32 }
     requires bytes { stand.bytes < 2 ^ 48 }
-    ensures shows { spec.ShowsRecord stand «record».now (output_of S.Sink sink.old) (output_of S.Sink sink.new) result }
+    ensures shows { spec.ShowsRecord view stand «record».now (output_of S.Sink sink.old) (output_of S.Sink sink.new) result }
     ensures fits { OnOk result (length «record».now ≤ content_limit) }
 {
-    let text = record_text(alloc, stand.address, record)?;
+    let text = record_text(alloc, view, stand.address, record)?;
     put_or_fail(sink, &text, DumpFault::Write)?;
     Ok(stand.after(record))
 }
@@ -73,17 +75,18 @@ fn show_record<S: Sink>(
 // Shows a block, where it is a record, and returns where the dump then stands.
 fn show_block<S: Sink>(
     alloc: Global,
+    view: View,
     block: &Block,
     stand: Stand,
     sink: &mut S,
 ) -> Result<Stand, DumpFault>
     requires blocks { stand.blocks < 2 ^ 32 }
     requires bytes { stand.bytes < 2 ^ 48 }
-    ensures shows { spec.ShowsBlock stand block.now.items (output_of S.Sink sink.old) (output_of S.Sink sink.new) result }
+    ensures shows { spec.ShowsBlock view stand block.now.items (output_of S.Sink sink.old) (output_of S.Sink sink.new) result }
     ensures fits { OnOk result (length block.now.items ≤ content_limit) }
 {
     match read_record(block) {
-        Ok(record) => show_record(alloc, &record, stand, sink),
+        Ok(record) => show_record(alloc, view, &record, stand, sink),
         Err(fault) => Err(DumpFault::Record(fault)),
     }
 }
@@ -96,10 +99,11 @@ fn show_block<S: Sink>(
 /// written then.
 pub fn dump_object<F: Feed, S: Sink>(
     alloc: Global,
+    view: View,
     feed: &mut F,
     sink: &mut S,
 ) -> Result<(), Placed>
-    ensures { (room : ℕ) × spec.DumpsObject (place (F.text feed.old) (F.faults feed.old) most_bytes)
+    ensures { (room : ℕ) × spec.DumpsObject view (place (F.text feed.old) (F.faults feed.old) most_bytes)
         (place (F.text feed.new) (F.faults feed.new) room)
         (output_of S.Sink sink.old) (output_of S.Sink sink.new) result }
 {
@@ -108,7 +112,7 @@ pub fn dump_object<F: Feed, S: Sink>(
     let mut stand = Stand::new();
     'reading: loop {
         match reader.next_into(feed, &mut block) {
-            Ok(true) => match show_block(alloc, &block, stand, sink) {
+            Ok(true) => match show_block(alloc, view, &block, stand, sink) {
                 Ok(after) => stand = after,
                 Err(fault) => return Err(stand.placed(fault)),
             },

@@ -8,17 +8,19 @@ ghost use Rattle.m11_writes.specs.Outputs.{output_of};
 ghost use Rattle.m11_dump.specs.Tapes as spec;
 
 use crate::fault::{DumpFault, Placed};
+use crate::instructions::{put_head, put_instructions};
 use crate::stand::Stand;
+use crate::view::View;
 use crate::words::put_data;
 use m11_base::{Feed, Sink, octal6};
 use m11_blocks::{TapePart, TapeReader};
 use m11_writes::put_or_fail;
 use std::alloc::{AllocError, Global};
 
-// What is shown of a block of data.
-fn data_text(alloc: Global, address: u16, bytes: &[u8]) -> Result<Vec<u8>, AllocError>
+// What is shown of a block of data in octal.
+fn octal_text(alloc: Global, address: u16, bytes: &[u8]) -> Result<Vec<u8>, AllocError>
     requires { length bytes.now ≤ data_limit }
-    ensures { IfOk result (λ text. text.items ≡ spec.block_text address bytes.now) }
+    ensures { IfOk result (λ text. text.items ≡ spec.block_text View.Octal address bytes.now) }
 {
     let mut text = Vec::new(alloc);
     text.extend_from_slice(b"BLOCK ")?;
@@ -26,6 +28,28 @@ fn data_text(alloc: Global, address: u16, bytes: &[u8]) -> Result<Vec<u8>, Alloc
     put_data(&mut text, address, bytes)?;
     text.push(b'\n')?;
     Ok(text)
+}
+
+// What is shown of a block of data as instructions.
+fn source_text(alloc: Global, address: u16, bytes: &[u8]) -> Result<Vec<u8>, AllocError>
+    requires { length bytes.now ≤ data_limit }
+    ensures { IfOk result (λ text. text.items ≡ spec.block_text View.Instructions address bytes.now) }
+{
+    let mut text = Vec::new(alloc);
+    put_head(&mut text, b"BLOCK ", address)?;
+    put_instructions(&mut text, address, bytes)?;
+    Ok(text)
+}
+
+// What is shown of a block of data.
+fn data_text(alloc: Global, view: View, address: u16, bytes: &[u8]) -> Result<Vec<u8>, AllocError>
+    requires { length bytes.now ≤ data_limit }
+    ensures { IfOk result (λ text. text.items ≡ spec.block_text view address bytes.now) }
+{
+    match view {
+        View::Octal => octal_text(alloc, address, bytes),
+        View::Instructions => source_text(alloc, address, bytes),
+    }
 }
 
 // What is shown of the transfer block.
@@ -50,14 +74,15 @@ fn show_start<S: Sink>(alloc: Global, address: u16, sink: &mut S) -> Result<(), 
 // Shows the data of a block.
 fn show_data<S: Sink>(
     alloc: Global,
+    view: View,
     address: u16,
     bytes: &[u8],
     sink: &mut S,
 ) -> Result<(), DumpFault>
     requires { length bytes.now ≤ data_limit }
-    ensures { spec.Puts (spec.block_text address bytes.now) (output_of S.Sink sink.old) (output_of S.Sink sink.new) result }
+    ensures { spec.Puts (spec.block_text view address bytes.now) (output_of S.Sink sink.old) (output_of S.Sink sink.new) result }
 {
-    let text = data_text(alloc, address, bytes)?;
+    let text = data_text(alloc, view, address, bytes)?;
     put_or_fail(sink, &text, DumpFault::Write)
 }
 
@@ -104,6 +129,7 @@ impl Stand {
 // Reads and shows the data of the open block.
 fn take_data<F: Feed, S: Sink>(
     alloc: Global,
+    view: View,
     reader: &mut TapeReader,
     feed: &mut F,
     address: u16,
@@ -112,12 +138,12 @@ fn take_data<F: Feed, S: Sink>(
 ) -> Result<(), DumpFault>
     requires stage { reader.old.stage ≡ InBlock count (sum (tape_header address count) % 256) }
     requires fits { count ≤ data_limit }
-    ensures { spec.TakesData (place (F.text feed.old) (F.faults feed.old) reader.old.room)
+    ensures { spec.TakesData view (place (F.text feed.old) (F.faults feed.old) reader.old.room)
         (place (F.text feed.new) (F.faults feed.new) reader.new.room) reader.new.stage address count
         (output_of S.Sink sink.old) (output_of S.Sink sink.new) result }
 {
     match read_data(alloc, reader, feed, address, count) {
-        Ok(bytes) => show_data(alloc, address, &bytes, sink),
+        Ok(bytes) => show_data(alloc, view, address, &bytes, sink),
         Err(fault) => Err(fault),
     }
 }
@@ -129,8 +155,13 @@ fn take_data<F: Feed, S: Sink>(
 /// feed failed, ended without a transfer block or has more bytes than a tape may have; that the bytes of a block don't add up is found
 /// when the next one is read, and said of that one. `Write`, where the sink failed, after a beginning of the block's lines;
 /// `NoMemory`, where memory was refused for its data or lines. What the blocks before show is written then.
-pub fn dump_tape<F: Feed, S: Sink>(alloc: Global, feed: &mut F, sink: &mut S) -> Result<(), Placed>
-    ensures { (room : ℕ) × spec.DumpsTape (place (F.text feed.old) (F.faults feed.old) most_bytes)
+pub fn dump_tape<F: Feed, S: Sink>(
+    alloc: Global,
+    view: View,
+    feed: &mut F,
+    sink: &mut S,
+) -> Result<(), Placed>
+    ensures { (room : ℕ) × spec.DumpsTape view (place (F.text feed.old) (F.faults feed.old) most_bytes)
         (place (F.text feed.new) (F.faults feed.new) room)
         (output_of S.Sink sink.old) (output_of S.Sink sink.new) result }
 {
@@ -139,7 +170,7 @@ pub fn dump_tape<F: Feed, S: Sink>(alloc: Global, feed: &mut F, sink: &mut S) ->
     'parts: loop {
         match reader.next(feed) {
             Ok(TapePart::Data { address, count }) => {
-                match take_data(alloc, &mut reader, feed, address, count, sink) {
+                match take_data(alloc, view, &mut reader, feed, address, count, sink) {
                     Ok(()) => stand = stand.after_data(count),
                     Err(fault) => return Err(stand.placed(fault)),
                 }

@@ -51,8 +51,8 @@ fn put_last(text: &mut Vec<u8>, address: u16, index: usize, bytes: &[u8]) -> Res
     }
 }
 
-// The word of two bytes, the low one first.
-fn word_of(low: u8, high: u8) -> u16
+/// The word of two bytes, the low one first.
+pub(crate) fn word_of(low: u8, high: u8) -> u16
     ensures { result ≡ low + 256 * high }
 {
     LittleEndian::read_u16(&[low, high])

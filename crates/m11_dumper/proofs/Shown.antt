@@ -12,28 +12,29 @@ use Rattle.m11_dump.specs.declared.kind.Kind.{Kind}
 use Rattle.m11_dumper.specs.Outcome.{Reports}
 use Rattle.m11_dumper.specs.declared.stop.Stop.{Stop}
 use Rattle.m11_dumper.specs.declared.stop.Stop.TheVariants.{NotOpened, InFile, Write, NoMemory}
+use Rattle.m11_dump.specs.declared.view.View.{View}
 
 -- a file that was opened, by its path
-pub file_shown : (files : Option Files) (path : List ℕ) (kind : Kind) (text : Option Text) (faults : ℕ) (out out' : Output)
+pub file_shown : (view : View) (files : Option Files) (path : List ℕ) (kind : Kind) (text : Option Text) (faults : ℕ) (out out' : Output)
     (result : Result (Unit {0}) Stop) → IsOfKind files path kind → Holds files path text
-    → ShowsInput kind text faults path out out' result → ShowsFile files path out out' result
-file_shown files path kind text faults out out' (Ok done) k h s = (kind, (k, (text, faults, h, s)))
-file_shown files path kind text faults out out' (Err (InFile named placed)) k h s = (kind, s.0, (k, (text, faults, h, s.1)))
-file_shown files path kind text faults out out' (Err (NotOpened named)) k h s = absurd s
-file_shown files path kind text faults out out' (Err Write) k h s = (kind, k, s)
-file_shown files path kind text faults out out' (Err NoMemory) k h s = s
+    → ShowsInput view kind text faults path out out' result → ShowsFile view files path out out' result
+file_shown view files path kind text faults out out' (Ok done) k h s = (kind, (k, (text, faults, h, s)))
+file_shown view files path kind text faults out out' (Err (InFile named placed)) k h s = (kind, s.0, (k, (text, faults, h, s.1)))
+file_shown view files path kind text faults out out' (Err (NotOpened named)) k h s = absurd s
+file_shown view files path kind text faults out out' (Err Write) k h s = (kind, k, s)
+file_shown view files path kind text faults out out' (Err NoMemory) k h s = s
 
 -- a file was shown, and then others, or some of them
-pub more_shown : (files : Option Files) (path : List ℕ) (paths : List (List ℕ)) (out middle out' : Output) (done : Unit {0})
-    (result : Result (Unit {0}) Stop) → ShowsFile files path out middle (Ok done) → ShowsAll files paths middle out' result
-    → ShowsAll files (path ∷ paths) out out' result
-more_shown files path paths out middle out' done (Ok all) h s = (middle, h, s)
-more_shown files path paths out middle out' done (Err stop) h s = inr (middle, h, s)
+pub more_shown : (view : View) (files : Option Files) (path : List ℕ) (paths : List (List ℕ)) (out middle out' : Output) (done : Unit {0})
+    (result : Result (Unit {0}) Stop) → ShowsFile view files path out middle (Ok done) → ShowsAll view files paths middle out' result
+    → ShowsAll view files (path ∷ paths) out out' result
+more_shown view files path paths out middle out' done (Ok all) h s = (middle, h, s)
+more_shown view files path paths out middle out' done (Err stop) h s = inr (middle, h, s)
 
 -- a file at which showing stopped
-pub not_shown : (files : Option Files) (path : List ℕ) (paths : List (List ℕ)) (out out' : Output) (stop : Stop)
-    → ShowsFile files path out out' (Err stop) → ShowsAll files (path ∷ paths) out out' (Err stop)
-not_shown files path paths out out' stop h = inl h
+pub not_shown : (view : View) (files : Option Files) (path : List ℕ) (paths : List (List ℕ)) (out out' : Output) (stop : Stop)
+    → ShowsFile view files path out out' (Err stop) → ShowsAll view files (path ∷ paths) out out' (Err stop)
+not_shown view files path paths out out' stop h = inl h
 
 -- ---- what is reported
 

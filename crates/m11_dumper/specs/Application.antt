@@ -1,13 +1,21 @@
 -- The words that the program takes, in the words of `clap`'s definitions. (This project's own.)
-use Rattle.std.specs.Prelude.{codes}
-use Rattle.clap.specs.Words.{App, Rule, new_app, with_rule}
-use Rattle.clap.specs.declared.builder.action.ArgAction.TheVariants.{Append}
+use Rattle.std.specs.Prelude.{Some, codes}
+use Rattle.clap.specs.Words.{App, Rule, new_app, new_rule, with_rule}
+use Rattle.clap.specs.declared.builder.action.ArgAction.TheVariants.{Append, SetTrue}
 use Rattle.m11_tasks.specs.Commands.{operand_rule}
 
 -- `FILE...`: the files to show, in order
 abbrev pub files_rule : Rule
 files_rule = operand_rule (codes "files") Append
 
--- `m11-dump FILE...`
+-- `-d`, `--disassemble`: words are to be shown as instructions
+abbrev pub disassemble_rule : Rule
+disassemble_rule = record (new_rule (codes "disassemble")) {
+  short = Some 0o144;
+  long = Some (codes "disassemble");
+  action = Some SetTrue;
+}
+
+-- `m11-dump [-d] FILE...`
 abbrev pub application : App
-application = with_rule (new_app (codes "m11-dump")) files_rule
+application = with_rule (with_rule (new_app (codes "m11-dump")) disassemble_rule) files_rule

@@ -24,6 +24,7 @@ use Rattle.m11_tasks.specs.declared.arguments.WordsFault.TheVariants as words
 use Rattle.m11_tasks.specs.declared.usage.UsageFault.{UsageFault}
 use Rattle.m11_tasks.specs.declared.usage.UsageFault.TheVariants as usage
 use Rattle.m11_writes.specs.Outputs.{Output}
+use Rattle.m11_dump.specs.declared.view.View.{View}
 
 abbrev pub fault_status : DumpFault → ℕ
 fault_status (fault.Block block.Device) = 3
@@ -75,7 +76,8 @@ Says (Err stop) err err' = Reports (stop_line stop) err err'
 abbrev pub Yields : List Text → Option Files → Outcome → Output → Output → Output → Output → Type 0
 Yields words files (Usage fault) out out' err err' = Plans words (Err fault) × Explains fault out out' err err'
 Yields words files (Shown result) out out' err err' =
-    (paths : List (Bor Bytes)) × Plans words (Ok paths) × ShowsAll files (texts paths) out out' result × Says result err err'
+    (view : View) × (paths : List (Bor Bytes)) × Plans words (Ok (view, paths)) × ShowsAll view files (texts paths) out out' result
+    × Says result err err'
 
 -- ---- words that the system does not give
 

@@ -16,6 +16,7 @@ use Rattle.m11_dumper.specs.declared.stop.Stop.{Stop}
 use Rattle.m11_dumper.specs.declared.stop.Stop.TheVariants.{NotOpened, InFile, Write, NoMemory}
 use Rattle.m11_files.specs.Opens.{Files, Holds, Lacks}
 use Rattle.m11_writes.specs.Outputs.{Output}
+use Rattle.m11_dump.specs.declared.view.View.{View}
 
 -- a text was put whole; or the output failed after a beginning of it
 abbrev pub Gains : Bytes → Output → Output → Type 0
@@ -25,14 +26,14 @@ abbrev pub Fails : Bytes → Output → Output → Type 0
 Fails text out out' = AppendsBeginning out.text out'.text text × Rises out.faults out'.faults
 
 -- what a dump of a file of this kind does
-abbrev pub DumpsKind : Kind → Place → Place → Output → Output → Result (Unit {0}) Placed → Type 0
-DumpsKind Object old new out out' result = DumpsObject old new out out' result
-DumpsKind Tape old new out out' result = DumpsTape old new out out' result
+abbrev pub DumpsKind : View → Kind → Place → Place → Output → Output → Result (Unit {0}) Placed → Type 0
+DumpsKind view Object old new out out' result = DumpsObject view old new out out' result
+DumpsKind view Tape old new out out' result = DumpsTape view old new out out' result
 
 -- after the head of a file the output gained what a dump makes of its bytes, which it read from their beginning
-abbrev pub DumpsInput : Kind → Option Text → ℕ → Bytes → Output → Output → Result (Unit {0}) Placed → Type 0
-DumpsInput kind text faults path out out' result = (middle : Output) × (new : Place) × Gains (head_line kind path) out middle
-    × DumpsKind kind (place text faults most_bytes) new middle out' result
+abbrev pub DumpsInput : View → Kind → Option Text → ℕ → Bytes → Output → Output → Result (Unit {0}) Placed → Type 0
+DumpsInput view kind text faults path out out' result = (middle : Output) × (new : Place) × Gains (head_line kind path) out middle
+    × DumpsKind view kind (place text faults most_bytes) new middle out' result
 
 -- a file is of this kind
 abbrev pub IsOfKind : Option Files → Bytes → Kind → Type 0
@@ -40,27 +41,27 @@ IsOfKind files path kind =
     (text : Option Text) × (faults : ℕ) × (new : Place) × Holds files path text × IsKind (place text faults most_bytes) new kind
 
 -- the file of a path was dumped, which is of this kind
-abbrev pub Dumps : Kind → Option Files → Bytes → Output → Output → Result (Unit {0}) Placed → Type 0
-Dumps kind files path out out' result = IsOfKind files path kind
-    × ((text : Option Text) × (faults : ℕ) × Holds files path text × DumpsInput kind text faults path out out' result)
+abbrev pub Dumps : View → Kind → Option Files → Bytes → Output → Output → Result (Unit {0}) Placed → Type 0
+Dumps view kind files path out out' result = IsOfKind files path kind
+    × ((text : Option Text) × (faults : ℕ) × Holds files path text × DumpsInput view kind text faults path out out' result)
 
 -- one file was shown; or it doesn't open; or its dump stopped; or its head couldn't be written, or memory was refused before that
-abbrev pub ShowsFile : Option Files → Bytes → Output → Output → Result (Unit {0}) Stop → Type 0
-ShowsFile files path out out' (Ok done) = (kind : Kind) × Dumps kind files path out out' (Ok done)
-ShowsFile files path out out' (Err (InFile named placed)) =
-    (kind : Kind) × (named.now ≡ path) × Dumps kind files path out out' (Err placed)
-ShowsFile files path out out' (Err (NotOpened named)) = (named.now ≡ path) × Lacks files path × (out' ≡ out)
-ShowsFile files path out out' (Err Write) = (kind : Kind) × IsOfKind files path kind × Fails (head_line kind path) out out'
-ShowsFile files path out out' (Err NoMemory) = out' ≡ out
+abbrev pub ShowsFile : View → Option Files → Bytes → Output → Output → Result (Unit {0}) Stop → Type 0
+ShowsFile view files path out out' (Ok done) = (kind : Kind) × Dumps view kind files path out out' (Ok done)
+ShowsFile view files path out out' (Err (InFile named placed)) =
+    (kind : Kind) × (named.now ≡ path) × Dumps view kind files path out out' (Err placed)
+ShowsFile view files path out out' (Err (NotOpened named)) = (named.now ≡ path) × Lacks files path × (out' ≡ out)
+ShowsFile view files path out out' (Err Write) = (kind : Kind) × IsOfKind files path kind × Fails (head_line kind path) out out'
+ShowsFile view files path out out' (Err NoMemory) = out' ≡ out
 
 -- all files were shown, in order; or those before one at which showing stopped
-abbrev pub ShowsAll : Option Files → List Bytes → Output → Output → Result (Unit {0}) Stop → Type 0
-ShowsAll files [] out out' (Ok done) = out' ≡ out
-ShowsAll files [] out out' (Err stop) = ⊥
-ShowsAll files (path ∷ paths) out out' (Ok done) =
-    (middle : Output) × ShowsFile files path out middle (Ok tt) × ShowsAll files paths middle out' (Ok done)
-ShowsAll files (path ∷ paths) out out' (Err stop) = ShowsFile files path out out' (Err stop)
-    ⊎ ((middle : Output) × ShowsFile files path out middle (Ok tt) × ShowsAll files paths middle out' (Err stop))
+abbrev pub ShowsAll : View → Option Files → List Bytes → Output → Output → Result (Unit {0}) Stop → Type 0
+ShowsAll view files [] out out' (Ok done) = out' ≡ out
+ShowsAll view files [] out out' (Err stop) = ⊥
+ShowsAll view files (path ∷ paths) out out' (Ok done) =
+    (middle : Output) × ShowsFile view files path out middle (Ok tt) × ShowsAll view files paths middle out' (Ok done)
+ShowsAll view files (path ∷ paths) out out' (Err stop) = ShowsFile view files path out out' (Err stop)
+    ⊎ ((middle : Output) × ShowsFile view files path out middle (Ok tt) × ShowsAll view files paths middle out' (Err stop))
 
 -- a count of refusals rises exactly where a file doesn't open
 abbrev pub Counts : ℕ → ℕ → Result (Unit {0}) Stop → Type 0
@@ -70,10 +71,10 @@ Counts old new result = new ≡ old
 -- ---- one input
 
 -- a file of a kind that was opened was shown, or why it wasn't
-abbrev pub ShowsInput : Kind → Option Text → ℕ → Bytes → Output → Output → Result (Unit {0}) Stop → Type 0
-ShowsInput kind text faults path out out' (Ok done) = DumpsInput kind text faults path out out' (Ok done)
-ShowsInput kind text faults path out out' (Err (InFile named placed)) =
-    (named.now ≡ path) × DumpsInput kind text faults path out out' (Err placed)
-ShowsInput kind text faults path out out' (Err (NotOpened named)) = ⊥
-ShowsInput kind text faults path out out' (Err Write) = Fails (head_line kind path) out out'
-ShowsInput kind text faults path out out' (Err NoMemory) = out' ≡ out
+abbrev pub ShowsInput : View → Kind → Option Text → ℕ → Bytes → Output → Output → Result (Unit {0}) Stop → Type 0
+ShowsInput view kind text faults path out out' (Ok done) = DumpsInput view kind text faults path out out' (Ok done)
+ShowsInput view kind text faults path out out' (Err (InFile named placed)) =
+    (named.now ≡ path) × DumpsInput view kind text faults path out out' (Err placed)
+ShowsInput view kind text faults path out out' (Err (NotOpened named)) = ⊥
+ShowsInput view kind text faults path out out' (Err Write) = Fails (head_line kind path) out out'
+ShowsInput view kind text faults path out out' (Err NoMemory) = out' ≡ out

@@ -2,19 +2,31 @@
 
 ghost use Rattle.std.specs.Prelude.{IfOk};
 ghost use Rattle.m11_tasks.specs.Commands.{IsArgument, IsCommand};
-ghost use Rattle.m11_dumper.specs.Application.{application, files_rule};
+ghost use Rattle.m11_dumper.specs.Application.{application, disassemble_rule, files_rule};
 
 use clap::{Arg, ArgAction, Command};
 use std::alloc::{AllocError, Global};
 
-/// The parser of `m11-dump FILE...`. `AllocError` where memory is refused.
+/// The parser of `m11-dump [-d] FILE...`. `AllocError` where memory is refused.
 pub(crate) fn application_command<'a>(alloc: Global) -> Result<Command<'a>, AllocError>
     ensures { IfOk result (IsCommand application) }
 {
     let about = "Show what RT-11 objects and absolute loader tapes hold";
     Command::new(alloc, "m11-dump")
         .about(about)
+        .arg(disassemble_argument(alloc))?
         .arg(files_argument(alloc))
+}
+
+// `-d`, for words as instructions.
+fn disassemble_argument<'a>(alloc: Global) -> Arg<'a>
+    ensures { IsArgument disassemble_rule result }
+{
+    Arg::new(alloc, "disassemble")
+        .short('d')
+        .long("disassemble")
+        .help("Show words as instructions, one in a line")
+        .action(ArgAction::SetTrue)
 }
 
 // `FILE...`, one or more.

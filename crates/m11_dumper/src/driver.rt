@@ -76,8 +76,8 @@ where
     ensures files { F.files files.new ≡ F.files files.old }
 {
     match plan(alloc, words) {
-        Ok(paths) => {
-            let shown = show_all(alloc, files, paths.as_slice(), out);
+        Ok(request) => {
+            let shown = show_all(alloc, files, request.view, request.paths.as_slice(), out);
             say(alloc, &shown, err);
             Outcome::Shown(shown)
         }

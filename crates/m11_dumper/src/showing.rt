@@ -9,7 +9,7 @@ ghost use Rattle.m11_writes.specs.Outputs.{output_of};
 use crate::lines::head_line;
 use crate::stop::Stop;
 use m11_base::{Feed, Sink};
-use m11_dump::{Kind, Placed, dump_object, dump_tape, kind_of};
+use m11_dump::{Kind, Placed, View, dump_object, dump_tape, kind_of};
 use m11_files::{OpenRefusal, Opens};
 use m11_writes::put_or_fail;
 use std::alloc::Global;
@@ -19,18 +19,19 @@ use std::alloc::Global;
 pub(crate) fn show_all<'a, F: Opens, O: Sink>(
     alloc: Global,
     files: &mut F,
+    view: View,
     paths: &[&'a str],
     out: &mut O,
 ) -> Result<(), Stop<'a>>
-    ensures shows { ShowsAll (F.files files.old) (texts paths.now) (output_of O.Sink out.old)
+    ensures shows { ShowsAll view (F.files files.old) (texts paths.now) (output_of O.Sink out.old)
         (output_of O.Sink out.new) result }
     ensures files { F.files files.new ≡ F.files files.old }
     ensures counts { Counts (F.refusals files.old) (F.refusals files.new) result }
 {
     match paths {
         [] => Ok(()),
-        [path, others @ ..] => match show_file(alloc, files, *path, out) {
-            Ok(()) => show_all(alloc, files, others, out),
+        [path, others @ ..] => match show_file(alloc, files, view, *path, out) {
+            Ok(()) => show_all(alloc, files, view, others, out),
             Err(stop) => Err(stop),
         },
     }
@@ -41,10 +42,11 @@ pub(crate) fn show_all<'a, F: Opens, O: Sink>(
 fn show_file<'a, F: Opens, O: Sink>(
     alloc: Global,
     files: &mut F,
+    view: View,
     path: &'a str,
     out: &mut O,
 ) -> Result<(), Stop<'a>>
-    ensures shows { ShowsFile (F.files files.old) path.entry.now (output_of O.Sink out.old)
+    ensures shows { ShowsFile view (F.files files.old) path.entry.now (output_of O.Sink out.old)
         (output_of O.Sink out.new) result }
     ensures files { F.files files.new ≡ F.files files.old }
     ensures counts { Counts (F.refusals files.old) (F.refusals files.new) result }
@@ -52,7 +54,7 @@ fn show_file<'a, F: Opens, O: Sink>(
     match files.open_twice(path) {
         Ok((mut first, mut second)) => {
             let kind = kind_of(&mut first);
-            show_input(alloc, &mut second, kind, path, out)
+            show_input(alloc, &mut second, kind, view, path, out)
         }
         Err(OpenRefusal::NotOpened) => Err(Stop::NotOpened(path)),
         Err(OpenRefusal::NoMemory) => Err(Stop::NoMemory),
@@ -64,15 +66,16 @@ fn show_input<'a, I: Feed, O: Sink>(
     alloc: Global,
     input: &mut I,
     kind: Kind,
+    view: View,
     path: &'a str,
     out: &mut O,
 ) -> Result<(), Stop<'a>>
-    ensures { ShowsInput kind (I.text input.old) (I.faults input.old) path.entry.now (output_of O.Sink out.old)
+    ensures { ShowsInput view kind (I.text input.old) (I.faults input.old) path.entry.now (output_of O.Sink out.old)
         (output_of O.Sink out.new) result }
 {
     let head = head_line(alloc, kind, path)?;
     put_or_fail(out, &head, Stop::Write)?;
-    match dump(alloc, input, kind, out) {
+    match dump(alloc, input, kind, view, out) {
         Ok(()) => Ok(()),
         Err(placed) => Err(Stop::InFile(path, placed)),
     }
@@ -83,14 +86,15 @@ fn dump<I: Feed, O: Sink>(
     alloc: Global,
     input: &mut I,
     kind: Kind,
+    view: View,
     out: &mut O,
 ) -> Result<(), Placed>
-    ensures { (room : ℕ) × DumpsKind kind (place (I.text input.old) (I.faults input.old) most_bytes)
+    ensures { (room : ℕ) × DumpsKind view kind (place (I.text input.old) (I.faults input.old) most_bytes)
         (place (I.text input.new) (I.faults input.new) room)
         (output_of O.Sink out.old) (output_of O.Sink out.new) result }
 {
     match kind {
-        Kind::Object => dump_object(alloc, input, out),
-        Kind::Tape => dump_tape(alloc, input, out),
+        Kind::Object => dump_object(alloc, view, input, out),
+        Kind::Tape => dump_tape(alloc, view, input, out),
     }
 }

@@ -8,7 +8,7 @@ pub reading-init : goal.reading-init
 reading-init g c = rw (c.new-reader.ensures, c.new-stand.ensures) (record {
   reads = refl;
   contents = [];
-  dumping = dump_begins (place (g.F.Feed.text c.args.feed.now) (g.F.Feed.faults c.args.feed.now) most_bytes)
+  dumping = dump_begins c.args.view (place (g.F.Feed.text c.args.feed.now) (g.F.Feed.faults c.args.feed.now) most_bytes)
       (output_of g.S.Sink c.args.sink.now) refl;
 })
 
@@ -24,7 +24,7 @@ reading-preserved g c =
     let reads = rw (c.reading.invariant.reads, c.in-Ok-true.field-0-test) at c.in-Ok-true.ensures.reads in record {
       reads = reads_on c.next_into.new.self.has_failed c.in-Ok-true.field-0 c.in-Ok-true.ensures.fails;
       contents = c.reading.invariant.contents ++ c.next_into.new.block.items ∷ [];
-      dumping = block_shown (place (g.F.Feed.text c.args.feed.now) (g.F.Feed.faults c.args.feed.now) most_bytes)
+      dumping = block_shown c.args.view (place (g.F.Feed.text c.args.feed.now) (g.F.Feed.faults c.args.feed.now) most_bytes)
           (place (g.F.Feed.text c.reading.feed) (g.F.Feed.faults c.reading.feed) c.reading.reader.room)
           (output_of g.S.Sink c.args.sink.now) (output_of g.S.Sink c.reading.sink) c.reading.stand c.reading.invariant.contents
           c.reading.invariant.dumping
@@ -37,7 +37,7 @@ pub returns-in-Err-show_block : goal.returns-in-Err-show_block
 returns-in-Err-show_block g c =
     let reads = rw (c.reading.invariant.reads, c.in-Ok-true.field-0-test) at c.in-Ok-true.ensures.reads in (
       c.next_into.new.self.room,
-      block_stops (place (g.F.Feed.text c.args.feed.now) (g.F.Feed.faults c.args.feed.now) most_bytes)
+      block_stops c.args.view (place (g.F.Feed.text c.args.feed.now) (g.F.Feed.faults c.args.feed.now) most_bytes)
           (place (g.F.Feed.text c.reading.feed) (g.F.Feed.faults c.reading.feed) c.reading.reader.room)
           (output_of g.S.Sink c.args.sink.now) (output_of g.S.Sink c.reading.sink) c.reading.stand c.reading.invariant.contents
           c.reading.invariant.dumping
@@ -50,7 +50,7 @@ pub returns-in-Ok-false : goal.returns-in-Ok-false
 returns-in-Ok-false g c =
     let stops = rw (c.reading.invariant.reads, c.in-Ok-false.field-0-test) at c.in-Ok-false.ensures.reads in (
       c.next_into.new.self.room,
-      dump_ends (place (g.F.Feed.text c.args.feed.now) (g.F.Feed.faults c.args.feed.now) most_bytes)
+      dump_ends c.args.view (place (g.F.Feed.text c.args.feed.now) (g.F.Feed.faults c.args.feed.now) most_bytes)
           (place (g.F.Feed.text c.reading.feed) (g.F.Feed.faults c.reading.feed) c.reading.reader.room)
           (output_of g.S.Sink c.args.sink.now) (output_of g.S.Sink c.reading.sink) c.reading.stand c.reading.invariant.contents
           c.reading.invariant.dumping
@@ -62,7 +62,7 @@ pub returns-in-Err : goal.returns-in-Err
 returns-in-Err g c =
     let stops = rw c.reading.invariant.reads at c.in-Err.ensures.reads in (
       c.next_into.new.self.room,
-      block_refused (place (g.F.Feed.text c.args.feed.now) (g.F.Feed.faults c.args.feed.now) most_bytes)
+      block_refused c.args.view (place (g.F.Feed.text c.args.feed.now) (g.F.Feed.faults c.args.feed.now) most_bytes)
           (place (g.F.Feed.text c.reading.feed) (g.F.Feed.faults c.reading.feed) c.reading.reader.room)
           (output_of g.S.Sink c.args.sink.now) (output_of g.S.Sink c.reading.sink) c.reading.stand c.reading.invariant.contents
           c.reading.invariant.dumping

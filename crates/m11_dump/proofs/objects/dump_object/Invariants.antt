@@ -8,7 +8,7 @@ abbrev pub invariant-reading : goal.invariant-reading
 invariant-reading g l = record {
   reads : l.reader.has_failed ≡ false;
   contents : List (List ℕ);
-  dumping : Dumping (place (g.F.Feed.text l.initial.feed) (g.F.Feed.faults l.initial.feed) most_bytes)
+  dumping : Dumping l.view (place (g.F.Feed.text l.initial.feed) (g.F.Feed.faults l.initial.feed) most_bytes)
       (place (g.F.Feed.text l.feed) (g.F.Feed.faults l.feed) l.reader.room)
       (output_of g.S.Sink l.initial.sink) (output_of g.S.Sink l.sink) l.stand contents;
 }

@@ -8,7 +8,7 @@ use Rattle.m11_dump.proofs.tapes.dump_tape.Goals as goal
 pub parts-init : goal.parts-init
 parts-init g c = rw (c.new-reader.ensures, c.new-stand.ensures) (
   [],
-  tape_begins (place (g.F.Feed.text c.args.feed.now) (g.F.Feed.faults c.args.feed.now) most_bytes)
+  tape_begins c.args.view (place (g.F.Feed.text c.args.feed.now) (g.F.Feed.faults c.args.feed.now) most_bytes)
       (output_of g.S.Sink c.args.sink.now) refl,
 )
 
@@ -19,7 +19,7 @@ parts-preserved g c =
     let is : c.next.result ≡ Ok (Data address count) = cc in
     let fits = rw c.in-Ok-Data.field-0-is at c.in-Ok-Data.ensures.fits in (
       c.parts.invariant.0 ++ (address, c.in-Ok.ensures.0) ∷ [],
-      data_shown (place (g.F.Feed.text c.args.feed.now) (g.F.Feed.faults c.args.feed.now) most_bytes)
+      data_shown c.args.view (place (g.F.Feed.text c.args.feed.now) (g.F.Feed.faults c.args.feed.now) most_bytes)
           (place (g.F.Feed.text c.parts.feed) (g.F.Feed.faults c.parts.feed) c.parts.reader.room)
           (output_of g.S.Sink c.args.sink.now) (output_of g.S.Sink c.parts.sink) c.parts.reader.stage c.parts.stand
           c.parts.invariant.0 c.parts.invariant.1
@@ -36,7 +36,7 @@ returns-in-Err-take_data g c =
     let count = c.in-Ok-Data.count in
     let is : c.next.result ≡ Ok (Data address count) = cc in (
       c.take_data.new.reader.room,
-      data_fails (place (g.F.Feed.text c.args.feed.now) (g.F.Feed.faults c.args.feed.now) most_bytes)
+      data_fails c.args.view (place (g.F.Feed.text c.args.feed.now) (g.F.Feed.faults c.args.feed.now) most_bytes)
           (place (g.F.Feed.text c.parts.feed) (g.F.Feed.faults c.parts.feed) c.parts.reader.room)
           (output_of g.S.Sink c.args.sink.now) (output_of g.S.Sink c.parts.sink) c.parts.reader.stage c.parts.stand
           c.parts.invariant.0 c.parts.invariant.1
@@ -51,7 +51,7 @@ pub returns-in-Ok-show_start : goal.returns-in-Ok-show_start
 returns-in-Ok-show_start g c =
     let is : c.next.result ≡ Ok (Start c.in-Ok-Start.address) = cc in (
       c.next.new.self.room,
-      tape_ends (place (g.F.Feed.text c.args.feed.now) (g.F.Feed.faults c.args.feed.now) most_bytes)
+      tape_ends c.args.view (place (g.F.Feed.text c.args.feed.now) (g.F.Feed.faults c.args.feed.now) most_bytes)
           (place (g.F.Feed.text c.parts.feed) (g.F.Feed.faults c.parts.feed) c.parts.reader.room)
           (output_of g.S.Sink c.args.sink.now) (output_of g.S.Sink c.parts.sink) c.parts.reader.stage c.parts.stand
           c.parts.invariant.0 c.parts.invariant.1
@@ -65,7 +65,7 @@ pub returns-in-Err-show_start : goal.returns-in-Err-show_start
 returns-in-Err-show_start g c =
     let is : c.next.result ≡ Ok (Start c.in-Ok-Start.address) = cc in (
       c.next.new.self.room,
-      start_stops (place (g.F.Feed.text c.args.feed.now) (g.F.Feed.faults c.args.feed.now) most_bytes)
+      start_stops c.args.view (place (g.F.Feed.text c.args.feed.now) (g.F.Feed.faults c.args.feed.now) most_bytes)
           (place (g.F.Feed.text c.parts.feed) (g.F.Feed.faults c.parts.feed) c.parts.reader.room)
           (output_of g.S.Sink c.args.sink.now) (output_of g.S.Sink c.parts.sink) c.parts.reader.stage c.parts.stand
           c.parts.invariant.0 c.parts.invariant.1
@@ -79,7 +79,7 @@ pub returns-in-Err : goal.returns-in-Err
 returns-in-Err g c =
     let is : c.next.result ≡ Err c.in-Err.fault = cc in (
       c.next.new.self.room,
-      part_stops (place (g.F.Feed.text c.args.feed.now) (g.F.Feed.faults c.args.feed.now) most_bytes)
+      part_stops c.args.view (place (g.F.Feed.text c.args.feed.now) (g.F.Feed.faults c.args.feed.now) most_bytes)
           (place (g.F.Feed.text c.parts.feed) (g.F.Feed.faults c.parts.feed) c.parts.reader.room)
           (output_of g.S.Sink c.args.sink.now) (output_of g.S.Sink c.parts.sink) c.parts.reader.stage c.parts.stand
           c.parts.invariant.0 c.parts.invariant.1

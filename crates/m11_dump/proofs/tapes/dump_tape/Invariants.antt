@@ -6,7 +6,7 @@ use Rattle.m11_dump.proofs.tapes.dump_tape.Given as goal
 
 abbrev pub invariant-parts : goal.invariant-parts
 invariant-parts g l = (blocks : List (ℕ × List ℕ))
-    × Taping (place (g.F.Feed.text l.initial.feed) (g.F.Feed.faults l.initial.feed) most_bytes)
+    × Taping l.view (place (g.F.Feed.text l.initial.feed) (g.F.Feed.faults l.initial.feed) most_bytes)
     (place (g.F.Feed.text l.feed) (g.F.Feed.faults l.feed) l.reader.room)
     (output_of g.S.Sink l.initial.sink) (output_of g.S.Sink l.sink) l.reader.stage l.stand blocks
 

@@ -1,0 +1,77 @@
+-- The bytes of a text or of a block of a tape as instructions, one in a line: its place, its words, and the line of source that stands
+-- for them there. A byte at an odd place, and a last one without another, is a byte of data. (PDP-11/40 Processor Handbook,
+-- "Instruction set"; MACRO-11 Language Reference Manual, "Addressing modes". The lines are this project's own.)
+use Rattle.std.specs.Prelude.{ℕ, zero, suc, ◌+◌, ◌-◌, ◌*◌, ◌%◌, ◌==◌, if◌then◌else◌, List, [], ◌∷◌, ◌++◌, length, take, codes}
+use Rattle.m11_base.specs.Devices.{Bytes}
+use Rattle.m11_base.specs.Octal.{octal_text}
+use Rattle.m11_disassembly.specs.Instructions.{size_of, statement_of}
+use Rattle.m11_disassembly.specs.Statements.{Statement, DataByte}
+use Rattle.m11_disassembly.specs.Texts.{statement_text}
+use Rattle.m11_dump.specs.Octets.{octal3, place_after}
+
+-- ---- what stands first among bytes
+
+-- the word of two bytes, the low one first
+abbrev pub word_of : ℕ → ℕ → ℕ
+word_of low high = low + 256 * high
+
+-- the words of bytes, of which two are enough
+abbrev pub following : Bytes → List ℕ
+following [] = []
+following (a ∷ []) = []
+following (a ∷ b ∷ []) = word_of a b ∷ []
+following (a ∷ b ∷ c ∷ []) = word_of a b ∷ []
+following (a ∷ b ∷ c ∷ d ∷ bytes) = word_of a b ∷ word_of c d ∷ []
+
+-- the line of source of what stands at a place, with bytes from there on
+abbrev pub front_statement : ℕ → Bytes → Statement
+front_statement place [] = DataByte 0
+front_statement place (byte ∷ []) = DataByte byte
+front_statement place (low ∷ high ∷ bytes) =
+    if place % 2 == 0 then statement_of place (word_of low high) (following bytes) else DataByte low
+
+-- how many bytes that has
+abbrev pub front_size : ℕ → Bytes → ℕ
+front_size place [] = 1
+front_size place (byte ∷ []) = 1
+front_size place (low ∷ high ∷ bytes) = if place % 2 == 0 then 2 * size_of (word_of low high) (following bytes) else 1
+
+-- ---- its line
+
+-- bytes as words; a last one without another as a byte
+abbrev pub cells : Bytes → Bytes
+cells [] = []
+cells (byte ∷ []) = 32 ∷ octal3 byte
+cells (low ∷ high ∷ bytes) = (32 ∷ octal_text (word_of low high)) ++ cells bytes
+
+-- the blanks after so many bytes: the source begins in column 31
+abbrev pub gap : ℕ → Bytes
+gap count =
+    if count == 1 then codes "                  " else if count == 2 then codes "               "
+    else if count == 4 then codes "        " else codes " "
+
+-- a line: a place, bytes, and a line of source
+abbrev pub line_by : ℕ → Bytes → Bytes → Bytes
+line_by place shown source =
+    ((((codes "  " ++ octal_text place) ++ cells shown) ++ gap (length shown)) ++ source) ++ 10 ∷ []
+
+-- the line of what stands at a place
+abbrev pub line_text : ℕ → Bytes → Bytes
+line_text place bytes = line_by place (take (front_size place bytes) bytes) (statement_text (front_statement place bytes))
+
+-- ---- lines one after another
+
+-- a word and an address: what stands before the lines
+abbrev pub head_line : Bytes → ℕ → Bytes
+head_line word address = (word ++ octal_text address) ++ 10 ∷ []
+
+-- what is shown of bytes of which the first one has this index, where the line before shows so many of them
+abbrev pub lines_from : ℕ → ℕ → ℕ → Bytes → Bytes
+lines_from address index shown [] = []
+lines_from address index zero (byte ∷ bytes) = line_text (place_after address index) (byte ∷ bytes)
+    ++ lines_from address (index + 1) (front_size (place_after address index) (byte ∷ bytes) - 1) bytes
+lines_from address index (suc shown) (byte ∷ bytes) = lines_from address (index + 1) shown bytes
+
+-- what is shown of bytes that lie at an address and the places after it
+abbrev pub lines : ℕ → Bytes → Bytes
+lines address bytes = lines_from address 0 0 bytes

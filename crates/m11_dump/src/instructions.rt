@@ -1,0 +1,158 @@
+//! The bytes of a text or of a block of a tape as instructions, one in a line.
+
+ghost use Rattle.std.specs.Prelude.{◌≡◌, ◌+◌, ◌*◌, ◌≤◌, ◌<◌, ◌++◌, length, IfOk, OnOk};
+ghost use Rattle.arrayvec.specs.ArrayVec.{array_vec_len};
+ghost use Rattle.m11_disassembly.specs.Texts.{statement_text};
+ghost use Rattle.m11_dump.specs.Instructions as spec;
+
+use crate::octets::{octal3, place_after};
+use crate::words::word_of;
+use arrayvec::ArrayVec;
+use m11_base::octal6;
+use m11_disassembly::{Source, byte_source, disassembled};
+use m11_print::{Line, put};
+use std::alloc::AllocError;
+
+// What stands first among bytes.
+#[derive(Drop)]
+struct Front {
+    // Its line of source, without a line feed.
+    source: Source,
+    // How many bytes it has, 1 to 6.
+    size: usize,
+}
+
+// The words of bytes, of which two are enough.
+fn following(bytes: &[u8]) -> ArrayVec<u16, 2>
+    ensures words { result.items ≡ spec.following bytes.now }
+    ensures few { length result.items ≤ 2 }
+    ensures there { 2 * length result.items ≤ length bytes.now }
+{
+    let mut words = ArrayVec::new();
+    match bytes {
+        [a, b, c, d, ..] => {
+            words.push(word_of(*a, *b));
+            words.push(word_of(*c, *d));
+        }
+        [a, b, ..] => words.push(word_of(*a, *b)),
+        _ => {}
+    }
+    words
+}
+
+// What stands at a place, with bytes from there on.
+fn front_of(place: u16, bytes: &[u8]) -> Front
+    requires { 0 < length bytes.now }
+    ensures source { result.source.items ≡ statement_text (spec.front_statement place bytes.now) }
+    ensures size { result.size ≡ spec.front_size place bytes.now }
+    ensures some { 0 < result.size }
+    ensures few { result.size ≤ 6 }
+    ensures there { result.size ≤ length bytes.now }
+{
+    match bytes {
+        [low, high, others @ ..] if place % 2 == 0 => {
+            let found = disassembled(place, word_of(*low, *high), &following(others));
+            Front {
+                source: found.source,
+                size: 2 * found.words,
+            }
+        }
+        [byte, ..] => Front {
+            source: byte_source(*byte),
+            size: 1,
+        },
+        [] => Front {
+            source: byte_source(0),
+            size: 1,
+        },
+    }
+}
+
+// Bytes as words. A last one without another stays a byte.
+fn put_cells(line: &mut Line, bytes: &[u8])
+    requires { array_vec_len line.old + 7 * length bytes.now ≤ 100 }
+    ensures text { line.new.items ≡ line.old.items ++ spec.cells bytes.now }
+    ensures room { array_vec_len line.new ≤ array_vec_len line.old + 7 * length bytes.now }
+{
+    match bytes {
+        [low, high, others @ ..] => {
+            put(line, b" ");
+            put(line, &octal6(word_of(*low, *high)));
+            put_cells(line, others);
+        }
+        [byte] => {
+            put(line, b" ");
+            put(line, &octal3(*byte));
+        }
+        [] => {}
+    }
+}
+
+// The blanks after so many bytes.
+fn gap(count: usize) -> &'static [u8]
+    ensures text { result.now ≡ spec.gap count }
+    ensures room { length result.now ≤ 18 }
+{
+    match count {
+        1 => b"                  ",
+        2 => b"               ",
+        4 => b"        ",
+        _ => b" ",
+    }
+}
+
+// A line: a place, bytes, and a line of source.
+fn line_by(place: u16, shown: &[u8], source: &[u8]) -> Line
+    requires shown { length shown.now ≤ 6 }
+    requires source { length source.now ≤ 40 }
+    ensures { result.items ≡ spec.line_by place shown.now source.now }
+{
+    let mut line = Line::new();
+    put(&mut line, b"  ");
+    put(&mut line, &octal6(place));
+    put_cells(&mut line, shown);
+    put(&mut line, gap(shown.len()));
+    put(&mut line, source);
+    put(&mut line, b"\n");
+    line
+}
+
+// Adds the line of what stands at a place, and returns how many bytes it shows.
+fn put_line(text: &mut Vec<u8>, place: u16, bytes: &[u8]) -> Result<usize, AllocError>
+    requires { 0 < length bytes.now }
+    ensures text { OnOk result (text.new.items ≡ text.old.items ++ spec.line_text place bytes.now) }
+    ensures size { IfOk result (λ size. size ≡ spec.front_size place bytes.now) }
+    ensures some { IfOk result (λ size. 0 < size) }
+    ensures there { IfOk result (λ size. size ≤ length bytes.now) }
+{
+    let front = front_of(place, bytes);
+    let line = line_by(place, &bytes[..front.size], &front.source);
+    text.extend_from_slice(&line)?;
+    Ok(front.size)
+}
+
+/// Adds a word and an address, as a line.
+pub(crate) fn put_head(text: &mut Vec<u8>, word: &[u8], address: u16) -> Result<(), AllocError>
+    ensures { OnOk result (text.new.items ≡ text.old.items ++ spec.head_line word.now address) }
+{
+    text.extend_from_slice(word)?;
+    text.extend_from_slice(&octal6(address))?;
+    text.push(b'\n')?;
+    Ok(())
+}
+
+/// Adds what is shown of bytes, at most 65,536, that lie at an address and the places after it.
+pub(crate) fn put_instructions(
+    text: &mut Vec<u8>,
+    address: u16,
+    bytes: &[u8],
+) -> Result<(), AllocError>
+    requires { length bytes.now ≤ 65536 }
+    ensures { OnOk result (text.new.items ≡ text.old.items ++ spec.lines address bytes.now) }
+{
+    let mut index = 0;
+    'lines: while index < bytes.len() {
+        index += put_line(text, place_after(address, index), &bytes[index..])?;
+    }
+    Ok(())
+}
