@@ -1,0 +1,4 @@
+pub mod NamedRows
+pub mod Written
+pub mod Meant
+pub mod Spelled

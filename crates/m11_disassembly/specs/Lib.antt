@@ -3,3 +3,4 @@ pub mod Arguments
 pub mod Statements
 pub mod Texts
 pub mod Instructions
+pub mod Meaning

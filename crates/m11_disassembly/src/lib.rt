@@ -4,9 +4,11 @@
 
 mod arguments;
 mod instructions;
+mod laws;
 mod names;
 mod numbers;
 mod source;
 
 pub use instructions::{Disassembly, byte_source, disassembled};
+pub use laws::a_line_means_its_words;
 pub use source::Source;
