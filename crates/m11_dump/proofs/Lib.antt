@@ -5,3 +5,4 @@ pub mod LinesShown
 pub mod Reading
 pub mod Taping
 pub mod WordsShown
+pub mod EachLine

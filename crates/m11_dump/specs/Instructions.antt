@@ -1,7 +1,7 @@
 -- The bytes of a text or of a block of a tape as instructions, one in a line: its place, its words, and the line of source that stands
 -- for them there. A byte at an odd place, and a last one without another, is a byte of data. (PDP-11/40 Processor Handbook,
 -- "Instruction set"; MACRO-11 Language Reference Manual, "Addressing modes". The lines are this project's own.)
-use Rattle.std.specs.Prelude.{ℕ, zero, suc, ◌+◌, ◌-◌, ◌*◌, ◌%◌, ◌==◌, if◌then◌else◌, List, [], ◌∷◌, ◌++◌, length, take, codes}
+use Rattle.std.specs.Prelude.{◌≡◌, ◌<◌, ℕ, zero, suc, ◌+◌, ◌-◌, ◌*◌, ◌%◌, ◌==◌, if◌then◌else◌, List, [], ◌∷◌, ◌++◌, length, take, codes}
 use Rattle.m11_base.specs.Devices.{Bytes}
 use Rattle.m11_base.specs.Octal.{octal_text}
 use Rattle.m11_disassembly.specs.Instructions.{size_of, statement_of}
@@ -75,3 +75,12 @@ lines_from address index (suc shown) (byte ∷ bytes) = lines_from address (inde
 -- what is shown of bytes that lie at an address and the places after it
 abbrev pub lines : ℕ → Bytes → Bytes
 lines address bytes = lines_from address 0 0 bytes
+
+-- ---- which bytes each line shows
+
+-- a text of lines that show these bytes, one after another: each shows those that come next, at their place, with a line of source
+abbrev pub AreLines : ℕ → ℕ → List Bytes → Bytes → Bytes → Type 0
+AreLines address index [] bytes text = (bytes ≡ []) × (text ≡ [])
+AreLines address index (shown ∷ others) bytes text = (source : Bytes) × (rest : Bytes) × (more : Bytes)
+    × (0 < length shown) × (bytes ≡ shown ++ rest) × (text ≡ line_by (place_after address index) shown source ++ more)
+    × AreLines address (index + length shown) others rest more

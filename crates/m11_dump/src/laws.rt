@@ -1,16 +1,19 @@
 //! Laws of what a dump shows, above the definitions.
 
-ghost use Rattle.std.specs.Prelude.{◌≡◌, ◌+◌, ◌<◌, ◌++◌, ◌∷◌, ℕ, length};
+ghost use Rattle.std.specs.Prelude.{◌≡◌, ◌+◌, ◌<◌, ◌++◌, ◌∷◌, ℕ, List, length};
 ghost use Rattle.m11_base.specs.Devices.{Bytes};
 ghost use Rattle.m11_base.specs.Octal.{octal_value};
+ghost use Rattle.m11_dump.specs.Instructions.{AreLines, lines};
 ghost use Rattle.m11_dump.specs.Octets.{octal3, octet, octets, octets_from};
 
 /// What is shown of bytes is what is shown of each of them, once and in their order, at the place where it lies; and the digits
-/// of a byte spell it.
-#[tactic(auto, using(crate::proofs::EachOctet::octet_between, crate::proofs::EachOctet::octet_spelled))]
+/// of a byte spell it. As instructions they are shown in lines, each of which shows those that come next, at their place.
+#[tactic(auto, using(crate::proofs::EachLine::each_line, crate::proofs::EachOctet::octet_between, crate::proofs::EachOctet::octet_spelled))]
 pub fn each_byte_is_shown_once_in_order()
     ensures order { (address byte : ℕ) (before following : Bytes)
         → octets address (before ++ byte ∷ following) ≡ octets address before
         ++ (octet address (length before) byte ++ octets_from address (length before + 1) following) }
+    ensures lines { (address : ℕ) (bytes : Bytes)
+        → (all : List Bytes) × AreLines address 0 all bytes (lines address bytes) }
     ensures spelled { (byte : ℕ) → byte < 256 → octal_value (octal3 byte) ≡ byte }
 {}
