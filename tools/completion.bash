@@ -41,7 +41,7 @@ _m11() {
 
 _m11_dump() {
     COMPREPLY=()
-    _m11_words "${COMP_WORDS[COMP_CWORD]}" OBJ '-h --help'
+    _m11_words "${COMP_WORDS[COMP_CWORD]}" OBJ '-d --disassemble -h --help'
 }
 
 complete -F _m11 m11

@@ -86,6 +86,29 @@ BLOCK 000004
   000024 003407
 """
 
+SOURCE = b"".join(word(number) for number in (0o12700, 5, 0o16767, 0o177774, 4, 0o400, 0o77003, 0o241, 0o243, 0o105077, 0, 0o12737, 1)) + b"\7"
+
+SHOWN_SOURCE = """\
+  001000 012700 000005        MOV    #5,R0
+  001004 016767 177774 000004 MOV    1004,1016
+  001012 000400               BR     1014
+  001014 077003               SOB    R0,1010
+  001016 000241               CLC
+  001020 000243               .WORD  243
+  001022 105077 000000        CLRB   @1026
+  001026 012737               .WORD  12737
+  001030 000001               WAIT
+  001032 007                  .BYTE  7
+"""
+SHOWN_TEXT_AS_SOURCE = """\
+TEXT 000010
+  000010 000400               BR     12
+  000012 001402               BEQ    20
+  000014 002404               BLT    26
+  000016 003406               BLE    34
+  000020 010                  .BYTE  10
+"""
+
 # What it shows; the words; the files; the status, and what standard output and standard error get.
 CASES = (
     ("an object", "A.OBJ", {"A.OBJ": GOOD}, 0, "OBJECT A.OBJ\n" + SHOWN + SHOWN_TEXT + SHOWN_PLACES + SHOWN_END, ""),
@@ -105,6 +128,16 @@ CASES = (
      f"?M11 DUMP 20 Tape 8 NoTransfer IN BLOCK 2 AT BYTE {len(LONG)} OF A.TAP\n"),
     ("a tape that is cut off", "A.TAP B.OBJ", {"A.TAP": TAPE[:17], "B.OBJ": GOOD}, 4, "TAPE A.TAP\nBLOCK 001000\n  001000 012700 000005 002\n",
      "?M11 DUMP 20 Tape 2 Truncated IN BLOCK 2 AT BYTE 12 OF A.TAP\n"),
+    ("instructions of an object", "-d A.OBJ", {"A.OBJ": GOOD}, 0, "OBJECT A.OBJ\n" + SHOWN + SHOWN_TEXT_AS_SOURCE + SHOWN_PLACES + SHOWN_END, ""),
+    ("instructions of a tape", "A.TAP --disassemble", {"A.TAP": block(word(0o1000) + SOURCE) + block(word(0o1000))}, 0,
+     "TAPE A.TAP\nBLOCK 001000\n" + SHOWN_SOURCE + "START 001000\n", ""),
+    ("instructions at an odd address", "-d A.TAP", {"A.TAP": block(word(0o1001) + b"\1\5\12\1") + block(word(1))}, 0,
+     "TAPE A.TAP\nBLOCK 001001\n  001001 001                  .BYTE  1\n  001002 005005               CLR    R5\n"
+     "  001004 001                  .BYTE  1\nSTART 000001\n", ""),
+    ("places after the last one", "-d A.TAP", {"A.TAP": block(word(0o177776) + word(0o776) + word(0o5767) + word(0o177772)) + block(word(1))}, 0,
+     "TAPE A.TAP\nBLOCK 177776\n  177776 000776               BR     177774\n  000000 005767 177772        TST    177776\nSTART 000001\n", ""),
+    ("a bad sum among instructions", "-d A.OBJ", {"A.OBJ": DIRECTORY + BAD}, 4, "OBJECT A.OBJ\n" + SHOWN,
+     f"?M11 DUMP 3 Block 3 BadSum IN BLOCK 2 AT BYTE {len(DIRECTORY)} OF A.OBJ\n"),
     ("no file", "A.OBJ B.OBJ", {"A.OBJ": b""}, 3, "OBJECT A.OBJ\n", "?M11 OPEN B.OBJ\n"),
 )
 

@@ -1,0 +1,102 @@
+"""A check that what m11-dump shows as instructions is their source. CHECKS lists it for tools/test.py.
+
+It is run where the variable M11_DUMP names a built m11-dump. Every word stands once as the first one of what may be an instruction, with words
+behind it. Each line of the dump is taken as source at its place, and has to put the words there that it stands for. The program that M11
+names assembles, or the other reading of the rules (bench/reading)."""
+import os
+import random
+import subprocess
+import tempfile
+
+import pasm
+
+ADDRESS = 0o1000
+PARTS = 16
+SOURCE_COLUMN = 30
+
+
+def words_of(part):
+    """The words of a part, and at random some behind each of them."""
+    chance = random.Random(part)
+    for first in range(part * 65536 // PARTS, (part + 1) * 65536 // PARTS):
+        yield first
+        for _ in range(chance.choice((0, 1, 2, 2))):
+            yield chance.choice((chance.randrange(65536), chance.randrange(64), 0, 0o177776))
+
+
+def block(address, content):
+    """A block of a tape."""
+    front = b"\1\0" + (len(content) + 6).to_bytes(2, "little") + address.to_bytes(2, "little") + content
+    return front + bytes([-sum(front) & 255])
+
+
+def dumped(program, folder, content):
+    """The lines in which a tape with this content at ADDRESS is shown."""
+    with open(os.path.join(folder, "A.TAP"), "wb") as file:
+        file.write(block(ADDRESS, content) + block(ADDRESS, b""))
+    done = subprocess.run([program, "-d", "A.TAP"], cwd=folder, capture_output=True, text=True, timeout=60, check=True)
+    head, address, *lines, start, end = done.stdout.split("\n")
+    assert (head, address, start, end) == ("TAPE A.TAP", f"BLOCK {ADDRESS:06o}", f"START {ADDRESS:06o}", "")
+    return lines
+
+
+def content_of(lines):
+    """The bytes that lines show, each line at its place."""
+    content = b""
+    for line in lines:
+        assert int(line[2:8], 8) == ADDRESS + len(content), line
+        for cell in line[8:SOURCE_COLUMN].split():
+            content += int(cell, 8).to_bytes(2 if len(cell) == 6 else 1, "little")
+    return content
+
+
+def assembled(folder, source):
+    """The object of a source, and what is said of it where it has flags."""
+    program = os.environ.get("M11")
+    if not program:
+        taken, _, messages, flagged, _ = pasm.assemble([source.encode()])
+        return taken, "\n".join(messages) if flagged else ""
+    with open(os.path.join(folder, "A.MAC"), "w", encoding="ascii") as file:
+        file.write(source)
+    done = subprocess.run([os.path.abspath(program), "asm", "-o", "A.OBJ", "A.MAC"], cwd=folder, capture_output=True, text=True, timeout=60, check=False)
+    with open(os.path.join(folder, "A.OBJ"), "rb") as file:
+        return file.read(), done.stderr if done.returncode else ""
+
+
+def texts_of(taken):
+    """The bytes of an object's texts, which lie at ADDRESS one after another."""
+    content, at = b"", 0
+    while at < len(taken):
+        if taken[at] == 0:
+            at += 1
+            continue
+        size = int.from_bytes(taken[at + 2:at + 4], "little")
+        record = taken[at + 4:at + size]
+        at += size + 1
+        if record[0] == 3:
+            assert int.from_bytes(record[2:4], "little") == ADDRESS + len(content)
+            content += record[4:]
+    return content
+
+
+def check_words():
+    """Every word."""
+    program, wrong = os.environ.get("M11_DUMP"), []
+    if not program:
+        return wrong
+    with tempfile.TemporaryDirectory() as folder:
+        for part in range(PARTS):
+            content = b"".join(word.to_bytes(2, "little") for word in words_of(part)) + b"\7"
+            lines = dumped(os.path.abspath(program), folder, content)
+            if content_of(lines) != content:
+                wrong.append(f"part {part} shows other bytes")
+            source = f"\t.ASECT\n\t.=\t{ADDRESS:o}\n" + "".join(f"\t{line[SOURCE_COLUMN:]}\n" for line in lines) + "\t.END\n"
+            taken, flags = assembled(folder, source)
+            if flags:
+                wrong.append(f"part {part} has flags: {flags[:200]}")
+            elif texts_of(taken) != content:
+                wrong.append(f"part {part} isn't its own source")
+    return wrong
+
+
+CHECKS = [("dump-taken-as-source", check_words, ())]
