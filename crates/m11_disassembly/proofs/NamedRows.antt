@@ -21,256 +21,29 @@ is_blank row = slice_index row.name 0 == 32
 abbrev pub IsNamed : Row → Type 0
 IsNamed row = is_blank row ≡ false → operation_named (bare_name row.name) ≡ Some row.operation
 
+infixr 5 ◌⨾◌
+abbrev ◌⨾◌ : {A B : Type 0} → A → B → A × B
+a ⨾ b = (a, b)
+
 pub rows_named : AllByRecursion IsNamed rows
 unfolding rows other_names
-rows_named = (
-  λ e. refl,
-  (
-    λ e. refl,
-    (
-      λ e. refl,
-      (
-        λ e. refl,
-        (
-          λ e. refl,
-          (
-            λ e. refl,
-            (
-              λ e. refl,
-              (
-                λ e. refl,
-                (
-                  λ e. refl,
-                  (
-                    λ e. refl,
-                    (
-                      λ e. refl,
-                      (
-                        λ e. refl,
-                        (
-                          λ e. refl,
-                          (
-                            λ e. refl,
-                            (
-                              λ e. refl,
-                              (
-                                λ e. refl,
-                                (
-                                  λ e. refl,
-                                  (
-                                    λ e. refl,
-                                    (
-                                      λ e. refl,
-                                      (
-                                        λ e. refl,
-                                        (
-                                          λ e. refl,
-                                          (
-                                            λ e. refl,
-                                            (
-                                              λ e. refl,
-                                              (
-                                                λ e. refl,
-                                                (
-                                                  λ e. refl,
-                                                  (
-                                                    λ e. refl,
-                                                    (
-                                                      λ e. refl,
-                                                      (
-                                                        λ e. refl,
-                                                        (
-                                                          λ e. refl,
-                                                          (
-                                                            λ e. refl,
-                                                            (
-                                                              λ e. refl,
-                                                              (
-                                                                λ e. refl,
-                                                                (
-                                                                  λ e. refl,
-                                                                  (
-                                                                    λ e. refl,
-                                                                    (
-                                                                      λ e. refl,
-                                                                      (
-                                                                        λ e. refl,
-                                                                        (
-                                                                          λ e. refl,
-                                                                          (
-                                                                            λ e. refl,
-                                                                            (
-                                                                              λ e. refl,
-                                                                              (
-                                                                                λ e. refl,
-                                                                                (
-                                                                                  λ e. refl,
-                                                                                  (
-                                                                                    λ e. refl,
-                                                                                    (
-                                                                                      λ e. refl,
-                                                                                      (
-                                                                                        λ e. refl,
-                                                                                        (
-                                                                                          λ e. refl,
-                                                                                          (
-                                                                                            λ e. refl,
-                                                                                            (
-                                                                                              λ e. refl,
-                                                                                              (
-                                                                                                λ e. refl,
-                                                                                                (
-                                                                                                  λ e. refl,
-                                                                                                  (
-                                                                                                    λ e. refl,
-                                                                                                    (
-                                                                                                      λ e. refl,
-                                                                                                      (
-                                                                                                        λ e. refl,
-                                                                                                        (
-                                                                                                          λ e. refl,
-                                                                                                          (
-                                                                                                            λ e. refl,
-                                                                                                            (
-                                                                                                              λ e. refl,
-                                                                                                              (
-                                                                                                                λ e. refl,
-                                                                                                                (
-                                                                                                                  λ e. refl,
-                                                                                                                  (
-                                                                                                                    λ e. cc,
-                                                                                                                    (
-                                                                                                                      λ e. cc,
-                                                                                                                      (
-                                                                                                                        λ e. refl,
-                                                                                                                        (
-                                                                                                                          λ e. refl,
-                                                                                                                          (
-                                                                                                                            λ e. refl,
-                                                                                                                            (
-                                                                                                                              λ e. refl,
-                                                                                                                              (
-                                                                                                                                λ e. refl,
-                                                                                                                                (
-                                                                                                                                  λ e. refl,
-                                                                                                                                  (
-                                                                                                                                    λ e. refl,
-                                                                                                                                    (
-                                                                                                                                      λ e. refl,
-                                                                                                                                      (
-                                                                                                                                        λ e. refl,
-                                                                                                                                        (
-                                                                                                                                          λ e. refl,
-                                                                                                                                          (
-                                                                                                                                            λ e. refl,
-                                                                                                                                            (
-                                                                                                                                              λ e. refl,
-                                                                                                                                              (
-                                                                                                                                                λ e. refl,
-                                                                                                                                                (λ e. refl, (λ e. refl, tt)),
-                                                                                                                                              ),
-                                                                                                                                            ),
-                                                                                                                                          ),
-                                                                                                                                        ),
-                                                                                                                                      ),
-                                                                                                                                    ),
-                                                                                                                                  ),
-                                                                                                                                ),
-                                                                                                                              ),
-                                                                                                                            ),
-                                                                                                                          ),
-                                                                                                                        ),
-                                                                                                                      ),
-                                                                                                                    ),
-                                                                                                                  ),
-                                                                                                                ),
-                                                                                                              ),
-                                                                                                            ),
-                                                                                                          ),
-                                                                                                        ),
-                                                                                                      ),
-                                                                                                    ),
-                                                                                                  ),
-                                                                                                ),
-                                                                                              ),
-                                                                                            ),
-                                                                                          ),
-                                                                                        ),
-                                                                                      ),
-                                                                                    ),
-                                                                                  ),
-                                                                                ),
-                                                                              ),
-                                                                            ),
-                                                                          ),
-                                                                        ),
-                                                                      ),
-                                                                    ),
-                                                                  ),
-                                                                ),
-                                                              ),
-                                                            ),
-                                                          ),
-                                                        ),
-                                                      ),
-                                                    ),
-                                                  ),
-                                                ),
-                                              ),
-                                            ),
-                                          ),
-                                        ),
-                                      ),
-                                    ),
-                                  ),
-                                ),
-                              ),
-                            ),
-                          ),
-                        ),
-                      ),
-                    ),
-                  ),
-                ),
-              ),
-            ),
-          ),
-        ),
-      ),
-    ),
-  ),
-)
+rows_named =
+    (λ e. refl) ⨾ (λ e. refl) ⨾ (λ e. refl) ⨾ (λ e. refl) ⨾ (λ e. refl) ⨾ (λ e. refl) ⨾ (λ e. refl) ⨾ (λ e. refl) ⨾
+    (λ e. refl) ⨾ (λ e. refl) ⨾ (λ e. refl) ⨾ (λ e. refl) ⨾ (λ e. refl) ⨾ (λ e. refl) ⨾ (λ e. refl) ⨾ (λ e. refl) ⨾
+    (λ e. refl) ⨾ (λ e. refl) ⨾ (λ e. refl) ⨾ (λ e. refl) ⨾ (λ e. refl) ⨾ (λ e. refl) ⨾ (λ e. refl) ⨾ (λ e. refl) ⨾
+    (λ e. refl) ⨾ (λ e. refl) ⨾ (λ e. refl) ⨾ (λ e. refl) ⨾ (λ e. refl) ⨾ (λ e. refl) ⨾ (λ e. refl) ⨾ (λ e. refl) ⨾
+    (λ e. refl) ⨾ (λ e. refl) ⨾ (λ e. refl) ⨾ (λ e. refl) ⨾ (λ e. refl) ⨾ (λ e. refl) ⨾ (λ e. refl) ⨾ (λ e. refl) ⨾
+    (λ e. refl) ⨾ (λ e. refl) ⨾ (λ e. refl) ⨾ (λ e. refl) ⨾ (λ e. refl) ⨾ (λ e. refl) ⨾ (λ e. refl) ⨾ (λ e. refl) ⨾
+    (λ e. refl) ⨾ (λ e. refl) ⨾ (λ e. refl) ⨾ (λ e. refl) ⨾ (λ e. refl) ⨾ (λ e. refl) ⨾ (λ e. refl) ⨾ (λ e. refl) ⨾
+    (λ e. refl) ⨾ (λ e. cc) ⨾ (λ e. cc) ⨾ (λ e. refl) ⨾ (λ e. refl) ⨾ (λ e. refl) ⨾ (λ e. refl) ⨾ (λ e. refl) ⨾
+    (λ e. refl) ⨾ (λ e. refl) ⨾ (λ e. refl) ⨾ (λ e. refl) ⨾ (λ e. refl) ⨾ (λ e. refl) ⨾ (λ e. refl) ⨾ (λ e. refl) ⨾
+    (λ e. refl) ⨾ (λ e. refl) ⨾ tt
 
 pub others_named : AllByRecursion IsNamed other_names
 unfolding rows other_names
-others_named = (
-  λ e. refl,
-  (
-    λ e. refl,
-    (
-      λ e. refl,
-      (
-        λ e. refl,
-        (
-          λ e. refl,
-          (
-            λ e. refl,
-            (
-              λ e. refl,
-              (
-                λ e. refl,
-                (
-                  λ e. refl,
-                  (λ e. refl, (λ e. refl, (λ e. refl, (λ e. refl, (λ e. refl, (λ e. refl, tt)))))),
-                ),
-              ),
-            ),
-          ),
-        ),
-      ),
-    ),
-  ),
-)
+others_named =
+    (λ e. refl) ⨾ (λ e. refl) ⨾ (λ e. refl) ⨾ (λ e. refl) ⨾ (λ e. refl) ⨾ (λ e. refl) ⨾ (λ e. refl) ⨾ (λ e. refl) ⨾
+    (λ e. refl) ⨾ (λ e. refl) ⨾ (λ e. refl) ⨾ (λ e. refl) ⨾ (λ e. refl) ⨾ (λ e. refl) ⨾ (λ e. refl) ⨾ tt
 
 -- what holds of all holds of the one that is found, and so does the test
 found_by : (test : Row → Bool) (P : Row → Type 0) (first : Row) (others : Option Row) (row : Row) (b : Bool) → test first ≡ b → P first
