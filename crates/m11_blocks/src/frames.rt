@@ -48,7 +48,7 @@ pub(crate) fn summed_bytes(
     ensures bytes { IfOk result (λ v. v.items ≡ with_sum (header.now ++ content.now)) }
     ensures sum { IfOk result (λ v. sum v.items % 256 ≡ 0) }
 {
-    let mut bytes = Vec::new(alloc);
+    let mut bytes = Vec::with_capacity(alloc, header.len() + content.len() + 1)?;
     bytes.extend_from_slice(header)?;
     bytes.extend_from_slice(content)?;
     let last = closing_byte(sum_of(&bytes));
