@@ -223,3 +223,8 @@ text_is_read bytes back fault some is read =
     let t = text_is bytes some in
     let both : done t.0 ≡ Err fault = sym t.2.address ∙ sym (ap first_word is) ∙ read in
     absurd cc
+
+pub text_fits : (bytes : List ℕ) (address : ℕ) (text : List ℕ) → content_of bytes ≡ Ok (Text address text)
+    → length text ≤ length bytes
+text_fits bytes address text is =
+    let p = text_parts bytes address text is in omega (arith, ap length p.2, length-drop 4 bytes)

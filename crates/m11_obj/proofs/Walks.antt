@@ -17,7 +17,7 @@ pub record Walks (bytes : List ℕ) (relocation : Relocation) (rest : List ℕ) 
   pub are : AreRelocations rest
   pub left : relocations_left bytes ≡ relocation ∷ relocations_left rest
 
-walks_by : (bytes : List ℕ) (relocation : Relocation) (rest : List ℕ) (r : Result (List Relocation) RecordFault)
+pub walks_by : (bytes : List ℕ) (relocation : Relocation) (rest : List ℕ) (r : Result (List Relocation) RecordFault)
     → AreRelocations bytes → relocations_of rest ≡ r
     → relocations_of bytes ≡ (r >>= λ others. Ok (relocation ∷ others)) → Walks bytes relocation rest
 walks_by bytes relocation rest (Ok others) are following is = record {

@@ -1,4 +1,5 @@
 pub mod Commands
+pub mod Contents
 pub mod Fault
 pub mod Gsd
 pub mod Reading

@@ -46,6 +46,7 @@ pub(crate) enum Command {
 }
 
 impl ConstantCommand {
+    #[inline(always)]
     pub(crate) fn target(self, constant: u16) -> Target
         ensures { result ≡ constant_target self constant }
     {
@@ -60,6 +61,7 @@ impl ConstantCommand {
 }
 
 impl NameCommand {
+    #[inline(always)]
     pub(crate) fn target(self, name: Name) -> Target
         ensures { result ≡ name_target self name }
     {
@@ -73,6 +75,7 @@ impl NameCommand {
 }
 
 impl NameAndConstantCommand {
+    #[inline(always)]
     pub(crate) fn target(self, name: Name, constant: u16) -> Target
         ensures { result ≡ both_target self name constant }
     {
@@ -94,6 +97,7 @@ impl NameAndConstantCommand {
 
 // The command of a code.
 #[tactic(auto, unfolding(crate::specs::Reading::row_of))]
+#[inline(always)]
 fn row_of(code: u8) -> Result<Command, RecordFault>
     ensures { Gives form_in result (row_of code) }
 {
@@ -118,6 +122,7 @@ fn row_of(code: u8) -> Result<Command, RecordFault>
 
 // The same, or a refusal where a byte is asked for and the command has no such form.
 #[tactic(auto, unfolding(crate::specs::Reading::form_of))]
+#[inline(always)]
 pub(crate) fn command_of(is_byte: bool, code: u8) -> Result<Command, RecordFault>
     ensures { Gives form_in result (form_of is_byte code) }
 {

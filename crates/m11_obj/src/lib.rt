@@ -4,6 +4,7 @@
 #![tactic(auto)]
 
 mod commands;
+mod contents;
 mod fault;
 mod flags;
 mod gsd;
@@ -12,6 +13,7 @@ mod records;
 mod relocation_walk;
 mod relocations;
 
+pub use contents::{Contents, UnreadRelocations, read_contents};
 pub use fault::RecordFault;
 pub use flags::{SectionFlags, SymbolFlags};
 pub use gsd::{GsdEntry, GsdKind};

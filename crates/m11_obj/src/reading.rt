@@ -14,6 +14,7 @@ use crate::relocations::{Relocation, Target};
 use byteorder::{ByteOrder, LittleEndian};
 use m11_base::Name;
 
+#[inline(always)]
 fn first_byte(bytes: &[u8]) -> Result<(u8, &[u8]), RecordFault>
     ensures { Gives (λ x. (x.0, x.1.now)) result (first_byte bytes.now) }
 {
@@ -24,6 +25,7 @@ fn first_byte(bytes: &[u8]) -> Result<(u8, &[u8]), RecordFault>
 }
 
 #[tactic(auto, unfolding(crate::specs::Reading::first_word))]
+#[inline(always)]
 pub(crate) fn first_word(bytes: &[u8]) -> Result<(u16, &[u8]), RecordFault>
     ensures { Gives (λ x. (x.0, x.1.now)) result (first_word bytes.now) }
 {
@@ -36,6 +38,7 @@ pub(crate) fn first_word(bytes: &[u8]) -> Result<(u16, &[u8]), RecordFault>
 // The two words of a name; the first that is no RADIX-50 word is refused before the second is asked
 // for.
 #[tactic(auto, unfolding(crate::specs::Reading::first_name, crate::specs::Reading::first_name_word))]
+#[inline(always)]
 fn first_name(bytes: &[u8]) -> Result<(Name, &[u8]), RecordFault>
     ensures { Gives (λ x. (x.0, x.1.now)) result (first_name bytes.now) }
 {
@@ -158,6 +161,7 @@ fn record_kind_of(code: u16) -> Result<RecordKind, RecordFault>
 
 // The type of a record.
 #[tactic(auto, unfolding(crate::specs::Reading::first_type))]
+#[inline(always)]
 pub(crate) fn first_type(bytes: &[u8]) -> Result<(RecordKind, &[u8]), RecordFault>
     ensures { Gives (λ x. (x.0, x.1.now)) result (first_type bytes.now) }
 {
@@ -181,7 +185,7 @@ fn check_entries(bytes: &[u8]) -> Result<(), RecordFault>
 }
 
 // Whether the bytes are relocations, up to their end.
-fn check_relocations(bytes: &[u8]) -> Result<(), RecordFault>
+pub(crate) fn check_relocations(bytes: &[u8]) -> Result<(), RecordFault>
     ensures { result ≡ checked (relocations_of bytes.now) }
 {
     let mut rest = bytes;
@@ -196,7 +200,7 @@ fn check_relocations(bytes: &[u8]) -> Result<(), RecordFault>
 
 // Whether the bytes are what stands after a type word.
 #[tactic(auto, unfolding(crate::specs::Reading::content_after))]
-fn check_after(kind: RecordKind, bytes: &[u8]) -> Result<(), RecordFault>
+pub(crate) fn check_after(kind: RecordKind, bytes: &[u8]) -> Result<(), RecordFault>
     ensures { result ≡ checked (content_after kind bytes.now) }
 {
     match kind {

@@ -37,7 +37,7 @@ pub enum RecordKind {
 /// A record, which refers to the content of its block.
 #[derive(Drop)]
 pub struct Record<'a> {
-    content: &'a [u8],
+    pub(crate) content: &'a [u8],
 }
 
 impl<'a> Model for Record<'a> {
