@@ -9,14 +9,15 @@ use Rattle.m11_modules.specs.declared.fault.ModuleFault.{ModuleFault}
 use Rattle.m11_modules.specs.declared.fault.ModuleFault.TheVariants as rule
 use Rattle.m11_modules.proofs.KnownAfter.{taken_after}
 use Rattle.m11_modules.specs.Laws.{TakesAfter}
-use Rattle.m11_modules.specs.Parts.{Part, EndOfFile}
+use Rattle.m11_modules.specs.Parts.{Part, EndOfFile, Text, record_parts}
 use Rattle.m11_modules.specs.Places.{Known, known_of}
 use Rattle.m11_modules.specs.Rules.{fault_of, first_fault}
 use Rattle.m11_modules.specs.Steps.{RulesTake}
 use Rattle.m11_layout.specs.Fault.{of_module}
 use Rattle.m11_layout.specs.Tables.{Gathered, gathered_after, gathered_after_all, nothing_gathered}
-use Rattle.m11_layout.specs.Layout.{FirstFault, LayoutState, LayoutStands, TakesParts}
+use Rattle.m11_layout.specs.Layout.{FirstFault, LayoutState, LayoutStands, TakesBlock, TakesParts}
 use Rattle.m11_layout.specs.declared.fault.LinkFault.{LinkFault}
+use Rattle.m11_layout.specs.declared.fault.LinkFault.TheVariants.{Record}
 
 pub begins : (bottom : ℕ) (reading : LayoutState) → reading.known ≡ known_of [] → reading.gathered ≡ nothing_gathered
     → reading.bottom ≡ bottom → reading.fault ≡ None → LayoutStands bottom [] reading
@@ -121,6 +122,40 @@ fault_reported before parts old new broken state bottom (Ok done) is h e = absur
 fault_reported before parts old new broken state bottom (Err stopped) is h e =
     let P : LinkFault → Type 0 = λ said. FirstFault before parts said in
     subst P (sym e) (fault_found before parts old new broken is h)
+
+-- ---- a block
+
+no_record : (broken : ModuleFault) (inner : RecordFault) → Record inner ≡ of_module broken → ⊥
+no_record rule.NoMemory inner e = cc
+no_record rule.BadOrder inner e = cc
+no_record rule.NoText inner e = cc
+no_record rule.BadDisplacement inner e = cc
+no_record rule.UnknownSection inner e = cc
+no_record rule.TextOutside inner e = cc
+no_record rule.TooManyGlobals inner e = cc
+no_record rule.TooManySections inner e = cc
+no_record rule.TooManyModules inner e = cc
+
+-- no fault of parts is one of a block that is no record
+of_record : (bottom : ℕ) (before : List Part) (new : LayoutState) (bytes : List ℕ) (result : Result (Unit {0}) LinkFault)
+    → TakesParts bottom before new (record_parts bytes) result → TakesBlock bottom before new bytes result
+of_record bottom before new bytes (Ok done) h = h
+of_record bottom before new bytes (Err (Record inner)) h = absurd (no_record h.0 inner h.2)
+of_record bottom before new bytes (Err stopped) h = h
+
+-- a block of these parts
+pub block_taken : (bottom : ℕ) (before parts : List Part) (new : LayoutState) (bytes : List ℕ)
+    (result : Result (Unit {0}) LinkFault) → record_parts bytes ≡ parts → TakesParts bottom before new parts result
+    → TakesBlock bottom before new bytes result
+block_taken bottom before parts new bytes result e h =
+    let P : List Part → Type 0 = λ these. TakesParts bottom before new these result in
+    of_record bottom before new bytes result (subst P (sym e) h)
+
+-- nothing is noted of a text
+pub text_noted : (bottom address : ℕ) (bytes : List ℕ) (g : Gathered)
+    → g ≡ gathered_after_all bottom g (Text address bytes ∷ [])
+unfolding gathered_after
+text_noted bottom address bytes g = refl
 
 -- the end of a file was taken
 nothing_noted : (bottom : ℕ) (g : Gathered) → g ≡ gathered_after_all bottom g (EndOfFile ∷ [])

@@ -2,8 +2,10 @@
 
 ghost use Rattle.std.specs.Prelude.{◌≡◌, ◌≢◌, ◌∷◌, [], ℕ, List, Some, None, Ok, Err, IfErr, IfOk, map};
 ghost use Rattle.std.specs.Result.{result_err};
-ghost use Rattle.m11_obj.specs.Reading.{IsRecord, record_kind, record_relocations};
-ghost use Rattle.m11_modules.specs.Parts.{Part, EndOfFile, Relocated, Relocations, record_parts};
+ghost use Rattle.m11_obj.specs.Contents.{unread_content};
+ghost use Rattle.m11_obj.specs.Reading.{AreRelocations, IsRecord, checked, content_of, record_kind, relocations_left, relocations_of};
+ghost use Rattle.m11_obj.specs.declared.records.RecordKind.{RecordKind};
+ghost use Rattle.m11_modules.specs.Parts.{Part, EndOfFile, Relocated, Relocations, Text, record_parts};
 ghost use Rattle.m11_modules.specs.Places.{global_of};
 ghost use Rattle.m11_modules.specs.Steps.{RulesTake, TakesOne};
 ghost use Rattle.m11_layout.specs.Tables.{gathered_after_all, with_relocated};
@@ -16,7 +18,7 @@ use crate::plan::{Plan, plan_of};
 use crate::tables::Tables;
 use m11_base::Latch;
 use m11_modules::{ModuleFault, Rules};
-use m11_obj::{Block, Record, RecordKind, Relocation, read_record};
+use m11_obj::{Block, Contents, Record, RecordFault, Relocation, UnreadRelocations, read_contents};
 use std::alloc::Global;
 use std::marker::Model;
 
@@ -134,20 +136,21 @@ impl Layout {
         ensures is_record { IfOk result (λ _. IsRecord block.now.items) }
         ensures kept { self.new.fault ≡ self.old.fault }
     {
-        let record = read_record(block)?;
-        self.take_record(&record)
+        match read_contents(block)? {
+            Contents::Text(address, bytes) => self.take_text(address, bytes),
+            Contents::Relocations(mut unread) => self.take_relocations(&mut unread),
+            Contents::Other(record) => self.take_other(&record),
+        }
     }
 
-    // Takes one record.
-    fn take_record(&mut self, record: &Record<'_>) -> Result<(), LinkFault>
+    // Takes a text, of which nothing is noted.
+    fn take_text(&mut self, address: u16, bytes: &[u8]) -> Result<(), LinkFault>
         ensures takes { (bottom : ℕ) (before : List Part) → LayoutStands bottom before self.old
-            → TakesParts bottom before self.new (record_parts «record».now) result }
+            → TakesParts bottom before self.new (Text address bytes.now ∷ []) result }
         ensures kept { self.new.fault ≡ self.old.fault }
     {
-        match record.kind() {
-            RecordKind::Relocations => self.take_relocations(record),
-            _ => self.take_other(record),
-        }
+        self.rules.text(address, bytes)?;
+        Ok(())
     }
 
     // Takes a record that holds no relocations: it is judged, and then noted.
@@ -162,49 +165,63 @@ impl Layout {
         Ok(())
     }
 
-    // Takes a relocation record.
-    fn take_relocations(&mut self, record: &Record<'_>) -> Result<(), LinkFault>
-        ensures takes { (bottom : ℕ) (before : List Part) → LayoutStands bottom before self.old
-            → TakesParts bottom before self.new
-            (Relocations ∷ map (λ relocation. Relocated relocation) (record_relocations «record».now)) result }
+    // Takes the relocations of a record, which stand in a block of these bytes.
+    fn take_relocations(&mut self, unread: &mut UnreadRelocations<'_>) -> Result<(), LinkFault>
+        ensures takes { (bottom : ℕ) (before : List Part) (bytes : List ℕ) → LayoutStands bottom before self.old
+            → content_of bytes ≡ unread_content unread.old → TakesBlock bottom before self.new bytes result }
+        ensures are { IfOk result (λ _. AreRelocations unread.old) }
         ensures kept { self.new.fault ≡ self.old.fault }
     {
-        self.note_relocations(record)?;
+        self.note_relocations(unread)??;
         Ok(())
     }
 
-    // Judges and notes a relocation record, by what is known before it.
+    // Reads, judges and notes the relocations of a record, by what is known before it. What is wrong with one of them is
+    // returned where all of them are relocations.
     #[tactic(auto, using(m11_modules::proofs::Taking::taken_then, m11_modules::proofs::Taking::refused_first), unfolding(crate::specs::Tables::gathered_after))]
-    fn note_relocations(&mut self, record: &Record<'_>) -> Result<(), ModuleFault>
-        ensures judged { RulesTake self.old.known self.new.known
-            (Relocations ∷ map (λ relocation. Relocated relocation) (record_relocations «record».now)) result }
-        ensures noted { IfOk result (λ _. self.new.gathered ≡ gathered_after_all self.old.bottom self.old.gathered
-            (Relocations ∷ map (λ relocation. Relocated relocation) (record_relocations «record».now))) }
+    fn note_relocations(
+        &mut self,
+        unread: &mut UnreadRelocations<'_>,
+    ) -> Result<Result<(), ModuleFault>, RecordFault>
+        ensures read { checked result ≡ checked (relocations_of unread.old) }
+        ensures judged { IfOk result (λ judged. RulesTake self.old.known self.new.known
+            (Relocations ∷ map (λ relocation. Relocated relocation) (relocations_left unread.old)) judged) }
+        ensures noted { IfOk result (λ judged. IfOk judged (λ _. self.new.gathered
+            ≡ gathered_after_all self.old.bottom self.old.gathered
+            (Relocations ∷ map (λ relocation. Relocated relocation) (relocations_left unread.old)))) }
         ensures bottom { self.new.bottom ≡ self.old.bottom }
         ensures kept { self.new.fault ≡ self.old.fault }
     {
         match self.rules.begin_relocations() {
-            Ok(()) => self.note_each_relocation(record),
-            Err(fault) => Err(fault),
+            Ok(()) => self.note_each_relocation(unread),
+            Err(fault) => refuse(unread, fault),
         }
     }
 
-    // Judges and notes the relocations of a record in one walk.
-    fn note_each_relocation(&mut self, record: &Record<'_>) -> Result<(), ModuleFault>
-        ensures judged { RulesTake self.old.known self.new.known
-            (map (λ relocation. Relocated relocation) (record_relocations «record».now)) result }
-        ensures noted { IfOk result (λ _. self.new.gathered ≡ gathered_after_all self.old.bottom self.old.gathered
-            (map (λ relocation. Relocated relocation) (record_relocations «record».now))) }
+    // Reads, judges and notes the relocations of a record in one walk.
+    fn note_each_relocation(
+        &mut self,
+        unread: &mut UnreadRelocations<'_>,
+    ) -> Result<Result<(), ModuleFault>, RecordFault>
+        ensures read { checked result ≡ checked (relocations_of unread.old) }
+        ensures judged { IfOk result (λ judged. RulesTake self.old.known self.new.known
+            (map (λ relocation. Relocated relocation) (relocations_left unread.old)) judged) }
+        ensures noted { IfOk result (λ judged. IfOk judged (λ _. self.new.gathered
+            ≡ gathered_after_all self.old.bottom self.old.gathered
+            (map (λ relocation. Relocated relocation) (relocations_left unread.old)))) }
         ensures bottom { self.new.bottom ≡ self.old.bottom }
         ensures kept { self.new.fault ≡ self.old.fault }
     {
-        'relocations: for relocation in record.each_relocation() {
-            match self.note_relocation(relocation) {
-                Ok(()) => {}
+        'relocations: loop {
+            match unread.read_next() {
+                Ok(Some(relocation)) => match self.note_relocation(relocation) {
+                    Ok(()) => {}
+                    Err(fault) => return refuse(unread, fault),
+                },
+                Ok(None) => return Ok(Ok(())),
                 Err(fault) => return Err(fault),
             }
         }
-        Ok(())
     }
 
     // Judges and notes a relocation.
@@ -220,4 +237,17 @@ impl Layout {
         self.tables.note_target(target)?;
         Ok(())
     }
+}
+
+// A record has a part of this fault. What is left of its relocations is read, since what is wrong with the record itself
+// comes first.
+fn refuse(
+    unread: &UnreadRelocations<'_>,
+    fault: ModuleFault,
+) -> Result<Result<(), ModuleFault>, RecordFault>
+    ensures read { checked result ≡ checked (relocations_of unread.now) }
+    ensures refused { IfOk result (λ judged. judged ≡ Err fault) }
+{
+    unread.check()?;
+    Ok(Err(fault))
 }

@@ -3,3 +3,4 @@ pub mod Indexing
 pub mod KnownAfter
 pub mod Refusals
 pub mod Taking
+pub mod Unread

@@ -148,9 +148,11 @@ impl Rules {
         Ok(())
     }
 
-    // A text.
+    /// Takes a text: this call is one of `record` for a text record, for a caller that has read what stands in it.
+    ///
+    /// Faults: `BadOrder` outside the body of a module, then `TextOutside`.
     #[tactic(auto, unfolding(crate::specs::Steps::TakesOne, crate::specs::Steps::known_after, crate::specs::Rules::fault_known))]
-    fn text(&mut self, address: u16, bytes: &[u8]) -> Result<(), ModuleFault>
+    pub fn text(&mut self, address: u16, bytes: &[u8]) -> Result<(), ModuleFault>
         ensures { TakesOne self.old self.new (Text address bytes.now) result }
     {
         if self.stage != Stage::InBody {
