@@ -17,7 +17,7 @@ use crate::fault::LinkFault;
 use crate::plan::{Plan, plan_of};
 use crate::tables::Tables;
 use m11_base::Latch;
-use m11_modules::{ModuleFault, Rules};
+use m11_modules::{ModuleFault, Rules, refuse};
 use m11_obj::{Block, Contents, Record, RecordFault, Relocation, UnreadRelocations, read_contents};
 use std::alloc::Global;
 use std::marker::Model;
@@ -237,17 +237,4 @@ impl Layout {
         self.tables.note_target(target)?;
         Ok(())
     }
-}
-
-// A record has a part of this fault. What is left of its relocations is read, since what is wrong with the record itself
-// comes first.
-fn refuse(
-    unread: &UnreadRelocations<'_>,
-    fault: ModuleFault,
-) -> Result<Result<(), ModuleFault>, RecordFault>
-    ensures read { checked result ≡ checked (relocations_of unread.now) }
-    ensures refused { IfOk result (λ judged. judged ≡ Err fault) }
-{
-    unread.check()?;
-    Ok(Err(fault))
 }

@@ -2,8 +2,7 @@
 use Rattle.std.proofs.Common.{◌≡◌, ℕ, Bool, true, false, if◌then◌else◌, List, [], ◌∷◌, ◌++◌, append_assoc, append-nil, Option, Some, None, Result, Ok, Err, IsErrAnd, inl, inr, refl, sym, subst, ap, ap₂, ◌∙◌}
 use Rattle.std.proofs.lemmas.Bool.{false≢true, true≢false}
 use Rattle.std.specs.Prelude.{is_ok}
-use Rattle.m11_obj.specs.Reading.{◌>>=◌, IsRecord, content_of, entries_in, kind_in, record_kind, record_of, record_relocations, relocations_in, text_in}
-use Rattle.m11_obj.specs.declared.records.RecordKind.TheVariants as kind
+use Rattle.m11_obj.specs.Reading.{◌>>=◌, IsRecord, content_of, entries_in, kind_in, relocations_in, text_in}
 use Rattle.m11_obj.specs.declared.relocations.Relocation.{Relocation}
 use Rattle.m11_obj.specs.Records as records
 use Rattle.m11_obj.specs.declared.fault.RecordFault.{RecordFault}
@@ -11,21 +10,22 @@ use Rattle.m11_modules.specs.Laws.{TakesAfter}
 use Rattle.m11_modules.specs.declared.stage.Stage.{Stage}
 use Rattle.m11_modules.specs.declared.stage.Stage.TheVariants.{Between, InDirectory, InBody}
 use Rattle.m11_modules.specs.Parts.{Part, Directory, Entry, EndOfDirectory, Text, Relocations, Relocated, EndOfModule, EndOfFile, parts_in, parts_of, record_parts}
-use Rattle.m11_modules.specs.Steps.{RulesTake, known_after, with_optional_global}
+use Rattle.m11_modules.specs.Steps.{RulesTake, TakesOne, known_after, with_optional_global}
+use Rattle.m11_modules.proofs.Taking.{taken_one}
 use Rattle.m11_modules.proofs.KnownAfter.{known_after_part, taken_after}
 use Rattle.m11_layout.specs.Globals.{definitions_of}
 use Rattle.m11_modules.specs.Places.{Known, current_section, distinct, global_of, known_of, modules_in, this_module}
 use Rattle.m11_modules.specs.Rules.{fault_known, fault_of, first_fault, may_stand}
 use Rattle.m11_modules.specs.declared.fault.ModuleFault.{ModuleFault}
 use Rattle.m11_modules.specs.declared.fault.ModuleFault.TheVariants as rule
-use Rattle.m11_layout.proofs.Standing.{record_is, sound_after}
+use Rattle.m11_layout.proofs.Standing.{sound_after}
 use Rattle.m11_layout.proofs.Walking.{head_none, walked}
 use Rattle.m11_layout.specs.Fault.{of_module}
 use Rattle.m11_layout.specs.Plan.{Planned}
 use Rattle.m11_layout.specs.Tables.{Gathered, nothing_gathered}
 use Rattle.m11_layout.specs.declared.fault.LinkFault.{LinkFault}
 use Rattle.m11_layout.specs.declared.fault.LinkFault.TheVariants as fault
-use Rattle.m11_link.specs.Emit.{EmitStands, Emitting, Goes, GoesOn, Reporting, TakesBlock, TakesParts, begin_writes, begun_reporting, bytes_writes, call_of, entries_writes, held_at, held_text, held_with, held_with_all, held_writes, record_writes, relocated_parts, with_bytes, with_count, with_held, with_record, with_reporting, written}
+use Rattle.m11_link.specs.Emit.{EmitStands, Emitting, Goes, GoesOn, Reporting, TakesBlock, TakesParts, begin_writes, begun_reporting, bytes_writes, call_of, entries_writes, held_at, held_text, held_with, held_with_all, held_writes, record_writes, relocated_parts, with_bytes, with_count, with_held, with_record, with_reporting, with_text, written}
 use Rattle.m11_link_text.specs.Findings.{Findings, planned}
 use Rattle.m11_link.specs.Front.{front_writes}
 use Rattle.m11_link.specs.Outputs.{Outputs, Write, Gains, Stops, StopsBetween, StopsIn, Writes, link}
@@ -520,6 +520,50 @@ module _ {seen : Emitting} (plan : Planned) (before : List Part) (s : Emitting) 
       subst P is (parts_taken plan before (record_parts bytes) (bytes_writes index bytes)
       (with_bytes index section bytes) makes seen now a b s' known result t.0 t.1 k')
 
+-- ---- a text, by calls
+
+module _ {seen : Emitting} (plan : Planned) (before : List Part) (s : Emitting) (address : ℕ) (text : List ℕ) (is : seen ≡ s)
+    (stands : EmitStands plan before s) where
+  abbrev text_parts : List Part
+  text_parts = Text address text ∷ []
+
+  abbrev text_after : Reporting → Reporting
+  text_after = with_text (modules_in before) (current_section (this_module before)) address text
+
+  text_makes : Makes plan before text_parts (λ t. held_writes t.held) text_after
+  text_makes = content_makes plan before (records.Text address text)
+
+  pub text_refused : (a : Outputs) (s' : Emitting) (new : Known) (broken : ModuleFault) (result : Result (Unit {0}) LinkFault)
+      → TakesOne seen.known new (Text address text) (Err broken) → IsErrAnd result (λ f. f ≡ of_module broken)
+      → TakesParts plan before (call_of a a s s') text_parts result
+  text_refused a s' new broken result h f =
+      let P : Emitting → Type 0 = λ x. TakesParts plan before (call_of a a x s') text_parts result in
+      let now = here plan before s is stands in
+      subst P is (parts_refused plan before text_parts (λ t. held_writes t.held) text_after text_makes seen now a s' new broken
+      result (taken_after before seen.known new text_parts (Err broken) now.known
+      (taken_one seen.known new (Text address text) (Err broken) h)) f)
+
+  pub text_taken : (a b : Outputs) (s' : Emitting) (known : Known) (location : Place) (done : Unit {0})
+      (result : Result (Unit {0}) LinkFault)
+      → ◌≡◌ {A = Place} location (s.known.modules, s.known.section)
+      → TakesOne seen.known known (Text address text) (Ok done)
+      → Goes a b (begin_writes seen ++ held_writes (begun_reporting seen).held) s'
+      (let now : Emitting = record seen { known = known } in
+      with_reporting (with_text location.0 location.1 address text (begun_reporting seen)) now) result
+      → TakesParts plan before (call_of a b s s') text_parts result
+  text_taken a b s' known location done result l h k =
+      let now = here plan before s is stands in
+      let t = taken_after before seen.known known text_parts (Ok done) now.known
+      (taken_one seen.known known (Text address text) (Ok done) h) in
+      let expected : Place → Emitting = λ at. let x : Emitting = record seen { known = known } in
+      with_reporting (with_text at.0 at.1 address text (begun_reporting seen)) x in
+      let G : Place → Type 0 = λ at.
+      Goes a b (begin_writes seen ++ held_writes (begun_reporting seen).held) s' (expected at) result in
+      let k' = subst G (l ∙ location_of before s.known stands.known) k in
+      let P : Emitting → Type 0 = λ x. TakesParts plan before (call_of a b x s') text_parts result in
+      subst P is (parts_taken plan before text_parts (λ t. held_writes t.held) text_after text_makes seen now a b s' known
+      result t.0 t.1 k')
+
 -- ---- relocations, by calls
 
 abbrev pub relocating : List Relocation → Reporting → Reporting
@@ -582,17 +626,7 @@ stored_more now later target rest following item e i h =
     let Q : Reporting → Type 0 = λ t. relocating following t ≡ target in
     subst Q (sym h) (subst P e i)
 
--- ---- a record by its block
-
-relocation_parts : (r : Result records.Content RecordFault) → (r >>= λ c. Ok (kind_in c)) ≡ Ok kind.Relocations
-    → parts_in r ≡ Relocations ∷ relocated_parts (relocations_in r)
-relocation_parts (Ok (records.Gsd entries)) e = absurd cc
-relocation_parts (Ok records.EndOfGsd) e = absurd cc
-relocation_parts (Ok (records.Text address bytes)) e = absurd cc
-relocation_parts (Ok (records.Relocations relocations)) e = refl
-relocation_parts (Ok records.InternalSymbols) e = absurd cc
-relocation_parts (Ok records.EndOfModule) e = absurd cc
-relocation_parts (Err refused) e = absurd cc
+-- ---- a block
 
 no_record : (broken : ModuleFault) (inner : RecordFault) → fault.Record inner ≡ of_module broken → ⊥
 no_record rule.NoMemory inner e = cc
@@ -605,11 +639,6 @@ no_record rule.TooManyGlobals inner e = cc
 no_record rule.TooManySections inner e = cc
 no_record rule.TooManyModules inner e = cc
 
-there : (content : Result records.Content RecordFault) (items bytes : List ℕ)
-    → ◌≡◌ {A = Result (List ℕ) RecordFault} (Ok bytes) (content >>= λ c. Ok items) → is_ok content ≡ true
-there (Ok c) items bytes e = refl
-there (Err fault) items bytes e = absurd cc
-
 -- no fault of parts is one of a block that is no record
 of_record : (plan : Planned) (before : List Part) (a b : Outputs) (s s' : Emitting) (items : List ℕ)
     (result : Result (Unit {0}) LinkFault) → IsRecord items
@@ -620,23 +649,22 @@ of_record plan before a b s s' items (Err fault.NoMemory) is h = (is, h)
 of_record plan before a b s s' items (Err (fault.Record inner)) is h = absurd (no_record h.0.0 inner h.0.2)
 of_record plan before a b s s' items (Err stopped) is h = h
 
-module _ (plan : Planned) (before : List Part) (a b : Outputs) (s s' : Emitting) (items bytes : List ℕ)
-    (result : Result (Unit {0}) LinkFault) (e : ◌≡◌ {A = Result (List ℕ) RecordFault} (Ok bytes) (record_of items)) where
-  pub record_block : TakesParts plan before (call_of a b s s') (record_parts bytes) result
-      → TakesBlock plan before (call_of a b s s') items result
-  record_block h =
-      let Q : List ℕ → Type 0 = λ these. TakesParts plan before (call_of a b s s') (record_parts these) result in
-      of_record plan before a b s s' items result (there (content_of items) items bytes e)
-      (subst Q (record_is items bytes e) h)
+-- a block was taken, by what stands in it
+pub content_block : (plan : Planned) (before : List Part) (a b : Outputs) (s s' : Emitting) (items : List ℕ)
+    (content : records.Content) (result : Result (Unit {0}) LinkFault) → content_of items ≡ Ok content
+    → TakesParts plan before (call_of a b s s') (parts_of content) result → TakesBlock plan before (call_of a b s s') items result
+content_block plan before a b s s' items content result e h =
+    let P : Result records.Content RecordFault → Type 0 = λ r. TakesParts plan before (call_of a b s s') (parts_in r) result in
+    of_record plan before a b s s' items result (ap (λ (r : Result records.Content RecordFault). is_ok r) e)
+    (subst P (sym e) h)
 
--- a record of relocations was taken, by its bytes
-pub relocation_record : (plan : Planned) (before : List Part) (a b : Outputs) (s s' : Emitting) (bytes : List ℕ)
-    (result : Result (Unit {0}) LinkFault) → record_kind bytes ≡ Ok kind.Relocations
-    → TakesParts plan before (call_of a b s s') (Relocations ∷ relocated_parts (record_relocations bytes)) result
-    → TakesParts plan before (call_of a b s s') (record_parts bytes) result
-relocation_record plan before a b s s' bytes result k h =
-    let P : List Part → Type 0 = λ parts. TakesParts plan before (call_of a b s s') parts result in
-    subst P (sym (relocation_parts (content_of bytes) k)) h
+-- and by a record of the same bytes
+pub record_block : (plan : Planned) (before : List Part) (a b : Outputs) (s s' : Emitting) (items bytes : List ℕ)
+    (result : Result (Unit {0}) LinkFault) → bytes ≡ items → IsRecord items
+    → TakesParts plan before (call_of a b s s') (record_parts bytes) result → TakesBlock plan before (call_of a b s s') items result
+record_block plan before a b s s' items bytes result same is h =
+    let Q : List ℕ → Type 0 = λ these. TakesParts plan before (call_of a b s s') (record_parts these) result in
+    of_record plan before a b s s' items result is (subst Q same h)
 
 -- ---- the transfer block, by calls
 

@@ -15,7 +15,7 @@ use Rattle.m11_blocks.specs.Tapes.{tape_block}
 use Rattle.m11_obj.specs.declared.gsd.GsdEntry.{GsdEntry}
 use Rattle.m11_obj.specs.declared.gsd.GsdKind.{GsdKind}
 use Rattle.m11_obj.specs.declared.gsd.GsdKind.TheVariants as kind
-use Rattle.m11_link.specs.Emit.{Goes, EmitKeeps, Reporting, defined_by, defined_with, defined_with_all, entries_writes, held_writes, text_held, with_count, with_entries, with_entry, with_held, with_name, with_symbol}
+use Rattle.m11_link.specs.Emit.{Goes, EmitKeeps, Reporting, defined_by, defined_with, defined_with_all, entries_writes, held_writes, with_count, with_entries, with_entry, with_held, with_name, with_symbol, with_text}
 use Rattle.m11_link_text.specs.Findings.{planned}
 use Rattle.m11_link_text.specs.Lines.{different_line, multiple_line}
 use Rattle.m11_link.specs.Front.{front_writes}
@@ -143,23 +143,13 @@ pub block_some : (address : ℕ) (bytes : List ℕ) → (length bytes == 0) ≡ 
 block_some address [] e = absurd (true≢false e)
 block_some address (byte ∷ bytes) e = refl
 
-text_is : (o : Option (ℕ × List ℕ)) (address : ℕ) (bytes : List ℕ) → option_map (λ text. text.0) o ≡ Some address
-    → option_map (λ text. text.1) o ≡ Some bytes → o ≡ Some (address, bytes)
-text_is None address bytes e f = absurd (false≢true (ap is_some e))
-text_is (Some text) address bytes e f =
-    let place : text.0 ≡ address = ap (λ o. unwrap_or o 0) e in
-    let same : text.1 ≡ bytes = ap (λ o. unwrap_or o []) f in
-    ap₂ (λ a b. Some (a, b)) place same
-
 pub text_then : (a b : Outputs) (t s s' : Reporting) (index : ℕ) (section : ℕ × ℕ) (address : ℕ) (bytes : List ℕ)
-    (o : Option (ℕ × List ℕ)) → option_map (λ text. text.0) o ≡ Some address → option_map (λ text. text.1) o ≡ Some bytes
     → Gains a b (held_writes t.held) × (s ≡ with_held None t)
     → s' ≡ with_held (Some (placed_text (planned s.plan) index section address bytes)) s
-    → Gains a b (held_writes t.held) × (s' ≡ with_held (text_held (planned t.plan) index section o) t)
-text_then a b t s s' index section address bytes o e f h k =
-    let P : Option (ℕ × List ℕ) → Type 0 = λ x. s' ≡ with_held (text_held (planned t.plan) index section x) t in
+    → Gains a b (held_writes t.held) × (s' ≡ with_text index section address bytes t)
+text_then a b t s s' index section address bytes h k =
     let Q : Reporting → Type 0 = λ x. s' ≡ with_held (Some (placed_text (planned x.plan) index section address bytes)) x in
-    (h.0, subst P (sym (text_is o address bytes e f)) (subst Q h.1 k))
+    (h.0, subst Q h.1 k)
 
 pub directory_then : (a b c : Outputs) (t s s' : Reporting) (index : ℕ) (entries : List GsdEntry) (result : Result (Unit {0}) LinkFault)
     → Gains a b (held_writes t.held) × (s ≡ with_held None t)

@@ -125,6 +125,11 @@ abbrev pub text_held : Findings → ℕ → Name → Option (ℕ × Bytes) → O
 text_held found module_index section None = None
 text_held found module_index section (Some text) = Some (placed_text found module_index section text.0 text.1)
 
+-- a text is held that counts from this section in the module of this index
+abbrev pub with_text : ℕ → Name → ℕ → Bytes → Reporting → Reporting
+with_text module_index section address bytes t =
+    with_held (Some (placed_text (planned t.plan) module_index section address bytes)) t
+
 -- what a record of this type and these entries writes that stands in the module of this index
 abbrev pub record_writes : ℕ → Result RecordKind RecordFault → List GsdEntry → Reporting → List Write
 record_writes module_index (Ok kind.Gsd) entries t =

@@ -1,14 +1,17 @@
 //! The second pass of a link: it writes tape, map and messages while blocks come.
 
-ghost use Rattle.std.specs.Prelude.{◌≡◌, ◌≢◌, ◌∷◌, ◌++◌, [], List, Some, None, Ok, Err, IfOk, false, is_some, IfErr};
+ghost use Rattle.std.specs.Prelude.{◌≡◌, ◌≢◌, ◌≤◌, ℕ, length, ◌∷◌, ◌++◌, [], List, Some, None, Ok, Err, IfOk, false, is_some, IfErr};
 ghost use Rattle.std.specs.Result.{result_err};
-ghost use Rattle.m11_obj.specs.Reading.{IsRecord, record_kind, record_relocations};
+ghost use Rattle.m11_blocks.specs.Frames.{content_limit};
+ghost use Rattle.m11_obj.specs.Contents.{unread_content};
+ghost use Rattle.m11_obj.specs.Reading.{AreRelocations, IsRecord, checked, content_of, record_kind, relocations_left, relocations_of};
+ghost use Rattle.m11_obj.specs.declared.records.RecordKind.TheVariants as kind;
 ghost use Rattle.m11_blocks.specs.Tapes.{tape_block};
-ghost use Rattle.m11_modules.specs.Parts.{Part, EndOfFile, Relocated, Relocations, record_parts};
+ghost use Rattle.m11_modules.specs.Parts.{Part, EndOfFile, Relocated, Relocations, Text, record_parts};
 ghost use Rattle.m11_modules.specs.Steps.{RulesTake, TakesOne};
 ghost use Rattle.m11_layout.specs.Plan.{Planned};
 ghost use Rattle.m11_layout.specs.declared.fault.LinkFault.{LinkFault};
-ghost use Rattle.m11_link.specs.Emit.{EmitEnds, EmitStands, FailsAgain, Goes, TakesBlock, TakesParts, begin_writes, begun_reporting, bytes_writes, call_of, held_with, held_with_all, relocated_parts, with_bytes, with_held, with_reporting};
+ghost use Rattle.m11_link.specs.Emit.{EmitEnds, EmitStands, FailsAgain, Goes, TakesBlock, TakesParts, begin_writes, begun_reporting, bytes_writes, call_of, held_with, held_with_all, held_writes, relocated_parts, with_bytes, with_held, with_reporting, with_text};
 ghost use Rattle.m11_link_text.specs.Findings.{planned};
 ghost use Rattle.m11_writes.specs.Outputs.{Output, optional_output, output_of};
 ghost use Rattle.m11_link.specs.Outputs.{Finishes, Writes, outputs, outputs_of, to_tape};
@@ -18,8 +21,8 @@ use crate::outputs::flush_files;
 use crate::reporting::Reporter;
 use m11_base::{Latch, Sink};
 use m11_layout::{LinkFault, Plan};
-use m11_modules::{ModuleFault, Rules};
-use m11_obj::{Block, Record, RecordKind, Relocation, read_record};
+use m11_modules::{ModuleFault, Rules, refuse};
+use m11_obj::{Block, Contents, Record, RecordFault, Relocation, UnreadRelocations, read_contents};
 use std::alloc::Global;
 use std::marker::Model;
 
@@ -180,35 +183,37 @@ impl Emit {
         ensures kept { self.new.fault ≡ self.old.fault }
         ensures stays { is_some map.new ≡ is_some map.old }
     {
-        let record = read_record(block)?;
-        self.take_record(&record, tape, map, messages)
+        match read_contents(block)? {
+            Contents::Text(address, bytes) => self.take_text(address, bytes, tape, map, messages),
+            Contents::Relocations(mut unread) => self.take_relocations(&mut unread, map, messages),
+            Contents::Other(record) => self.take_other(&record, tape, map, messages),
+        }
     }
 
-    // Takes one record. Relocations are stored while they are judged, since the text that they change is held; what any
-    // other record makes is written once all of it is judged.
-    fn take_record<S: Sink, T: Sink, U: Sink>(
+    // Takes a text. It is judged before anything is written.
+    fn take_text<S: Sink, T: Sink, U: Sink>(
         &mut self,
-        record: &Record<'_>,
+        address: u16,
+        bytes: &[u8],
         tape: &mut S,
         map: &mut Option<T>,
         messages: &mut U,
     ) -> Result<(), LinkFault>
-        requires { IsRecord «record».now }
+        requires { length bytes.now ≤ content_limit }
         ensures takes { (plan : Planned) (before : List Part) → EmitStands plan before self.old
             → TakesParts plan before (call_of
             (outputs_of S.Sink T.Sink U.Sink tape.old map.old messages.old)
             (outputs_of S.Sink T.Sink U.Sink tape.new map.new messages.new)
-            self.old self.new) (record_parts «record».now) result }
+            self.old self.new) (Text address bytes.now ∷ []) result }
         ensures kept { self.new.fault ≡ self.old.fault }
         ensures stays { is_some map.new ≡ is_some map.old }
     {
-        match record.kind() {
-            RecordKind::Relocations => self.take_relocations(record, map, messages),
-            _ => self.take_other(record, tape, map, messages),
-        }
+        let location = self.location();
+        self.rules.text(address, bytes)?;
+        self.write_text(location, address, bytes, tape, map, messages)
     }
 
-    // Takes a record that holds no relocations. It is judged whole before anything is written.
+    // Takes a record that holds no text and no relocations. It is judged whole before anything is written.
     fn take_other<S: Sink, T: Sink, U: Sink>(
         &mut self,
         record: &Record<'_>,
@@ -217,7 +222,7 @@ impl Emit {
         messages: &mut U,
     ) -> Result<(), LinkFault>
         requires is { IsRecord «record».now }
-        requires other { record_kind «record».now ≢ Ok RecordKind.Relocations }
+        requires other { (record_kind «record».now ≢ Ok kind.Relocations) × (record_kind «record».now ≢ Ok kind.Text) }
         ensures takes { (plan : Planned) (before : List Part) → EmitStands plan before self.old
             → TakesParts plan before (call_of
             (outputs_of S.Sink T.Sink U.Sink tape.old map.old messages.old)
@@ -231,58 +236,74 @@ impl Emit {
         self.write(location, record, tape, map, messages)
     }
 
-    // Takes a relocation record. Nothing is written before all of it is judged; what is stored till then is stored in
-    // the text that is held.
+    // Takes the relocations of a record, which stand in a block of these bytes. They are stored while they are judged,
+    // since the text that they change is held. Nothing is written before all of them are judged.
     fn take_relocations<T: Sink, U: Sink>(
         &mut self,
-        record: &Record<'_>,
+        unread: &mut UnreadRelocations<'_>,
         map: &mut Option<T>,
         messages: &mut U,
     ) -> Result<(), LinkFault>
-        ensures takes { (tape : Output) (plan : Planned) (before : List Part) → EmitStands plan before self.old
-            → TakesParts plan before (call_of
+        ensures takes { (tape : Output) (plan : Planned) (before : List Part) (bytes : List ℕ)
+            → EmitStands plan before self.old → content_of bytes ≡ unread_content unread.old
+            → TakesBlock plan before (call_of
             (outputs tape (optional_output T.Sink map.old) (output_of U.Sink messages.old))
             (outputs tape (optional_output T.Sink map.new) (output_of U.Sink messages.new))
-            self.old self.new) (Relocations ∷ relocated_parts (record_relocations «record».now)) result }
+            self.old self.new) bytes result }
+        ensures are { IfOk result (λ _. AreRelocations unread.old) }
         ensures kept { self.new.fault ≡ self.old.fault }
         ensures stays { is_some map.new ≡ is_some map.old }
     {
-        self.store_relocations(record)?;
+        self.store_relocations(unread)??;
         self.begin(map, messages)
     }
 
-    // Judges a relocation record and stores its relocations, by what is known before it.
+    // Reads and judges the relocations of a record and stores them, by what is known before it. What is wrong with one of
+    // them is returned where all of them are relocations.
     #[tactic(auto, using(m11_modules::proofs::Taking::taken_then, m11_modules::proofs::Taking::refused_first))]
-    fn store_relocations(&mut self, record: &Record<'_>) -> Result<(), ModuleFault>
-        ensures judged { RulesTake self.old.known self.new.known
-            (Relocations ∷ relocated_parts (record_relocations «record».now)) result }
-        ensures stored { IfOk result (λ _. self.new.reporting ≡ with_held (held_with_all (planned self.old.reporting.plan)
-            self.old.reporting.held (record_relocations «record».now)) self.old.reporting) }
+    fn store_relocations(
+        &mut self,
+        unread: &mut UnreadRelocations<'_>,
+    ) -> Result<Result<(), ModuleFault>, RecordFault>
+        ensures read { checked result ≡ checked (relocations_of unread.old) }
+        ensures judged { IfOk result (λ judged. RulesTake self.old.known self.new.known
+            (Relocations ∷ relocated_parts (relocations_left unread.old)) judged) }
+        ensures stored { IfOk result (λ judged. IfOk judged (λ _. self.new.reporting
+            ≡ with_held (held_with_all (planned self.old.reporting.plan) self.old.reporting.held
+            (relocations_left unread.old)) self.old.reporting)) }
         ensures begun { self.new.has_begun ≡ self.old.has_begun }
         ensures kept { self.new.fault ≡ self.old.fault }
     {
         match self.rules.begin_relocations() {
-            Ok(()) => self.store_each_relocation(record),
-            Err(fault) => Err(fault),
+            Ok(()) => self.store_each_relocation(unread),
+            Err(fault) => refuse(unread, fault),
         }
     }
 
-    // Judges and stores the relocations of a record in one walk.
-    fn store_each_relocation(&mut self, record: &Record<'_>) -> Result<(), ModuleFault>
-        ensures judged { RulesTake self.old.known self.new.known
-            (relocated_parts (record_relocations «record».now)) result }
-        ensures stored { IfOk result (λ _. self.new.reporting ≡ with_held (held_with_all (planned self.old.reporting.plan)
-            self.old.reporting.held (record_relocations «record».now)) self.old.reporting) }
+    // Reads, judges and stores the relocations of a record in one walk.
+    fn store_each_relocation(
+        &mut self,
+        unread: &mut UnreadRelocations<'_>,
+    ) -> Result<Result<(), ModuleFault>, RecordFault>
+        ensures read { checked result ≡ checked (relocations_of unread.old) }
+        ensures judged { IfOk result (λ judged. RulesTake self.old.known self.new.known
+            (relocated_parts (relocations_left unread.old)) judged) }
+        ensures stored { IfOk result (λ judged. IfOk judged (λ _. self.new.reporting
+            ≡ with_held (held_with_all (planned self.old.reporting.plan) self.old.reporting.held
+            (relocations_left unread.old)) self.old.reporting)) }
         ensures begun { self.new.has_begun ≡ self.old.has_begun }
         ensures kept { self.new.fault ≡ self.old.fault }
     {
-        'relocations: for relocation in record.each_relocation() {
-            match self.store_relocation(relocation) {
-                Ok(()) => {}
+        'relocations: loop {
+            match unread.read_next() {
+                Ok(Some(relocation)) => match self.store_relocation(relocation) {
+                    Ok(()) => {}
+                    Err(fault) => return refuse(unread, fault),
+                },
+                Ok(None) => return Ok(Ok(())),
                 Err(fault) => return Err(fault),
             }
         }
-        Ok(())
     }
 
     // Judges a relocation and stores it in the text that is held.
@@ -318,7 +339,7 @@ impl Emit {
         map: &mut Option<T>,
         messages: &mut U,
     ) -> Result<(), LinkFault>
-        requires { record_kind «record».now ≢ Ok RecordKind.Relocations }
+        requires { (record_kind «record».now ≢ Ok kind.Relocations) × (record_kind «record».now ≢ Ok kind.Text) }
         ensures writes { Goes
             (outputs_of S.Sink T.Sink U.Sink tape.old map.old messages.old)
             (outputs_of S.Sink T.Sink U.Sink tape.new map.new messages.new)
@@ -331,6 +352,30 @@ impl Emit {
     {
         self.begin(map, messages)?;
         self.reporter.note(location, record, tape, messages)
+    }
+
+    // Holds a text that stands at this location, and writes the one that was held, and before it what is written first.
+    fn write_text<S: Sink, T: Sink, U: Sink>(
+        &mut self,
+        location: ModuleSection,
+        address: u16,
+        bytes: &[u8],
+        tape: &mut S,
+        map: &mut Option<T>,
+        messages: &mut U,
+    ) -> Result<(), LinkFault>
+        requires { length bytes.now ≤ content_limit }
+        ensures writes { Goes
+            (outputs_of S.Sink T.Sink U.Sink tape.old map.old messages.old)
+            (outputs_of S.Sink T.Sink U.Sink tape.new map.new messages.new)
+            (begin_writes self.old ++ held_writes (begun_reporting self.old).held) self.new
+            (with_reporting (with_text location.module_index location.section address bytes.now
+            (begun_reporting self.old)) self.old) result }
+        ensures kept { self.new.fault ≡ self.old.fault }
+        ensures stays { is_some map.new ≡ is_some map.old }
+    {
+        self.begin(map, messages)?;
+        self.reporter.note_text(location, address, bytes, tape)
     }
 
     // What `end_file` does where no fault came before. After a whole module no text is held.

@@ -1,12 +1,14 @@
 //! What is made of records after the front: messages on entries, and texts as blocks of the tape.
 
 ghost use Rattle.std.specs.Prelude.{◌≡◌, ◌≢◌, ◌≤◌, ◌==◌, [], ◌∷◌, ◌++◌, length, Ok, Some, None, is_some, IfErr};
+ghost use Rattle.m11_blocks.specs.Frames.{content_limit};
 ghost use Rattle.m11_obj.specs.Reading.{record_entries, record_kind};
+ghost use Rattle.m11_obj.specs.declared.records.RecordKind.TheVariants as kind;
 ghost use Rattle.m11_blocks.specs.Tapes.{tape_block};
 ghost use Rattle.m11_modules.specs.Names.{is_among};
 ghost use Rattle.m11_modules.specs.Rules.{defines};
 ghost use Rattle.m11_layout.specs.Sections.{attributes_by};
-ghost use Rattle.m11_link.specs.Emit.{Goes, EmitKeeps, bytes_writes, entries_writes, held_with, held_writes, with_bytes, with_count, with_entries, with_entry, with_held, with_name, with_symbol};
+ghost use Rattle.m11_link.specs.Emit.{Goes, EmitKeeps, bytes_writes, entries_writes, held_with, held_writes, with_bytes, with_count, with_entries, with_entry, with_held, with_name, with_symbol, with_text};
 ghost use Rattle.m11_link_text.specs.Findings.{planned};
 ghost use Rattle.m11_link.specs.Front.{front_writes};
 ghost use Rattle.m11_writes.specs.Outputs.{Output, optional_output, output_of};
@@ -88,8 +90,8 @@ impl Reporter {
         Ok(())
     }
 
-    /// Writes what a record makes that stands at this location. A text is held, since relocations may follow it, and any
-    /// record but relocations ends one that is held. Relocations are stored one by one, by `relocate`.
+    /// Writes what a record makes that stands at this location. Any record but relocations ends a text that is held. A
+    /// text is held by `note_text`, and relocations are stored one by one, by `relocate`.
     ///
     /// `Write` where an output failed; `NoMemory` where there is none for a block of the tape or a name.
     pub(crate) fn note<S: Sink, U: Sink>(
@@ -99,7 +101,7 @@ impl Reporter {
         tape: &mut S,
         messages: &mut U,
     ) -> Result<(), LinkFault>
-        requires { record_kind «record».now ≢ Ok RecordKind.Relocations }
+        requires { (record_kind «record».now ≢ Ok kind.Relocations) × (record_kind «record».now ≢ Ok kind.Text) }
         ensures { (map : Output) → Goes
             (outputs (output_of S.Sink tape.old) map (output_of U.Sink messages.old))
             (outputs (output_of S.Sink tape.new) map (output_of U.Sink messages.new))
@@ -109,15 +111,32 @@ impl Reporter {
         match record.kind() {
             RecordKind::Gsd => self.note_directory(location.module_index, record, tape, messages),
             RecordKind::EndOfGsd => self.end_text(tape),
-            RecordKind::Text => {
-                self.end_text(tape)?;
-                self.hold(location, record.text_address(), record.text_bytes());
-                Ok(())
-            }
-            RecordKind::Relocations => unreachable!(),
+            RecordKind::Text | RecordKind::Relocations => unreachable!(),
             RecordKind::InternalSymbols => Ok(()),
             RecordKind::EndOfModule => self.end_text(tape),
         }
+    }
+
+    /// Holds a text that stands at this location, since relocations may follow it. One that is held ends before it.
+    ///
+    /// `Write` where the tape failed; `NoMemory` where there is none for a block of it.
+    pub(crate) fn note_text<S: Sink>(
+        &mut self,
+        location: ModuleSection,
+        address: u16,
+        bytes: &[u8],
+        tape: &mut S,
+    ) -> Result<(), LinkFault>
+        requires { length bytes.now ≤ content_limit }
+        ensures { (map messages : Output) → Goes
+            (outputs (output_of S.Sink tape.old) map messages)
+            (outputs (output_of S.Sink tape.new) map messages)
+            (held_writes self.old.held) self.new
+            (with_text location.module_index location.section address bytes.now self.old) result }
+    {
+        self.end_text(tape)?;
+        self.hold(location, address, bytes);
+        Ok(())
     }
 
     /// The end of the text that is held: it is written as a block of the tape.

@@ -5,10 +5,12 @@
 mod checks;
 mod fault;
 mod laws;
+mod refusal;
 mod rules;
 mod stage;
 
 pub use checks::lies_within;
 pub use fault::ModuleFault;
 pub use laws::{files_are_in_order, ordered_records_are_files};
+pub use refusal::refuse;
 pub use rules::Rules;

@@ -22,7 +22,7 @@ ReadsContents bytes (Ok (contents.Text address text)) =
     (content_of bytes ≡ Ok (Text address text.now)) × (length text.now ≤ content_limit)
 ReadsContents bytes (Ok (contents.Relocations unread)) = content_of bytes ≡ unread_content unread
 ReadsContents bytes (Ok (contents.Other other)) =
-    (other ≡ bytes) × IsRecord bytes × (record_kind bytes ≢ Ok kind.Relocations)
+    (other ≡ bytes) × IsRecord bytes × (record_kind bytes ≢ Ok kind.Relocations) × (record_kind bytes ≢ Ok kind.Text)
 ReadsContents bytes (Err fault) = content_of bytes ≡ Err fault
 
 -- the next of the relocations that are still to be read, or none after the last; or the first fault

@@ -1,30 +1,45 @@
 use Rattle.std.proofs.Common.{◌∙◌}
-use Rattle.m11_obj.specs.Reading.{record_relocations}
-use Rattle.m11_modules.specs.Parts.{Relocated}
-use Rattle.m11_modules.proofs.Taking.{walk_taken, walk_refused, walk_ended}
+use Rattle.m11_obj.specs.Reading.{relocations_left}
+use Rattle.m11_modules.proofs.Unread.{all_taken, left_after, one_refused, one_taken, refused_judged, same_after}
 use Rattle.m11_link.proofs.Emitted.{relocating, stored_more}
 use Rattle.m11_link.proofs.emit.Emit.store_each_relocation.Goals as goal
 
 pub relocations-preserved : goal.relocations-preserved
-relocations-preserved c = record {
-  judged = walk_taken (λ relocation. Relocated relocation) c.args.self.now.known c.relocations.self.known
-      c.store_relocation.new.self.known (record_relocations c.args.record.now) c.relocations.relocation-iterator
-      c.next.new.self c.in-Some.relocation c.in-Ok.field-0 c.in-Some.ensures.steps c.relocations.invariant.judged
-      c.in-Ok.ensures.judged;
-  stored = stored_more c.relocations.self.reporting c.store_relocation.new.self.reporting
-      (relocating (record_relocations c.args.record.now) c.args.self.now.reporting) c.relocations.relocation-iterator
-      c.next.new.self c.in-Some.relocation c.in-Some.ensures.steps c.relocations.invariant.stored c.in-Ok.ensures.stored;
-  begun = c.in-Ok.ensures.begun ∙ c.relocations.invariant.begun;
-  kept = c.in-Ok.ensures.kept ∙ c.relocations.invariant.kept;
-}
+relocations-preserved c =
+    let i = c.relocations.invariant in
+    let all = c.args.unread.now in
+    let bytes = c.relocations.unread in
+    let rest = c.read_next.new.self in
+    let relocation = c.in-Ok-Some.relocation in
+    let first = (rw c.in-Ok-Some.field-0-is at c.in-Ok-Some.ensures).0 in
+    record {
+      read = same_after all bytes rest relocation i.read first;
+      judged = one_taken all bytes rest relocation i.read first c.args.self.now.known c.relocations.self.known
+          c.store_relocation.new.self.known c.in-Ok.field-0 i.judged c.in-Ok.ensures.judged;
+      stored = λ are. stored_more c.relocations.self.reporting c.store_relocation.new.self.reporting
+          (relocating (relocations_left all) c.args.self.now.reporting) (relocations_left bytes) (relocations_left rest)
+          relocation (left_after all bytes rest relocation i.read first are) (i.stored are) c.in-Ok.ensures.stored;
+      begun = c.in-Ok.ensures.begun ∙ i.begun;
+      kept = c.in-Ok.ensures.kept ∙ i.kept;
+    }
 
-pub returns-in-Err-clause-judged : goal.returns-in-Err-clause-judged
-returns-in-Err-clause-judged c = walk_refused (λ relocation. Relocated relocation) c.args.self.now.known
-    c.relocations.self.known c.store_relocation.new.self.known c.store_relocation.new.self.known
-    (record_relocations c.args.record.now) c.relocations.relocation-iterator c.next.new.self c.in-Some.relocation
-    c.in-Err.fault c.in-Some.ensures.steps c.relocations.invariant.judged c.in-Err.ensures.judged
+pub returns-in-Err-store_relocation-clause-judged : goal.returns-in-Err-store_relocation-clause-judged
+returns-in-Err-store_relocation-clause-judged c =
+    let i = c.relocations.invariant in
+    let all = c.args.unread.now in
+    let bytes = c.relocations.unread in
+    let rest = c.read_next.new.self in
+    let relocation = c.in-Ok-Some.relocation in
+    let first = (rw c.in-Ok-Some.field-0-is at c.in-Ok-Some.ensures).0 in
+    let fault = c.in-Err-store_relocation.fault in
+    refused_judged c.args.self.now.known c.store_relocation.new.self.known all fault c.refuse.result
+    c.refuse.ensures.refused (c.refuse.ensures.read ∙ same_after all bytes rest relocation i.read first)
+    (one_refused all bytes rest relocation i.read first c.args.self.now.known c.relocations.self.known
+    c.store_relocation.new.self.known c.store_relocation.new.self.known fault i.judged
+    c.in-Err-store_relocation.ensures.judged)
 
-pub returns-clause-judged : goal.returns-clause-judged
-returns-clause-judged c = walk_ended (λ relocation. Relocated relocation) c.args.self.now.known c.relocations.self.known
-    (record_relocations c.args.record.now) c.relocations.relocation-iterator tt c.in-None.ensures.steps.0
-    c.relocations.invariant.judged
+pub returns-in-Ok-None-clause-judged : goal.returns-in-Ok-None-clause-judged
+returns-in-Ok-None-clause-judged c =
+    let i = c.relocations.invariant in
+    all_taken c.args.unread.now c.relocations.unread i.read (rw c.in-Ok-None.field-0-is at c.in-Ok-None.ensures)
+    c.args.self.now.known c.relocations.self.known tt i.judged

@@ -1,0 +1,20 @@
+//! The refusal of a record whose relocations are judged while they are read.
+
+ghost use Rattle.std.specs.Prelude.{◌≡◌, Err, IfOk};
+ghost use Rattle.m11_obj.specs.Reading.{checked, relocations_of};
+
+use crate::fault::ModuleFault;
+use m11_obj::{RecordFault, UnreadRelocations};
+
+/// Refuses a record of which a part has this fault. What is left of its relocations is read first, since a fault of the
+/// record itself comes before those of its parts: it is the outer result, and the part's the inner one.
+pub fn refuse(
+    unread: &UnreadRelocations<'_>,
+    fault: ModuleFault,
+) -> Result<Result<(), ModuleFault>, RecordFault>
+    ensures read { checked result ≡ checked (relocations_of unread.now) }
+    ensures refused { IfOk result (λ judged. judged ≡ Err fault) }
+{
+    unread.check()?;
+    Ok(Err(fault))
+}
