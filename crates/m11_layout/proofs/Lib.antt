@@ -32,3 +32,4 @@ pub mod TransferSteps
 pub mod TransfersGathered
 pub mod TransfersKnown
 pub mod Walking
+pub mod Listing

@@ -1,6 +1,6 @@
 -- What a plan says of what was gathered. (This project's own. That it is what Sections.antt and Globals.antt say of
 -- all parts is proved.)
-use Rattle.std.specs.Prelude.{◌≡◌, get_or, map, min, option_and_then, true, false, ℕ, ◌+◌, ◌*◌, ◌%◌, ◌≤◌, nat_lt, length, List, [], ◌∷◌, ◌++◌, Option, Some, None, Result, Ok, Err, if◌then◌else◌}
+use Rattle.std.specs.Prelude.{◌≡◌, get_or, slice_get, map, min, option_and_then, true, false, ℕ, ◌+◌, ◌*◌, ◌%◌, ◌≤◌, nat_lt, length, List, [], ◌∷◌, ◌++◌, Option, Some, None, Result, Ok, Err, if◌then◌else◌}
 use Rattle.std.specs.Map.{keys_of, lookup}
 use Rattle.std.specs.Option.{is_some, unwrap_or}
 use Rattle.indexmap.specs.IndexMap.{insert_entry}
@@ -94,9 +94,18 @@ planned_base plan module_index name = after_offset
     (lookup (is_contribution (module_index, name)) plan.gathered.contributions)
     (planned_section_base plan name)
 
+-- the bases of all contributions, in order
+abbrev pub contribution_bases : Planned → List ℕ
+contribution_bases plan = map (λ entry. after_offset (Some entry.1) (planned_section_base plan entry.0.1))
+    plan.gathered.contributions
+
 abbrev pub value_at : Planned → ℕ → GlobalPlace → ℕ
 value_at plan module_index (Absolute value) = value
 value_at plan module_index (In section value) = (planned_base plan module_index section + value) % 0o200000
+
+-- the values of all globals that are defined, in order
+abbrev pub definition_values : Planned → List ℕ
+definition_values plan = map (λ entry. value_at plan entry.1.module_index entry.1.place) plan.gathered.definitions
 
 abbrev pub defined_value : Planned → Option Definition → Option ℕ
 defined_value plan None = None
@@ -138,6 +147,15 @@ section_planned plan section = record {
 -- the sections in order of first appearance
 unfoldable pub planned_sections : Planned → List PlannedSection
 planned_sections plan = map (section_planned plan) plan.gathered.sections
+
+-- what stands in the first list stands in the second one, at the same index
+abbrev pub Agrees : List ℕ → List ℕ → Type 0
+Agrees some all = (index value : ℕ) → slice_get some index ≡ Some value → slice_get all index ≡ Some value
+
+-- bases of contributions and values of globals that a plan has listed
+pub record Lists (plan : Planned) (bases values : List ℕ) : Type 0 where
+  pub bases_agree : Agrees bases (contribution_bases plan)
+  pub values_agree : Agrees values (definition_values plan)
 
 abbrev pub global_planned : Planned → Name × Definition → PlannedGlobal
 global_planned plan global = record {

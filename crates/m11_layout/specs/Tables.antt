@@ -1,6 +1,6 @@
 -- What a layout gathers of the parts of objects, and how it goes on from part to part. (This project's own. That it is
 -- what Sections.antt and Globals.antt say of all parts is proved.)
-use Rattle.std.specs.Prelude.{◌≡◌, ℕ, ◌+◌, ◌==◌, max, min, Bool, true, false, ◌&&◌, ◌||◌, not, List, [], ◌∷◌, ◌++◌, length, ⊤, Option, Some, None, Result, Ok, Err, if◌then◌else◌}
+use Rattle.std.specs.Prelude.{◌≡◌, ℕ, ◌+◌, ◌==◌, max, min, Bool, true, false, ◌&&◌, ◌||◌, not, List, [], ◌∷◌, ◌++◌, length, slice_get, ⊤, Option, Some, None, Result, Ok, Err, if◌then◌else◌}
 use Rattle.std.specs.Int.RustNames.{bit_and}
 use Rattle.std.specs.Map.{lookup}
 use Rattle.std.specs.Option.{is_some, option_or, unwrap_or}
@@ -75,6 +75,11 @@ next_offset (Some total) = if is_concatenated total.attributes.0 then total.size
 
 abbrev pub is_contribution : ℕ × Name → ℕ × Name → Bool
 is_contribution one other = (one.0 == other.0) && is_same_name one.1 other.1
+
+-- the contribution of a module to a section stands at this index, and lies at this offset
+abbrev pub StandsAt : ℕ × Name → ℕ → ℕ → List ((ℕ × Name) × ℕ) → Type 0
+StandsAt key index offset contributions = (stored : ℕ × Name)
+    × (slice_get contributions index ≡ Some (stored, offset)) × (is_contribution key stored ≡ true)
 
 abbrev pub with_total : Name → Total → Gathered → Gathered
 with_total name total g = record g { sections = insert_entry is_same_name g.sections name total }

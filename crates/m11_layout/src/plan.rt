@@ -1,8 +1,8 @@
 //! What the first pass of a link has found: the plan for the second.
 
-ghost use Rattle.std.specs.Prelude.{◌≡◌, ◌<◌, Some, length, min, slice_get};
+ghost use Rattle.std.specs.Prelude.{◌≡◌, ◌+◌, ◌%◌, ◌<◌, IfErr, IfOk, Some, length, min, slice_get};
 ghost use Rattle.std.specs.Option.{option_map};
-ghost use Rattle.m11_layout.specs.Plan.{Plans, planned_attributes, planned_base, planned_globals, planned_module, planned_section_base, planned_sections, planned_transfer, planned_value, value_at};
+ghost use Rattle.m11_layout.specs.Plan.{Plans, contribution_bases, definition_values, planned_attributes, planned_base, planned_globals, planned_module, planned_section_base, planned_sections, planned_transfer, planned_value, value_at};
 ghost use Rattle.m11_layout.specs.Sections.{most_size};
 
 use crate::bases::place_all;
@@ -21,16 +21,24 @@ use std::marker::Model;
 pub struct Plan {
     pub(crate) tables: Tables,
     pub(crate) bases: IndexMap<Name, u16>,
+    // The bases of contributions and the values of globals, at the indices that those have in the tables. They are found
+    // once, since each relocation asks for one of them.
+    contribution_bases: Vec<u16>,
+    values: Vec<u16>,
     pub(crate) bottom: u16,
     pub(crate) top: u16,
 }
 
 impl Model for Plan {
-    ghost use Rattle.m11_layout.specs.Plan.{Planned};
+    ghost use Rattle.m11_layout.specs.Plan.{Planned, Lists};
 
     ghost Value = { Planned };
 
     ghost view = { λ p. record { gathered = p.tables; bases = p.bases.entries; bottom = p.bottom; top = p.top } };
+
+    ghost invariant = { λ p. Lists
+        (record { gathered = p.tables; bases = p.bases.entries; bottom = p.bottom; top = p.top })
+        p.contribution_bases.items p.values.items };
 }
 
 // The greatest size that a word holds; no section of a plan has a greater one.
@@ -43,18 +51,37 @@ fn reported_size(size: u32) -> u16
     size.min(MOST_SIZE) as u16
 }
 
-/// The plan of what was gathered: `TooLarge` where a relocatable section ends past 160000.
+// The address that lies n bytes after a base.
+fn moved(base: u16, offset: u32) -> u16
+    ensures { result ≡ (base + offset) % 0o200000 }
+{
+    ((u32::from(base) + offset % 0o200000) % 0o200000) as u16
+}
+
+/// The plan of what was gathered: `TooLarge` where a relocatable section ends past 160000. `NoMemory` where there is no
+/// memory for a section or, where there are sections, for what is listed of their contributions and of globals.
 pub(crate) fn plan_of(alloc: Global, bottom: u16, tables: Tables) -> Result<Plan, LinkFault>
     ensures { Plans bottom tables result }
 {
     let mut bases = IndexMap::new(alloc);
     match place_all(&mut bases, bottom, &tables) {
-        Ok(top) => Ok(Plan {
-            tables,
-            bases,
-            bottom,
-            top,
-        }),
+        Ok(top) => {
+            let mut plan = Plan {
+                tables,
+                bases,
+                contribution_bases: Vec::new(alloc),
+                values: Vec::new(alloc),
+                bottom,
+                top,
+            };
+            match plan.list(alloc) {
+                Ok(()) => Ok(plan),
+                Err(fault) => {
+                    drop(plan);
+                    Err(fault)
+                }
+            }
+        }
         Err(fault) => {
             // by calls, which are proved sooner
             drop(bases);
@@ -69,11 +96,11 @@ impl Plan {
     pub fn base(&self, module_index: usize, section: Name) -> u16
         ensures { result ≡ planned_base self.now module_index section }
     {
-        match self.tables.offset(module_index, section) {
-            Some(offset) => {
-                let base = self.section_base(section);
-                ((u32::from(base) + offset % 0o200000) % 0o200000) as u16
-            }
+        match self.tables.contribution(module_index, section) {
+            Some((index, offset)) => match self.contribution_bases.get(index) {
+                Some(base) => *base,
+                None => moved(self.section_base(section), offset),
+            },
             None => 0,
         }
     }
@@ -89,8 +116,62 @@ impl Plan {
     pub fn value(&self, name: Name) -> Option<u16>
         ensures { result ≡ planned_value self.now name }
     {
-        let definition = self.tables.definition(name)?;
-        Some(self.value_at(definition.module_index, definition.place))
+        let index = self.tables.definition_index(name)?;
+        match self.values.get(index) {
+            Some(value) => Some(*value),
+            None => Some(self.defined_value(index)),
+        }
+    }
+
+    // The value of the global that is defined at an index below their number.
+    fn defined_value(&self, index: usize) -> u16
+        requires { index < length self.now.gathered.definitions }
+        ensures { slice_get (definition_values self.now) index ≡ Some result }
+    {
+        let (_, definition) = self.tables.definition_at(index);
+        self.value_at(definition.module_index, definition.place)
+    }
+
+    // Lists the bases of contributions and the values of globals. Where there are no sections there are no contributions,
+    // and globals are absolute: nothing is listed, and no memory is asked for.
+    fn list(&mut self, alloc: Global) -> Result<(), LinkFault>
+        ensures same { self.new ≡ self.old }
+        ensures no_memory { IfErr result (λ fault. fault ≡ LinkFault.NoMemory) }
+        ensures some { IfErr result (λ _. 0 < length self.old.gathered.sections) }
+    {
+        if self.tables.section_count() == 0 {
+            return Ok(());
+        }
+        self.contribution_bases = self.listed_bases(alloc)?;
+        self.values = self.listed_values(alloc)?;
+        Ok(())
+    }
+
+    // The bases of all contributions, in order.
+    fn listed_bases(&self, alloc: Global) -> Result<Vec<u16>, LinkFault>
+        ensures bases { IfOk result (λ bases. bases.items ≡ contribution_bases self.now) }
+        ensures no_memory { IfErr result (λ fault. fault ≡ LinkFault.NoMemory) }
+    {
+        let count = self.tables.contribution_count();
+        let mut listed = Vec::with_capacity(alloc, count)?;
+        'contributions: for index in 0..count {
+            let (section, offset) = self.tables.contribution_at(index);
+            listed.push(moved(self.section_base(section), offset))?;
+        }
+        Ok(listed)
+    }
+
+    // The values of all globals that are defined, in order.
+    fn listed_values(&self, alloc: Global) -> Result<Vec<u16>, LinkFault>
+        ensures values { IfOk result (λ values. values.items ≡ definition_values self.now) }
+        ensures no_memory { IfErr result (λ fault. fault ≡ LinkFault.NoMemory) }
+    {
+        let count = self.tables.definition_count();
+        let mut listed = Vec::with_capacity(alloc, count)?;
+        'globals: for index in 0..count {
+            listed.push(self.defined_value(index))?;
+        }
+        Ok(listed)
     }
 
     // The value of a global that a module defines at this place.

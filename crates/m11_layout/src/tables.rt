@@ -1,6 +1,6 @@
 //! The tables that a layout gathers while records come.
 
-ghost use Rattle.std.specs.Prelude.{◌≡◌, ◌≢◌, ◌≤◌, ◌<◌, IfErr, Ok, Some, get_or, is_some, length, map, slice_get, true};
+ghost use Rattle.std.specs.Prelude.{◌≡◌, ◌≢◌, ◌≤◌, ◌<◌, IfErr, IfSome, Ok, Some, get_or, is_some, option_map, length, map, slice_get, true};
 ghost use Rattle.m11_obj.specs.Reading.{record_entries, record_kind};
 ghost use Rattle.m11_modules.specs.Parts.{Entry};
 ghost use Rattle.m11_modules.specs.Parts.{record_parts};
@@ -8,7 +8,7 @@ ghost use Rattle.std.specs.Map.{lookup};
 ghost use Rattle.m11_base.specs.Names.{blank_name};
 ghost use Rattle.m11_base.specs.Rad50.{is_same_name};
 ghost use Rattle.m11_modules.specs.Places.{global_of};
-ghost use Rattle.m11_layout.specs.Tables.{TablesKeep, is_contribution, contributed, gathered_after_all, nothing_gathered, entered_total, is_concatenated, is_even_after, is_relocated, joined, next_offset, settled, total_after, with_definition, with_end, with_entry, with_name, with_reference, with_relocated, with_contribution, with_section, with_settled, with_symbol, with_total, with_transfer, with_weak};
+ghost use Rattle.m11_layout.specs.Tables.{StandsAt, TablesKeep, is_contribution, contributed, gathered_after_all, nothing_gathered, entered_total, is_concatenated, is_even_after, is_relocated, joined, next_offset, settled, total_after, with_definition, with_end, with_entry, with_name, with_reference, with_relocated, with_contribution, with_section, with_settled, with_symbol, with_total, with_transfer, with_weak};
 ghost use Rattle.m11_layout.specs.Globals.{place_of};
 ghost use Rattle.m11_layout.specs.Sections.{control_attributes};
 
@@ -202,18 +202,44 @@ impl Tables {
         self.sections.get(&name).copied()
     }
 
-    /// Where in a section the contribution of a module lies, if there is one.
-    pub(crate) fn offset(&self, module_index: usize, section: Name) -> Option<u32>
-        ensures { result ≡ lookup (is_contribution (module_index, section)) self.now.contributions }
+    /// The index of the contribution of a module to a section, and where it lies in the section, if there is one.
+    pub(crate) fn contribution(&self, module_index: usize, section: Name) -> Option<(usize, u32)>
+        ensures offset { option_map (λ found. found.1) result
+            ≡ lookup (is_contribution (module_index, section)) self.now.contributions }
+        ensures at { IfSome result (λ found. StandsAt (module_index, section) found.0 found.1 self.now.contributions) }
     {
-        self.contributions.get(&(module_index, section)).copied()
+        match self.contributions.get_full(&(module_index, section)) {
+            Some((index, _, offset)) => Some((index, *offset)),
+            None => None,
+        }
     }
 
-    /// The first definition of a global.
-    pub(crate) fn definition(&self, name: Name) -> Option<Definition>
-        ensures { result ≡ lookup (is_same_name name) self.now.definitions }
+    /// The number of contributions.
+    pub(crate) fn contribution_count(&self) -> usize
+        ensures { result ≡ length self.now.contributions }
     {
-        self.definitions.get(&name).copied()
+        self.contributions.len()
+    }
+
+    /// The section of the contribution at an index below their number, and where it lies in the section.
+    pub(crate) fn contribution_at(&self, index: usize) -> (Name, u32)
+        requires { index < length self.now.contributions }
+        ensures { option_map (λ entry. (entry.0.1, entry.1)) (slice_get self.now.contributions index) ≡ Some result }
+    {
+        match self.contributions.get_index(index) {
+            Some((key, offset)) => (key.1, *offset),
+            None => unreachable!(),
+        }
+    }
+
+    /// The index of the first definition of a global.
+    pub(crate) fn definition_index(&self, name: Name) -> Option<usize>
+        ensures found { is_some result ≡ is_some (lookup (is_same_name name) self.now.definitions) }
+        ensures at { IfSome result (λ index. slice_get (map (λ entry. entry.1) self.now.definitions) index
+            ≡ lookup (is_same_name name) self.now.definitions) }
+        ensures within { IfSome result (λ index. index < length self.now.definitions) }
+    {
+        self.definitions.get_index_of(&name)
     }
 
     /// The number of globals that are defined.
@@ -329,12 +355,15 @@ impl Tables {
         self.note_contribution(entry.name, next_offset(found))
     }
 
-    // A reference to a global.
+    // A reference to a global. One that is strong stays so.
     fn note_reference(&mut self, name: Name, is_strong: bool) -> Result<(), AllocError>
         ensures { TablesKeep self.new (with_reference name is_strong self.old) result }
     {
         let was_strong = self.references.get(&name).copied().unwrap_or(false);
-        self.references.insert(name, was_strong || is_strong)?;
+        if was_strong {
+            return Ok(());
+        }
+        self.references.insert(name, is_strong)?;
         Ok(())
     }
 
