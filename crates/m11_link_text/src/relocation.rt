@@ -61,20 +61,6 @@ fn value_of(plan: &Plan, origin: Origin, location: u16, target: Target) -> u16
     }
 }
 
-// The bytes of a value: its word, or its low byte.
-fn value_bytes(is_byte: bool, value: u16) -> ArrayVec<u8, 4>
-    ensures bytes { result.items ≡ spec.value_bytes is_byte value }
-    ensures width { array_vec_len result ≡ (if is_byte then 1 else 2) }
-{
-    let mut bytes = ArrayVec::new();
-    if is_byte {
-        bytes.push((value % 256) as u8);
-    } else {
-        put_word(&mut bytes, value);
-    }
-    bytes
-}
-
 // Adds a word, its low byte first.
 fn put_word(bytes: &mut ArrayVec<u8, 4>, word: u16)
     requires { array_vec_len bytes.old ≤ 2 }
@@ -97,31 +83,53 @@ fn limit_bytes(plan: &Plan) -> ArrayVec<u8, 4>
     bytes
 }
 
-// The bytes that a relocation stores at a location.
-fn stored_bytes(
-    plan: &Plan,
-    origin: Origin,
-    location: u16,
-    relocation: &Relocation,
-) -> ArrayVec<u8, 4>
-    ensures bytes { result.items ≡ spec.stored_bytes (planned plan.now) origin.module_index origin.base location
-        relocation.now.is_byte relocation.now.target }
-    ensures width { array_vec_len result ≤ width_of relocation.now.is_byte relocation.now.target }
-{
-    match relocation.target {
-        Target::ProgramLimits => limit_bytes(plan),
-        Target::LocationCounterDefinition(_, _) => ArrayVec::new(),
-        Target::LocationCounterModification(_) => ArrayVec::new(),
-        target => value_bytes(relocation.is_byte, value_of(plan, origin, location, target)),
-    }
-}
-
-// Puts bytes in the place of those that stand at an index of a text.
+// Puts bytes in the place of those that stand at an index of a text. It is inlined, so that a word is stored at once.
+#[inline(always)]
 fn replace(text: &mut [u8], index: usize, bytes: &[u8])
     requires { index + length bytes.now ≤ length text.old }
     ensures { text.new ≡ spec.replaced text.old index bytes.now }
 {
     text[index..index + bytes.len()].copy_from_slice(bytes);
+}
+
+// Stores a value: its word, or its low byte.
+fn store_value(text: &mut [u8], index: usize, is_byte: bool, value: u16)
+    requires { index + (if is_byte then 1 else 2) ≤ length text.old }
+    ensures { text.new ≡ spec.replaced text.old index (spec.value_bytes is_byte value) }
+{
+    if is_byte {
+        replace(text, index, &[(value % 256) as u8]);
+    } else {
+        let mut pair = [0; 2];
+        LittleEndian::write_u16(&mut pair, value);
+        replace(text, index, &pair);
+    }
+}
+
+// Stores what a relocation stores at a location, which is that of an index of its text.
+fn store(
+    plan: &Plan,
+    origin: Origin,
+    location: u16,
+    relocation: &Relocation,
+    text: &mut [u8],
+    index: usize,
+)
+    requires { index + width_of relocation.now.is_byte relocation.now.target ≤ length text.old }
+    ensures { text.new ≡ spec.replaced text.old index (spec.stored_bytes (planned plan.now) origin.module_index
+        origin.base location relocation.now.is_byte relocation.now.target) }
+{
+    match relocation.target {
+        Target::ProgramLimits => replace(text, index, limit_bytes(plan).as_slice()),
+        Target::LocationCounterDefinition(_, _) => replace(text, index, &[]),
+        Target::LocationCounterModification(_) => replace(text, index, &[]),
+        target => store_value(
+            text,
+            index,
+            relocation.is_byte,
+            value_of(plan, origin, location, target),
+        ),
+    }
 }
 
 /// Puts what a relocation stores into its text, which stands at this address in the module of this index; `base` is
@@ -141,7 +149,6 @@ pub fn relocate(
         let index = relocation.displacement - 4;
         let location = address.wrapping_add(u16::from(index));
         let origin = Origin { module_index, base };
-        let bytes = stored_bytes(plan, origin, location, relocation);
-        replace(text, usize::from(index), bytes.as_slice());
+        store(plan, origin, location, relocation, text, usize::from(index));
     }
 }
