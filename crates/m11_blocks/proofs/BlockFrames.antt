@@ -12,20 +12,9 @@ use Rattle.m11_blocks.specs.Blocks.{second, count_of, count, content_of, summed,
 use Rattle.m11_blocks.proofs.FrameReads.{second_takes, second_within, word_again, word_takes, word_within, closed_again, closed_takes, closed_within}
 use Rattle.m11_blocks.proofs.ReadSteps.{Bytes, bytes_after, bind_ok, bind_err, chosen, done, rest_is, value_is}
 use Rattle.m11_blocks.proofs.BlockParts.{after_start, after_second, after_count, after_content}
+pub use Rattle.m11_blocks.proofs.BlockParts.{count_again}
 
 -- ---- a block is read
-
-count_of_again : (n : ℕ) (rest : List ℕ) → n ≤ content_limit → count_of (n + 4) rest ≡ Ok (n, rest)
-count_of_again n rest fits =
-    let least : ltb (n + 4) 4 ≡ false = le-ltb (n + 4) 4 (omega arith) in
-    let most : ltb 516 (n + 4) ≡ false = le-ltb 516 (n + 4) (omega arith) in
-    let same : n + 4 - 4 ≡ n = omega arith in
-    rw (least, most, same) refl
-
-pub count_again : (n : ℕ) (rest : List ℕ) → n ≤ content_limit → count (word_bytes (n + 4) ++ rest) ≡ Ok (n, rest)
-count_again n rest fits =
-    ap (λ (r : Read BlockFault ℕ). r >>= λ length. count_of length.0 length.1) (word_again (n + 4) rest (omega arith))
-    ∙ count_of_again n rest fits
 
 content_again : (xs rest : List ℕ) → content_of (length xs) (xs ++ rest) ≡ Ok (xs, rest)
 content_again xs rest =

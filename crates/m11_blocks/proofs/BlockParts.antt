@@ -1,13 +1,15 @@
 -- A block is read part by part.
-use Rattle.std.proofs.Common.{◌≡◌, ◌≢◌, ◌<◌, ℕ, List, [], ◌∷◌, ◌++◌, length, length-append, Ok, Err, refl, arith}
-use Rattle.std.proofs.lemmas.Bool.{lt-ltb, ne_eqb}
+use Rattle.std.proofs.Common.{◌≡◌, ◌≢◌, ◌<◌, ◌≤◌, ◌+◌, ◌-◌, ◌∙◌, ap, false, ltb, ℕ, List, [], ◌∷◌, ◌++◌, length, length-append, Result, Ok, Err, refl, arith}
+use Rattle.std.proofs.lemmas.Bool.{le-ltb, lt-ltb, ne_eqb}
 use Rattle.m11_blocks.specs.declared.limited.Lack.{Lack}
 use Rattle.m11_blocks.specs.declared.limited.Lack.TheVariants as lack
 use Rattle.m11_blocks.specs.declared.block_fault.BlockFault.{BlockFault}
 use Rattle.m11_blocks.specs.declared.block_fault.BlockFault.TheVariants as fault
 use Rattle.m11_blocks.specs.Limited.{Place, Took, TookInto, Lacks, TookThenLacks, Inside, Refused, Read, ◌>>=◌, Why, Reads, Stops}
-use Rattle.m11_blocks.specs.Blocks.{start, second, count, content_of, summed, first_block, missing, why_of}
-use Rattle.m11_blocks.proofs.Limits.{took_nothing, took_then, first_stops, then_reads, then_stops}
+use Rattle.m11_blocks.specs.Frames.{content_limit, header, word_bytes}
+use Rattle.m11_blocks.specs.Blocks.{start, second, count, count_of, front_of, content_of, summed, first_block, missing, why_of}
+use Rattle.m11_blocks.proofs.FrameReads.{word_again}
+use Rattle.m11_blocks.proofs.Limits.{took_nothing, took_then, first_stops, reads_after, stops_after, then_reads, then_stops}
 use Rattle.m11_blocks.proofs.Limits.{missing_stops as stops_missing}
 
 -- a byte is missing inside a block
@@ -63,40 +65,90 @@ after_second second = count second.1 >>= after_count
 abbrev pub after_start : Unit {0} × List ℕ → Read BlockFault (List ℕ)
 after_start start = second start.1 >>= after_second
 
+-- ---- what stands before the content
+
+-- a count is read of its length
+count_of_again : (n : ℕ) (rest : List ℕ) → n ≤ content_limit → count_of (n + 4) rest ≡ Ok (n, rest)
+count_of_again n rest fits =
+    let least : ltb (n + 4) 4 ≡ false = le-ltb (n + 4) 4 (omega arith) in
+    let most : ltb 516 (n + 4) ≡ false = le-ltb 516 (n + 4) (omega arith) in
+    let same : n + 4 - 4 ≡ n = omega arith in
+    rw (least, most, same) refl
+
+pub count_again : (n : ℕ) (rest : List ℕ) → n ≤ content_limit → count (word_bytes (n + 4) ++ rest) ≡ Ok (n, rest)
+count_again n rest fits =
+    ap (λ (r : Read BlockFault ℕ). r >>= λ length. count_of length.0 length.1) (word_again (n + 4) rest (omega arith))
+    ∙ count_of_again n rest fits
+
+-- it is read part by part
+
+abbrev second_then : Unit {0} × List ℕ → Read BlockFault ℕ
+second_then second = count second.1
+
+abbrev start_then : Unit {0} × List ℕ → Read BlockFault ℕ
+start_then start = second start.1 >>= second_then
+
 module _ (a b : Place) where
-  pub start_stops : (why : Why BlockFault) → Stops start a b why → Stops first_block a b why
-  unfolding first_block
-  start_stops why s = first_stops start after_start a b why s
+  pub start_stops : (why : Why BlockFault) → Stops start a b why → Stops front_of a b why
+  start_stops why s = first_stops start start_then a b why s
 
   module _ (started : Reads start a b tt) (c : Place) where
-    pub second_stops : (why : Why BlockFault) → Stops second b c why → Stops first_block a c why
-    unfolding first_block
-    second_stops why s = then_stops start after_start a b c tt started why (first_stops second after_second b c why s)
+    pub second_stops : (why : Why BlockFault) → Stops second b c why → Stops front_of a c why
+    second_stops why s =
+        then_stops start start_then a b c tt started why (first_stops second second_then b c why s)
 
     module _ (begun : Reads second b c tt) (d : Place) where
-      pub count_stops : (why : Why BlockFault) → Stops count c d why → Stops first_block a d why
-      unfolding first_block
-      count_stops why s = then_stops start after_start a b d tt started why
-          (then_stops second after_second b c d tt begun why (first_stops count after_count c d why s))
+      pub count_stops : (why : Why BlockFault) → Stops count c d why → Stops front_of a d why
+      count_stops why s = then_stops start start_then a b d tt started why
+          (then_stops second second_then b c d tt begun why s)
 
-      module _ (n : ℕ) (counted : Reads count c d n) (e : Place) where
-        pub content_stops : (why : Why BlockFault) → Stops (content_of n) d e why → Stops first_block a e why
-        unfolding first_block
-        content_stops why s = then_stops start after_start a b e tt started why
-            (then_stops second after_second b c e tt begun why
-            (then_stops count after_count c d e n counted why (first_stops (content_of n) after_content d e why s)))
+      pub front_read : (n : ℕ) → Reads count c d n → Reads front_of a d n
+      front_read n r = then_reads start start_then a b d tt started n (then_reads second second_then b c d tt begun n r)
 
-        module _ (xs : List ℕ) (held : Reads (content_of n) d e xs) (f : Place) where
-          pub sum_stops : (why : Why BlockFault) → Stops (summed xs) e f why → Stops first_block a f why
-          unfolding first_block
-          sum_stops why s = then_stops start after_start a b f tt started why
-              (then_stops second after_second b c f tt begun why
-              (then_stops count after_count c d f n counted why
-              (then_stops (content_of n) after_content d e f xs held why s)))
+-- or all of it at once
+pub front_taken : (a b : Place) (n : ℕ) → n ≤ content_limit → Took a b (header n) → Reads front_of a b n
+front_taken a b n fits took = record { given = header n; took = took; is = λ rest. count_again n rest fits }
 
-          pub block_read : Reads (summed xs) e f xs → Reads first_block a f xs
-          unfolding first_block
-          block_read r = then_reads start after_start a b f tt started xs
-              (then_reads second after_second b c f tt begun xs
-              (then_reads count after_count c d f n counted xs
-              (then_reads (content_of n) after_content d e f xs held xs r)))
+bind_twice : {A B C E : Type 0} (r : Result A E) (f : A → Result B E) (g : B → Result C E)
+    → (r >>= λ x. f x >>= g) ≡ ((r >>= f) >>= g)
+bind_twice (Ok x) f g = refl
+bind_twice (Err e) f g = refl
+
+-- a block is what stands before its content, and then the others
+abbrev by_front : List ℕ → Read BlockFault (List ℕ)
+by_front bytes = front_of bytes >>= after_count
+
+by_second : (bytes : List ℕ) → after_start (tt, bytes) ≡ (start_then (tt, bytes) >>= after_count)
+by_second bytes = bind_twice (second bytes) second_then after_count
+
+by_start : (r : Read BlockFault (Unit {0})) → (r >>= after_start) ≡ ((r >>= start_then) >>= after_count)
+by_start (Ok x) = by_second x.1
+by_start (Err e) = refl
+
+is_by_front : (bytes : List ℕ) → first_block bytes ≡ by_front bytes
+unfolding first_block
+is_by_front bytes = by_start (start bytes)
+
+module _ (a b : Place) where
+  stops_so : (why : Why BlockFault) → Stops by_front a b why → Stops first_block a b why
+  stops_so why s = stops_after first_block by_front a a b [] (took_nothing a) is_by_front why s
+
+  reads_so : (xs : List ℕ) → Reads by_front a b xs → Reads first_block a b xs
+  reads_so xs r = reads_after first_block by_front a a b [] (took_nothing a) is_by_front xs r
+
+  pub front_stops : (why : Why BlockFault) → Stops front_of a b why → Stops first_block a b why
+  front_stops why s = stops_so why (first_stops front_of after_count a b why s)
+
+module _ (a b : Place) (n : ℕ) (counted : Reads front_of a b n) (c : Place) where
+  pub content_stops : (why : Why BlockFault) → Stops (content_of n) b c why → Stops first_block a c why
+  content_stops why s = stops_so a c why (then_stops front_of after_count a b c n counted why
+      (first_stops (content_of n) after_content b c why s))
+
+  module _ (xs : List ℕ) (held : Reads (content_of n) b c xs) (d : Place) where
+    pub sum_stops : (why : Why BlockFault) → Stops (summed xs) c d why → Stops first_block a d why
+    sum_stops why s = stops_so a d why (then_stops front_of after_count a b d n counted why
+        (then_stops (content_of n) after_content b c d xs held why s))
+
+    pub block_read : Reads (summed xs) c d xs → Reads first_block a d xs
+    block_read r = reads_so a d xs (then_reads front_of after_count a b d n counted xs
+        (then_reads (content_of n) after_content b c d xs held xs r))

@@ -31,6 +31,13 @@ count bytes = do
   length ← word bytes
   count_of length.0 length.1
 
+-- what stands before the content of the first block, as the count of the content
+abbrev pub front_of : Bytes → Read BlockFault ℕ
+front_of bytes = do
+  start ← start bytes
+  second ← second start.1
+  count second.1
+
 -- n bytes
 abbrev pub content_of : ℕ → Bytes → Read BlockFault Bytes
 content_of count bytes = if nat_lt (length bytes) count then Err Inside else Ok (take count bytes, drop count bytes)
@@ -94,6 +101,12 @@ abbrev pub ReadsStart : Place → Place → Result Bool BlockFault → Type 0
 ReadsStart old new (Ok true) = Reads start old new tt
 ReadsStart old new (Ok false) = Stops start old new EndsBetween
 ReadsStart old new (Err e) = Stops start old new (why_of e)
+
+-- what stands before the content of a block was read, or the bytes ended before one, or why it was not
+abbrev pub ReadsFront : Place → Place → Result (Option ℕ) BlockFault → Type 0
+ReadsFront old new (Ok (Some count)) = Reads front_of old new count
+ReadsFront old new (Ok None) = Stops front_of old new EndsBetween
+ReadsFront old new (Err e) = Stops front_of old new (why_of e)
 
 -- a block was read, or the bytes ended before one, or why it was not
 abbrev pub ReadsBlock : {X : Type 0} → (X → Bytes) → Place → Place → Result (Option X) BlockFault → Type 0

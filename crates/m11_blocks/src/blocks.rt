@@ -1,15 +1,16 @@
 //! Reads the blocks of an object. (RT-11 Volume and File Formats Manual, "Object file format".)
 
-ghost use Rattle.std.specs.Prelude.{◌≡◌, ◌<◌, ◌≤◌, ◌↔◌, ℕ, List, length, true, false, Ok, Err, IfOk, IsErr, IsTrue};
+ghost use Rattle.std.specs.Prelude.{◌≡◌, ◌<◌, ◌≤◌, ◌↔◌, ℕ, List, length, take, true, false, Ok, Err, IfOk, IfSome, IsErr, IsTrue, MatchOption};
 ghost use Rattle.std.specs.Bool.{OnTrue, OnFalse};
 ghost use Rattle.std.specs.List.{AllByRecursion};
-ghost use Rattle.m11_blocks.specs.Frames.{content_limit, AreBlocks};
-ghost use Rattle.m11_blocks.specs.Limited.{place, most_bytes, Inside};
-ghost use Rattle.m11_blocks.specs.Blocks.{first_block, IsCut, AreRead, ReadsPart, ReadsStart, ReadsBlock, ReadsInto, second, count, content_of, summed};
+ghost use Rattle.m11_blocks.specs.Frames.{content_limit, header, AreBlocks};
+ghost use Rattle.m11_blocks.specs.Limited.{place, most_bytes, Inside, Took};
+ghost use Rattle.m11_blocks.specs.Blocks.{first_block, IsCut, AreRead, ReadsPart, ReadsStart, ReadsFront, ReadsBlock, ReadsInto, second, count, content_of, summed};
 
 use crate::block_fault::BlockFault;
 use crate::frames::{Block, block_sum};
 use crate::limited::{Lack, MOST_BYTES, next_byte, next_word, take_ready};
+use byteorder::{ByteOrder, LittleEndian};
 use m11_base::Feed;
 use std::marker::Model;
 
@@ -94,6 +95,69 @@ fn read_sum<F: Feed>(feed: &mut F, room: &mut u32, content: &Block) -> Result<()
     Ok(())
 }
 
+// The count of the content of a block, where these bytes begin with all that stands before it.
+fn front_count(bytes: &[u8]) -> Option<u16>
+    ensures { IfSome result (λ n. (n ≤ content_limit) × (4 ≤ length bytes.now) × (take 4 bytes.now ≡ header n)) }
+{
+    match bytes {
+        [1, 0, low, high, ..] => {
+            let length = LittleEndian::read_u16(&[*low, *high]);
+            if length < 4 || length > 516 {
+                return None;
+            }
+            Some(length - 4)
+        }
+        _ => None,
+    }
+}
+
+// Goes after what stands before the content of a block, where all of that is ready and within the limit. Else it takes
+// nothing.
+fn take_front<F: Feed>(feed: &mut F, room: &mut u32) -> Option<u16>
+    ensures { let old = place (F.text feed.old) (F.faults feed.old) room.old in
+        let new = place (F.text feed.new) (F.faults feed.new) room.new in
+        MatchOption result (new ≡ old) (λ n. (n ≤ content_limit) × Took old new (header n)) }
+{
+    if *room < 4 {
+        return None;
+    }
+    match front_count(feed.ready()) {
+        Some(count) => {
+            feed.pass(4);
+            *room -= 4;
+            Some(count)
+        }
+        None => None,
+    }
+}
+
+// Goes after what stands before the content of a block, byte by byte. It returns the count of the content, where there
+// is a block.
+fn read_front_bytes<F: Feed>(feed: &mut F, room: &mut u32) -> Result<Option<u16>, BlockFault>
+    ensures front { ReadsFront (place (F.text feed.old) (F.faults feed.old) room.old)
+        (place (F.text feed.new) (F.faults feed.new) room.new) result }
+    ensures fits { IfOk result (λ front. IfSome front (λ n. n ≤ content_limit)) }
+{
+    if !read_start(feed, room)? {
+        return Ok(None);
+    }
+    read_second(feed, room)?;
+    let count = read_count(feed, room)?;
+    Ok(Some(count))
+}
+
+// The same: at once, where all of it is ready.
+fn read_front<F: Feed>(feed: &mut F, room: &mut u32) -> Result<Option<u16>, BlockFault>
+    ensures front { ReadsFront (place (F.text feed.old) (F.faults feed.old) room.old)
+        (place (F.text feed.new) (F.faults feed.new) room.new) result }
+    ensures fits { IfOk result (λ front. IfSome front (λ n. n ≤ content_limit)) }
+{
+    match take_front(feed, room) {
+        Some(count) => Ok(Some(count)),
+        None => read_front_bytes(feed, room),
+    }
+}
+
 // The content of a block, in place of what stood there. It returns whether there is a block.
 fn read_block<F: Feed>(
     feed: &mut F,
@@ -103,14 +167,14 @@ fn read_block<F: Feed>(
     ensures { ReadsInto content.new.items (place (F.text feed.old) (F.faults feed.old) room.old)
         (place (F.text feed.new) (F.faults feed.new) room.new) result }
 {
-    if !read_start(feed, room)? {
-        return Ok(false);
+    match read_front(feed, room)? {
+        Some(count) => {
+            read_content(feed, room, count, content)?;
+            read_sum(feed, room, content)?;
+            Ok(true)
+        }
+        None => Ok(false),
     }
-    read_second(feed, room)?;
-    let count = read_count(feed, room)?;
-    read_content(feed, room, count, content)?;
-    read_sum(feed, room, content)?;
-    Ok(true)
 }
 
 /// What a reader reads one after another is exactly the blocks that the bytes hold, and it finds their end
