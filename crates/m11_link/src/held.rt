@@ -45,20 +45,27 @@ impl Model for HeldText {
 }
 
 impl HeldText {
-    /// A text whose address counts from the base of its section in its module.
-    pub(crate) fn new(plan: &Plan, location: ModuleSection, address: u16, bytes: &[u8]) -> HeldText
+    /// A text without bytes, of the first module, at 0.
+    pub(crate) fn new() -> HeldText {
+        HeldText {
+            module_index: 0,
+            base: 0,
+            address: 0,
+            bytes: ArrayVec::new(),
+        }
+    }
+
+    /// Becomes a text whose address counts from the base of its section in its module.
+    pub(crate) fn hold(&mut self, plan: &Plan, location: ModuleSection, address: u16, bytes: &[u8])
         requires { length bytes.now ≤ 512 }
-        ensures { result ≡ placed_text (planned plan.now) location.module_index location.section address bytes.now }
+        ensures { self.new ≡ placed_text (planned plan.now) location.module_index location.section address bytes.now }
     {
         let base = plan.base(location.module_index, location.section);
-        let mut held = ArrayVec::new();
-        held.try_extend_from_slice(bytes).unwrap();
-        HeldText {
-            module_index: location.module_index,
-            base,
-            address: base.wrapping_add(address),
-            bytes: held,
-        }
+        self.module_index = location.module_index;
+        self.base = base;
+        self.address = base.wrapping_add(address);
+        self.bytes.clear();
+        self.bytes.try_extend_from_slice(bytes).unwrap();
     }
 
     /// Stores one more relocation: the bytes at its place are replaced. One that doesn't lie within the text, which the

@@ -35,11 +35,14 @@ pub(crate) struct Reporter {
     alloc: Global,
     plan: Plan,
     defined: IndexSet<Name>,
-    held: Option<HeldText>,
+    // The text that is held, where one is. Its place is used again for the next.
+    text: HeldText,
+    is_held: bool,
     messages: u32,
 }
 
 impl Model for Reporter {
+    ghost use Rattle.std.specs.Prelude.{Some, None, if◌then◌else◌};
     ghost use Rattle.m11_link.specs.Emit.{Reporting};
 
     ghost Value = { Reporting };
@@ -47,7 +50,7 @@ impl Model for Reporter {
     ghost view = { λ t. record {
       plan = t.plan;
       defined = t.defined.keys;
-      held = t.held;
+      held = if t.is_held then Some t.text else None;
       messages = t.messages;
     } };
 }
@@ -60,7 +63,8 @@ impl Reporter {
             alloc,
             plan,
             defined: IndexSet::new(alloc),
-            held: None,
+            text: HeldText::new(),
+            is_held: false,
             messages: 0,
         }
     }
@@ -148,7 +152,7 @@ impl Reporter {
     {
         match self.put_held(tape) {
             Ok(()) => {
-                self.held = None;
+                self.is_held = false;
                 Ok(())
             }
             Err(fault) => Err(fault),
@@ -161,9 +165,10 @@ impl Reporter {
             (outputs (output_of S.Sink tape.old) map messages)
             (outputs (output_of S.Sink tape.new) map messages) (held_writes self.now.held) result }
     {
-        match &self.held {
-            Some(text) => text.put(self.alloc, tape),
-            None => Ok(()),
+        if self.is_held {
+            self.text.put(self.alloc, tape)
+        } else {
+            Ok(())
         }
     }
 
@@ -184,16 +189,16 @@ impl Reporter {
         ensures { self.new ≡ with_held (Some (placed_text (planned self.old.plan) location.module_index location.section
             address bytes.now)) self.old }
     {
-        self.held = Some(HeldText::new(&self.plan, location, address, bytes));
+        self.text.hold(&self.plan, location, address, bytes);
+        self.is_held = true;
     }
 
     /// Stores a relocation in the text that is held.
     pub(crate) fn relocate(&mut self, relocation: &Relocation)
         ensures { self.new ≡ with_held (held_with (planned self.old.plan) self.old.held relocation.now) self.old }
     {
-        match &mut self.held {
-            Some(text) => text.relocate(&self.plan, relocation),
-            None => {}
+        if self.is_held {
+            self.text.relocate(&self.plan, relocation);
         }
     }
 
