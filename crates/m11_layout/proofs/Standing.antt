@@ -2,8 +2,6 @@
 use Rattle.std.proofs.Common.{◌≡◌, ℕ, List, [], ◌∷◌, ◌++◌, append-nil, inl, Option, Some, None, Result, Ok, Err, IsErrAnd, refl, sym, subst}
 use Rattle.std.specs.Option.{option_or}
 use Rattle.std.proofs.Math.Seq.{append_snoc}
-use Rattle.m11_obj.specs.Reading.{◌>>=◌, content_of, record_of}
-use Rattle.m11_obj.specs.Records.{Content}
 use Rattle.m11_obj.specs.declared.fault.RecordFault.{RecordFault}
 use Rattle.m11_modules.specs.declared.fault.ModuleFault.{ModuleFault}
 use Rattle.m11_modules.specs.declared.fault.ModuleFault.TheVariants as rule
@@ -69,18 +67,6 @@ goes_on bottom before parts old new s t g b f =
       bottom_is = subst S s.bottom_is b;
       fault = subst T s.fault f;
     }
-
--- ---- blocks
-
-same_bytes : (content : Result Content RecordFault) (items bytes : List ℕ)
-    → ◌≡◌ {A = Result (List ℕ) RecordFault} (Ok bytes) (content >>= λ c. Ok items) → bytes ≡ items
-same_bytes (Ok c) items bytes e = search
-same_bytes (Err fault) items bytes e = search
-
--- a record's bytes are those of its block
-pub record_is : (items bytes : List ℕ) → ◌≡◌ {A = Result (List ℕ) RecordFault} (Ok bytes) (record_of items)
-    → bytes ≡ items
-record_is items bytes e = same_bytes (content_of items) items bytes e
 
 -- parts were judged and noted
 pub parts_taken : {seen new : LayoutState} (bottom : ℕ) (before parts : List Part) (old : LayoutState) → seen ≡ old
