@@ -1,8 +1,7 @@
 -- Entries whose messages are written one after another, and what stands after them. (This project's own words.)
-use Rattle.std.proofs.Common.{◌≡◌, ◌≤◌, ℕ, ◌+◌, cond, Bool, true, false, ◌&&◌, List, [], ◌∷◌, ◌++◌, length, drop, slice_get, option_map, is_some, Option, Some, None, Result, Ok, Err, IsErrAnd, sym, subst, ap, ap₂, refl, arith}
+use Rattle.std.proofs.Common.{◌≡◌, ◌≤◌, ℕ, ◌+◌, cond, Bool, true, false, ◌&&◌, List, [], ◌∷◌, ◌++◌, length, drop, slice_get, Option, Some, None, Result, Ok, Err, IsErrAnd, sym, subst, ap, refl, arith}
 use Rattle.std.specs.Bool.{◌==◌}
-use Rattle.std.specs.Option.{unwrap_or}
-use Rattle.std.proofs.lemmas.Bool.{eqb-true, false≢true, true≢false}
+use Rattle.std.proofs.lemmas.Bool.{eqb-true, true≢false}
 use Rattle.std.proofs.lemmas.List.{drop_all}
 use Rattle.m11_modules.proofs.Indexing.{drop_at}
 use Rattle.m11_layout.specs.declared.fault.LinkFault.{LinkFault}
