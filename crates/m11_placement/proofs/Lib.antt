@@ -9,6 +9,7 @@ pub mod FirmNames
 mod Forms
 mod LabelPlaces
 mod LinesFill
+pub mod NamesDefined
 mod PieceSizes
 mod PiecesInOrder
 mod SameLines

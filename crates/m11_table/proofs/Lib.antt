@@ -5,6 +5,7 @@ mod Following
 mod Found
 mod Inserting
 mod Moving
+mod NewKeys
 mod Parts
 mod Selecting
 mod Starting

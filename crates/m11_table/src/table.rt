@@ -1,7 +1,7 @@
 //! The table that the lines of a source fill. (MACRO-11 Language Reference Manual, "Symbols and expressions", "Local symbols", "Current
 //! location counter" and "Program section directives".)
 
-ghost use Rattle.std.specs.Prelude.{◌≡◌, ◌<◌, ◌≤◌, ◌+◌, ◌^◌, IfOk, IfSome, None, length, option_copied, slice_get};
+ghost use Rattle.std.specs.Prelude.{◌≡◌, ◌<◌, ◌≤◌, ◌+◌, ◌^◌, IfOk, IfSome, None, length, not, option_copied, slice_get};
 ghost use Rattle.std.specs.List.{list_any};
 ghost use Rattle.m11_base.specs.Names.{blank_name, name_in_words};
 ghost use Rattle.m11_base.specs.Rad50.{is_same_name};
@@ -400,9 +400,10 @@ impl Table {
         self.settings.block += 1;
     }
 
-    /// One more definition, which is then the last one of its key. Error: memory may be refused.
-    pub fn insert(&mut self, definition: &Definition) -> Result<(), AllocError>
-        ensures { IfOk result (λ _. Follows self.old self.new (with_definition definition.now)) }
+    /// One more definition, which is then the last one of its key. It says whether the key had none before. Error: memory may be refused.
+    pub fn insert(&mut self, definition: &Definition) -> Result<bool, AllocError>
+        ensures follows { IfOk result (λ _. Follows self.old self.new (with_definition definition.now)) }
+        ensures is_new { IfOk result (λ is_new. is_new ≡ not (is_defined definition.now.key self.old.definitions)) }
     {
         match &definition.key {
             Key::Named(name) => self.insert_name(*name, definition),
@@ -410,17 +411,18 @@ impl Table {
         }
     }
 
-    fn insert_name(&mut self, name: Name, definition: &Definition) -> Result<(), AllocError>
+    fn insert_name(&mut self, name: Name, definition: &Definition) -> Result<bool, AllocError>
         requires { definition.now.key ≡ Named name }
-        ensures { IfOk result (λ _. Follows self.old self.new (with_definition definition.now)) }
+        ensures follows { IfOk result (λ _. Follows self.old self.new (with_definition definition.now)) }
+        ensures is_new { IfOk result (λ is_new. is_new ≡ not (is_defined (Named name) self.old.definitions)) }
     {
         let entry = Entry {
             standing: definition.standing,
             is_firm: definition.is_firm,
             label: definition.label,
         };
-        self.names.insert(name, entry)?;
-        Ok(())
+        let before = self.names.insert(name, entry)?;
+        Ok(before.is_none())
     }
 
     fn insert_symbol(
@@ -428,17 +430,18 @@ impl Table {
         block: u64,
         number: u16,
         definition: &Definition,
-    ) -> Result<(), AllocError>
+    ) -> Result<bool, AllocError>
         requires { definition.now.key ≡ Numbered block number }
-        ensures { IfOk result (λ _. Follows self.old self.new (with_definition definition.now)) }
+        ensures follows { IfOk result (λ _. Follows self.old self.new (with_definition definition.now)) }
+        ensures is_new { IfOk result (λ is_new. is_new ≡ not (is_defined (Numbered block number) self.old.definitions)) }
     {
         let entry = Entry {
             standing: definition.standing,
             is_firm: definition.is_firm,
             label: definition.label,
         };
-        self.local_symbols.insert((block, number), entry)?;
-        Ok(())
+        let before = self.local_symbols.insert((block, number), entry)?;
+        Ok(before.is_none())
     }
 
     /// A key is doubled from here on. Error: memory may be refused.

@@ -7,4 +7,4 @@ use Rattle.m11_table.proofs.table.Table.add_register.Goals as goal
 pub returns : goal.returns
 returns c table alike =
     let P : Definition → Type 0 = λ d. Alike c.insert.new.self (with_definition d table) in
-    subst P c.register_named-register.ensures (c.in_ok-insert.ensures table alike)
+    subst P c.register_named-register.ensures (c.in_ok-insert.ensures.follows table alike)

@@ -1,8 +1,23 @@
+use Rattle.std.proofs.Common.{◌∙◌, ◌++◌, not, ap}
+use Rattle.m11_placement.specs.Definitions.{is_defined}
+use Rattle.m11_placement.specs.Tables.{Table}
+use Rattle.m11_placement.specs.declared.definitions.Key.TheVariants.{Named}
+use Rattle.m11_table.proofs.Found.{name_found}
+use Rattle.m11_table.proofs.NewKeys.{new_by}
+use Rattle.m11_table.specs.Entries.{definitions_by, symbol_key}
 use Rattle.m11_table.proofs.Following.{name_follows}
 use Rattle.m11_table.proofs.table.Table.insert_name.Goals as goal
 
-pub returns : goal.returns
-returns c =
+pub returns-clause-follows : goal.returns-clause-follows
+returns-clause-follows c =
     name_follows c.self.inside.names.entries c.self.inside.local_symbols.entries c.self.inside.doubled_names.keys
     c.self.inside.doubled_symbols.keys c.self.inside.globals.keys c.self.inside.sections.entries c.self.inside.counters
-    c.self.inside.settings c.args.self.now c.self.view_is c.args.name c.args.definition.now c.insert.new.self.entries c.in_ok-insert.ensures.entries c.requires
+    c.self.inside.settings c.args.self.now c.self.view_is c.args.name c.args.definition.now c.insert.new.self.entries c.in_ok-before.ensures.entries c.requires
+
+pub returns-clause-is_new : goal.returns-clause-is_new
+returns-clause-is_new c =
+    new_by (Named c.args.name)
+    (definitions_by Named c.self.inside.names.entries ++ definitions_by symbol_key c.self.inside.local_symbols.entries)
+    c.in_ok-before.before _ c.is_none.result c.is_none.ensures c.in_ok-before.ensures.old
+    (name_found c.args.name c.self.inside.names.entries c.self.inside.local_symbols.entries)
+    ∙ ap (λ (t : Table). not (is_defined (Named c.args.name) t.definitions)) c.self.view_is
