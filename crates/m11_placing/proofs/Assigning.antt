@@ -1,6 +1,7 @@
 -- What assignments and lists of names do to what a pass keeps.
-use Rattle.std.proofs.Common.{◌≡◌, ◌∙◌, ◌≤◌, ℕ, ◌-◌, ◌&&◌, not, Bool, true, false, if◌then◌else◌, List, [], ◌∷◌, ◌++◌, drop, get_or, length, take, Option, Some, None, Result, Ok, Err, IfOk, sym, ap, subst, arith}
+use Rattle.std.proofs.Common.{◌≡◌, ◌∙◌, ◌≤◌, ℕ, ◌+◌, ◌-◌, ◌&&◌, ◌||◌, not, Bool, true, false, cond, if◌then◌else◌, List, [], ◌∷◌, ◌++◌, drop, get_or, length, take, Option, Some, None, Result, Ok, Err, IfErr, IfOk, refl, sym, ap, subst, arith}
 use Rattle.std.proofs.lemmas.List.{append-nil, append_assoc, take_all}
+use Rattle.std.specs.Prelude.{nat_lt}
 use Rattle.m11_arguments.specs.Expressions.{symbols_at, value_at}
 use Rattle.m11_asm_faults.specs.declared.fault.AsmFault.{AsmFault}
 use Rattle.m11_base.specs.Devices.{Bytes}
@@ -10,6 +11,8 @@ use Rattle.m11_placement.specs.Assignments.{all_firm, assigned, standing_of}
 use Rattle.m11_placement.specs.Changes.{numbered, with_globals, with_number, with_value}
 use Rattle.m11_placement.specs.Definitions.{is_labelled}
 use Rattle.m11_placement.specs.Labels.{global_if, with_definition, with_doubled, with_global}
+use Rattle.m11_placement.proofs.NamesDefined.{one_more}
+use Rattle.m11_placement.specs.Limits.{has_too_many, is_local, local_count, most_defined_names, most_local_symbols, name_count, names_defined, with_defined}
 use Rattle.m11_placement.specs.Meanings.{Map, known_at}
 use Rattle.m11_placement.specs.Tables.{Table, place}
 use Rattle.m11_placement.specs.declared.definitions.Definition.{Definition}
@@ -20,6 +23,9 @@ use Rattle.m11_table.specs.Alike as tables
 use Rattle.m11_table.specs.Alike.{Alike}
 use Rattle.m11_values.specs.Quantities.{Quantity}
 use Rattle.m11_placing.proofs.Alike.{alike_assigned, alike_labelled}
+use Rattle.m11_placing.proofs.Passes.{counted_more}
+use Rattle.m11_placing.proofs.Room.{overfills}
+use Rattle.m11_placing.specs.Faults.{Overfills, Refuses}
 use Rattle.m11_placing.specs.Passes.{Follows, Kept, Matches}
 
 -- ---- assignments
@@ -53,6 +59,49 @@ assigns_so map key line start old new definition (Ok value) e follows = λ told 
     let P : Definition → Type 0 = λ d. Alike new (with_definition d told) in
     subst P (e ∙ alike_assigned old told alike map key line start) (follows told alike)
 assigns_so map key line start old new definition (Err fault) e follows = tt
+
+-- ---- an assignment is refused where its definition is one too many
+
+-- how many there are after a definition is known by its key
+defined_alike : (one other : Definition) (told : Table) → one.key ≡ other.key
+    → has_too_many (with_definition one told) ≡ has_too_many (with_definition other told)
+defined_alike one other told same =
+    let many : ℕ → ℕ → Bool = λ names symbols. nat_lt most_defined_names names || nat_lt most_local_symbols symbols in
+    let names : name_count (with_definition one told) ≡ name_count (with_definition other told)
+    = ap (λ (l : List Name). length l) (one_more told.definitions one [])
+    ∙ ap (λ (k : Key). length (with_defined k (names_defined told.definitions []))) same
+    ∙ sym (ap (λ (l : List Name). length l) (one_more told.definitions other [])) in
+    let symbols : local_count (with_definition one told) ≡ local_count (with_definition other told)
+    = counted_more one told.definitions told refl ∙ ap (λ (k : Key). local_count told + cond (is_local k) 1 0) same
+    ∙ sym (counted_more other told.definitions told refl) in
+    ap (λ (n : ℕ). many n (local_count (with_definition one told))) names ∙ ap (many (name_count (with_definition other told))) symbols
+
+pub overfills_assigned : {A : Type 0} (map : Map) (name : Name) (line : Bytes) (start : ℕ) (old : Kept) (definition : Definition)
+    (result : Result A AsmFault) → definition.key ≡ Named name
+    → IfErr result (λ fault. (told : Table) → Matches old told
+    → Refuses fault (has_too_many (with_definition definition told) ≡ true) ⊥)
+    → IfErr result (λ fault. (told : Table) → Matches old told
+    → Overfills fault (with_definition (assigned map told (Named name) line start) told))
+overfills_assigned map name line start old definition (Ok value) is refuses = tt
+overfills_assigned map name line start old definition (Err fault) is refuses = λ told matches.
+    let R : Bool → Type 0 = λ b. Refuses fault (b ≡ true) ⊥ in
+    overfills fault (with_definition (assigned map told (Named name) line start) told)
+    (subst R (defined_alike definition (assigned map told (Named name) line start) told is) (refuses told matches))
+
+global_overfills : (is_global : Bool) (name : Name) (fault : AsmFault) (after : Table) → Overfills fault after
+    → Overfills fault (global_if is_global name after)
+global_overfills true name fault after refuses = refuses
+global_overfills false name fault after refuses = refuses
+
+pub overfills_value : (map : Map) (name : Name) (line : Bytes) (start : ℕ) (is_global : Bool) (fault : AsmFault) (old : Kept) (told : Table)
+    → is_labelled (Named name) old.table.definitions ≡ false → Matches old told
+    → Overfills fault (with_definition (assigned map told (Named name) line start) told)
+    → Overfills fault (with_value map name is_global line start told)
+overfills_value map name line start is_global fault old told is matches refuses =
+    let there : is_labelled (Named name) told.definitions ≡ false
+    = sym (alike_labelled old.table told matches.alike (Named name)) ∙ is in
+    rw there
+    (global_overfills (is_global && not false) name fault (with_definition (assigned map told (Named name) line start) told) refuses)
 
 -- ---- a label's name becomes doubled, and any other one is defined
 

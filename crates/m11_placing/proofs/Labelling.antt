@@ -7,7 +7,8 @@ use Rattle.m11_base.specs.Devices.{Bytes}
 use Rattle.m11_base.specs.Rad50.{Name}
 use Rattle.m11_placement.specs.Definitions.{is_defined}
 use Rattle.m11_placement.specs.Labels.{global_if, key_letters, kind_letters, label_name, labelled, labels_letters, name_letters, with_block, with_definition, with_doubled, with_key, with_kind, with_label, with_labels, with_name}
-use Rattle.m11_placement.specs.Limits.{is_local, local_count, most_local_symbols}
+use Rattle.m11_placement.proofs.NamesDefined.{none_fewer}
+use Rattle.m11_placement.specs.Limits.{has_too_many, is_local, local_count, most_defined_names, most_local_symbols}
 use Rattle.m11_placement.specs.Tables.{Table}
 use Rattle.m11_placement.specs.declared.definitions.Definition.{Definition}
 use Rattle.m11_placement.specs.declared.definitions.Key.{Key}
@@ -18,7 +19,7 @@ use Rattle.m11_statements.specs.declared.labels.LabelKind.{LabelKind}
 use Rattle.m11_statements.specs.declared.labels.LabelKind.TheVariants as kind
 use Rattle.m11_placing.proofs.Alike.{alike_defined, same_labelled}
 use Rattle.m11_placing.proofs.Passes.{counted_more}
-use Rattle.m11_placing.proofs.Refusals.{refuses_more}
+use Rattle.m11_placing.proofs.Room.{AtLeast, as_many, few_told, refuses_more}
 use Rattle.m11_placing.specs.Faults.{Refuses}
 use Rattle.m11_placing.specs.Labels.{Defines, DefinesAll, FitsUpToLabel}
 use Rattle.m11_placing.specs.Passes.{Follows, Kept, Matches}
@@ -80,14 +81,14 @@ module _ (old new : Kept) where
       = sym (defined_there old told (Numbered old.table.settings.block number) matches) ∙ defined in
       subst P (key_of told number matches) (rw there (follows told matches, none))
 
-  -- the count of local symbols with the definition is that with the label
-  pub symbol_counted : (number : ℕ) (told : Table) → Matches old told
+  -- the table with the definition is that with the label
+  pub symbol_stands : (number : ℕ) (told : Table) → Matches old told
       → is_defined (Numbered old.table.settings.block number) old.table.definitions ≡ false
-      → local_count (with_definition (labelled told (Numbered old.table.settings.block number)) told)
-      ≡ local_count (with_key (Numbered told.settings.block number) told)
-  symbol_counted number told matches defined =
-      let P : Key → Type 0 = λ k. local_count (with_definition (labelled told (Numbered old.table.settings.block number)) told)
-      ≡ local_count (with_key k told) in
+      → with_definition (labelled told (Numbered old.table.settings.block number)) told
+      ≡ with_key (Numbered told.settings.block number) told
+  symbol_stands number told matches defined =
+      let P : Key → Type 0 = λ k. with_definition (labelled told (Numbered old.table.settings.block number)) told
+      ≡ with_key k told in
       let there : is_defined (Numbered old.table.settings.block number) told.definitions ≡ false
       = sym (defined_there old told (Numbered old.table.settings.block number) matches) ∙ defined in
       subst P (key_of told number matches) (rw there refl)
@@ -112,81 +113,104 @@ module _ (old new : Kept) (block number : ℕ) (is : block ≡ old.table.setting
       symbols_begin old new number letters (subst P is defined) none
       (subst Q is (labels_here old new (Numbered block number) definition e follows))
 
-  -- what is said of the count of local symbols with the definition, is said of that with the label
-  pub blocks_said : (Said : ℕ → Type 0) (definition : Definition) → is_defined (Numbered block number) old.table.definitions ≡ false
+  -- what is said of the table with the definition, is said of that with the label
+  pub blocks_said : (Said : Table → Type 0) (definition : Definition) → is_defined (Numbered block number) old.table.definitions ≡ false
       → definition ≡ labelled old.table (Numbered block number)
-      → ((told : Table) → Matches old told → Said (local_count (with_definition definition told)))
-      → (told : Table) → Matches old told → Said (local_count (with_key (Numbered told.settings.block number) told))
+      → ((told : Table) → Matches old told → Said (with_definition definition told))
+      → (told : Table) → Matches old told → Said (with_key (Numbered told.settings.block number) told)
   blocks_said Said definition defined e says told matches =
       let P : ℕ → Type 0 = λ b. is_defined (Numbered b number) old.table.definitions ≡ false in
       subst Said
-      (ap (λ (d : Definition). local_count (with_definition d told))
+      (ap (λ (d : Definition). with_definition d told)
       (e ∙ labelled_there old told (Numbered block number) matches
       ∙ ap (λ (b : ℕ). labelled told (Numbered b number)) is)
-      ∙ symbol_counted old new number told matches (subst P is defined))
+      ∙ symbol_stands old new number told matches (subst P is defined))
       (says told matches)
 
   -- a local symbol that is defined before is none more
-  pub blocks_known : is_defined (Numbered block number) old.table.definitions ≡ true → old.local_symbols ≤ most_local_symbols
-      → (told : Table) → Matches old told
-      → local_count (with_key (Numbered told.settings.block number) told) ≤ most_local_symbols
-  blocks_known defined few told matches =
+  pub blocks_known : is_defined (Numbered block number) old.table.definitions ≡ true → old.names ≤ most_defined_names
+      → old.local_symbols ≤ most_local_symbols → (told : Table) → Matches old told
+      → has_too_many (with_key (Numbered told.settings.block number) told) ≡ false
+  blocks_known defined few symbols told matches =
       let P : ℕ → Type 0 = λ b. is_defined (Numbered b number) told.definitions ≡ true in
-      let N : ℕ → Type 0 = λ n. n ≤ most_local_symbols in
       let there : is_defined (Numbered told.settings.block number) told.definitions ≡ true
       = subst P (is ∙ ap (λ (s : Settings). s.block) matches.alike.settings)
       (sym (defined_there old told (Numbered block number) matches) ∙ defined) in
-      rw there (subst N matches.local_symbols few)
+      rw there (few_told old told matches few symbols)
+
+-- what is said of the table with the definition of a name, is said of that with the label
+pub names_said : (Said : Table → Type 0) (old : Kept) (name : Name) (definition : Definition)
+    → definition ≡ labelled old.table (Named name) → ((told : Table) → Matches old told → Said (with_definition definition told))
+    → (told : Table) → Matches old told → Said (with_definition (labelled told (Named name)) told)
+names_said Said old name definition e says told matches =
+    subst Said (ap (λ (d : Definition). with_definition d told) (e ∙ labelled_there old told (Named name) matches)) (says told matches)
+
+-- a label whose name is new leaves as many names and local symbols as its definition
+opened_too_many : (is_global : Bool) (name : Name) (told : Table)
+    → has_too_many (global_if is_global name (with_block (with_definition (labelled told (Named name)) told)))
+    ≡ has_too_many (with_definition (labelled told (Named name)) told)
+opened_too_many true name told = refl
+opened_too_many false name told = refl
+
+module _ (old : Kept) (name : Name) (is_global : Bool) where
+  pub opens_said : (Said : Bool → Type 0) → is_defined (Named name) old.table.definitions ≡ false
+      → ((told : Table) → Matches old told → Said (has_too_many (with_definition (labelled told (Named name)) told)))
+      → (told : Table) → Matches old told → Said (has_too_many (with_name is_global told (Some name)))
+  opens_said Said defined says told matches =
+      let there : is_defined (Named name) told.definitions ≡ false = sym (defined_there old told (Named name) matches) ∙ defined in
+      rw there (subst Said (sym (opened_too_many is_global name told)) (says told matches))
+
+  -- a name that is defined before is none more
+  pub doubled_fits : is_defined (Named name) old.table.definitions ≡ true → old.names ≤ most_defined_names
+      → old.local_symbols ≤ most_local_symbols → (told : Table) → Matches old told
+      → has_too_many (with_name is_global told (Some name)) ≡ false
+  doubled_fits defined few symbols told matches =
+      let there : is_defined (Named name) told.definitions ≡ true = sym (defined_there old told (Named name) matches) ∙ defined in
+      rw there (few_told old told matches few symbols)
 
 -- ---- labels one after the other
 
-counts_more : (definition : Definition) (told : Table) → local_count told ≤ local_count (with_definition definition told)
+counts_more : (definition : Definition) (told : Table) → AtLeast told (with_definition definition told)
 counts_more definition told =
     let more : local_count (with_definition definition told) ≡ local_count told + cond (is_local definition.key) 1 0
     = counted_more definition told.definitions told refl in
-    omega (arith, more)
+    record { names = none_fewer definition told; symbols = omega (arith, more) }
 
-global_counts : (is_global : Bool) (name : Name) (told : Table) → local_count (global_if is_global name told) ≡ local_count told
-global_counts true name told = refl
-global_counts false name told = refl
-
-name_counts : (is_known is_global : Bool) (name : Name) (told : Table) → local_count told
-    ≤ local_count (if is_known then with_doubled (Named name) told
+name_counts : (is_known is_global : Bool) (name : Name) (told : Table) → AtLeast told
+    (if is_known then with_doubled (Named name) told
     else global_if is_global name (with_block (with_definition (labelled told (Named name)) told)))
-name_counts true is_global name told = omega arith
-name_counts false is_global name told =
-    let same : local_count (global_if is_global name (with_block (with_definition (labelled told (Named name)) told)))
-    ≡ local_count (with_definition (labelled told (Named name)) told)
-    = global_counts is_global name (with_block (with_definition (labelled told (Named name)) told)) in
-    let more : local_count told ≤ local_count (with_definition (labelled told (Named name)) told)
-    = counts_more (labelled told (Named name)) told in
-    omega (arith, same, more)
+name_counts true is_global name told = record { names = omega arith; symbols = omega arith }
+name_counts false true name told =
+    let more = counts_more (labelled told (Named name)) told in record { names = more.names; symbols = more.symbols }
+name_counts false false name told =
+    let more = counts_more (labelled told (Named name)) told in record { names = more.names; symbols = more.symbols }
 
-named_counts : (is_global : Bool) (told : Table) (name : Option Name) → local_count told ≤ local_count (with_name is_global told name)
+named_counts : (is_global : Bool) (told : Table) (name : Option Name) → AtLeast told (with_name is_global told name)
 named_counts is_global told (Some name) = name_counts (is_defined (Named name) told.definitions) is_global name told
-named_counts is_global told None = omega arith
+named_counts is_global told None = as_many told
 
 key_counts : (is_known : Bool) (key : Key) (told : Table)
-    → local_count told ≤ local_count (if is_known then with_doubled key told else with_definition (labelled told key) told)
-key_counts true key told = omega arith
+    → AtLeast told (if is_known then with_doubled key told else with_definition (labelled told key) told)
+key_counts true key told = record { names = omega arith; symbols = omega arith }
 key_counts false key told = counts_more (labelled told key) told
 
-kind_counts : (told : Table) (name : Option Name) (of : LabelKind) → local_count told ≤ local_count (with_kind told name of)
+kind_counts : (told : Table) (name : Option Name) (of : LabelKind) → AtLeast told (with_kind told name of)
 kind_counts told name kind.Ordinary = named_counts false told name
 kind_counts told name kind.Global = named_counts true told name
 kind_counts told name (kind.Local number) =
     key_counts (is_defined (Numbered told.settings.block number) told.definitions) (Numbered told.settings.block number) told
-kind_counts told name kind.Outside = omega arith
+kind_counts told name kind.Outside = as_many told
 
-pub labels_count : (line : Bytes) (told : Table) (labels : List Label)
-    → local_count told ≤ local_count (with_labels line told labels)
-labels_count line told [] = omega arith
+pub labels_count : (line : Bytes) (told : Table) (labels : List Label) → AtLeast told (with_labels line told labels)
+labels_count line told [] = as_many told
 labels_count line told (label ∷ labels) =
-    let first : local_count told ≤ local_count (with_label line told label)
-    = kind_counts told (label_name line label) label.kind in
-    let more : local_count (with_label line told label) ≤ local_count (with_labels line (with_label line told label) labels)
-    = labels_count line (with_label line told label) labels in
-    omega (arith, first, more)
+    let first = kind_counts told (label_name line label) label.kind in
+    let more = labels_count line (with_label line told label) labels in
+    let names = first.names in
+    let symbols = first.symbols in
+    let names_then = more.names in
+    let symbols_then = more.symbols in
+    record { names = omega (arith, names, names_then); symbols = omega (arith, symbols, symbols_then) }
 
 pub labels_defined : (line : Bytes) (label : Label) (others : List Label) (old middle new : Kept) (letters more : ℕ)
     → Defines old middle letters (λ told. with_label line told label)
@@ -223,60 +247,27 @@ first_defined line (label ∷ others) other old middle new letters more some fir
 
 pub first_refused : (line : Bytes) (labels : List Label) (other : Label) (fault : AsmFault) (old : Kept) → 1 ≤ length labels
     → ((told : Table) → Matches old told
-    → Refuses fault (most_local_symbols < local_count (with_label line told (get_or labels 0 other))) ⊥)
+    → Refuses fault (has_too_many (with_label line told (get_or labels 0 other)) ≡ true) ⊥)
     → (told : Table) → Matches old told
-    → Refuses fault (most_local_symbols < local_count (with_labels line told labels)) ⊥
+    → Refuses fault (has_too_many (with_labels line told labels) ≡ true) ⊥
 first_refused line [] other fault old some refuses told matches = absurd (none_first some)
 first_refused line (label ∷ others) other fault old some refuses told matches =
-    refuses_more fault most_local_symbols (local_count (with_label line told label)) (local_count (with_labels line told (label ∷ others)))
+    refuses_more fault (with_label line told label) (with_labels line told (label ∷ others))
     (labels_count line (with_label line told label) others) (refuses told matches)
 
--- ---- memory is refused at a label, and up to it there are no more local symbols than may be
-
-new_counts : (is_known is_global : Bool) (name : Name) (told : Table)
-    → local_count (if is_known then with_doubled (Named name) told
-    else global_if is_global name (with_block (with_definition (labelled told (Named name)) told))) ≡ local_count told
-new_counts true is_global name told = refl
-new_counts false is_global name told =
-    let same : local_count (global_if is_global name (with_block (with_definition (labelled told (Named name)) told)))
-    ≡ local_count (with_definition (labelled told (Named name)) told)
-    = global_counts is_global name (with_block (with_definition (labelled told (Named name)) told)) in
-    let none : local_count (with_definition (labelled told (Named name)) told) ≡ local_count told + 0
-    = counted_more (labelled told (Named name)) told.definitions told refl in
-    omega (arith, same, none)
-
-named_fits : (is_global : Bool) (told : Table) (name : Option Name) → local_count told ≤ most_local_symbols
-    → local_count (with_name is_global told name) ≤ most_local_symbols
-named_fits is_global told (Some name) few =
-    let N : ℕ → Type 0 = λ n. n ≤ most_local_symbols in
-    subst N (sym (new_counts (is_defined (Named name) told.definitions) is_global name told)) few
-named_fits is_global told None few = few
-
--- only a local label adds one
-pub kind_fits : (told : Table) (name : Option Name) (of : LabelKind) → local_count told ≤ most_local_symbols
-    → ((number : ℕ) → of ≡ kind.Local number
-    → local_count (with_key (Numbered told.settings.block number) told) ≤ most_local_symbols)
-    → local_count (with_kind told name of) ≤ most_local_symbols
-kind_fits told name kind.Ordinary few local = named_fits false told name few
-kind_fits told name kind.Global few local = named_fits true told name few
-kind_fits told name (kind.Local number) few local = local number refl
-kind_fits told name kind.Outside few local = few
-
-pub few_told : (old : Kept) (told : Table) → Matches old told → old.local_symbols ≤ most_local_symbols
-    → local_count told ≤ most_local_symbols
-few_told old told matches few = let N : ℕ → Type 0 = λ n. n ≤ most_local_symbols in subst N matches.local_symbols few
+-- ---- memory is refused at a label, and up to it there are no more names or local symbols than may be
 
 pub first_fits : (line : Bytes) (told : Table) (labels : List Label) (other : Label) → 1 ≤ length labels
-    → local_count (with_label line told (get_or labels 0 other)) ≤ most_local_symbols
-    → FitsUpToLabel labels (λ some. local_count (with_labels line told some) ≤ most_local_symbols)
+    → has_too_many (with_label line told (get_or labels 0 other)) ≡ false
+    → FitsUpToLabel labels (λ some. has_too_many (with_labels line told some) ≡ false)
 first_fits line told [] other some fits = absurd (none_first some)
 first_fits line told (label ∷ others) other some fits =
     record { done = []; label = label; rest = others; are = refl; fits = fits }
 
 pub later_fits : (line : Bytes) (told : Table) (labels : List Label) (other : Label) → 1 ≤ length labels
     → FitsUpToLabel (take (length labels - 1) (drop 1 labels))
-    (λ some. local_count (with_labels line (with_label line told (get_or labels 0 other)) some) ≤ most_local_symbols)
-    → FitsUpToLabel labels (λ some. local_count (with_labels line told some) ≤ most_local_symbols)
+    (λ some. has_too_many (with_labels line (with_label line told (get_or labels 0 other)) some) ≡ false)
+    → FitsUpToLabel labels (λ some. has_too_many (with_labels line told some) ≡ false)
 later_fits line told [] other some later = absurd (none_first some)
 later_fits line told (label ∷ others) other some later = record {
   done = label ∷ later.done;

@@ -10,4 +10,5 @@ pub mod LinesTaken
 pub mod Passes
 mod NameLists
 pub mod Refusals
+pub mod Room
 mod Sizes

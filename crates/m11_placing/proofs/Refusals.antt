@@ -16,13 +16,6 @@ pub handed_on : {A : Type 0} (P : AsmFault → Type 0) (fault : AsmFault) (resul
 handed_on P fault (Ok value) holds is = tt
 handed_on P fault (Err other) holds is = subst P (sym is) holds
 
--- where more is counted the limit is passed too
-pub refuses_more : (fault : AsmFault) (most some all : ℕ) → some ≤ all → Refuses fault (most < some) ⊥
-    → Refuses fault (most < all) ⊥
-refuses_more TooManySymbols most some all more refuses = omega (arith, more, refuses)
-refuses_more NoMemory most some all more refuses = tt
-refuses_more other most some all more refuses = refuses
-
 -- ---- where memory is refused
 
 -- what holds anyway

@@ -1,14 +1,15 @@
 -- What a pass keeps, and the table of which it is so. (MACRO-11 Language Reference Manual, "Symbols and expressions" and "Program
 -- section directives".)
 use Rattle.std.specs.Prelude.{◌≡◌, ◌<◌, ℕ, max, List, get_or, replicate, slice_set}
-use Rattle.m11_placement.specs.Limits.{local_count}
+use Rattle.m11_placement.specs.Limits.{local_count, name_count}
 use Rattle.m11_placement.specs.Places.{size_in}
 use Rattle.m11_placement.specs.Tables.{Table, place}
 use Rattle.m11_table.specs.Alike.{Alike}
 
--- the table of the last definitions, how many local symbols are defined, and the sizes of sections by their numbers
+-- the table of the last definitions, how many names and local symbols are defined, and the sizes of sections by their numbers
 pub record Kept : Type 0 where
   pub table : Table
+  pub names : ℕ
   pub local_symbols : ℕ
   pub sizes : List ℕ
 
@@ -18,6 +19,7 @@ size_at sizes number = get_or sizes number 0
 -- a table of all definitions, as the lines of a source make it, of which a pass keeps what counts
 pub record Matches (kept : Kept) (table : Table) : Type 0 where
   pub alike : Alike kept.table table
+  pub names : kept.names ≡ name_count table
   pub local_symbols : kept.local_symbols ≡ local_count table
   pub sizes : (number : ℕ) → number < 64 → size_at kept.sizes number ≡ size_in number table.moves
 

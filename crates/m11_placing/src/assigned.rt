@@ -3,17 +3,17 @@
 ghost use Rattle.std.specs.Prelude.{◌≡◌, ◌∷◌, [], ◌≤◌, false, IfOk, IfErr, IfSome, length};
 ghost use Rattle.std.specs.Option.{option_to_list};
 ghost use Rattle.m11_arguments.specs.Expressions.{IsAlone, symbols_at, symbols_in, value_at};
-ghost use Rattle.m11_asm_faults.specs.declared.fault.AsmFault.TheVariants.{NoMemory};
 ghost use Rattle.m11_placement.specs.Assigning.{assignment};
 ghost use Rattle.m11_placement.specs.Assignments as assignments;
 ghost use Rattle.m11_placement.specs.Changes.{changed, with_value};
 ghost use Rattle.m11_placement.specs.Items.{value_items};
 ghost use Rattle.m11_placement.specs.Labels.{with_definition};
 ghost use Rattle.m11_placement.specs.Meanings.{Map as LineMap, known_at};
-ghost use Rattle.m11_placement.specs.Tables.{place};
+ghost use Rattle.m11_placement.specs.Tables.{Table as LineTable, place};
 ghost use Rattle.m11_placement.specs.declared.definitions.Key.TheVariants.{Named};
 ghost use Rattle.m11_placement.specs.declared.meanings.Context.TheVariants.{Knows};
-ghost use Rattle.m11_placing.specs.Passes.{Follows};
+ghost use Rattle.m11_placing.specs.Faults.{Overfills};
+ghost use Rattle.m11_placing.specs.Passes.{Follows, Matches};
 ghost use Rattle.m11_scan.specs.Views.{lexeme};
 ghost use Rattle.m11_table.specs.Alike as tables;
 ghost use Rattle.m11_values.specs.Quantities.{quantity};
@@ -51,7 +51,9 @@ impl Pass {
         ensures symbols { IfOk result (λ _. self.new.local_symbols ≡ self.old.local_symbols) }
         ensures shows { IfOk result (λ item. option_to_list item
             ≡ value_items (value_at (known_at map.now Knows self.old.table (place self.old.table)) line.now.text made.value)) }
-        ensures refuses { IfErr result (λ fault. fault ≡ NoMemory) }
+        ensures refuses { IfErr result (λ fault. (before : LineTable) → Matches self.old before
+            → Overfills fault (changed map.now line.now.text
+            (assignment line.now.text made.name made.is_global made.value) before)) }
     {
         let start = usize::from(made.value);
         let value = known_value_by(map, &self.table, line, start, term);
@@ -80,7 +82,9 @@ impl Pass {
             → IfOk result (λ _. tables.Follows self.old.table self.new.table (λ before. changed map line.now.text
             (assignment line.now.text name is_global start) before)) }
         ensures symbols { IfOk result (λ _. self.new.local_symbols ≡ self.old.local_symbols) }
-        ensures refuses { IfErr result (λ fault. fault ≡ NoMemory) }
+        ensures refuses { (map : LineMap) → IfErr result (λ fault. (before : LineTable) → Matches self.old before
+            → Overfills fault (changed map line.now.text
+            (assignment line.now.text name is_global start) before)) }
     {
         match target(line, name) {
             Some(name) => self.assign(line, name, is_global, start, term, value),
@@ -107,7 +111,8 @@ impl Pass {
             → quantity value.now ≡ value_at (known_at map Knows self.old.table (place self.old.table)) line.now.text start
             → IfOk result (λ _. tables.Follows self.old.table self.new.table (with_value map name is_global line.now.text start)) }
         ensures symbols { IfOk result (λ _. self.new.local_symbols ≡ self.old.local_symbols) }
-        ensures refuses { IfErr result (λ fault. fault ≡ NoMemory) }
+        ensures refuses { (map : LineMap) → IfErr result (λ fault. (before : LineTable) → Matches self.old before
+            → Overfills fault (with_value map name is_global line.now.text start before)) }
     {
         if self.table.is_labelled(&Key::Named(name)) {
             return self.double(&Key::Named(name));
@@ -139,7 +144,8 @@ impl Pass {
             → IfOk result (λ _. tables.Follows self.old.table self.new.table
             (λ before. with_definition (assignments.assigned map before (Named name) line.now.text start) before)) }
         ensures symbols { IfOk result (λ _. self.new.local_symbols ≡ self.old.local_symbols) }
-        ensures refuses { IfErr result (λ fault. fault ≡ NoMemory) }
+        ensures refuses { (map : LineMap) → IfErr result (λ fault. (before : LineTable) → Matches self.old before
+            → Overfills fault (with_definition (assignments.assigned map before (Named name) line.now.text start) before)) }
     {
         let is_firm = is_firm_by(self.alloc, &self.table, line, start, term)?;
         self.define_name(name, &definition_of(name, value, is_firm))

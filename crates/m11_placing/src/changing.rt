@@ -12,13 +12,12 @@ ghost use Rattle.m11_placement.specs.Changes.{changed, numbered, with_globals, w
 ghost use Rattle.m11_placement.specs.Effects.{operator_change};
 ghost use Rattle.m11_placement.specs.Elements.{listed_names};
 ghost use Rattle.m11_placement.specs.Items.{deed_items, number_items};
-ghost use Rattle.m11_placement.specs.Limits.{most_sections};
 ghost use Rattle.m11_placement.specs.Lines.{change_of};
 ghost use Rattle.m11_placement.specs.Meanings.{Map as LineMap};
 ghost use Rattle.m11_placement.specs.Tables.{Table as LineTable, firm_table};
 ghost use Rattle.m11_placement.specs.declared.operators.Operator.TheVariants.{Instruction};
 ghost use Rattle.m11_placing.specs.Deeds.{AreDeedTerms, IsWithin, deed_fields, deed_seen};
-ghost use Rattle.m11_placing.specs.Faults.{Refuses};
+ghost use Rattle.m11_placing.specs.Faults.{Overfills};
 ghost use Rattle.m11_placing.specs.Passes.{Follows, Matches};
 ghost use Rattle.m11_scan.specs.Cutting.{tokens_from};
 ghost use Rattle.m11_table.specs.Alike as tables;
@@ -43,7 +42,8 @@ impl Pass {
     /// name takes it or not, or the number of `.NARG` and `.NCHR`. It is asked of firm names alone, but for the value of an assignment.
     /// `arguments` is the number of actuals of the macro around the line.
     ///
-    /// Errors: `TooManySections` where a 65th section would be selected, and `NoMemory`.
+    /// Errors: `TooManySymbols` where more than 4,096 names besides those of the registers would be defined, `TooManySections` where a 65th
+    /// section would be selected, and `NoMemory`.
     pub fn take_deed(
         &mut self,
         map: &Map<'_>,
@@ -66,8 +66,9 @@ impl Pass {
         ensures symbols { IfOk result (λ _. self.new.local_symbols ≡ self.old.local_symbols) }
         ensures shows { IfOk result (λ item. option_to_list item ≡ deed_items map.now self.old.table line.now.text
             (change_of (firm_table self.old.table) line.now.text arguments (deed_seen deed.now)) (deed_seen deed.now)) }
-        ensures refuses { IfErr result (λ fault. (before : LineTable) → Matches self.old before → Refuses fault ⊥ (most_sections < length
-            (changed map.now line.now.text (change_of (firm_table self.old.table) line.now.text arguments (deed_seen deed.now)) before).sections)) }
+        ensures refuses { IfErr result (λ fault. (before : LineTable) → Matches self.old before
+            → Overfills fault (changed map.now line.now.text
+            (change_of (firm_table self.old.table) line.now.text arguments (deed_seen deed.now)) before)) }
     {
         match *deed {
             Deed::Rests => Ok(None),
@@ -93,8 +94,8 @@ impl Pass {
             line.now.text (assigning.counter_change (firm_table self.old.table) line.now.text start) before)) }
         ensures symbols { IfOk result (λ _. self.new.local_symbols ≡ self.old.local_symbols) }
         ensures refuses { (map : LineMap) → IfErr result (λ fault. (before : LineTable) → Matches self.old before
-            → Refuses fault ⊥ (most_sections < length (changed map line.now.text
-            (assigning.counter_change (firm_table self.old.table) line.now.text start) before).sections)) }
+            → Overfills fault (changed map line.now.text
+            (assigning.counter_change (firm_table self.old.table) line.now.text start) before)) }
     {
         let change = counter_change(&self.table, line, usize::from(start));
         self.take(line, &change)
@@ -123,8 +124,8 @@ impl Pass {
         ensures shows { IfOk result (λ item. option_to_list item
             ≡ number_items (operator_change (firm_table self.old.table) line.now.text start arguments operator)) }
         ensures refuses { (map : LineMap) → IfErr result (λ fault. (before : LineTable) → Matches self.old before
-            → Refuses fault ⊥ (most_sections < length (changed map line.now.text
-            (operator_change (firm_table self.old.table) line.now.text start arguments operator) before).sections)) }
+            → Overfills fault (changed map line.now.text
+            (operator_change (firm_table self.old.table) line.now.text start arguments operator) before)) }
     {
         let start = usize::from(start);
         let change = operator_change(&self.table, line, start, arguments, operator, fields);
@@ -141,8 +142,8 @@ impl Pass {
         ensures tables { (map : LineMap) → IfOk result (λ _. tables.Follows self.old.table self.new.table
             (λ before. changed map line.now.text (change_seen change.now) before)) }
         ensures symbols { IfOk result (λ _. self.new.local_symbols ≡ self.old.local_symbols) }
-        ensures refuses { (map : LineMap) → IfErr result (λ fault. (before : LineTable) → Matches self.old before → Refuses fault ⊥
-            (most_sections < length (changed map line.now.text (change_seen change.now) before).sections)) }
+        ensures refuses { (map : LineMap) → IfErr result (λ fault. (before : LineTable) → Matches self.old before
+            → Overfills fault (changed map line.now.text (change_seen change.now) before)) }
     {
         match change {
             Change::Keeps => Ok(()),
@@ -180,7 +181,8 @@ impl Pass {
         ensures numbers { IfOk result (λ _. Follows self.old self.new (with_number name number)) }
         ensures tables { IfOk result (λ _. tables.Follows self.old.table self.new.table (with_number name number)) }
         ensures symbols { IfOk result (λ _. self.new.local_symbols ≡ self.old.local_symbols) }
-        ensures refuses { IfErr result (λ fault. fault ≡ NoMemory) }
+        ensures refuses { IfErr result (λ fault. (before : LineTable) → Matches self.old before
+            → Overfills fault (with_number name number before)) }
     {
         if self.table.is_labelled(&Key::Named(name)) {
             self.double(&Key::Named(name))

@@ -1,11 +1,11 @@
 //! What the labels of a line define. (MACRO-11 Language Reference Manual, "Label field", "Local symbols" and "Multiple definition of
 //! symbols".)
 
-ghost use Rattle.std.specs.Prelude.{◌≡◌, ◌<◌, ◌≤◌, ◌+◌, ◌^◌, IfOk, IfErr, length};
+ghost use Rattle.std.specs.Prelude.{◌≡◌, ◌<◌, ◌≤◌, ◌+◌, ◌^◌, IfOk, IfErr, false, length, true};
 ghost use Rattle.m11_asm_faults.specs.declared.fault.AsmFault.TheVariants.{NoMemory};
 ghost use Rattle.m11_placement.specs.Labels as spec;
 ghost use Rattle.m11_placement.specs.Labels.{letter_M, with_definition};
-ghost use Rattle.m11_placement.specs.Limits.{local_count, most_local_symbols};
+ghost use Rattle.m11_placement.specs.Limits.{has_too_many};
 ghost use Rattle.m11_placement.specs.Tables.{Table as LineTable};
 ghost use Rattle.m11_placing.specs.Faults.{Refuses};
 ghost use Rattle.m11_placing.specs.Labels.{Defines, DefinesAll, FitsUpToLabel};
@@ -72,8 +72,8 @@ impl Pass {
     /// Defines the labels of a line, one after the other. M for each whose name or local symbol is defined before it, and P for each other
     /// one whose last definition in the map isn't the place where it stands.
     ///
-    /// Errors: `TooManySymbols` where more than 16,384 local symbols would be defined, and `NoMemory`, at a label up to which there are no
-    /// more.
+    /// Errors: `TooManySymbols` where more than 4,096 names besides those of the registers, or more than 16,384 local symbols, would be
+    /// defined, and `NoMemory`, at a label up to which there are no more.
     pub fn define_labels(
         &mut self,
         map: &Map<'_>,
@@ -87,9 +87,9 @@ impl Pass {
         ensures tables { IfOk result (λ _. tables.Follows self.old.table self.new.table
             (λ before. spec.with_labels line.now.text before labels.now)) }
         ensures refuses { IfErr result (λ fault. (before : LineTable) → Matches self.old before
-            → Refuses fault (most_local_symbols < local_count (spec.with_labels line.now.text before labels.now)) ⊥) }
+            → Refuses fault (has_too_many (spec.with_labels line.now.text before labels.now) ≡ true) ⊥) }
         ensures limit_first { IfErr result (λ fault. fault ≡ NoMemory → (before : LineTable) → Matches self.old before
-            → FitsUpToLabel labels.now (λ some. local_count (spec.with_labels line.now.text before some) ≤ most_local_symbols)) }
+            → FitsUpToLabel labels.now (λ some. has_too_many (spec.with_labels line.now.text before some) ≡ false)) }
     {
         match labels {
             [] => Ok(LabelLetters::none()),
@@ -121,9 +121,9 @@ impl Pass {
             (λ before. spec.with_label line.now.text before label.now)) }
         ensures block { IfOk result (λ _. self.new.table.settings.block ≤ self.old.table.settings.block + 1) }
         ensures refuses { IfErr result (λ fault. (before : LineTable) → Matches self.old before
-            → Refuses fault (most_local_symbols < local_count (spec.with_label line.now.text before label.now)) ⊥) }
+            → Refuses fault (has_too_many (spec.with_label line.now.text before label.now) ≡ true) ⊥) }
         ensures limit_first { IfErr result (λ fault. fault ≡ NoMemory → (before : LineTable) → Matches self.old before
-            → local_count (spec.with_label line.now.text before label.now) ≤ most_local_symbols) }
+            → has_too_many (spec.with_label line.now.text before label.now) ≡ false) }
     {
         self.counts_are_within_the_limits();
         match label.kind {
@@ -150,7 +150,10 @@ impl Pass {
         ensures tables { IfOk result (λ _. tables.Follows self.old.table self.new.table
             (λ before. spec.with_name is_global before name)) }
         ensures block { IfOk result (λ _. self.new.table.settings.block ≤ self.old.table.settings.block + 1) }
-        ensures refuses { IfErr result (λ fault. fault ≡ NoMemory) }
+        ensures refuses { IfErr result (λ fault. (before : LineTable) → Matches self.old before
+            → Refuses fault (has_too_many (spec.with_name is_global before name) ≡ true) ⊥) }
+        ensures limit_first { IfErr result (λ fault. fault ≡ NoMemory → (before : LineTable) → Matches self.old before
+            → has_too_many (spec.with_name is_global before name) ≡ false) }
     {
         match name {
             Some(name) if self.table.is_defined(&Key::Named(name)) => {
@@ -175,10 +178,14 @@ impl Pass {
             (λ before. spec.global_if is_global name (spec.with_block (with_definition (spec.labelled before (Named name)) before)))) }
         ensures symbols { IfOk result (λ _. self.new.local_symbols ≡ self.old.local_symbols) }
         ensures block { IfOk result (λ _. self.new.table.settings.block ≤ self.old.table.settings.block + 1) }
-        ensures refuses { IfErr result (λ fault. fault ≡ NoMemory) }
+        ensures refuses { IfErr result (λ fault. (before : LineTable) → Matches self.old before
+            → Refuses fault (has_too_many (with_definition (spec.labelled before (Named name)) before) ≡ true) ⊥) }
+        ensures limit_first { IfErr result (λ fault. fault ≡ NoMemory → (before : LineTable) → Matches self.old before
+            → has_too_many (with_definition (spec.labelled before (Named name)) before) ≡ false) }
     {
         let definition = labelled(&self.table, Key::Named(name));
         self.define_name(name, &definition)?;
+        self.counts_are_within_the_limits();
         self.open_block();
         if is_global {
             self.export(name)?;
@@ -197,9 +204,9 @@ impl Pass {
             (λ before. spec.with_key (Numbered before.settings.block number) before)) }
         ensures block { IfOk result (λ _. self.new.table.settings.block ≤ self.old.table.settings.block) }
         ensures refuses { IfErr result (λ fault. (before : LineTable) → Matches self.old before
-            → Refuses fault (most_local_symbols < local_count (spec.with_key (Numbered before.settings.block number) before)) ⊥) }
+            → Refuses fault (has_too_many (spec.with_key (Numbered before.settings.block number) before) ≡ true) ⊥) }
         ensures limit_first { IfErr result (λ fault. fault ≡ NoMemory → (before : LineTable) → Matches self.old before
-            → local_count (spec.with_key (Numbered before.settings.block number) before) ≤ most_local_symbols) }
+            → has_too_many (spec.with_key (Numbered before.settings.block number) before) ≡ false) }
     {
         let block = self.table.settings().block;
         let key = Key::Numbered(block, number);

@@ -4,6 +4,7 @@
 
 mod assigned;
 mod changing;
+mod counting;
 mod deeds;
 mod items;
 mod labels;
@@ -14,6 +15,7 @@ mod mentions;
 mod moved;
 mod pass;
 
+pub use counting::Counting;
 pub use deeds::{Deed, deed_after_labels, deed_fields};
 pub use items::{add_content_items, is_shown};
 pub use labels::LabelLetters;

@@ -1,14 +1,14 @@
 //! What one pass over a source keeps from line to line. (MACRO-11 Language Reference Manual, "Symbols and expressions" and "Program
 //! section directives".)
 
-ghost use Rattle.std.specs.Prelude.{◌≡◌, ◌<◌, ◌≤◌, ◌+◌, ◌^◌, IfOk, IfErr, length};
+ghost use Rattle.std.specs.Prelude.{◌≡◌, ◌<◌, ◌≤◌, ◌+◌, ◌^◌, IfOk, IfErr, false, length, true};
 ghost use Rattle.m11_asm_faults.specs.declared.fault.AsmFault.TheVariants.{NoMemory};
 ghost use Rattle.m11_operators.specs.Changes.{move_seen};
 ghost use Rattle.m11_placement.specs.Changes.{with_move, with_section, with_settings};
 ghost use Rattle.m11_placement.specs.Labels.{new_block, with_block, with_definition, with_doubled, with_global};
-ghost use Rattle.m11_placement.specs.Limits.{local_count, most_local_symbols, most_sections};
+ghost use Rattle.m11_placement.specs.Limits.{has_too_many, most_defined_names, most_local_symbols, most_sections};
 ghost use Rattle.m11_placement.specs.Tables.{Table as LineTable, first_table};
-ghost use Rattle.m11_placing.specs.Faults.{Refuses};
+ghost use Rattle.m11_placing.specs.Faults.{Overfills, Refuses};
 ghost use Rattle.m11_placing.specs.Passes.{Follows, Matches, no_sizes, size_at, with_size};
 ghost use Rattle.m11_table.specs.Alike as tables;
 ghost use Rattle.m11_placement.specs.declared.definitions.Key.TheVariants.{Named, Numbered};
@@ -21,6 +21,9 @@ use m11_table::Table;
 use std::alloc::{AllocError, Global};
 use std::marker::Model;
 
+/// The most names that a table defines, those of the eight registers among them.
+const MOST_DEFINED_NAMES: u32 = 4104;
+
 /// The most local symbols of a source.
 const MOST_LOCAL_SYMBOLS: u32 = 16384;
 
@@ -28,12 +31,13 @@ const MOST_LOCAL_SYMBOLS: u32 = 16384;
 const MOST_SECTIONS: usize = 64;
 
 /// What one pass over a source keeps from line to line: the table, and the sizes of sections so far.
-/// It has 16,384 local symbols at most.
+/// It has 4,096 names besides those of the registers at most, and 16,384 local symbols.
 #[derive(Drop)]
 pub struct Pass {
     pub(crate) alloc: Global,
     pub(crate) table: Table,
-    // How many local symbols are defined.
+    // How many names are defined, those of the registers among them, and how many local symbols.
+    names: u32,
     local_symbols: u32,
     // The greatest place that each counter had after a line, by the numbers of sections.
     sizes: [u16; 64],
@@ -41,14 +45,14 @@ pub struct Pass {
 
 impl Model for Pass {
     ghost use Rattle.std.specs.Prelude.{◌≤◌};
-    ghost use Rattle.m11_placement.specs.Limits.{most_local_symbols};
+    ghost use Rattle.m11_placement.specs.Limits.{most_defined_names, most_local_symbols};
     ghost use Rattle.m11_placing.specs.Passes.{Kept};
 
     ghost Value = { Kept };
 
-    ghost view = { λ p. record { table = p.table; local_symbols = p.local_symbols; sizes = p.sizes } };
+    ghost view = { λ p. record { table = p.table; names = p.names; local_symbols = p.local_symbols; sizes = p.sizes } };
 
-    ghost invariant = { λ p. p.local_symbols ≤ most_local_symbols };
+    ghost invariant = { λ p. (p.names ≤ most_defined_names) × (p.local_symbols ≤ most_local_symbols) };
 }
 
 impl Pass {
@@ -59,14 +63,16 @@ impl Pass {
         Ok(Pass {
             alloc,
             table: Table::new(alloc)?,
+            names: 8,
             local_symbols: 0,
             sizes: no_sizes(),
         })
     }
 
-    /// The limits on local symbols and sections hold of each pass, after a refusal too. It does nothing.
+    /// The limits on names, local symbols and sections hold of each pass, after a refusal too. It does nothing.
     #[inline(always)]
     pub fn counts_are_within_the_limits(&self)
+        ensures names { self.now.names ≤ most_defined_names }
         ensures symbols { self.now.local_symbols ≤ most_local_symbols }
         ensures sections { length self.now.table.sections ≤ most_sections }
     {
@@ -96,7 +102,7 @@ impl Pass {
         &self.sizes
     }
 
-    // One more definition of a name.
+    // One more definition of a name, where it has one or there is room for one more: the limit is asked before anything grows.
     pub(crate) fn define_name(
         &mut self,
         name: Name,
@@ -107,9 +113,17 @@ impl Pass {
         ensures tables { IfOk result (λ _. tables.Follows self.old.table self.new.table (with_definition definition.now)) }
         ensures symbols { IfOk result (λ _. self.new.local_symbols ≡ self.old.local_symbols) }
         ensures settings { IfOk result (λ _. self.new.table.settings ≡ self.old.table.settings) }
-        ensures refuses { IfErr result (λ fault. fault ≡ NoMemory) }
+        ensures refuses { IfErr result (λ fault. (before : LineTable) → Matches self.old before
+            → Refuses fault (has_too_many (with_definition definition.now before) ≡ true) ⊥) }
+        ensures limit_first { IfErr result (λ fault. fault ≡ NoMemory → (before : LineTable) → Matches self.old before
+            → has_too_many (with_definition definition.now before) ≡ false) }
     {
-        self.table.insert(definition)?;
+        // most sources have far fewer, and then the name is looked for once, as it is put in
+        if self.names >= MOST_DEFINED_NAMES && !self.table.is_defined(&definition.key) {
+            return Err(AsmFault::TooManySymbols);
+        }
+        let is_new = self.table.insert(definition)?;
+        self.names += u32::from(is_new);
         Ok(())
     }
 
@@ -125,9 +139,9 @@ impl Pass {
         ensures tables { IfOk result (λ _. tables.Follows self.old.table self.new.table (with_definition definition.now)) }
         ensures settings { IfOk result (λ _. self.new.table.settings ≡ self.old.table.settings) }
         ensures refuses { IfErr result (λ fault. (before : LineTable) → Matches self.old before
-            → Refuses fault (most_local_symbols < local_count (with_definition definition.now before)) ⊥) }
+            → Refuses fault (has_too_many (with_definition definition.now before) ≡ true) ⊥) }
         ensures limit_first { IfErr result (λ fault. fault ≡ NoMemory → (before : LineTable) → Matches self.old before
-            → local_count (with_definition definition.now before) ≤ most_local_symbols) }
+            → has_too_many (with_definition definition.now before) ≡ false) }
     {
         if self.local_symbols >= MOST_LOCAL_SYMBOLS {
             return Err(AsmFault::TooManySymbols);
@@ -189,7 +203,7 @@ impl Pass {
         ensures tables { IfOk result (λ _. tables.Follows self.old.table self.new.table (with_section name attributes)) }
         ensures symbols { IfOk result (λ _. self.new.local_symbols ≡ self.old.local_symbols) }
         ensures refuses { IfErr result (λ fault. (before : LineTable) → Matches self.old before
-            → Refuses fault ⊥ (most_sections < length (with_section name attributes before).sections)) }
+            → Overfills fault (with_section name attributes before)) }
         ensures limit_first { IfErr result (λ fault. fault ≡ NoMemory → (before : LineTable) → Matches self.old before
             → length (with_section name attributes before).sections ≤ most_sections) }
     {

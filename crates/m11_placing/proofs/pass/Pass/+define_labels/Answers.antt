@@ -1,8 +1,8 @@
-use Rattle.std.proofs.Common.{◌≡◌, ◌∙◌, ◌<◌, ◌≤◌, List, refl}
+use Rattle.std.proofs.Common.{◌≡◌, ◌∙◌, List, true, false, refl}
 use Rattle.m11_asm_faults.specs.declared.fault.AsmFault.{AsmFault}
 use Rattle.m11_asm_faults.specs.declared.fault.AsmFault.TheVariants.{NoMemory}
 use Rattle.m11_placement.specs.Labels.{with_labels}
-use Rattle.m11_placement.specs.Limits.{local_count, most_local_symbols}
+use Rattle.m11_placement.specs.Limits.{has_too_many}
 use Rattle.m11_placement.specs.Tables.{Table}
 use Rattle.m11_placing.proofs.LabelTables.{labels_then, moved_then}
 use Rattle.m11_placing.proofs.Labelling.{first_defined, first_fits, first_refused, later_fits}
@@ -16,7 +16,7 @@ use Rattle.m11_placing.proofs.pass.Pass.+define_labels.Goals as goal
 pub returns-in_err-letters-in-len1-up-clause-refuses : goal.returns-in_err-letters-in-len1-up-clause-refuses
 returns-in_err-letters-in-len1-up-clause-refuses t c =
     let P : AsmFault → Type 0 = λ fault. (told : Table) → Matches c.args.self.now told
-    → Refuses fault (most_local_symbols < local_count (with_labels c.args.line.now.text told c.args.labels.now)) ⊥ in
+    → Refuses fault (has_too_many (with_labels c.args.line.now.text told c.args.labels.now) ≡ true) ⊥ in
     handed_on P c.in_err-letters-in-len1-up.field-0.0 c.from_residual.result
     (first_refused c.args.line.now.text c.args.labels.now _ c.in_err-letters-in-len1-up.field-0.0 c.args.self.now
     c.in-len1-up.len_at_least c.in_err-letters-in-len1-up.ensures.refuses)
@@ -26,7 +26,7 @@ pub returns-in_err-letters-in-len1-up-clause-limit_first : goal.returns-in_err-l
 returns-in_err-letters-in-len1-up-clause-limit_first t c =
     let P : AsmFault → Type 0 = λ fault. fault ≡ NoMemory → (told : Table) → Matches c.args.self.now told
     → FitsUpToLabel c.args.labels.now (λ (some : List Label).
-    local_count (with_labels c.args.line.now.text told some) ≤ most_local_symbols) in
+    has_too_many (with_labels c.args.line.now.text told some) ≡ false) in
     handed_on P c.in_err-letters-in-len1-up.field-0.0 c.from_residual.result
     (λ none told matches. first_fits c.args.line.now.text told c.args.labels.now _ c.in-len1-up.len_at_least
     (c.in_err-letters-in-len1-up.ensures.limit_first none told matches))
@@ -36,7 +36,7 @@ pub returns-in_err-more-in-len1-up-clause-limit_first : goal.returns-in_err-more
 returns-in_err-more-in-len1-up-clause-limit_first t c =
     let P : AsmFault → Type 0 = λ fault. fault ≡ NoMemory → (told : Table) → Matches c.args.self.now told
     → FitsUpToLabel c.args.labels.now (λ (some : List Label).
-    local_count (with_labels c.args.line.now.text told some) ≤ most_local_symbols) in
+    has_too_many (with_labels c.args.line.now.text told some) ≡ false) in
     handed_on P c.in_err-more-in-len1-up.field-0.0 c.from_residual-in_err-more-in-len1-up.result
     (λ none told matches. later_fits c.args.line.now.text told c.args.labels.now _ c.in-len1-up.len_at_least
     (c.in_err-more-in-len1-up.ensures.limit_first none _ (c.in_ok-letters-in-len1-up.ensures.defines told matches).0))

@@ -3,6 +3,13 @@ use Rattle.m11_placement.specs.Definitions.{is_labelled}
 use Rattle.m11_placement.specs.declared.definitions.Key.TheVariants.{Named}
 use Rattle.m11_placing.proofs.Assigning.{kept_defines, kept_exports, value_defines, value_doubles, value_exports}
 use Rattle.m11_placing.specs.Passes.{Kept}
+use Rattle.m11_asm_faults.specs.declared.fault.AsmFault.{AsmFault}
+use Rattle.m11_placement.specs.Changes.{with_value}
+use Rattle.m11_placement.specs.Tables.{Table}
+use Rattle.m11_placing.proofs.Assigning.{overfills_value}
+use Rattle.m11_placing.proofs.Refusals.{handed_on}
+use Rattle.m11_placing.specs.Faults.{Overfills}
+use Rattle.m11_placing.specs.Passes.{Matches}
 use Rattle.m11_placing.proofs.pass.Pass.assign.Goals as goal
 
 pub returns-then-is_labelled-clause-tables : goal.returns-then-is_labelled-clause-tables
@@ -40,3 +47,14 @@ returns-else-is_global-clause-assigns c = λ map is.
     (kept_defines map c.args.name c.args.line.now.text c.args.start c.args.self.now c.define_assigned.new.self
     (ap (λ (k : Kept). is_labelled (Named c.args.name) k.table.definitions) (sym c.self.view_is) ∙ sym c.if-is_labelled.ensures)
     (c.in_ok-define_assigned.ensures.defines map is))
+
+pub returns-in_err-define_assigned-clause-refuses : goal.returns-in_err-define_assigned-clause-refuses
+returns-in_err-define_assigned-clause-refuses c = λ map.
+    let P : AsmFault → Type 0 = λ fault. (told : Table) → Matches c.args.self.now told
+    → Overfills fault (with_value map c.args.name c.args.is_global c.args.line.now.text c.args.start told) in
+    handed_on P c.in_err-define_assigned.field-0.0 c.from_residual.result
+    (λ told matches. overfills_value map c.args.name c.args.line.now.text c.args.start c.args.is_global
+    c.in_err-define_assigned.field-0.0 c.args.self.now told
+    (ap (λ (k : Kept). is_labelled (Named c.args.name) k.table.definitions) (sym c.self.view_is) ∙ sym c.if-is_labelled.ensures)
+    matches (c.in_err-define_assigned.ensures.refuses map told matches))
+    c.from_residual.ensures.1

@@ -1,9 +1,12 @@
-use Rattle.std.proofs.Common.{◌∙◌, IfOk, Option, subst, sym}
+use Rattle.std.proofs.Common.{◌∙◌, IfErr, IfOk, Option, subst, sym}
 use Rattle.m11_base.specs.Rad50.{Name}
 use Rattle.m11_placement.specs.Assigning.{assignment_to}
 use Rattle.m11_placement.specs.Changes.{changed}
 use Rattle.m11_placing.specs.Passes.{Follows}
 use Rattle.m11_table.specs.Alike as tables
+use Rattle.m11_placement.specs.Tables.{Table}
+use Rattle.m11_placing.specs.Faults.{Overfills}
+use Rattle.m11_placing.specs.Passes.{Matches}
 use Rattle.m11_placing.proofs.pass.Pass.assign_to.Goals as goal
 
 pub returns-in-Some-clause-takes : goal.returns-in-Some-clause-takes
@@ -29,3 +32,9 @@ returns-in-None-clause-tables c = λ map is.
     let P : Option Name → Type 0 = λ n. tables.Follows c.args.self.now.table c.args.self.now.table
     (changed map c.args.line.now.text (assignment_to c.args.is_global c.args.start n)) in
     subst P (sym c.in-None.is ∙ c.target.ensures) (λ told alike. alike)
+
+pub returns-in-Some-clause-refuses : goal.returns-in-Some-clause-refuses
+returns-in-Some-clause-refuses c = λ map.
+    let P : Option Name → Type 0 = λ n. IfErr c.assign.result (λ fault. (before : Table) → Matches c.args.self.now before
+    → Overfills fault (changed map c.args.line.now.text (assignment_to c.args.is_global c.args.start n) before)) in
+    subst P (sym c.in-Some.is ∙ c.target.ensures) (c.assign.ensures.refuses map)

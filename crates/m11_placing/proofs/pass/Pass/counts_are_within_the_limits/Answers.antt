@@ -1,10 +1,13 @@
 use Rattle.std.proofs.Common.{◌≤◌, length, subst}
-use Rattle.m11_placement.specs.Limits.{most_local_symbols, most_sections}
+use Rattle.m11_placement.specs.Limits.{most_defined_names, most_local_symbols, most_sections}
 use Rattle.m11_placing.specs.Passes.{Kept}
 use Rattle.m11_placing.proofs.pass.Pass.counts_are_within_the_limits.Goals as goal
 
+pub returns-clause-names : goal.returns-clause-names
+returns-clause-names c = let P : Kept → Type 0 = λ k. k.names ≤ most_defined_names in subst P c.self.view_is c.self.invariant.0
+
 pub returns-clause-symbols : goal.returns-clause-symbols
-returns-clause-symbols c = let P : Kept → Type 0 = λ k. k.local_symbols ≤ most_local_symbols in subst P c.self.view_is c.self.invariant
+returns-clause-symbols c = let P : Kept → Type 0 = λ k. k.local_symbols ≤ most_local_symbols in subst P c.self.view_is c.self.invariant.1
 
 pub returns-clause-sections : goal.returns-clause-sections
 returns-clause-sections c =

@@ -5,6 +5,8 @@ use Rattle.m11_placement.specs.declared.definitions.Key.TheVariants.{Named}
 use Rattle.m11_placing.proofs.Assigning.{assigns, assigns_so, gives}
 use Rattle.m11_placing.specs.Passes.{Kept}
 use Rattle.m11_values.specs.Quantities.{quantity}
+use Rattle.m11_placement.specs.declared.definitions.Definition.{Definition}
+use Rattle.m11_placing.proofs.Assigning.{overfills_assigned}
 use Rattle.m11_placing.proofs.pass.Pass.define_assigned.Goals as goal
 
 pub returns-clause-defines : goal.returns-clause-defines
@@ -26,3 +28,8 @@ returns-clause-tables c = λ map is.
     (c.in_ok-is_firm.ensures
     ∙ ap (λ (k : Kept). all_firm k.table (symbols_at c.args.line.now.text c.args.start)) c.self.view_is))
     c.define_name.ensures.tables
+
+pub returns-clause-refuses : goal.returns-clause-refuses
+returns-clause-refuses c = λ map.
+    overfills_assigned map c.args.name c.args.line.now.text c.args.start c.args.self.now c.definition_of.result c.define_name.result
+    (ap (λ (d : Definition). d.key) c.definition_of.ensures) c.define_name.ensures.refuses

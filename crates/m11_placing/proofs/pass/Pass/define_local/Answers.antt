@@ -1,9 +1,9 @@
-use Rattle.std.proofs.Common.{◌≡◌, ◌∙◌, ◌<◌, ◌≤◌, ℕ, ap, subst, sym}
+use Rattle.std.proofs.Common.{◌≡◌, ◌∙◌, ◌≤◌, ℕ, true, false, ap, subst, sym}
 use Rattle.m11_asm_faults.specs.declared.fault.AsmFault.{AsmFault}
 use Rattle.m11_asm_faults.specs.declared.fault.AsmFault.TheVariants.{NoMemory}
 use Rattle.m11_placement.specs.Definitions.{is_defined}
 use Rattle.m11_placement.specs.Labels.{labelled, with_key}
-use Rattle.m11_placement.specs.Limits.{local_count, most_local_symbols}
+use Rattle.m11_placement.specs.Limits.{has_too_many, most_defined_names, most_local_symbols}
 use Rattle.m11_placement.specs.Tables.{Table}
 use Rattle.m11_placement.specs.declared.definitions.Key.TheVariants.{Numbered}
 use Rattle.m11_placement.specs.declared.settings.Settings.{Settings}
@@ -17,11 +17,11 @@ use Rattle.m11_placing.proofs.pass.Pass.define_local.Goals as goal
 pub returns-in_err-define_symbol-clause-refuses : goal.returns-in_err-define_symbol-clause-refuses
 returns-in_err-define_symbol-clause-refuses c =
     let P : AsmFault → Type 0 = λ fault. (told : Table) → Matches c.args.self.now told
-    → Refuses fault (most_local_symbols < local_count (with_key (Numbered told.settings.block c.args.number) told)) ⊥ in
+    → Refuses fault (has_too_many (with_key (Numbered told.settings.block c.args.number) told) ≡ true) ⊥ in
     handed_on P c.in_err-define_symbol.field-0.0 c.from_residual-in_err-define_symbol.result
     (blocks_said c.args.self.now c.define_symbol.new.self c.settings-block.result.block c.args.number
     (ap (λ (s : Settings). s.block) c.settings-block.ensures ∙ ap (λ (k : Kept). k.table.settings.block) c.self.view_is)
-    (λ (n : ℕ). Refuses c.in_err-define_symbol.field-0.0 (most_local_symbols < n) ⊥) c.labelled-definition.result
+    (λ (t : Table). Refuses c.in_err-define_symbol.field-0.0 (has_too_many t ≡ true) ⊥) c.labelled-definition.result
     (ap (λ (k : Kept). is_defined (Numbered c.settings-block.result.block c.args.number) k.table.definitions) (sym c.self.view_is)
     ∙ sym c.if-is_defined.ensures)
     (c.labelled-definition.ensures
@@ -32,11 +32,11 @@ returns-in_err-define_symbol-clause-refuses c =
 pub returns-in_err-define_symbol-clause-limit_first : goal.returns-in_err-define_symbol-clause-limit_first
 returns-in_err-define_symbol-clause-limit_first c =
     let P : AsmFault → Type 0 = λ fault. fault ≡ NoMemory → (told : Table) → Matches c.args.self.now told
-    → local_count (with_key (Numbered told.settings.block c.args.number) told) ≤ most_local_symbols in
+    → has_too_many (with_key (Numbered told.settings.block c.args.number) told) ≡ false in
     handed_on P c.in_err-define_symbol.field-0.0 c.from_residual-in_err-define_symbol.result
     (λ none. blocks_said c.args.self.now c.define_symbol.new.self c.settings-block.result.block c.args.number
     (ap (λ (s : Settings). s.block) c.settings-block.ensures ∙ ap (λ (k : Kept). k.table.settings.block) c.self.view_is)
-    (λ (n : ℕ). n ≤ most_local_symbols) c.labelled-definition.result
+    (λ (t : Table). has_too_many t ≡ false) c.labelled-definition.result
     (ap (λ (k : Kept). is_defined (Numbered c.settings-block.result.block c.args.number) k.table.definitions) (sym c.self.view_is)
     ∙ sym c.if-is_defined.ensures)
     (c.labelled-definition.ensures
@@ -46,13 +46,14 @@ returns-in_err-define_symbol-clause-limit_first c =
 
 pub returns-in_err-double-clause-limit_first : goal.returns-in_err-double-clause-limit_first
 returns-in_err-double-clause-limit_first c =
+    let N : Kept → Type 0 = λ k. k.names ≤ most_defined_names in
     let K : Kept → Type 0 = λ k. k.local_symbols ≤ most_local_symbols in
     fits_anyway _ c.from_residual.result
     (blocks_known c.args.self.now c.double.new.self c.settings-block.result.block c.args.number
     (ap (λ (s : Settings). s.block) c.settings-block.ensures ∙ ap (λ (k : Kept). k.table.settings.block) c.self.view_is)
     (ap (λ (k : Kept). is_defined (Numbered c.settings-block.result.block c.args.number) k.table.definitions) (sym c.self.view_is)
     ∙ sym c.if-is_defined.ensures)
-    (subst K c.self.view_is c.self.invariant))
+    (subst N c.self.view_is c.self.invariant.0) (subst K c.self.view_is c.self.invariant.1))
 
 pub returns-in_ok-double-clause-defines : goal.returns-in_ok-double-clause-defines
 returns-in_ok-double-clause-defines c =

@@ -5,15 +5,15 @@ use Rattle.m11_placing.proofs.pass.Pass.export.Goals as goal
 
 pub returns-clause-exports : goal.returns-clause-exports
 returns-clause-exports c =
-    name_exported c.self.inside.table c.self.inside.local_symbols c.self.inside.sizes c.args.self.now c.self.view_is
+    name_exported c.self.inside.table c.self.inside.names c.self.inside.local_symbols c.self.inside.sizes c.args.self.now c.self.view_is
     c.args.name c.export.new.self c.in_ok-export.ensures
 
 pub returns-clause-settings : goal.returns-clause-settings
 returns-clause-settings c =
-    settings_kept c.self.inside.table c.self.inside.local_symbols c.self.inside.sizes c.args.self.now c.self.view_is
+    settings_kept c.self.inside.table c.self.inside.names c.self.inside.local_symbols c.self.inside.sizes c.args.self.now c.self.view_is
     c.export.new.self (with_global c.args.name) c.in_ok-export.ensures refl
 
 pub returns-clause-tables : goal.returns-clause-tables
 returns-clause-tables c =
-    table_kept c.self.inside.table c.self.inside.local_symbols c.self.inside.sizes c.args.self.now c.self.view_is
+    table_kept c.self.inside.table c.self.inside.names c.self.inside.local_symbols c.self.inside.sizes c.args.self.now c.self.view_is
     c.export.new.self (with_global c.args.name) c.in_ok-export.ensures

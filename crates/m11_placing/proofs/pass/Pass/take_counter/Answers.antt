@@ -1,10 +1,9 @@
-use Rattle.std.proofs.Common.{◌∙◌, ◌<◌, ℕ, IfErr, IfOk, ap, length, subst, sym}
+use Rattle.std.proofs.Common.{◌∙◌, ℕ, IfErr, IfOk, ap, subst, sym}
 use Rattle.m11_placement.specs.Assigning.{counter_change}
 use Rattle.m11_placement.specs.Changes.{Change, changed}
-use Rattle.m11_placement.specs.Limits.{most_sections}
 use Rattle.m11_placement.specs.Tables.{Table}
 use Rattle.m11_placing.proofs.FirmCounters.{counter_firm}
-use Rattle.m11_placing.specs.Faults.{Refuses}
+use Rattle.m11_placing.specs.Faults.{Overfills}
 use Rattle.m11_placing.specs.Passes.{Follows, Kept, Matches}
 use Rattle.m11_table.specs.Alike as tables
 use Rattle.m11_placing.proofs.pass.Pass.take_counter.Goals as goal
@@ -34,7 +33,7 @@ returns-clause-tables c = λ map.
 pub returns-clause-refuses : goal.returns-clause-refuses
 returns-clause-refuses c = λ map.
     let P : Change → Type 0 = λ change. IfErr c.take.result (λ fault. (before : Table) → Matches c.args.self.now before
-    → Refuses fault ⊥ (most_sections < length (changed map c.args.line.now.text change before).sections)) in
+    → Overfills fault (changed map c.args.line.now.text change before)) in
     subst P
     (c.counter_change-change.ensures
     ∙ ap (λ (n : ℕ). counter_change c.self.inside.table c.args.line.now.text n) c.from.ensures
